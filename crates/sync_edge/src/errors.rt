@@ -1,0 +1,18 @@
+use thiserror::Error;
+
+/// Memory ran out.
+///
+/// It is the one answer that comes freely: no clause ties it to a refused allocation.
+#[derive(Debug, Drop, Error)]
+#[error("out of memory")]
+pub struct NoMemory;
+
+/// A call of a folder or of a sink failed; its count of faults rose in that call.
+#[derive(Debug, Drop, Error)]
+#[error("the outside failed")]
+pub struct Failed;
+
+/// Not all bytes were written; what was written is a front of them.
+#[derive(Debug, Drop, Error)]
+#[error("write fault")]
+pub struct WriteFailed;
