@@ -1,2 +1,5 @@
 pub mod Number
+pub mod Faults
+pub mod Contents
+pub mod Transfers
 pub mod Examples

@@ -16,3 +16,19 @@ pub struct Failed;
 #[derive(Debug, Drop, Error)]
 #[error("write fault")]
 pub struct WriteFailed;
+
+/// Why a file was not read.
+#[derive(Debug, Drop, Error)]
+pub enum ReadErr {
+    /// A call of the folder failed.
+    #[error("read fault")]
+    Failed,
+
+    /// The file has more bytes than the limit.
+    #[error("too long")]
+    TooLong,
+
+    /// Memory ran out.
+    #[error("out of memory")]
+    NoMemory,
+}

@@ -7,7 +7,11 @@
 mod errors;
 mod lists;
 mod numbers;
+mod outside;
+mod transfers;
 
-pub use errors::{Failed, NoMemory, WriteFailed};
+pub use errors::{Failed, NoMemory, ReadErr, WriteFailed};
 pub use lists::{Rows, Text};
 pub use numbers::read_number;
+pub use outside::{Folder, Sink};
+pub use transfers::{read_all, write_all};
