@@ -1,0 +1,4 @@
+pub mod Lists
+pub mod Inputs
+pub mod HeldLemmas
+pub mod WellFormedLemmas

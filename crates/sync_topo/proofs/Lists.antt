@@ -1,0 +1,87 @@
+-- Laws on lists that std does not have.
+use Rattle.std.proofs.Common.{◌≡◌, ℕ, ◌+◌, ◌<◌, Bool, true, false, not, cond, List, [], ◌∷◌, ◌++◌, length, map, filter, Option, Some, None, position, refl, ap, sym, subst, ◌∙◌, arith, slice_get, get_or, slice_set}
+use Rattle.std.specs.List.{list_any, list_all, range_with_len, prefix_len}
+use Rattle.std.proofs.Common.{zero, suc, ◌≤◌, ◌||◌}
+use Rattle.std.specs.Prelude.{◌≢◌}
+use Rattle.std.proofs.Math.Bool.{or-true}
+use Rattle.std.proofs.lemmas.Option.{none-some, same_Some}
+use Rattle.std.proofs.lemmas.Slice.Eq.{bytes_eq-Decides}
+use Rattle.std.proofs.Math.Numerals.{suc-eq-add-one}
+use Rattle.std.proofs.lemmas.List.{length-map, map-append, map-id}
+use Rattle.std.proofs.lemmas.List.FromFn.{filter_of_map_range_with_len_more}
+use Rattle.std.specs.Prelude.{if◌then◌else◌}
+use Rattle.std.specs.Str.{bytes_eq}
+use Rattle.std.proofs.lemmas.Grind.{common_steps}
+
+prefix_len-map : {A B : Type 0} (p : B → Bool) (f : A → B) (xs : List A) → prefix_len p (map f xs) ≡ prefix_len (λ x. p (f x)) xs
+prefix_len-map p f [] = refl
+prefix_len-map p f (x ∷ xs) = ap (λ (n : ℕ). cond (p (f x)) (1 + n) 0) (prefix_len-map p f xs)
+
+-- a search in what a function makes of the items
+pub position-map : {A B : Type 0} (p : B → Bool) (f : A → B) (xs : List A) → position p (map f xs) ≡ position (λ x. p (f x)) xs
+position-map p f xs = rw (prefix_len-map (λ y. not (p y)) f xs, length-map) refl
+
+pub list_any-map : {A B : Type 0} (p : B → Bool) (f : A → B) (xs : List A) → list_any p (map f xs) ≡ list_any (λ x. p (f x)) xs
+list_any-map p f [] = refl
+list_any-map p f (x ∷ xs) = rw (list_any-map p f xs) refl
+
+-- a new name goes last, as contracts see the names
+pub inserted : {A : Type 0} (seen : A → List ℕ) (old new : List A) (x : A) (name : List ℕ)
+    → seen x ≡ name → list_any (bytes_eq name) (map seen old) ≡ false
+    → new ≡ (if list_any (λ y. bytes_eq (seen x) (seen y)) old then old else old ++ x ∷ [])
+    → map seen new ≡ map seen old ++ name ∷ []
+inserted seen old new x name e h k =
+    let absent : list_any (λ y. bytes_eq (seen x) (seen y)) old ≡ false
+    = rw e (sym (list_any-map (bytes_eq name) seen old) ∙ h) in
+    let last : new ≡ old ++ x ∷ [] = rw absent at k in
+    rw (last, map-append seen old (x ∷ []), e) refl
+
+-- what stands before the end stays there, and the last one comes after it
+pub slice_get-push_before : {A : Type 0} (xs : List A) (x : A) (i : ℕ) → i < length xs → slice_get (xs ++ x ∷ []) i ≡ slice_get xs i
+slice_get-push_before [] x i h = absurd (omega arith)
+slice_get-push_before (y ∷ xs) x zero h = refl
+slice_get-push_before (y ∷ xs) x (suc i) h = slice_get-push_before xs x i (omega arith)
+
+pub slice_get-push_last : {A : Type 0} (xs : List A) (x : A) (i : ℕ) → i ≡ length xs → slice_get (xs ++ x ∷ []) i ≡ Some x
+slice_get-push_last [] x zero e = refl
+slice_get-push_last [] x (suc i) e = absurd (omega arith)
+slice_get-push_last (y ∷ xs) x zero e = absurd (omega arith)
+slice_get-push_last (y ∷ xs) x (suc i) e = slice_get-push_last xs x i (omega arith)
+
+-- one number more
+pub filter_range_more : (p : ℕ → Bool) (n : ℕ) → filter p (range_with_len 0 (n + 1)) ≡ filter p (range_with_len 0 n) ++ (if p n then n ∷ [] else [])
+filter_range_more p n =
+    let e : 0 + n ≡ n = omega arith in
+    simp map-id at (filter_of_map_range_with_len_more p (λ (x : ℕ). x) 0 n n e)
+
+-- two tests that agree below n keep the same numbers
+pub filter_range_agree : (p q : ℕ → Bool) (n : ℕ) → ((x : ℕ) → x < n → p x ≡ q x) → filter p (range_with_len 0 n) ≡ filter q (range_with_len 0 n)
+filter_range_agree p q zero same = refl
+filter_range_agree p q (suc n) same =
+    let front : filter p (range_with_len 0 n) ≡ filter q (range_with_len 0 n) = filter_range_agree p q n (λ x h. same x (omega arith)) in
+    let last : p n ≡ q n = same n (omega arith) in
+    let middle : filter p (range_with_len 0 n) ++ (if p n then n ∷ [] else []) ≡ filter q (range_with_len 0 n) ++ (if q n then n ∷ [] else [])
+    = rw (front, last) refl in
+    let P : ℕ → Type 0 = λ k. filter p (range_with_len 0 k) ≡ filter q (range_with_len 0 k) in
+    subst P (sym (suc-eq-add-one n)) (filter_range_more p n ∙ middle ∙ sym (filter_range_more q n))
+
+-- a write at one place
+pub slice_get-set_same : {A : Type 0} (xs : List A) (i : ℕ) (x : A) → i < length xs → slice_get (slice_set xs i x) i ≡ Some x
+slice_get-set_same [] i x h = absurd (omega arith)
+slice_get-set_same (y ∷ xs) zero x h = refl
+slice_get-set_same (y ∷ xs) (suc i) x h = slice_get-set_same xs i x (omega arith)
+
+pub slice_get-set_other : {A : Type 0} (xs : List A) (i j : ℕ) (x : A) → i ≢ j → slice_get (slice_set xs i x) j ≡ slice_get xs j
+slice_get-set_other [] i j x h = refl
+slice_get-set_other (y ∷ xs) zero zero x h = absurd (h refl)
+slice_get-set_other (y ∷ xs) zero (suc j) x h = refl
+slice_get-set_other (y ∷ xs) (suc i) zero x h = refl
+slice_get-set_other (y ∷ xs) (suc i) (suc j) x h = slice_get-set_other xs i j x (λ e. h (ap suc e))
+
+-- a name that stands somewhere in the list is one of its names
+pub is_named-at : (names : List (List ℕ)) (name : List ℕ) (i : ℕ) → slice_get names i ≡ Some name → list_any (bytes_eq name) names ≡ true
+is_named-at [] name i h = absurd (none-some name h)
+is_named-at (first ∷ names) name zero h =
+    let same : bytes_eq name first ≡ true = (bytes_eq-Decides name first).1 (sym (same_Some first name h)) in
+    rw same refl
+is_named-at (first ∷ names) name (suc i) h = rw (is_named-at names name i h) (or-true (bytes_eq name first))

@@ -1,0 +1,32 @@
+-- Hops from line to line, ranks that rise over them, and cycles.
+use Rattle.std.specs.Prelude.{◌≡◌, ℕ, ◌<◌, Bool, not, ◌&&◌, ◌==◌, IsTrue, ⊤, List, [], ◌∷◌, ◌++◌}
+use Rattle.sync_topo.specs.Topology.{Topology}
+use Rattle.sync_topo.specs.Lines.{sender_of, receiver_of, reverse_of, is_nominated}
+
+-- the second line leads back over the link of the first: what a line brings is not offered there again.
+-- After G.781, do-not-use towards the selected reference.
+abbrev pub goes_back : Topology → ℕ → ℕ → Bool
+goes_back plan line back = back == reverse_of line
+
+-- what the first line brings to an element may go on over the second
+abbrev pub hops : Topology → ℕ → ℕ → Bool
+hops plan line next =
+    is_nominated plan line && is_nominated plan next && receiver_of plan line == sender_of plan next && not (goes_back plan line next)
+
+abbrev pub Hops : Topology → ℕ → ℕ → Type 0
+Hops plan line next = IsTrue (hops plan line next)
+
+-- the rank is greater after every hop
+abbrev pub IsRising : Topology → (ℕ → ℕ) → Type 0
+IsRising plan rank = (line next : ℕ) → Hops plan line next → rank line < rank next
+
+-- each line of the list hops to the one after it
+abbrev pub IsWalk : Topology → List ℕ → Type 0
+IsWalk plan [] = ⊤
+IsWalk plan (line ∷ []) = ⊤
+IsWalk plan (line ∷ next ∷ rest) = Hops plan line next × IsWalk plan (next ∷ rest)
+
+-- at least one line, each of which hops to the next, and the last to the first
+abbrev pub IsCycle : Topology → List ℕ → Type 0
+IsCycle plan [] = ⊥
+IsCycle plan (first ∷ rest) = IsWalk plan (first ∷ rest ++ first ∷ [])

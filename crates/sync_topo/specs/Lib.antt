@@ -1,0 +1,10 @@
+pub mod Topology
+pub mod Lines
+pub mod Hops
+pub mod Refusal
+pub mod PlanRows
+pub mod WellFormed
+pub mod Names
+pub mod Gives
+pub mod Held
+pub mod Indexed

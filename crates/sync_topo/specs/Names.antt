@@ -1,0 +1,24 @@
+-- Names of elements and links.
+use Rattle.std.specs.Prelude.{ℕ, Bool, ◌&&◌, ◌||◌, ◌==◌, nat_le, List, length, Option, position}
+use Rattle.std.specs.List.{list_all, list_any}
+use Rattle.std.specs.Str.{bytes_eq}
+
+-- the byte is within the two
+abbrev pub is_between : ℕ → ℕ → ℕ → Bool
+is_between low high byte = nat_le low byte && nat_le byte high
+
+-- a letter of the alphabet, a digit, _ or -
+abbrev pub is_name_byte : ℕ → Bool
+is_name_byte byte = is_between 65 90 byte || is_between 97 122 byte || is_between 48 57 byte || byte == 95 || byte == 45
+
+-- a name has 1 to 32 such bytes. This project's own.
+abbrev pub is_name : List ℕ → Bool
+is_name name = nat_le 1 (length name) && nat_le (length name) 32 && list_all is_name_byte name
+
+-- one of the names is this one
+abbrev pub is_named : List (List ℕ) → List ℕ → Bool
+is_named names name = list_any (bytes_eq name) names
+
+-- the place of a name in the list, counted from 0
+abbrev pub place_of : List (List ℕ) → List ℕ → Option ℕ
+place_of names name = position (bytes_eq name) names

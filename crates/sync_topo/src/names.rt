@@ -1,0 +1,83 @@
+ghost use Rattle.std.specs.Prelude.{◌≡◌, [], ◌∷◌, ◌++◌, false, true, not, IfOk, OnOk, OnErr};
+ghost use Rattle.std.specs.List.{list_all};
+ghost use Rattle.sync_topo.specs.Names.{is_name, is_name_byte, is_named, place_of};
+
+use indexmap::IndexSet;
+use std::alloc::Global;
+use std::marker::Model;
+use sync_edge::NoMemory;
+
+/// Names, each at its place in the order in which they came. Contracts see their list.
+#[derive(Drop)]
+pub(crate) struct Names {
+    alloc: Global,
+    set: IndexSet<Vec<u8>>,
+}
+
+impl Model for Names {
+    ghost use Rattle.std.specs.Prelude.{ℕ, List, map};
+
+    ghost Value = { List (List ℕ) };
+
+    ghost view = { λ names. map (λ name. name.items) names.set.keys };
+}
+
+impl Names {
+    /// No names.
+    pub(crate) fn new(alloc: Global) -> Names
+        ensures { result ≡ [] }
+    {
+        Names {
+            alloc,
+            set: IndexSet::new(alloc),
+        }
+    }
+
+    /// The place of a name, counted from 0.
+    pub(crate) fn place_of(&self, name: &[u8]) -> Option<usize>
+        ensures { result ≡ place_of self.now name.now }
+    {
+        self.set.get_index_of(name)
+    }
+
+    /// One of the names is this one.
+    pub(crate) fn has(&self, name: &[u8]) -> bool
+        ensures { result ≡ is_named self.now name.now }
+    {
+        self.set.contains(name)
+    }
+
+    /// Puts a new name at the end.
+    pub(crate) fn add(&mut self, name: &[u8]) -> Result<(), NoMemory>
+        requires { is_named self.old name.now ≡ false }
+        ensures { OnOk result (self.new ≡ self.old ++ name.now ∷ []) }
+    {
+        let Ok(name) = Vec::from_slice(self.alloc, name) else {
+            return Err(NoMemory);
+        };
+        let Ok(_) = self.set.insert_full(name) else {
+            return Err(NoMemory);
+        };
+        Ok(())
+    }
+}
+
+/// The byte may stand in a name: a letter of the alphabet, a digit, `_` or `-`.
+fn is_name_byte(byte: u8) -> bool
+    ensures { result ≡ is_name_byte byte }
+{
+    matches!(byte, b'A'..=b'Z' | b'a'..=b'z' | b'0'..=b'9' | b'_' | b'-')
+}
+
+/// The bytes keep the rule for names.
+pub(crate) fn is_name(name: &[u8]) -> bool
+    ensures { result ≡ is_name name.now }
+{
+    1 <= name.len() && name.len() <= 32 && all_name_bytes(name)
+}
+
+fn all_name_bytes(name: &[u8]) -> bool
+    ensures { result ≡ list_all is_name_byte name.now }
+{
+    name.iter().all(|byte| is_name_byte(*byte))
+}
