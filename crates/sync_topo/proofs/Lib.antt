@@ -2,3 +2,4 @@ pub mod Lists
 pub mod Inputs
 pub mod HeldLemmas
 pub mod WellFormedLemmas
+pub mod LineNames

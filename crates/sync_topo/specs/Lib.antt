@@ -7,4 +7,5 @@ pub mod WellFormed
 pub mod Names
 pub mod Gives
 pub mod Held
+pub mod Naming
 pub mod Indexed

@@ -1,4 +1,4 @@
-ghost use Rattle.std.specs.Prelude.{◌≡◌, [], ◌∷◌, ◌++◌, false, true, not, IfOk, OnOk, OnErr};
+ghost use Rattle.std.specs.Prelude.{◌≡◌, [], ◌∷◌, ◌++◌, false, true, not, IfOk, OnOk, OnErr, is_some, IfSome, length, ◌<◌};
 ghost use Rattle.std.specs.List.{list_all};
 ghost use Rattle.sync_topo.specs.Names.{is_name, is_name_byte, is_named, place_of};
 
@@ -35,7 +35,9 @@ impl Names {
 
     /// The place of a name, counted from 0.
     pub(crate) fn place_of(&self, name: &[u8]) -> Option<usize>
-        ensures { result ≡ place_of self.now name.now }
+        ensures place { result ≡ place_of self.now name.now }
+        ensures found { is_some result ≡ is_named self.now name.now }
+        ensures within { IfSome result (λ place. place < length self.now) }
     {
         self.set.get_index_of(name)
     }

@@ -1,9 +1,11 @@
 ghost use Rattle.std.specs.Prelude.{◌≡◌, ℕ, ◌+◌, ◌*◌, ◌<◌, ◌↔◌, IsTrue, length, slice_get, Some, map};
-ghost use Rattle.sync_topo.specs.Lines.{line_count, sender_of, receiver_of, reverse_of, priority_of, is_nominated, input_number};
+ghost use Rattle.sync_topo.specs.Lines.{line_count, sender_of, receiver_of, reverse_of, priority_of, is_nominated, inputs_of, input_number};
 ghost use Rattle.sync_topo.specs.Hops.{hops, Hops};
 ghost use Rattle.sync_topo.specs.Gives.{Gives};
 ghost use Rattle.sync_topo.specs.PlanRows.{plan_of_rows};
 ghost use Rattle.sync_topo.specs.WellFormed.{IsWellFormed};
+
+mod naming;
 
 use crate::element::Element;
 use crate::error::PlanErr;
@@ -161,6 +163,15 @@ impl Plan {
         ensures nominated { result ≡ is_nominated self.now (input_number i) }
     {
         0 < self.priority(i)
+    }
+
+    /// The inputs of an element, in order of number: the nominated lines into it.
+    pub fn inputs(&self, e: u32) -> &[InputId]
+        requires { e < length self.now.elements }
+        ensures well_formed { IsWellFormed self.now }
+        ensures inputs { map input_number result.now ≡ inputs_of self.now e }
+    {
+        self.parts.inputs[e as usize].as_slice()
     }
 
     /// What line `l` brings to an element may go on over line `m`: both are nominated, `m` begins
