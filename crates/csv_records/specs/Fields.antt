@@ -1,0 +1,7 @@
+-- The fields of a record of a length that is known.
+use Rattle.std.specs.Prelude.{ℕ, List, [], ◌∷◌, Option, Some, None}
+
+-- both fields of a record of two
+abbrev pub pair_of : List (List ℕ) → Option (List ℕ × List ℕ)
+pair_of (first ∷ second ∷ []) = Some (first, second)
+pair_of _ = None

@@ -1,0 +1,74 @@
+// One record and its fields.
+
+ghost use Rattle.std.specs.Prelude.{◌≡◌, ◌==◌, List, length, option_map, slice_get};
+ghost use Rattle.csv_records.specs.Fields.{pair_of};
+
+use csv::ByteRecord;
+use std::marker::Model;
+
+/// A record: its fields in order, each of them bytes.
+///
+/// After RFC 4180, record.
+#[derive(Debug, Drop)]
+pub struct Record {
+    fields: ByteRecord,
+}
+
+impl Model for Record {
+    ghost use Rattle.std.specs.Prelude.{ℕ, List};
+    ghost use Rattle.csv.specs.Records.{fields_of};
+
+    ghost Value = { List (List ℕ) };
+
+    ghost view = { λ r. fields_of r.fields };
+}
+
+impl Record {
+    ghost use Rattle.csv.specs.Records.{fields_of};
+
+    pub(crate) fn of(fields: ByteRecord) -> Record
+        ensures { result ≡ fields_of fields }
+    {
+        Record { fields }
+    }
+
+    /// How many fields the record has.
+    pub fn len(&self) -> usize
+        ensures { result ≡ length self.now }
+    {
+        self.fields.len()
+    }
+
+    /// Whether the record has no field, which no record of a text is.
+    pub fn is_empty(&self) -> bool
+        ensures { result ≡ (length self.now == 0) }
+    {
+        self.fields.is_empty()
+    }
+
+    /// The field at a place, counted from 0.
+    ///
+    /// `None` where the record has no such field.
+    #[tactic(auto, using(crate::proofs::FieldFacts::field_at_is))]
+    pub fn get(&self, place: usize) -> Option<&[u8]>
+        ensures { option_map (λ field. field.now) result ≡ slice_get self.now place }
+    {
+        self.fields.get(place)
+    }
+
+    /// Both fields of a record of two.
+    ///
+    /// `None` where the record has fewer fields or more.
+    #[tactic(auto, using(crate::proofs::FieldFacts::pair_facts))]
+    pub fn pair(&self) -> Option<(&[u8], &[u8])>
+        ensures { option_map (λ pair. (pair.0.now, pair.1.now)) result ≡ pair_of self.now }
+    {
+        let first = self.get(0)?;
+        let second = self.get(1)?;
+        if self.len() == 2 {
+            Some((first, second))
+        } else {
+            None
+        }
+    }
+}
