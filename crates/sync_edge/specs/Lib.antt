@@ -2,4 +2,5 @@ pub mod Number
 pub mod Faults
 pub mod Contents
 pub mod Transfers
+pub mod Memory
 pub mod Examples

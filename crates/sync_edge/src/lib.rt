@@ -6,12 +6,14 @@
 
 mod errors;
 mod lists;
+mod memory_folder;
 mod numbers;
 mod outside;
 mod transfers;
 
 pub use errors::{Failed, NoMemory, ReadErr, WriteFailed};
 pub use lists::{Rows, Text};
+pub use memory_folder::{MemFile, MemFolder};
 pub use numbers::read_number;
 pub use outside::{Folder, Sink};
 pub use transfers::{read_all, write_all};
