@@ -57,3 +57,26 @@ pub record IsNextCall (old new : MemoryFolder) : Type 0 where
   pub files : new.files ≡ old.files
   pub piece : new.piece ≡ old.piece
   pub fails : new.fails ≡ old.fails
+
+-- a sink in memory: what was written, the room that is left, at most how many bytes one write takes, the
+-- numbers of the writes that fail, the number of the next write, and how often a write has failed
+pub record MemorySink : Type 0 where
+  pub written : List ℕ
+  pub room : ℕ
+  pub piece : ℕ
+  pub fails : List ℕ
+  pub number : ℕ
+  pub faults : ℕ
+
+-- what the members of the trait are for a sink in memory
+abbrev pub told_written : MemorySink → Option (List ℕ)
+told_written sink = Some sink.written
+
+abbrev pub sink_faults : MemorySink → ℕ
+sink_faults sink = sink.faults
+
+-- a write was counted, and left the writes that fail as they were
+pub record IsNextWrite (old new : MemorySink) : Type 0 where
+  pub number : new.number ≡ one_more old.number
+  pub piece : new.piece ≡ old.piece
+  pub fails : new.fails ≡ old.fails

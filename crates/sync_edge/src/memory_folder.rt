@@ -4,7 +4,7 @@ ghost use Rattle.std.specs.Io.KnownBytes.{ReadConsumes};
 ghost use Rattle.sync_edge.specs.Contents.{Contents, HasName, Starts, IsSpent, KeepsFolder};
 ghost use Rattle.std.specs.FinMap.{get};
 ghost use Rattle.std.specs.Str.{bytes_eq};
-ghost use Rattle.sync_edge.specs.Memory.{bytes_of, contents_of};
+ghost use Rattle.sync_edge.specs.Memory.{bytes_of, contents_of, fails_at};
 ghost use Rattle.sync_edge.specs.Faults.{HasCause, one_more};
 
 use crate::errors::Failed;
@@ -50,7 +50,7 @@ impl Model for MemFolder {
 }
 
 impl MemFolder {
-    ghost use Rattle.sync_edge.specs.Memory.{MemoryFolder, fails_at, left_of, told_contents, is_steady, fault_count};
+    ghost use Rattle.sync_edge.specs.Memory.{MemoryFolder, left_of, told_contents, is_steady, fault_count};
 
     /// A folder with these files, of which one read gives at most `piece` bytes, and whose calls with
     /// the listed numbers fail. It takes no memory.
@@ -133,7 +133,7 @@ impl MemFolder {
 }
 
 impl Folder for MemFolder {
-    ghost use Rattle.sync_edge.specs.Memory.{fails_at, contents_of, told_contents, told_left, is_steady, fault_count, IsNextCall};
+    ghost use Rattle.sync_edge.specs.Memory.{told_contents, told_left, is_steady, fault_count, IsNextCall};
 
     ghost contents = { told_contents };
 
@@ -182,6 +182,13 @@ impl Folder for MemFolder {
         }
         Ok(self.take_front(buf))
     }
+}
+
+/// Whether the call of this number is one that fails.
+pub(crate) fn is_listed(fails: &[u32], number: u64) -> bool
+    ensures { result ≡ fails_at fails.now number }
+{
+    fails.iter().any(|fail| u64::from(*fail) == number)
 }
 
 /// The place of the first file of this name.
