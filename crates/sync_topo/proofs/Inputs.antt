@@ -2,7 +2,13 @@
 use Rattle.std.proofs.Common.{◌≡◌, ℕ, ◌+◌, ◌*◌, ◌/◌, ◌%◌, ◌<◌, ◌≤◌, Bool, true, false, ◌&&◌, nat_eq, nat_lt, List, [], ◌∷◌, ◌++◌, length, filter, Option, Some, None, slice_get, refl, ap, sym, ◌∙◌, arith, ne_eqb, length-append, append_assoc}
 use Rattle.std.specs.Prelude.{if◌then◌else◌, ◌==◌, ◌≢◌}
 use Rattle.std.proofs.lemmas.List.{append-nil}
-use Rattle.std.specs.List.{range_with_len}
+use Rattle.std.specs.List.{range_with_len, All}
+use Rattle.std.proofs.Common.{map, zero-add}
+use Rattle.std.proofs.lemmas.List.{length-map, get_or-map}
+use Rattle.std.proofs.lemmas.List.Elements.{All-filter}
+use Rattle.std.proofs.lemmas.List.FromFn.{length-range_with_len, get_or-range_with_len}
+use Rattle.sync_topo.specs.declared.link.InputId.{InputId}
+use Rattle.sync_topo.specs.Lines.{input_number}
 use Rattle.std.proofs.lemmas.Nat.{div-mul-add}
 use Rattle.std.proofs.Math.Nat.{mul-add-mod_self_left}
 use Rattle.sync_topo.specs.declared.element.Element.{Element}
@@ -85,3 +91,14 @@ inputs-at_b es ls link apart =
     let n = length ls in
     let none : taken link.a link.priority_a (2 * n + 1) link.b ≡ [] = taken-other link.a link.priority_a (2 * n + 1) link.b apart in
     rw (inputs_of-push es ls link link.b, none, append-nil (inputs_of (plan_with es ls) link.b ++ taken link.b link.priority_b (2 * n) link.b), length-append (inputs_of (plan_with es ls) link.b) _, length-taken link.b link.priority_b (2 * n) 0 link.b) refl
+
+-- every input has the number of a line
+pub inputs-within : (plan : Topology) (element : ℕ) (inputs : List InputId) → map input_number inputs ≡ inputs_of plan element
+    → All (λ i. input_number i < line_count plan) inputs
+inputs-within plan element inputs same k d within =
+    let numbered : All (λ n. n < line_count plan) (range_with_len 0 (line_count plan))
+    = λ j e h. rw (get_or-range_with_len 0 (line_count plan) j e (rw (length-range_with_len 0 (line_count plan)) at h), zero-add j) (rw (length-range_with_len 0 (line_count plan)) at h) in
+    let kept : All (λ n. n < line_count plan) (inputs_of plan element)
+    = All-filter (is_input plan element) (λ n. n < line_count plan) (range_with_len 0 (line_count plan)) numbered in
+    let there : k < length (map input_number inputs) = rw (length-map) within in
+    rw (← get_or-map input_number inputs k d (input_number d) within, same) (kept k (input_number d) (rw same at there))

@@ -3,3 +3,4 @@ pub mod Inputs
 pub mod HeldLemmas
 pub mod WellFormedLemmas
 pub mod LineNames
+pub mod LineLaws

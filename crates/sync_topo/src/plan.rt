@@ -1,4 +1,5 @@
 ghost use Rattle.std.specs.Prelude.{◌≡◌, ℕ, ◌+◌, ◌*◌, ◌<◌, ◌↔◌, IsTrue, length, slice_get, Some, map};
+ghost use Rattle.std.specs.List.{All};
 ghost use Rattle.sync_topo.specs.Lines.{line_count, sender_of, receiver_of, reverse_of, priority_of, is_nominated, inputs_of, input_number};
 ghost use Rattle.sync_topo.specs.Hops.{hops, Hops};
 ghost use Rattle.sync_topo.specs.Gives.{Gives};
@@ -170,6 +171,7 @@ impl Plan {
         requires { e < length self.now.elements }
         ensures well_formed { IsWellFormed self.now }
         ensures inputs { map input_number result.now ≡ inputs_of self.now e }
+        ensures within { All (λ i. input_number i < line_count self.now) result.now }
     {
         self.parts.inputs[e as usize].as_slice()
     }

@@ -1,0 +1,5 @@
+pub mod Status
+pub mod Ranks
+pub mod CertificateText
+pub mod CertificateGives
+pub mod FirstFall

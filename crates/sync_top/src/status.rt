@@ -1,0 +1,47 @@
+ghost use Rattle.std.specs.Prelude.{◌≡◌};
+
+/// How a run of the program ended.
+///
+/// This project's own.
+#[derive(Clone, Copy, Debug, PartialEq, Eq, Drop)]
+pub enum Status {
+    /// The answer was written; for `check`, `accepted`.
+    Done,
+    /// `check`: some hop doesn't rise.
+    Refuted,
+    /// The words are no form of the program.
+    Usage,
+    /// The plan is refused.
+    BadPlan,
+    /// The certificate is refused.
+    BadCert,
+    /// The folder failed, or a file isn't there.
+    ReadFault,
+    /// The sink failed.
+    WriteFault,
+    /// A file has more than 8,388,608 bytes.
+    TooLong,
+    /// Memory ran out. Nothing was written.
+    NoMemory,
+}
+
+impl Status {
+    ghost use Rattle.sync_top.specs.Status.{number_of};
+
+    /// The exit status of the program, 0 to 11.
+    pub fn number(self) -> u8
+        ensures { result ≡ number_of self }
+    {
+        match self {
+            Status::Done => 0,
+            Status::Refuted => 1,
+            Status::Usage => 2,
+            Status::BadPlan => 3,
+            Status::BadCert => 4,
+            Status::ReadFault => 7,
+            Status::WriteFault => 8,
+            Status::TooLong => 9,
+            Status::NoMemory => 10,
+        }
+    }
+}
