@@ -1,5 +1,5 @@
-ghost use Rattle.std.specs.Prelude.{◌≡◌, ◌<◌, length, replicate, slice_set, Some, None, IfOk};
-ghost use Rattle.sync_topo.specs.Lines.{line_count};
+ghost use Rattle.std.specs.Prelude.{◌≡◌, ◌+◌, ◌<◌, length, replicate, slice_set, Some, None, option_map, is_none, ◌&&◌, IfOk};
+ghost use Rattle.sync_topo.specs.Lines.{line_count, is_nominated};
 ghost use Rattle.sync_top.specs.Ranks.{rank_at, IsRanked};
 ghost use Rattle.sync_top.specs.CertificateText.{certificate_of, ranks_of_records, ranks_of_rows, with_row, first_without, is_header};
 ghost use Rattle.sync_top.specs.CertificateGives.{Gives, GivesThat};
@@ -69,5 +69,104 @@ impl Cert {
         ensures { self.new ≡ slice_set self.old line.0 (Some rank) }
     {
         self.ranks[line.0 as usize] = Some(rank);
+    }
+}
+
+impl Cert {
+    /// Takes the ranks of all rows. After a refusal they are spent.
+    fn take_rows(&mut self, plan: &Plan, rows: &[Record]) -> Result<(), CertErr>
+        requires { length self.old ≡ line_count plan.now }
+        ensures gives { GivesThat result self.new (ranks_of_rows plan.now self.old 1 rows.now) }
+        ensures counted { length self.new ≡ line_count plan.now }
+    {
+        for row in rows {
+            self.take_row(plan, row)?;
+        }
+        Ok(())
+    }
+
+    /// Takes the rank of a row.
+    #[tactic(auto, unfolding(crate::specs::CertificateText::with_row))]
+    fn take_row(&mut self, plan: &Plan, row: &Record) -> Result<(), CertErr>
+        requires { length self.old ≡ line_count plan.now }
+        ensures gives { GivesThat result self.new (with_row plan.now self.old row.now) }
+        ensures counted { length self.new ≡ line_count plan.now }
+    {
+        let Some((name, rank)) = row.pair() else {
+            return Err(CertErr::Refused);
+        };
+        let Some(rank) = read_number(rank) else {
+            return Err(CertErr::Refused);
+        };
+        let Some(line) = plan.line_of_name(name) else {
+            return Err(CertErr::Refused);
+        };
+        if !plan.nominated(InputId::Line(line)) || self.rank(line).is_some() {
+            return Err(CertErr::Refused);
+        }
+        self.set(line, rank);
+        Ok(())
+    }
+
+    /// The line is nominated and has no rank.
+    fn lacks_rank(&self, plan: &Plan, line: LineId) -> bool
+        requires counted { length self.now ≡ line_count plan.now }
+        requires within { line.0 < line_count plan.now }
+        ensures { result ≡ (is_nominated plan.now line.0 && is_none (rank_at self.now line.0)) }
+    {
+        plan.nominated(InputId::Line(line)) && self.rank(line).is_none()
+    }
+
+    /// The lowest-numbered nominated line without a rank.
+    fn first_without(&self, plan: &Plan) -> Option<LineId>
+        requires { length self.now ≡ line_count plan.now }
+        ensures { option_map (λ line. line.0) result ≡ first_without plan.now self.now }
+    {
+        for number in 0..plan.lines() {
+            let line = LineId(number);
+            if self.lacks_rank(plan, line) {
+                return Some(line);
+            }
+        }
+        None
+    }
+}
+
+/// The certificate of a text: a rank for each nominated line of the plan, and for no other line.
+///
+/// `Refused` comes exactly where the text breaks a rule for certificates.
+pub(crate) fn read_cert(alloc: Global, plan: &Plan, bytes: &[u8]) -> Result<Cert, CertErr>
+    ensures exact { Gives result (certificate_of plan.now bytes.now) }
+    ensures ranked { IfOk result (IsRanked plan.now) }
+{
+    let records = read_records(alloc, bytes)?;
+    cert_of(alloc, plan, records.as_slice())
+}
+
+#[tactic(auto, unfolding(crate::specs::CertificateText::ranks_of_records))]
+fn cert_of(alloc: Global, plan: &Plan, records: &[Record]) -> Result<Cert, CertErr>
+    ensures exact { Gives result (ranks_of_records plan.now records.now) }
+    ensures ranked { IfOk result (IsRanked plan.now) }
+{
+    let Some((first, rows)) = records.split_first() else {
+        return Err(CertErr::Refused);
+    };
+    if !is_header(first) {
+        return Err(CertErr::Refused);
+    }
+    let mut cert = Cert::new(alloc, plan)?;
+    cert.take_rows(plan, rows)?;
+    if cert.first_without(plan).is_some() {
+        return Err(CertErr::Refused);
+    }
+    Ok(cert)
+}
+
+fn is_header(record: &Record) -> bool
+    ensures { result ≡ is_header record.now }
+{
+    match record.pair() {
+        Some((line, rank)) => line == b"line".as_slice() && rank == b"rank".as_slice(),
+        None => false,
     }
 }
