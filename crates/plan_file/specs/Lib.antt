@@ -1,0 +1,5 @@
+pub mod Refusal
+pub mod Fields
+pub mod PlanText
+pub mod Gives
+pub mod Examples

@@ -1,0 +1,19 @@
+//! Plan files: the plan of a TOML document.
+//!
+//! [`read_plan`] gives the plan of a file's bytes. Which plan that is, or at which place the file is
+//! first refused, is `plan_of`: from the document that `toml` reads to rows, and from rows to the
+//! plan that sync_topo gives them.
+//!
+//! That whole files from outside give the plans that one expects is tested.
+#![tactic(auto)]
+
+mod error;
+mod fields;
+mod reading;
+mod rows;
+
+pub use error::PlanFileErr;
+pub use reading::read_plan;
+
+#[cfg(test)]
+mod tests;
