@@ -21,3 +21,6 @@ pub use numbers::read_number;
 pub use outside::{Folder, Sink};
 pub use real::{RealFolder, RealSink};
 pub use transfers::{read_all, write_all};
+
+#[cfg(test)]
+mod tests;

@@ -1,14 +1,16 @@
-ghost use Rattle.std.specs.Prelude.{None, false};
+ghost use Rattle.std.specs.Prelude.{◌≡◌, None, false};
 
 use crate::errors::Failed;
 use crate::outside::{Folder, Sink};
 use std::io::{Read, Write};
+use std::marker::Model;
 use std::rt::Files;
 use std::{fs, io};
 
 /// The files of the system. It tells no content, and is never steady.
 ///
-/// A name is a path; each error of the system is a fault.
+/// A name is a path, and each error of the system is a fault. Contracts see the count of faults.
+/// This project's own.
 #[derive(Drop)]
 pub struct RealFolder<'a, R: Files> {
     rt: &'a R,
@@ -16,9 +18,19 @@ pub struct RealFolder<'a, R: Files> {
     faults: u64,
 }
 
+impl<'a, R: Files> Model for RealFolder<'a, R> {
+    ghost use Rattle.std.specs.Prelude.{ℕ};
+
+    ghost Value = { ℕ };
+
+    ghost view = { λ folder. folder.faults };
+}
+
 impl<'a, R: Files> RealFolder<'a, R> {
     /// The files that `rt` gives. No file is started. It takes no memory.
-    pub fn new(rt: &'a R) -> RealFolder<'a, R> {
+    pub fn new(rt: &'a R) -> RealFolder<'a, R>
+        ensures { result ≡ 0 }
+    {
         RealFolder {
             rt,
             file: None,
@@ -34,7 +46,7 @@ impl<R: Files> Folder for RealFolder<'_, R> {
 
     ghost steady = { λ _. false };
 
-    ghost faults = { λ folder. folder.faults };
+    ghost faults = { λ faults. faults };
 
     fn start(&mut self, name: &str) -> Result<(), Failed> {
         match fs::open(self.rt, name) {
@@ -66,16 +78,28 @@ impl<R: Files> Folder for RealFolder<'_, R> {
 
 /// The standard output of the system. It tells no content.
 ///
-/// What was written is flushed at once. A write that takes none of some bytes is a fault.
+/// What was written is flushed at once. A write that takes none of some bytes is a fault. Contracts see
+/// the count of faults.
+/// This project's own.
 #[derive(Drop)]
 pub struct RealSink<'a, R: Print> {
     rt: &'a R,
     faults: u64,
 }
 
+impl<'a, R: Print> Model for RealSink<'a, R> {
+    ghost use Rattle.std.specs.Prelude.{ℕ};
+
+    ghost Value = { ℕ };
+
+    ghost view = { λ sink. sink.faults };
+}
+
 impl<'a, R: Print> RealSink<'a, R> {
     /// The standard output that `rt` gives. It takes no memory.
-    pub fn new(rt: &'a R) -> RealSink<'a, R> {
+    pub fn new(rt: &'a R) -> RealSink<'a, R>
+        ensures { result ≡ 0 }
+    {
         RealSink { rt, faults: 0 }
     }
 }
@@ -83,7 +107,7 @@ impl<'a, R: Print> RealSink<'a, R> {
 impl<R: Print> Sink for RealSink<'_, R> {
     ghost written = { λ _. None };
 
-    ghost faults = { λ sink. sink.faults };
+    ghost faults = { λ faults. faults };
 
     fn write(&mut self, bytes: &[u8]) -> Result<usize, Failed> {
         if bytes.is_empty() {
