@@ -1,5 +1,5 @@
 -- The exit status of the program. This project's own.
-use Rattle.std.specs.Prelude.{ℕ}
+use Rattle.std.specs.Prelude.{ℕ, ⊤}
 use Rattle.sync_top.specs.declared.status.Status.{Status}
 use Rattle.sync_top.specs.declared.status.Status.TheVariants.{Done, Refuted, Usage, BadPlan, BadCert, ReadFault, WriteFault, TooLong, NoMemory}
 
@@ -14,3 +14,10 @@ number_of ReadFault = 7
 number_of WriteFault = 8
 number_of TooLong = 9
 number_of NoMemory = 10
+
+-- a fact for each status that tells an answer: no fault, and no want of memory
+abbrev pub OnAnswer : Status → Type 0 → Type 0
+OnAnswer ReadFault P = ⊤
+OnAnswer WriteFault P = ⊤
+OnAnswer NoMemory P = ⊤
+OnAnswer status P = P

@@ -162,10 +162,10 @@ fn cert_of(alloc: Global, plan: &Plan, records: &[Record]) -> Result<Cert, CertE
     Ok(cert)
 }
 
-fn is_header(record: &Record) -> bool
-    ensures { result ≡ is_header record.now }
+fn is_header(first: &Record) -> bool
+    ensures { result ≡ is_header first.now }
 {
-    match record.pair() {
+    match first.pair() {
         Some((line, rank)) => line == b"line".as_slice() && rank == b"rank".as_slice(),
         None => false,
     }

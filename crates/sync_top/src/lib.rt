@@ -3,7 +3,14 @@
 #![tactic(auto)]
 
 mod certificate;
+mod check;
+mod program;
 mod ranks;
+mod reply;
 mod status;
 
+pub use program::run;
 pub use status::Status;
+
+#[cfg(test)]
+mod tests;

@@ -1,0 +1,122 @@
+-- The program's answer to some words over some files: a status and a text.
+use Rattle.std.specs.Prelude.{◌≡◌, ℕ, ◌⊎◌, Bool, nat_lt, ⊤, List, [], ◌++◌, length, codes, Option, Some, None, Result, Ok, Err, if◌then◌else◌}
+use Rattle.std.specs.Prelude.{IsTrue, IfSome}
+use Rattle.std.specs.FinMap.{get}
+use Rattle.std.specs.Io.KnownBytes.{Appends}
+use Rattle.sync_edge.specs.Faults.{Rose}
+use Rattle.sync_edge.specs.Transfers.{AppendsFront}
+use Rattle.sync_edge.specs.Contents.{Contents}
+use Rattle.sync_topo.specs.Topology.{Topology}
+use Rattle.sync_topo.specs.Lines.{line_name}
+use Rattle.sync_topo.specs.Hops.{IsRising}
+use Rattle.sync_topo.specs.Refusal.{◌>>=◌}
+use Rattle.plan_file.specs.PlanText.{plan_of}
+use Rattle.sync_top.specs.declared.status.Status.{Status}
+use Rattle.sync_top.specs.declared.status.Status.TheVariants.{Done, Refuted, Usage, BadPlan, BadCert, TooLong}
+use Rattle.sync_top.specs.Form.{Form, check, form_of}
+use Rattle.sync_top.specs.Ranks.{Ranks, rank_of, IsFirstFall}
+use Rattle.sync_top.specs.CertificateText.{certificate_of}
+
+-- a text of one line
+abbrev pub line : List ℕ → List ℕ
+line words = words ++ codes "\n"
+
+-- how the reading of the files can end the work
+pub data End : Type 0 where
+  -- a file that the work comes to isn't there, so there is no answer
+  no_file : End
+  -- the answer is this status and this text
+  answered : Status → List ℕ → End
+
+-- the most bytes that a file may have
+abbrev pub file_limit : ℕ
+file_limit = 8388608
+
+-- the bytes of a file
+abbrev pub file : List ℕ → Contents → Result (List ℕ) End
+file name files = within (get files name)
+  where
+    within : Option (List ℕ) → Result (List ℕ) End
+    within None = Err no_file
+    within (Some bytes) = if nat_lt file_limit (length bytes) then Err (answered TooLong (line (codes "too long"))) else Ok bytes
+
+-- the value, where it is not refused
+abbrev pub accepted_or : {A E : Type 0} → Status → List ℕ → Result A E → Result A End
+accepted_or status refusal (Ok value) = Ok value
+accepted_or status refusal (Err reason) = Err (answered status (line refusal))
+
+-- the plan of a file
+abbrev pub plan_in : List ℕ → Contents → Result Topology End
+plan_in name files = do
+  bytes ← file name files
+  accepted_or BadPlan (codes "bad plan") (plan_of bytes)
+
+-- the ranks that a file gives the lines of a plan
+abbrev pub ranks_in : Topology → List ℕ → Contents → Result Ranks End
+ranks_in plan name files = do
+  bytes ← file name files
+  accepted_or BadCert (codes "bad certificate") (certificate_of plan bytes)
+
+-- the plan first, and then its certificate
+abbrev pub documents : List ℕ → List ℕ → Contents → Result (Topology × Ranks) End
+documents plan_name certificate_name files = do
+  plan ← plan_in plan_name files
+  ranks ← ranks_in plan certificate_name files
+  Ok (plan, ranks)
+
+-- accepted where ranks rise over every hop, and else the first hop over which they don't
+abbrev pub IsVerdict : Topology → Ranks → Status → List ℕ → Type 0
+IsVerdict plan ranks Done text = IsRising plan (rank_of ranks) × (text ≡ line (codes "accepted"))
+IsVerdict plan ranks Refuted text =
+    (from to : ℕ) × IsFirstFall plan ranks from to
+    × (text ≡ line (codes "falls " ++ line_name plan from ++ codes " " ++ line_name plan to))
+IsVerdict plan ranks status text = ⊥
+
+-- the answer to `check`: the verdict on both documents, or what ends their reading
+abbrev pub CheckAnswer : List ℕ → List ℕ → Contents → Status → List ℕ → Type 0
+CheckAnswer plan_name certificate_name files status text = ends (documents plan_name certificate_name files)
+  where
+    ends : Result (Topology × Ranks) End → Type 0
+    ends (Ok read) = IsVerdict read.0 read.1 status text
+    ends (Err no_file) = ⊥
+    ends (Err (answered known written)) = (status ≡ known) × (text ≡ written)
+
+-- the answer to a form, and to words that are none
+abbrev pub FormAnswer : Option Form → Contents → Status → List ℕ → Type 0
+FormAnswer None files status text = (status ≡ Usage) × (text ≡ line (codes "usage"))
+FormAnswer (Some (check plan_name certificate_name)) files status text = CheckAnswer plan_name certificate_name files status text
+
+-- the program's answer to some words
+abbrev pub IsAnswer : List (List ℕ) → Contents → Status → List ℕ → Type 0
+IsAnswer words files status text = FormAnswer (form_of words) files status text
+
+-- a file that the answer comes to isn't there
+abbrev pub FormMissesFile : Option Form → Contents → Type 0
+FormMissesFile None files = ⊥
+FormMissesFile (Some (check plan_name certificate_name)) files = documents plan_name certificate_name files ≡ Err no_file
+
+abbrev pub MissesFile : List (List ℕ) → Contents → Type 0
+MissesFile words files = FormMissesFile (form_of words) files
+
+-- contents that are told have each file that the answer comes to
+abbrev pub HasFiles : List (List ℕ) → Option Contents → Type 0
+HasFiles words None = ⊥
+HasFiles words (Some files) = ¬ MissesFile words files
+
+-- the line that is written where a file can't be read
+abbrev pub fault_text : List ℕ
+fault_text = line (codes "read fault")
+
+-- the text of the answer in this status was written
+abbrev pub Delivers : List (List ℕ) → Option (List ℕ) → Option (List ℕ) → Status → Contents → Type 0
+Delivers words before now status files = (text : List ℕ) × IsAnswer words files status text × Appends before now text
+
+-- only a front was written: of the text of an answer, or of the line on a file that can't be read, where a fault of
+-- the folder lets it come
+abbrev pub IsCut : List (List ℕ) → Option (List ℕ) → Option (List ℕ) → Type 0 → Contents → Type 0
+IsCut words before now MayFault files =
+    (text : List ℕ) × AppendsFront before now text × (((status : Status) × IsAnswer words files status text) ⊎ ((text ≡ fault_text) × MayFault))
+
+-- a fault of the folder may come: its count rose, and it isn't steady with every file there
+abbrev pub MayFault : List (List ℕ) → Option Contents → Bool → ℕ → ℕ → Type 0
+MayFault words told steady before now = Rose before now × (IsTrue steady → IfSome told (MissesFile words))

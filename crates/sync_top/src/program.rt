@@ -1,0 +1,86 @@
+ghost use Rattle.std.specs.Prelude.{◌≡◌, ◌≢◌, map, None, IfOk, IfSome, IsTrue};
+ghost use Rattle.std.specs.String.{string_bytes};
+ghost use Rattle.std.specs.Io.KnownBytes.{Appends};
+ghost use Rattle.sync_edge.specs.Contents.{KeepsFolder};
+ghost use Rattle.sync_edge.specs.Faults.{Rose};
+ghost use Rattle.sync_top.specs.Status.{OnAnswer};
+ghost use Rattle.sync_top.specs.Form.{form_of};
+ghost use Rattle.sync_top.specs.Answer.{IsAnswer, MissesFile, HasFiles, Delivers, IsCut, MayFault, fault_text};
+ghost use Rattle.sync_top.specs.Work.{Replies, EndsIn};
+
+use crate::check::{check, line_of};
+use crate::reply::{Reply, Stop};
+use crate::status::Status;
+use std::alloc::Global;
+use sync_edge::{Folder, NoMemory, Sink, write_all};
+
+/// The work that the words ask for.
+fn work<F: Folder>(alloc: Global, words: &[String], folder: &mut F) -> Result<Reply, Stop>
+    ensures replies { Replies (IsAnswer (map string_bytes words.now)) (MissesFile (map string_bytes words.now)) (F.contents folder.old) (F.steady folder.old) (F.faults folder.old) (F.faults folder.new) result }
+    ensures keeps { KeepsFolder F.contents F.steady F.faults folder.old folder.new }
+    ensures no_call { form_of (map string_bytes words.now) ≡ None → folder.new ≡ folder.old }
+{
+    match words {
+        [word, plan, cert]
+            if word.as_str() == "check" && !plan.as_str().is_empty() && !cert.as_str().is_empty() =>
+            { check(alloc, folder, plan.as_str(), cert.as_str()) }
+        _ => Ok(Reply {
+            status: Status::Usage,
+            text: line_of(alloc, b"usage")?,
+        }),
+    }
+}
+
+/// The reply to the words.
+fn reply_to<F: Folder>(alloc: Global, words: &[String], folder: &mut F) -> Result<Reply, NoMemory>
+    ensures ends { IfOk result (λ reply. EndsIn (IsAnswer (map string_bytes words.now)) (MissesFile (map string_bytes words.now)) (F.contents folder.old) (F.steady folder.old) (F.faults folder.old) (F.faults folder.new) reply.status reply.text) }
+    ensures keeps { KeepsFolder F.contents F.steady F.faults folder.old folder.new }
+    ensures no_call { form_of (map string_bytes words.now) ≡ None → folder.new ≡ folder.old }
+{
+    match work(alloc, words, folder) {
+        Ok(reply) => Ok(reply),
+        Err(Stop::Ended(reply)) => Ok(reply),
+        Err(Stop::OutOfMemory) => Err(NoMemory),
+    }
+}
+
+/// Runs the program: does what the words ask for, writes the answer, and gives the exit status.
+///
+/// The words are those after the program's name. `check PLAN CERT` tests the ranks of a certificate
+/// on a plan; PLAN and CERT are nonempty names of files. The whole text is made before its first
+/// byte is written, and it is written by one `write_all`.
+///
+/// This project's own.
+pub fn run<F: Folder, K: Sink>(
+    alloc: Global,
+    words: &[String],
+    folder: &mut F,
+    sink: &mut K,
+) -> Status
+    // Where the folder tells its contents, status and text are an answer to the words.
+    ensures answer { OnAnswer result (IfSome (F.contents folder.old) (Delivers (map string_bytes words.now) (K.written sink.old) (K.written sink.new) result)) }
+
+    // A read fault has a cause, and its line was written.
+    ensures read_fault_only { result ≡ Status.ReadFault → Rose (F.faults folder.old) (F.faults folder.new) }
+    ensures read_fault_written { result ≡ Status.ReadFault → Appends (K.written sink.old) (K.written sink.new) fault_text }
+    ensures no_call { form_of (map string_bytes words.now) ≡ None → folder.new ≡ folder.old }
+    ensures sure { IsTrue (F.steady folder.old) → HasFiles (map string_bytes words.now) (F.contents folder.old) → result ≢ Status.ReadFault }
+
+    // A write fault has a cause, and what was written is a front of what was to be written.
+    ensures write_fault_only { result ≡ Status.WriteFault → Rose (K.faults sink.old) (K.faults sink.new) }
+    ensures cut { result ≡ Status.WriteFault → IfSome (F.contents folder.old) (IsCut (map string_bytes words.now) (K.written sink.old) (K.written sink.new)
+        (MayFault (map string_bytes words.now) (F.contents folder.old) (F.steady folder.old) (F.faults folder.old) (F.faults folder.new))) }
+
+    // Want of memory writes nothing.
+    ensures no_memory { result ≡ Status.NoMemory → sink.new ≡ sink.old }
+
+    ensures keeps { KeepsFolder F.contents F.steady F.faults folder.old folder.new }
+{
+    let Ok(reply) = reply_to(alloc, words, folder) else {
+        return Status::NoMemory;
+    };
+    match write_all(sink, reply.text.bytes()) {
+        Ok(()) => reply.status,
+        Err(_) => Status::WriteFault,
+    }
+}

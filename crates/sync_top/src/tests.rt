@@ -1,0 +1,254 @@
+// Runs over files and output in memory, with answers that are known from outside.
+
+use crate::{Status, run};
+use std::alloc::{AllocError, Global};
+use std::process::Abort;
+use std::test::Fail;
+use sync_edge::{MemFile, MemFolder, MemSink, NoMemory, Rows, Text};
+
+const CHAIN: &[u8] =
+    b"[[element]]\nname = \"A\"\n[[element]]\nname = \"B\"\n[[element]]\nname = \"C\"\n\
+[[link]]\nname = \"L1\"\na = \"A\"\nb = \"B\"\npriority_b = 1\n\
+[[link]]\nname = \"L2\"\na = \"B\"\nb = \"C\"\npriority_b = 1\n";
+
+const TWIN: &[u8] = b"element = [{ name = 'A' }, { name = 'B' }]\n\
+link = [{ name = 'L1', a = 'A', b = 'B', priority_a = 1, priority_b = 1 },\n\
+ { name = 'L2', a = 'A', b = 'B', priority_a = 1, priority_b = 1 }]\n";
+
+const PAIR: &[u8] = b"element = [{ name = 'A' }, { name = 'B' }]\n\
+link = [{ name = 'L1', a = 'A', b = 'B', priority_a = 1, priority_b = 1 }]\n";
+
+const ALONE: &[u8] = b"element = [{ name = 'A' }]\n";
+
+const RISING: &[u8] = b"line,rank\nL1>B,0\nL2>C,1\n";
+
+/// Where the outside fails, and how much of it there is.
+#[derive(Clone, Copy)]
+struct Outside {
+    folder_fails: &'static [u32],
+    room: usize,
+    piece: usize,
+    sink_fails: &'static [u32],
+}
+
+const CALM: Outside = Outside {
+    folder_fails: &[],
+    room: 100,
+    piece: 100,
+    sink_fails: &[],
+};
+
+fn numbers(alloc: Global, numbers: &[u32]) -> Result<Rows<u32>, NoMemory> {
+    let mut rows = Rows::new(alloc);
+    for number in numbers {
+        rows.push(*number)?;
+    }
+    Ok(rows)
+}
+
+fn file(alloc: Global, name: &[u8], bytes: &[u8]) -> Result<MemFile, NoMemory> {
+    let mut file = MemFile {
+        name: Text::new(alloc),
+        bytes: Text::new(alloc),
+    };
+    file.name.put(name)?;
+    file.bytes.put(bytes)?;
+    Ok(file)
+}
+
+fn words(alloc: Global, words: &[&str]) -> Result<Vec<String>, AllocError> {
+    let mut all = Vec::new(alloc);
+    for word in words {
+        all.push(String::from_str(alloc, word)?)?;
+    }
+    Ok(all)
+}
+
+/// Runs the words over the files `plan` and `cert`, and compares the status and what was written.
+fn answers(
+    rt: &(impl Abort + AllocGlobal),
+    line: &[&str],
+    files: (&[u8], &[u8]),
+    outside: Outside,
+    want: (Status, &[u8]),
+) -> Result<(), Fail> {
+    let alloc = rt.alloc();
+    let mut kept = Rows::new(alloc);
+    kept.push(file(alloc, b"plan", files.0)?)?;
+    kept.push(file(alloc, b"cert", files.1)?)?;
+    let mut folder = MemFolder::new(kept, 65_536, numbers(alloc, outside.folder_fails)?);
+    let fails = numbers(alloc, outside.sink_fails)?;
+    let mut sink = MemSink::new(alloc, outside.room, outside.piece.max(1), fails)?;
+    let line = words(alloc, line)?;
+    let status = run(alloc, line.as_slice(), &mut folder, &mut sink);
+    assert_eq!(rt; (status, sink.bytes()), want, "{line:?} {:?}", files.1);
+    Ok(())
+}
+
+#[test]
+fn check_answers(rt: HostRuntime) -> Result<(), Fail> {
+    let check: &[&str] = &["check", "plan", "cert"];
+    let done: (Status, &[u8]) = (Status::Done, b"accepted\n");
+    let usage: (Status, &[u8]) = (Status::Usage, b"usage\n");
+    let bad_plan: (Status, &[u8]) = (Status::BadPlan, b"bad plan\n");
+    let rows: [(&[&str], &[u8], &[u8], (Status, &[u8])); 14] = [
+        (check, CHAIN, RISING, done),
+        (
+            check,
+            CHAIN,
+            b"line,rank\nL1>B,0\nL2>C,0\n",
+            (Status::Refuted, b"falls L1>B L2>C\n"),
+        ),
+        (check, ALONE, b"line,rank\n", done),
+        // The return over its own link is no hop, and the return over a parallel link is one.
+        (check, PAIR, b"line,rank\nL1>B,0\nL1>A,0\n", done),
+        (
+            check,
+            TWIN,
+            b"line,rank\nL1>B,0\nL1>A,5\nL2>B,0\nL2>A,9\n",
+            (Status::Refuted, b"falls L1>A L2>B\n"),
+        ),
+        (&[], CHAIN, RISING, usage),
+        (&["check", "plan"], CHAIN, RISING, usage),
+        (&["check", "plan", "cert", "more"], CHAIN, RISING, usage),
+        (&["check", "", "cert"], CHAIN, RISING, usage),
+        (&["Check", "plan", "cert"], CHAIN, RISING, usage),
+        (check, b"[[elem", b"", bad_plan),
+        (check, b"version = 1\n", RISING, bad_plan),
+        (
+            &["check", "plan", "none"],
+            CHAIN,
+            RISING,
+            (Status::ReadFault, b"read fault\n"),
+        ),
+        (&["check", "plan", "none"], b"x = 1", RISING, bad_plan),
+    ];
+    for (line, plan, cert, want) in rows {
+        answers(&rt, line, (plan, cert), CALM, want)?;
+    }
+    Ok(())
+}
+
+#[test]
+fn certificates_are_read_by_their_format(rt: HostRuntime) -> Result<(), Fail> {
+    let rows: [(&[u8], bool); 22] = [
+        (b"line,rank\r\nL1>B,0\r\nL2>C,1\r\n", true),
+        (b"\xef\xbb\xbfline,rank\nL2>C,1\nL1>B,0", true),
+        (
+            b"\"line\",\"rank\"\n\n\"L1>B\",\"0\"\nL2>C,18446744073709551615\n",
+            true,
+        ),
+        (b"", false),
+        (b"line\nL1>B,0\nL2>C,1\n", false),
+        (b"line,rank,more\nL1>B,0\nL2>C,1\n", false),
+        (b"Line,rank\nL1>B,0\nL2>C,1\n", false),
+        (b"L1>B,0\nL2>C,1\n", false),
+        (b"line,rank\nL1>B,0\nL2>C\n", false),
+        (b"line,rank\nL1>B,0\nL2>C,1,2\n", false),
+        (b"line,rank\nL1>B,0\nL2>C,18446744073709551616\n", false),
+        (b"line,rank\nL1>B,0\nL2>C,01\n", false),
+        (b"line,rank\nL1>B,0\nL2>C, 1\n", false),
+        (b"line,rank\nL1>B,0\nL2>C,-1\n", false),
+        (b"line,rank\nL1>B,0\nL2>C,\n", false),
+        (b"line,rank\nL1>B,0\nL9>C,1\n", false),
+        (b"line,rank\nL1>B,0\nL2,1\n", false),
+        (b"line,rank\nL1>B,0\nL2>A,1\n", false),
+        // A line of the plan that is not nominated.
+        (b"line,rank\nL1>B,0\nL2>C,1\nL2>B,2\n", false),
+        (b"line,rank\nL1>B,0\nL1>B,0\nL2>C,1\n", false),
+        (b"line,rank\nL1>B,0\n", false),
+        (b"line,rank\nL1>B,0\nL2>C,\"1\n", false),
+    ];
+    for (cert, good) in rows {
+        let want: (Status, &[u8]) = if good {
+            (Status::Done, b"accepted\n")
+        } else {
+            (Status::BadCert, b"bad certificate\n")
+        };
+        answers(&rt, &["check", "plan", "cert"], (CHAIN, cert), CALM, want)?;
+    }
+    Ok(())
+}
+
+#[test]
+fn faults_are_told(rt: HostRuntime) -> Result<(), Fail> {
+    let check: &[&str] = &["check", "plan", "cert"];
+    let text: &[u8] = b"accepted\n";
+    let read: (Status, &[u8]) = (Status::ReadFault, b"read fault\n");
+    // Each file is started, read, and read once more at its end.
+    let folders: [(&[u32], (Status, &[u8])); 8] = [
+        (&[1], read),
+        (&[2], read),
+        (&[3], read),
+        (&[4], read),
+        (&[5], read),
+        (&[6], read),
+        (&[7], (Status::Done, text)),
+        (&[9, 2], read),
+    ];
+    for (folder_fails, want) in folders {
+        let outside = Outside {
+            folder_fails,
+            ..CALM
+        };
+        answers(
+            &rt,
+            &["check", "plan", "cert"],
+            (CHAIN, RISING),
+            outside,
+            want,
+        )?;
+    }
+    let sinks: [(&[u32], (Status, &[u8])); 10] = [
+        (&[1], (Status::WriteFault, b"")),
+        (&[2], (Status::WriteFault, b"a")),
+        (&[3], (Status::WriteFault, b"ac")),
+        (&[4], (Status::WriteFault, b"acc")),
+        (&[5], (Status::WriteFault, b"acce")),
+        (&[6], (Status::WriteFault, b"accep")),
+        (&[7], (Status::WriteFault, b"accept")),
+        (&[8], (Status::WriteFault, b"accepte")),
+        (&[9], (Status::WriteFault, b"accepted")),
+        (&[10], (Status::Done, text)),
+    ];
+    for (sink_fails, want) in sinks {
+        let outside = Outside {
+            piece: 1,
+            sink_fails,
+            ..CALM
+        };
+        answers(&rt, check, (CHAIN, RISING), outside, want)?;
+    }
+    let outside = Outside { room: 5, ..CALM };
+    answers(
+        &rt,
+        &["check", "plan", "cert"],
+        (CHAIN, RISING),
+        outside,
+        (Status::WriteFault, b"accep"),
+    )
+}
+
+#[test]
+fn longest_file_is_read(rt: HostRuntime) -> Result<(), Fail> {
+    let limit = 8_388_608;
+    let mut plan = Vec::new(rt.alloc());
+    plan.extend_from_slice(CHAIN)?;
+    plan.resize(limit, b'\n')?;
+    let check: &[&str] = &["check", "plan", "cert"];
+    answers(
+        &rt,
+        check,
+        (plan.as_slice(), RISING),
+        CALM,
+        (Status::Done, b"accepted\n"),
+    )?;
+    plan.push(b'\n')?;
+    answers(
+        &rt,
+        check,
+        (plan.as_slice(), RISING),
+        CALM,
+        (Status::TooLong, b"too long\n"),
+    )
+}
