@@ -1,0 +1,17 @@
+//! ESMC frames (ITU-T G.8264): octets read to the value that they carry, and a value written to octets.
+//!
+//! A frame carries a [`Pdu`]: who sends it, whether it is an event message, and the four-bit SSM
+//! code. [`decode`] refuses with the first part that is wrong, a [`FrameErr`]; [`encode`] writes the
+//! one frame of 60 octets. Contracts speak of a frame as the list of its octets, by `Spells` (the
+//! octets carry this value), `first_wrong` (the first part that is wrong) and `written_frame`. No
+//! call takes memory.
+//!
+//! Only tested: the texts by which a refusal is printed.
+#![tactic(auto)]
+
+mod error;
+mod frame;
+mod parts;
+
+pub use error::FrameErr;
+pub use frame::{Pdu, decode, encode};
