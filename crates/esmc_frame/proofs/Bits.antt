@@ -1,10 +1,9 @@
 -- The bits of an octet, as a mask reads them.
-use Rattle.std.proofs.Common.{◌≡◌, ℕ, ◌*◌, ◌%◌, ◌^◌, ◌<◌, not, ◌==◌, nat_eq, bit_and, arith, rules}
+use Rattle.std.proofs.Common.{◌≡◌, ℕ, ◌%◌, ◌^◌, not, ◌==◌, nat_eq, bit_and, arith}
 use Rattle.std.specs.Int.{bit_at}
 use Rattle.std.proofs.lemmas.Nat.{and_mask}
 use Rattle.std.proofs.lemmas.Nat.Bits.{and_pow, bit_at-lt}
 use Rattle.std.proofs.lemmas.Bool.Decides.{nat_tests}
-use Rattle.std.proofs.lemmas.Grind.{common_steps}
 
 -- a mask of one bit tells whether it is set
 pub masked_bit : (octet : ℕ) → not (nat_eq (bit_and octet 8) 0) ≡ (bit_at octet 3 == 1)

@@ -1,12 +1,12 @@
 -- Laws of frames: what a reader answers, and that a written frame is read back.
-use Rattle.std.proofs.Common.{◌≡◌, ◌≢◌, ◌↔◌, ℕ, ◌<◌, ◌≤◌, ◌^◌, ◌%◌, Bool, true, false, not, ◌||◌, nat_lt, nat_eq, cond, List, [], ◌∷◌, length, Option, Some, None, Result, Ok, Err, sym, refl, ap, subst, ◌∙◌, arith, rules}
+use Rattle.std.proofs.Common.{◌≡◌, ◌↔◌, ℕ, ◌<◌, ◌≤◌, ◌%◌, Bool, true, false, not, ◌||◌, nat_lt, nat_eq, cond, List, [], ◌∷◌, length, Option, Some, None, Result, Ok, refl, ap, subst, ◌∙◌, arith}
 use Rattle.std.specs.Str.{bytes_eq}
 use Rattle.std.proofs.lemmas.Slice.Eq.{bytes_eq-Decides}
 use Rattle.std.proofs.lemmas.Bool.Decides.{nat_tests}
 use Rattle.esmc_frame.specs.declared.frame.Pdu.{Pdu}
 use Rattle.esmc_frame.specs.declared.error.FrameErr.{FrameErr}
 use Rattle.esmc_frame.specs.Frame.{Spells, written_frame}
-use Rattle.esmc_frame.specs.Refusal.{first_wrong, reading_of, unless_refused, value_of}
+use Rattle.esmc_frame.specs.Reading.{first_wrong, reading_of, unless_wrong, value_of}
 
 -- a search that finds nothing has passed its first element
 passed : (wrong : Bool) (error : FrameErr) (later : Option FrameErr) → cond wrong (Some error) later ≡ None → (wrong ≡ false) × (later ≡ None)
@@ -24,7 +24,7 @@ in_range : (octets : ℕ) → (nat_lt octets 60 || nat_lt 1514 octets) ≡ false
 in_range octets h = grind (arith, nat_tests)
 
 -- a value is answered only where nothing is refused
-answered : (refusal : Option FrameErr) (value pdu : Pdu) → Ok pdu ≡ unless_refused refusal value → (refusal ≡ None) × (pdu ≡ value)
+answered : (refusal : Option FrameErr) (value pdu : Pdu) → Ok pdu ≡ unless_wrong refusal value → (refusal ≡ None) × (pdu ≡ value)
 answered None value pdu h = (refl, cc)
 answered (Some error) value pdu h = cc
 
@@ -56,14 +56,14 @@ fields_spelled frame none =
 
 -- octets spell no other value than that in their fields
 only_value : (frame : List ℕ) (pdu : Pdu) → Spells frame pdu → value_of frame ≡ pdu
-only_value frame pdu spelled = rw (← spelled.source, ← spelled.event, ← spelled.code) refl
+only_value frame pdu spelled = rw (spelled.source, spelled.event, spelled.code) refl
 
 -- a reader's answer is a value exactly where the octets spell it
 pub spelled_by : (frame : List ℕ) (pdu : Pdu) → Ok pdu ≡ reading_of frame → (other : Pdu) → (let left : Result Pdu FrameErr = Ok pdu in left ≡ Ok other) ↔ Spells frame other
 spelled_by frame pdu h other =
-    let a = answered (first_wrong frame) (value_of frame) pdu h in
-    ( λ same. let e : value_of frame ≡ other = cc in subst (Spells frame) e (fields_spelled frame a.0)
-    , λ spelled. ap Ok (a.1 ∙ only_value frame other spelled)
+    let a = answered (first_wrong frame) (value_of frame) pdu h in (
+      λ same. let e : value_of frame ≡ other = cc in subst (Spells frame) e (fields_spelled frame a.0),
+      λ spelled. ap Ok (a.1 ∙ only_value frame other spelled),
     )
 
 -- what is written is read back

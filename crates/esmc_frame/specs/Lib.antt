@@ -1,3 +1,5 @@
 pub mod Parts
 pub mod Frame
-pub mod Refusal
+pub mod Reading
+pub mod Numbers
+pub mod Examples

@@ -1,26 +1,33 @@
--- The parts of an ESMC protocol data unit: where each lies, with octets counted from 0, and what the standard fixes of it.
+-- The parts of an ESMC frame: where each lies, with octets counted from 0, and what the standard fixes of it.
 use Rattle.std.specs.Prelude.{ℕ, ◌/◌, ◌%◌, ◌^◌, Bool, List, [], ◌∷◌, ◌==◌, slice_index, slice_range}
 use Rattle.std.specs.Int.{bit_at}
 
--- destination address, octets 0 to 5: the multicast address of the slow protocols. After IEEE 802.3, Slow_Protocols_Multicast
+-- how many octets a frame has, without its frame check sequence. After IEEE 802.3, minFrameSize and maxBasicFrameSize
+abbrev pub shortest : ℕ
+shortest = 60
+
+abbrev pub longest : ℕ
+longest = 1514
+
+-- Destination Address, octets 0 to 5: the multicast address of the slow protocols. After IEEE 802.3, Slow_Protocols_Multicast
 abbrev pub destination_of : List ℕ → List ℕ
 destination_of frame = slice_range frame 0 6
 
 abbrev pub slow_protocols_address : List ℕ
 slow_protocols_address = 0x01 ∷ 0x80 ∷ 0xc2 ∷ 0x00 ∷ 0x00 ∷ 0x02 ∷ []
 
--- source address, octets 6 to 11: that of the port which sends
+-- Source Address, octets 6 to 11: that of the port which sends. After G.8264
 abbrev pub source_of : List ℕ → List ℕ
 source_of frame = slice_range frame 6 12
 
--- Ethertype, octets 12 and 13: that of the slow protocols. After IEEE 802.3, Slow_Protocols_Type
+-- Slow Protocol Ethertype, octets 12 and 13. After IEEE 802.3, Slow_Protocols_Type
 abbrev pub ethertype_of : List ℕ → List ℕ
 ethertype_of frame = slice_range frame 12 14
 
 abbrev pub slow_protocols_ethertype : List ℕ
 slow_protocols_ethertype = 0x88 ∷ 0x09 ∷ []
 
--- slow protocol subtype, octet 14: that of the organization specific slow protocol. After IEEE 802.3, OSSP
+-- Slow Protocol Subtype, octet 14: that of the organization specific slow protocol. After IEEE 802.3, OSSP
 abbrev pub subtype_of : List ℕ → List ℕ
 subtype_of frame = slice_range frame 14 15
 
@@ -34,25 +41,25 @@ oui_of frame = slice_range frame 15 18
 abbrev pub itu_oui : List ℕ
 itu_oui = 0x00 ∷ 0x19 ∷ 0xa7 ∷ []
 
--- ITU subtype, octets 18 and 19: that of the ESMC. After G.8264
+-- ITU Subtype, octets 18 and 19: that of the ESMC. After G.8264
 abbrev pub itu_subtype_of : List ℕ → List ℕ
 itu_subtype_of frame = slice_range frame 18 20
 
-abbrev pub esmc_itu_subtype : List ℕ
-esmc_itu_subtype = 0x00 ∷ 0x01 ∷ []
+abbrev pub esmc_subtype : List ℕ
+esmc_subtype = 0x00 ∷ 0x01 ∷ []
 
--- version, bits 7 to 4 of octet 20. After G.8264
+-- Version, bits 7 to 4 of octet 20. After G.8264
 abbrev pub version_of : List ℕ → ℕ
 version_of frame = slice_index frame 20 / 2 ^ 4
 
 abbrev pub esmc_version : ℕ
 esmc_version = 1
 
--- event flag, bit 3 of octet 20: set in an event message, clear in an information message. After G.8264
+-- Event flag, bit 3 of octet 20: set in an event message, clear in an information message. After G.8264
 abbrev pub event_flag_of : List ℕ → Bool
 event_flag_of frame = bit_at (slice_index frame 20) 3 == 1
 
--- type and length of the QL TLV, octets 24 to 26: type 1, and 4 octets in all. After G.8264
+-- Type and Length of the QL TLV, octets 24 to 26: type 1, four octets in all. After G.8264
 abbrev pub ql_tlv_of : List ℕ → List ℕ
 ql_tlv_of frame = slice_range frame 24 27
 

@@ -1,7 +1,7 @@
 //! Why octets are no ESMC frame.
 
 ghost use Rattle.std.specs.Prelude.{◌≡◌};
-ghost use Rattle.esmc_frame.specs.Refusal.{number_of};
+ghost use Rattle.esmc_frame.specs.Numbers.{number_of};
 
 use thiserror::Error;
 
@@ -53,5 +53,42 @@ impl FrameErr {
             FrameErr::Version => 10,
             FrameErr::Tlv => 11,
         }
+    }
+}
+
+#[cfg(test)]
+mod tests {
+    use super::*;
+    use std::test::Fail;
+
+    #[test]
+    fn errors_are_printed(rt: HostRuntime) -> Result<(), Fail> {
+        for (error, number, text) in [
+            (FrameErr::Length, 4, "a frame has 60 to 1514 octets"),
+            (
+                FrameErr::Destination,
+                5,
+                "the destination isn't 01-80-c2-00-00-02",
+            ),
+            (FrameErr::Ethertype, 6, "the Ethertype isn't 8809"),
+            (FrameErr::Subtype, 7, "the slow protocol subtype isn't 0a"),
+            (FrameErr::Oui, 8, "the OUI isn't 00-19-a7, the ITU's"),
+            (
+                FrameErr::ItuSubtype,
+                9,
+                "the ITU subtype isn't 0001, the ESMC's",
+            ),
+            (FrameErr::Version, 10, "the version isn't 1"),
+            (
+                FrameErr::Tlv,
+                11,
+                "the first TLV isn't a QL TLV of 4 octets",
+            ),
+        ] {
+            assert_eq!(rt; error.number(), number, "{error}");
+            let printed = format!(in rt.alloc(); "{error}")?;
+            assert_eq!(rt; printed.as_str(), text);
+        }
+        Ok(())
     }
 }

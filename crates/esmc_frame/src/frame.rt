@@ -1,13 +1,16 @@
-//! A frame's value, read and written.
+//! What a frame carries, read from octets and written to octets.
 
-ghost use Rattle.std.specs.Prelude.{◌≡◌, ◌<◌, ◌↔◌, Some, Ok, Err, length, IfOk, if◌then◌else◌};
-ghost use Rattle.esmc_frame.specs.declared.frame.Pdu.{Pdu};
+ghost use Rattle.std.specs.Prelude.{◌≡◌, ◌<◌, ◌↔◌, Some, Ok, Err, IfOk};
 ghost use Rattle.esmc_frame.specs.declared.error.FrameErr.{FrameErr};
+ghost use Rattle.esmc_frame.specs.declared.frame.Pdu.{Pdu};
 ghost use Rattle.esmc_frame.specs.Frame.{Spells, written_frame, version_and_flag};
-ghost use Rattle.esmc_frame.specs.Refusal.{first_wrong, reading_of};
+ghost use Rattle.esmc_frame.specs.Reading.{first_wrong, reading_of};
 
 use crate::error::FrameErr;
-use crate::parts::{has_at, put_at};
+use crate::parts::{
+    CODE_AT, CODE_BITS, DESTINATION, ETHERTYPE, EVENT_FLAG, ITU_SUBTYPE, LONGEST, OUI, PADDING,
+    QL_TLV, RESERVED, SHORTEST, SOURCE_AT, SUBTYPE, VERSION, VERSION_AND_FLAG_AT, put_at,
+};
 
 /// What an ESMC frame carries.
 ///
@@ -16,84 +19,96 @@ use crate::parts::{has_at, put_at};
 pub struct Pdu {
     /// The address of the port that sends the frame.
     pub source: [u8; 6],
-    /// Whether it is an event message, sent at once on a change; else an information message.
+    /// Whether this is an event message and no information message.
     pub event: bool,
-    /// The SSM code, four bits. An option's table need not have it.
+    /// The SSM code, from 0 to 15; an option's table of levels need not have it.
     pub code: u8,
 }
 
-const SHORTEST: usize = 60;
-const LONGEST: usize = 1514;
-const DESTINATION: [u8; 6] = [0x01, 0x80, 0xc2, 0x00, 0x00, 0x02];
-const ETHERTYPE: [u8; 2] = [0x88, 0x09];
-const SUBTYPE: [u8; 1] = [0x0a];
-const OUI: [u8; 3] = [0x00, 0x19, 0xa7];
-const ITU_SUBTYPE: [u8; 2] = [0x00, 0x01];
-const VERSION: u8 = 1;
-const EVENT_FLAG: u8 = 0b0000_1000;
-const QL_TLV: [u8; 3] = [0x01, 0x00, 0x04];
-
+/// What a frame carries, given without its frame check sequence.
+///
+/// The error names the first part that is wrong. Source, event flag and SSM code may be anything;
+/// reserved bits and octets, the high bits of the code's octet and all that stands behind it aren't
+/// looked at.
+/// After G.8264, ESMC PDU format.
 pub fn decode(frame: &[u8]) -> Result<Pdu, FrameErr>
     ensures spelled { (pdu : Pdu) → (result ≡ Ok pdu) ↔ Spells frame.now pdu }
-    ensures refused { (error : FrameErr) → (result ≡ Err error) ↔ (first_wrong frame.now ≡ Some error) }
+    ensures refused { (error : FrameErr) →
+        (result ≡ Err error) ↔ (first_wrong frame.now ≡ Some error) }
     ensures exact { result ≡ reading_of frame.now }
     ensures code { IfOk result (λ pdu. pdu.code < 16) }
+
+    // No octets spell two values.
     ensures one_value { (p q : Pdu) → Spells frame.now p → Spells frame.now q → p ≡ q }
 {
     if !(SHORTEST..=LONGEST).contains(&frame.len()) {
         return Err(FrameErr::Length);
     }
-    if !has_at(frame, 0, &DESTINATION) {
+    if !DESTINATION.is_in(frame) {
         return Err(FrameErr::Destination);
     }
-    if !has_at(frame, 12, &ETHERTYPE) {
+    if !ETHERTYPE.is_in(frame) {
         return Err(FrameErr::Ethertype);
     }
-    if !has_at(frame, 14, &SUBTYPE) {
+    if !SUBTYPE.is_in(frame) {
         return Err(FrameErr::Subtype);
     }
-    if !has_at(frame, 15, &OUI) {
+    if !OUI.is_in(frame) {
         return Err(FrameErr::Oui);
     }
-    if !has_at(frame, 18, &ITU_SUBTYPE) {
+    if !ITU_SUBTYPE.is_in(frame) {
         return Err(FrameErr::ItuSubtype);
     }
-    if frame[20] >> 4 != VERSION {
+    if frame[VERSION_AND_FLAG_AT] >> 4 != VERSION {
         return Err(FrameErr::Version);
     }
-    if !has_at(frame, 24, &QL_TLV) {
+    if !QL_TLV.is_in(frame) {
         return Err(FrameErr::Tlv);
     }
     let mut source = [0; 6];
-    source.copy_from_slice(&frame[6..12]);
+    source.copy_from_slice(&frame[SOURCE_AT..SOURCE_AT + 6]);
     Ok(Pdu {
         source,
-        event: frame[20] & EVENT_FLAG != 0,
-        code: frame[27] & 0x0f,
+        event: frame[VERSION_AND_FLAG_AT] & EVENT_FLAG != 0,
+        code: frame[CODE_AT] & CODE_BITS,
     })
 }
 
-fn first_octet(event: bool) -> u8
-    ensures { result ≡ version_and_flag event }
-{
-    if event { VERSION << 4 | EVENT_FLAG } else { VERSION << 4 }
-}
-
+/// Writes the one frame of 60 octets that carries a value, without a frame check sequence.
+///
+/// Reserved bits and octets and the padding are zero.
+/// After G.8264, ESMC PDU format.
 pub fn encode(pdu: &Pdu, out: &mut [u8; 60])
     requires { pdu.now.code < 16 }
     ensures written { out.new ≡ written_frame pdu.now }
     ensures spelled { Spells out.new pdu.now }
+
+    // What `decode` answers of the frame is the value.
     ensures read_back { reading_of out.new ≡ Ok pdu.now }
 {
-    put_at(out, 0, &DESTINATION);
-    put_at(out, 6, &pdu.source);
-    put_at(out, 12, &ETHERTYPE);
-    put_at(out, 14, &SUBTYPE);
-    put_at(out, 15, &OUI);
-    put_at(out, 18, &ITU_SUBTYPE);
-    put_at(out, 20, &[first_octet(pdu.event)]);
-    put_at(out, 21, &[0; 3]);
-    put_at(out, 24, &QL_TLV);
-    put_at(out, 27, &[pdu.code]);
-    put_at(out, 28, &[0; 32]);
+    DESTINATION.put(out);
+    put_at(out, SOURCE_AT, &pdu.source);
+    ETHERTYPE.put(out);
+    SUBTYPE.put(out);
+    OUI.put(out);
+    ITU_SUBTYPE.put(out);
+    put_at(out, VERSION_AND_FLAG_AT, &[version_and_flag(pdu.event)]);
+    RESERVED.put(out);
+    QL_TLV.put(out);
+    put_at(out, CODE_AT, &[pdu.code]);
+    PADDING.put(out);
 }
+
+/// The octet of version and event flag.
+fn version_and_flag(event: bool) -> u8
+    ensures { result ≡ version_and_flag event }
+{
+    if event {
+        VERSION << 4 | EVENT_FLAG
+    } else {
+        VERSION << 4
+    }
+}
+
+#[cfg(test)]
+mod tests;

@@ -1,6 +1,5 @@
-use Rattle.std.proofs.Common.{◌≡◌, None, rules, arith, refl}
-use Rattle.std.proofs.lemmas.Grind.{common_steps}
-use Rattle.esmc_frame.specs.Refusal.{first_wrong}
+use Rattle.std.proofs.Common.{◌≡◌, None, rules, refl}
+use Rattle.esmc_frame.specs.Reading.{first_wrong}
 use Rattle.esmc_frame.proofs.Bits.{masked_bit, masked_low_bits}
 use Rattle.esmc_frame.proofs.Laws.{spelled_by}
 use Rattle.esmc_frame.proofs.frame.decode.Goals as goal
