@@ -2,11 +2,13 @@
 //!
 //! A frame carries a [`Pdu`]: who sends it, whether it is an event message, and the four-bit SSM
 //! code. [`decode`] refuses with the first part that is wrong, a [`FrameErr`]; [`encode`] writes the
-//! one frame of 60 octets. Contracts speak of a frame as the list of its octets, by `Spells` (the
-//! octets carry this value), `first_wrong` (the first part that is wrong) and `written_frame`. No
-//! call takes memory.
+//! one frame of 60 octets, which `decode` reads back. No call takes memory.
 //!
-//! Only tested: the texts by which a refusal is printed.
+//! Contracts see a frame as the list of its octets: `Spells` (the octets carry this value),
+//! `first_wrong` (the first part that is wrong), `reading_of` (what a reader answers) and
+//! `written_frame` (what a writer sends).
+//!
+//! Only tested: the texts by which an error is printed.
 #![tactic(auto)]
 
 mod error;

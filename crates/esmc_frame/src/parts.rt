@@ -83,7 +83,8 @@ impl<const N: usize> Part<N> {
     /// Writes this part behind what was written so far.
     pub fn put(&self, out: &mut [u8; 60])
         requires { self.now.first + N ≤ 60 }
-        ensures { take (self.now.first + N) out.new ≡ take self.now.first out.old ++ self.now.octets }
+        ensures { let next = self.now.first + N
+            in take next out.new ≡ take self.now.first out.old ++ self.now.octets }
     {
         put_at(out, self.first, &self.octets);
     }
