@@ -1,7 +1,7 @@
-ghost use Rattle.std.specs.Prelude.{◌≡◌, ◌<◌, ◌≤◌, ◌||◌, min, false, None, if◌then◌else◌, ℕ, List, [], length, slice_get, position, take, drop, Bool, IsTrue, Option, option_map, is_none, is_err, IfOk, OnOk, OnErr};
+ghost use Rattle.std.specs.Prelude.{◌≡◌, ◌<◌, ◌≤◌, ◌||◌, min, false, None, if◌then◌else◌, [], length, slice_get, position, take, drop, IsTrue, Option, option_map, is_none, is_err, IfOk, OnOk, OnErr};
 ghost use Rattle.std.specs.Io.{ReadsAtMost};
 ghost use Rattle.std.specs.Io.KnownBytes.{ReadConsumes};
-ghost use Rattle.sync_edge.specs.Contents.{Contents, HasName, Starts, IsSpent, KeepsFolder};
+ghost use Rattle.sync_edge.specs.Contents.{HasName, Starts, IsSpent, KeepsFolder};
 ghost use Rattle.std.specs.FinMap.{get};
 ghost use Rattle.std.specs.Str.{bytes_eq};
 ghost use Rattle.sync_edge.specs.Memory.{bytes_of, contents_of, fails_at};

@@ -1,5 +1,5 @@
-ghost use Rattle.std.specs.Prelude.{◌≡◌, ◌≢◌, ◌<◌, ◌≤◌, ◌++◌, ℕ, List, length, IsTrue, IfOk, OnOk, OnErr, IsErrOf};
-ghost use Rattle.std.specs.Io.KnownBytes.{Appends, Consumes, IsAtEnd};
+ghost use Rattle.std.specs.Prelude.{◌≢◌, ◌<◌, ◌≤◌, length, IsTrue, IfOk, OnOk, OnErr, IsErrOf};
+ghost use Rattle.std.specs.Io.KnownBytes.{Appends};
 ghost use Rattle.sync_edge.specs.Contents.{HasName, Holds, HoldsMoreThan, KeepsFolder};
 ghost use Rattle.sync_edge.specs.Faults.{HasCause};
 ghost use Rattle.sync_edge.specs.Transfers.{AppendsFront, IsLeft, IsMoreLeftThan, ReadHasCause};
