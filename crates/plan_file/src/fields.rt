@@ -69,7 +69,8 @@ pub(crate) fn table_with<'a>(
 ) -> Result<&'a Table, PlanFileErr>
     ensures { let needed = map (λ known. known.now) required.now in
         let allowed = map (λ known. known.now) optional.now in
-        GivesBy (λ fields. table_view fields.now) result (table_with needed allowed (view entry.now)) }
+        GivesBy (λ fields. table_view fields.now) result
+        (table_with needed allowed (view entry.now)) }
 {
     let Some(fields) = entry.as_table() else {
         return Err(PlanFileErr::Refused);
