@@ -1,0 +1,17 @@
+//! Quality levels: which level a code or a name stands for, and which of two levels is better.
+//!
+//! A [`Level`] is always a row of its option's table, so no function here has to refuse one. Contracts
+//! see each option's table as a list of rows, best first (`levels_of`), and read what is said of a
+//! level off its row (`place_of`, `code_of`, `name_of`). Nothing takes memory.
+//!
+//! After ITU-T G.781, quality levels and SSM codes of network options I and II. The place of QL-PROV
+//! is this project's own. That the table has the standard's values is tested.
+#![tactic(auto)]
+
+mod levels;
+mod table;
+#[cfg(test)]
+mod tests;
+
+pub use levels::{Level, NetOption};
+pub use table::{better, code_of, do_not_use, is_dnu, level_of_code, level_of_name, name_of};

@@ -1,0 +1,217 @@
+ghost use Rattle.std.specs.Prelude.{◌≡◌, ◌≢◌, ◌⊎◌, ◌<◌, ◌↔◌, ◌==◌, IsSome, IfSome, IsTrue, Any, Some, length, position};
+ghost use Rattle.std.specs.Str.{bytes_eq};
+ghost use Rattle.sync_ql.specs.declared.levels.Level.{Level};
+ghost use Rattle.sync_ql.specs.Table.{levels_of};
+ghost use Rattle.sync_ql.specs.Level.{row_at, row_of, code_of, name_of, level_at, place_of_code, place_of_name, level_of_code, level_of_name, do_not_use_of, do_not_use_name, IsBetter};
+ghost use Rattle.sync_ql.specs.Rows.{rows_seen};
+
+use crate::levels::{Level, NetOption};
+
+struct Row {
+    name: &'static str,
+    code: u8,
+}
+
+static OPTION_I: [Row; 5] = [
+    Row {
+        name: "QL-PRC",
+        code: 0b0010,
+    },
+    Row {
+        name: "QL-SSU-A",
+        code: 0b0100,
+    },
+    Row {
+        name: "QL-SSU-B",
+        code: 0b1000,
+    },
+    Row {
+        name: "QL-SEC",
+        code: 0b1011,
+    },
+    Row {
+        name: "QL-DNU",
+        code: 0b1111,
+    },
+];
+
+static OPTION_II: [Row; 9] = [
+    Row {
+        name: "QL-PRS",
+        code: 0b0001,
+    },
+    Row {
+        name: "QL-STU",
+        code: 0b0000,
+    },
+    Row {
+        name: "QL-ST2",
+        code: 0b0111,
+    },
+    Row {
+        name: "QL-TNC",
+        code: 0b0100,
+    },
+    Row {
+        name: "QL-ST3E",
+        code: 0b1101,
+    },
+    Row {
+        name: "QL-ST3",
+        code: 0b1010,
+    },
+    Row {
+        name: "QL-SMC",
+        code: 0b1100,
+    },
+    Row {
+        name: "QL-PROV",
+        code: 0b1110,
+    },
+    Row {
+        name: "QL-DUS",
+        code: 0b1111,
+    },
+];
+
+/// The level that a message's four-bit code stands for.
+///
+/// `None` where the option's table has no such code, as for every code from 16 on.
+/// After G.781, the SSM codes of options I and II.
+pub fn level_of_code(option: NetOption, code: u8) -> Option<Level>
+    ensures exact { result ≡ level_of_code option code }
+    ensures known { IsSome result ↔ Any (λ row. row.code ≡ code) (levels_of option) }
+    ensures option { IfSome result (λ level. level.option ≡ option) }
+    ensures code { IfSome result (λ level. code_of level ≡ code) }
+{
+    let place = place_of_code(option, code)?;
+    Some(level_at(option, place))
+}
+
+/// The four-bit code that messages carry for a level, from 0 to 15.
+///
+/// After G.781, the SSM codes of options I and II.
+pub fn code_of(level: Level) -> u8
+    ensures code { result ≡ code_of level }
+    ensures back { level_of_code level.option result ≡ Some level }
+{
+    row_of(level).code
+}
+
+/// The name of a level, as `QL-SSU-A`.
+///
+/// After G.781, quality level.
+pub fn name_of(level: Level) -> &'static str
+    ensures name { result.now ≡ name_of level }
+    ensures back { level_of_name level.option result.now ≡ Some level }
+{
+    row_of(level).name
+}
+
+/// The level with a name, given as its bytes.
+///
+/// `None` where the option's table has no such name, in the same letters and case.
+/// After G.781, quality level.
+pub fn level_of_name(option: NetOption, name: &[u8]) -> Option<Level>
+    ensures exact { result ≡ level_of_name option name.now }
+    ensures known { IsSome result ↔ Any (λ row. row.name ≡ name.now) (levels_of option) }
+    ensures option { IfSome result (λ level. level.option ≡ option) }
+    ensures name { IfSome result (λ level. name_of level ≡ name.now) }
+{
+    let place = place_of_name(option, name)?;
+    Some(level_at(option, place))
+}
+
+/// The level that says "do not use this signal": QL-DNU in option I, QL-DUS in option II.
+///
+/// No level of the option is worse.
+/// After G.781, do not use and do not use for synchronization.
+pub fn do_not_use(option: NetOption) -> Level
+    ensures level { result ≡ do_not_use_of option }
+    ensures name { name_of result ≡ do_not_use_name option }
+    ensures last { (level : Level) → level.option ≡ option → ¬ IsBetter result level }
+{
+    level_at(option, rows(option).len() - 1)
+}
+
+/// Whether a level is its option's do-not-use level.
+///
+/// After G.781, do not use and do not use for synchronization.
+pub fn is_dnu(level: Level) -> bool
+    ensures { IsTrue result ↔ (level ≡ do_not_use_of level.option) }
+{
+    level == do_not_use(level.option)
+}
+
+/// Whether a level is better than another of the same option: whether it stands earlier in the table.
+///
+/// After G.781, the order of quality levels; the place of QL-PROV is this project's own.
+pub fn better(a: Level, b: Level) -> bool
+    requires { a.option ≡ b.option }
+    ensures better { IsTrue result ↔ IsBetter a b }
+
+    // Among the levels of one option this is a strict total order.
+    ensures one_way { IsBetter a b → ¬ IsBetter b a }
+    ensures transitive { (c : Level) → IsBetter a b → IsBetter b c → IsBetter a c }
+    ensures total { a ≢ b → IsBetter a b ⊎ IsBetter b a }
+{
+    a.place < b.place
+}
+
+fn rows(option: NetOption) -> &'static [Row]
+    ensures table { rows_seen result.now ≡ levels_of option }
+    ensures len { length result.now ≡ length (levels_of option) }
+    ensures short { length result.now < 256 }
+{
+    match option {
+        NetOption::I => &OPTION_I,
+        NetOption::II => &OPTION_II,
+    }
+}
+
+fn row_of(level: Level) -> &'static Row
+    ensures code { result.now.code ≡ code_of level }
+    ensures name { result.now.name.now ≡ name_of level }
+{
+    &rows(level.option)[level.place as usize]
+}
+
+fn level_at(option: NetOption, place: usize) -> Level
+    requires { place < length (levels_of option) }
+    ensures level { level_at option place ≡ Some result }
+    ensures option { result.option ≡ option }
+    ensures row { row_of result ≡ row_at option place }
+{
+    Level {
+        option,
+        place: place as u8,
+    }
+}
+
+fn place_of_code(option: NetOption, code: u8) -> Option<usize>
+    ensures place { result ≡ place_of_code option code }
+    ensures within { IfSome result (λ place. place < length (levels_of option)) }
+    ensures code { IfSome result (λ place. (row_at option place).code ≡ code) }
+{
+    row_with_code(rows(option), code)
+}
+
+fn place_of_name(option: NetOption, name: &[u8]) -> Option<usize>
+    ensures place { result ≡ place_of_name option name.now }
+    ensures within { IfSome result (λ place. place < length (levels_of option)) }
+    ensures name { IfSome result (λ place. (row_at option place).name ≡ name.now) }
+{
+    row_with_name(rows(option), name)
+}
+
+fn row_with_code(rows: &[Row], code: u8) -> Option<usize>
+    ensures { result ≡ position (λ r. r.code == code) rows.now }
+{
+    rows.iter().position(|row| row.code == code)
+}
+
+fn row_with_name(rows: &[Row], name: &[u8]) -> Option<usize>
+    ensures { result ≡ position (λ r. bytes_eq r.name.now name.now) rows.now }
+{
+    rows.iter().position(|row| row.name.as_bytes() == name)
+}
