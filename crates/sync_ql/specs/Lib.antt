@@ -1,3 +1,5 @@
 pub mod Table
 pub mod Level
+pub mod Condition
+pub mod Examples
 pub mod Rows

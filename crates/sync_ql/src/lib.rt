@@ -9,6 +9,7 @@
 #![tactic(auto)]
 
 mod levels;
+pub mod rules;
 mod table;
 #[cfg(test)]
 mod tests;
