@@ -1,0 +1,4 @@
+pub mod Stepping
+pub mod Conditions
+pub mod Steps
+pub mod Counts

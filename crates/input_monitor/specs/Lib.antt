@@ -1,0 +1,5 @@
+pub mod Monitored
+pub mod StandsFor
+pub mod Running
+pub mod Signals
+pub use Rattle.sync_ql.specs.Condition

@@ -1,0 +1,140 @@
+ghost use Rattle.std.specs.Prelude.{◌≡◌, ◌≤◌, ◌<◌, ◌+◌, ◌-◌, ◌*◌, ◌⊎◌, ◌↔◌, ◌∷◌, [], ℕ, List, IfSome, IsNone, length};
+ghost use Rattle.sync_ql.specs.Condition.{Signal, condition_at, failed_at, continued, IsSameKind, IsDue};
+ghost use Rattle.input_monitor.specs.StandsFor.{StandsFor};
+ghost use Rattle.input_monitor.specs.Running.{IsRunning};
+
+use std::marker::Model;
+use sync_ql::rules::Cond;
+
+/// Watches one input, and says in which condition it is and when that ends.
+///
+/// Times are milliseconds from 0. Before its first step the input is good.
+/// After G.781, hold-off time and wait-to-restore time; the exact millisecond is this project's own.
+#[derive(Debug, Drop)]
+pub struct Monitor {
+    holdoff: u32,
+    wtr: u32,
+    /// The first millisecond that no step has told of.
+    next: u64,
+    /// The condition in the millisecond before.
+    condition: Cond,
+}
+
+impl Model for Monitor {
+    ghost use Rattle.input_monitor.specs.Monitored.{Monitored, monitored, IsKept};
+
+    ghost Value = { Monitored };
+
+    ghost view = { monitored };
+
+    ghost invariant = { IsKept };
+}
+
+impl Monitor {
+    /// A monitor of an input with a hold-off time of 300 to 1800 milliseconds, and a wait-to-restore
+    /// time of 0 to 720,000 milliseconds.
+    ///
+    /// After G.781, hold-off time and wait-to-restore time.
+    pub fn new(holdoff: u32, wtr: u32) -> Monitor
+        requires not_short { 300 ≤ holdoff }
+        requires not_long { holdoff ≤ 1800 }
+        requires minutes { wtr ≤ 12 * 60 * 1000 }
+        ensures holdoff { result.timers.holdoff ≡ holdoff }
+        ensures wtr { result.timers.wtr ≡ wtr }
+        ensures stands { StandsFor result [] }
+    {
+        Monitor {
+            holdoff,
+            wtr,
+            next: 0,
+            condition: Cond::Good,
+        }
+    }
+
+    /// Tells that the input is up or down at the end of a millisecond, and whether wait-to-restore
+    /// was cleared for it in that millisecond.
+    ///
+    /// A step is after the last one, at `due` at the latest, and at most at 86,400,000. Between two
+    /// steps the signal was as at the earlier one, and before the first the input was up.
+    /// After G.781, hold-off time, wait-to-restore time, and clearing the latter.
+    pub fn step(&mut self, now: u64, up: bool, clear_wtr: bool)
+        requires later { self.old.next ≤ now }
+        requires in_time { IfSome self.old.due (λ due. now ≤ due) }
+        requires in_range { now ≤ 24 * 60 * 60 * 1000 }
+        ensures next { self.new.next ≡ now + 1 }
+        ensures kept { self.new.timers ≡ self.old.timers }
+        ensures stands { (past : List Signal) → StandsFor self.old past →
+            StandsFor self.new (record { up = up; clear = clear_wtr } ∷ continued now past) }
+    {
+        self.condition = self.next_condition(now, up, clear_wtr);
+        self.next = now + 1;
+    }
+
+    /// The condition at the last step, and what was left then of a running time.
+    ///
+    /// Until `due` the input stays in this kind of condition, if nothing happens.
+    /// After G.781, signal fail, hold-off and wait-to-restore.
+    #[tactic(auto, using(crate::proofs::Steps::same_kind_until))]
+    pub fn condition(&self) -> Cond
+        ensures value { result ≡ self.now.condition }
+        ensures last { (past : List Signal) → StandsFor self.now past → result ≡ condition_at self.now.timers past }
+        ensures kind { (past : List Signal) (n : ℕ) → StandsFor self.now past →
+            length past ≤ n → IfSome self.now.due (λ due. n ≤ due) →
+            IsSameKind result (condition_at self.now.timers (continued n past)) }
+    {
+        self.condition
+    }
+
+    /// Whether the input is failed: from the last step up to but not at `due`, if nothing happens.
+    ///
+    /// After G.781, signal fail after hold-off, until wait-to-restore has passed.
+    pub fn failed(&self) -> bool
+        ensures value { result ≡ self.now.failed }
+        ensures failed { (past : List Signal) (n : ℕ) → StandsFor self.now past →
+            length past ≤ n → IfSome self.now.due (λ due. n ≤ due) →
+            result ≡ failed_at self.now.timers (continued n past) }
+    {
+        matches!(self.condition, Cond::Failed | Cond::Restoring(_))
+    }
+
+    /// The first later millisecond at which `failed` changes, if nothing happens.
+    ///
+    /// `None` exactly where the condition is good or failed, since no time runs then.
+    /// After G.781, hold-off time and wait-to-restore time; the exact millisecond is this project's
+    /// own.
+    pub fn due(&self) -> Option<u64>
+        ensures value { result ≡ self.now.due }
+        ensures none { IsNone result ↔ ((self.now.condition ≡ Cond.Good) ⊎ (self.now.condition ≡ Cond.Failed)) }
+        ensures due { (past : List Signal) → StandsFor self.now past → IsDue self.now.timers past result }
+    {
+        match self.condition {
+            Cond::HoldOff(left) | Cond::Restoring(left) => Some(self.next + u64::from(left) - 1),
+            Cond::Good | Cond::Failed => None,
+        }
+    }
+
+    #[tactic(auto, using(crate::proofs::Steps::condition_step))]
+    fn next_condition(&self, now: u64, up: bool, clear_wtr: bool) -> Cond
+        requires later { self.now.next ≤ now }
+        requires in_time { IfSome self.now.due (λ due. now ≤ due) }
+        requires in_range { now ≤ 24 * 60 * 60 * 1000 }
+        ensures condition { (past : List Signal) → StandsFor self.now past →
+            result ≡ condition_at self.now.timers (record { up = up; clear = clear_wtr } ∷ continued now past) }
+        ensures running { IsRunning result }
+    {
+        let passed = now + 1 - self.next;
+        match (self.condition, up) {
+            (Cond::Good | Cond::HoldOff(_), true) => Cond::Good,
+            (Cond::Good, false) => Cond::HoldOff(self.holdoff),
+            (Cond::HoldOff(left), false) if passed < u64::from(left) => {
+                Cond::HoldOff(left - passed as u32)
+            }
+            (Cond::HoldOff(_) | Cond::Failed | Cond::Restoring(_), false) => Cond::Failed,
+            (Cond::Failed, true) if !clear_wtr && 0 < self.wtr => Cond::Restoring(self.wtr),
+            (Cond::Restoring(left), true) if !clear_wtr && passed < u64::from(left) => {
+                Cond::Restoring(left - passed as u32)
+            }
+            (Cond::Failed | Cond::Restoring(_), true) => Cond::Good,
+        }
+    }
+}
