@@ -113,6 +113,7 @@ impl Monitor {
         }
     }
 
+    // The condition at the end of `now`, at which alone something is told.
     #[tactic(auto, using(crate::proofs::Steps::condition_step))]
     fn next_condition(&self, now: u64, up: bool, clear_wtr: bool) -> Cond
         requires later { self.now.next ≤ now }

@@ -7,6 +7,7 @@ ghost use Rattle.sync_ql.specs.Rows.{rows_seen};
 
 use crate::levels::{Level, NetOption};
 
+// The rows of both tables, best first.
 struct Row {
     name: &'static str,
     code: u8,
