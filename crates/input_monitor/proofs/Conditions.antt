@@ -75,8 +75,6 @@ is_failed-condition_at timers past = of (is_up past) (failed_at timers past) (le
 pub running : (timers : Timers) (past : List Signal) → IsRunning (condition_at timers past)
 unfolding condition_at left_at
 running timers past =
-    let in_holdoff = down_for-bound timers past in
-    let restoring = up_for-bound timers past in
     of (is_up past) (failed_at timers past) refl refl
   where
     of : (u f : Bool) → is_up past ≡ u → failed_at timers past ≡ f → IsRunning (condition_of u f (left_at timers past))
@@ -109,10 +107,6 @@ aged-suc timers k Good lasts = refl
 aged-suc timers k (HoldOff left) lasts = grind (arith, nat_tests)
 aged-suc timers k Failed lasts = refl
 aged-suc timers k (Restoring left) lasts = grind (arith, nat_tests)
-
-is_up-after_quiet : (k : ℕ) (past : List Signal) → is_up (after_quiet k past) ≡ is_up past
-is_up-after_quiet zero past = refl
-is_up-after_quiet (suc k) past = refl
 
 -- one more millisecond in which nothing happens
 condition_at-after_quiet_suc : (timers : Timers) → 0 < timers.holdoff → (k : ℕ) (past : List Signal) → condition_at timers (after_quiet k past) ≡ aged k (condition_at timers past) → condition_at timers (after_quiet (suc k) past) ≡ next_condition timers (aged k (condition_at timers past)) (record { up = up_of (condition_at timers past); clear = false })

@@ -6,8 +6,8 @@ use Rattle.sync_ql.specs.Condition.{Timers}
 use Rattle.input_monitor.specs.Running.{IsRunning}
 use Rattle.input_monitor.specs.declared.monitor.Monitor.TheInside.{Inside}
 
--- the input's times, the first millisecond that no step has told of, the condition after the last step,
--- and when "failed" changes if nothing happens
+-- the input's times, the first millisecond that no step has told of, the condition at the last
+-- step, whether the input is failed, and when that changes if nothing happens
 pub record Monitored : Type 0 where
   pub timers : Timers
   pub next : ℕ
@@ -22,7 +22,7 @@ is_failed (HoldOff left) = false
 is_failed Failed = true
 is_failed (Restoring left) = true
 
--- the millisecond in which the running time ends
+-- the millisecond in which a running time ends, by what is left of it just before the next one
 abbrev pub end_of : ℕ → Cond → Option ℕ
 end_of next Good = None
 end_of next (HoldOff left) = Some (next + left - 1)

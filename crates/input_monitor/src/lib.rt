@@ -1,9 +1,9 @@
 //! Whether an input is good, in hold-off, failed or restoring, and when that ends.
 //!
-//! A [`Monitor`] watches one input. It is told only when something happens, and keeps no list of the
-//! past: the condition at the last step, and when that was. Contracts see it as a record (`Monitored`)
-//! and say for which past it stands (`StandsFor`): each step makes that past longer, and each answer
-//! is what the rules say of it. Nothing takes memory.
+//! A [`Monitor`] watches one input. It is told only when something happens, and keeps no list of
+//! the past: the condition at the last step, and when that was. Contracts see it as a record
+//! (`Monitored`) and say for which past it stands (`StandsFor`): each step makes that past longer,
+//! and each answer is what the rules say of it. Nothing takes memory.
 //!
 //! After ITU-T G.781, hold-off time and wait-to-restore time. The exact milliseconds are this
 //! project's own. The tests compare a monitor with a program that goes through every millisecond.

@@ -1,4 +1,4 @@
-ghost use Rattle.std.specs.Prelude.{◌≡◌, ◌≤◌, ◌<◌, ◌+◌, ◌-◌, ◌*◌, ◌⊎◌, ◌↔◌, ◌∷◌, [], ℕ, List, IfSome, IsNone, length};
+ghost use Rattle.std.specs.Prelude.{◌≡◌, ◌≤◌, ◌<◌, ◌+◌, ◌-◌, ◌*◌, ◌⊎◌, ◌↔◌, ◌∷◌, [], ℕ, List, IfSome, IsNone, None, length};
 ghost use Rattle.sync_ql.specs.Condition.{Signal, condition_at, failed_at, continued, IsSameKind, IsDue};
 ghost use Rattle.input_monitor.specs.StandsFor.{StandsFor};
 ghost use Rattle.input_monitor.specs.Running.{IsRunning};
@@ -9,7 +9,8 @@ use sync_ql::rules::Cond;
 /// Watches one input, and says in which condition it is and when that ends.
 ///
 /// Times are milliseconds from 0. Before its first step the input is good.
-/// After G.781, hold-off time and wait-to-restore time; the exact millisecond is this project's own.
+/// After G.781, hold-off time and wait-to-restore time; the exact millisecond is this project's
+/// own.
 #[derive(Debug, Drop)]
 pub struct Monitor {
     holdoff: u32,
@@ -31,8 +32,8 @@ impl Model for Monitor {
 }
 
 impl Monitor {
-    /// A monitor of an input with a hold-off time of 300 to 1800 milliseconds, and a wait-to-restore
-    /// time of 0 to 720,000 milliseconds.
+    /// A monitor of an input with a hold-off time of 300 to 1800 milliseconds, and a
+    /// wait-to-restore time of 0 to 720,000 milliseconds.
     ///
     /// After G.781, hold-off time and wait-to-restore time.
     pub fn new(holdoff: u32, wtr: u32) -> Monitor
@@ -41,6 +42,9 @@ impl Monitor {
         requires minutes { wtr ≤ 12 * 60 * 1000 }
         ensures holdoff { result.timers.holdoff ≡ holdoff }
         ensures wtr { result.timers.wtr ≡ wtr }
+        ensures next { result.next ≡ 0 }
+        ensures good { result.condition ≡ Cond.Good }
+        ensures due { result.due ≡ None }
         ensures stands { StandsFor result [] }
     {
         Monitor {
@@ -77,7 +81,8 @@ impl Monitor {
     #[tactic(auto, using(crate::proofs::Steps::same_kind_until))]
     pub fn condition(&self) -> Cond
         ensures value { result ≡ self.now.condition }
-        ensures last { (past : List Signal) → StandsFor self.now past → result ≡ condition_at self.now.timers past }
+        ensures last { (past : List Signal) → StandsFor self.now past →
+            result ≡ condition_at self.now.timers past }
         ensures kind { (past : List Signal) (n : ℕ) → StandsFor self.now past →
             length past ≤ n → IfSome self.now.due (λ due. n ≤ due) →
             IsSameKind result (condition_at self.now.timers (continued n past)) }
@@ -104,8 +109,10 @@ impl Monitor {
     /// own.
     pub fn due(&self) -> Option<u64>
         ensures value { result ≡ self.now.due }
-        ensures none { IsNone result ↔ ((self.now.condition ≡ Cond.Good) ⊎ (self.now.condition ≡ Cond.Failed)) }
-        ensures due { (past : List Signal) → StandsFor self.now past → IsDue self.now.timers past result }
+        ensures none { IsNone result ↔
+            ((self.now.condition ≡ Cond.Good) ⊎ (self.now.condition ≡ Cond.Failed)) }
+        ensures due { (past : List Signal) → StandsFor self.now past →
+            IsDue self.now.timers past result }
     {
         match self.condition {
             Cond::HoldOff(left) | Cond::Restoring(left) => Some(self.next + u64::from(left) - 1),
@@ -120,7 +127,8 @@ impl Monitor {
         requires in_time { IfSome self.now.due (λ due. now ≤ due) }
         requires in_range { now ≤ 24 * 60 * 60 * 1000 }
         ensures condition { (past : List Signal) → StandsFor self.now past →
-            result ≡ condition_at self.now.timers (record { up = up; clear = clear_wtr } ∷ continued now past) }
+            result ≡ condition_at self.now.timers
+            (record { up = up; clear = clear_wtr } ∷ continued now past) }
         ensures running { IsRunning result }
     {
         let passed = now + 1 - self.next;

@@ -6,8 +6,8 @@ ghost use Rattle.input_monitor.specs.Signals.{signals};
 
 use sync_ql::rules::Cond;
 
-/// The condition after a past, newest millisecond first: of each millisecond, whether the input is up
-/// and whether wait-to-restore is cleared for it.
+/// The condition after a past, newest millisecond first: of each millisecond, whether the input is
+/// up and whether wait-to-restore is cleared for it.
 #[tactic(auto, unfolding(sync_ql::specs::Condition::condition_at, sync_ql::specs::Condition::failed_at, sync_ql::specs::Condition::left_at))]
 pub fn condition_after(holdoff: u32, wtr: u32, past: &[(bool, bool)]) -> Cond
     requires holdoff { holdoff ≤ 1800 }
@@ -36,7 +36,9 @@ pub fn condition_after(holdoff: u32, wtr: u32, past: &[(bool, bool)]) -> Cond
 }
 
 fn is_failed(holdoff: u32, wtr: u32, down_for: u64, up_for: u64, cleared: bool, was: bool) -> bool
-    ensures { result ≡ (if nat_lt holdoff down_for then true else if nat_lt wtr up_for || cleared then false else was) }
+    ensures { result ≡
+        (if nat_lt holdoff down_for then true
+        else if nat_lt wtr up_for || cleared then false else was) }
 {
     if u64::from(holdoff) < down_for {
         true

@@ -1,10 +1,11 @@
--- When an input is failed, and in what condition it is. After G.781, hold-off time and wait-to-restore time.
--- A past is the list of an input's milliseconds from 0 on, the newest first; the empty past is "before 0".
+-- When an input is failed, and in what condition it is.
+-- After G.781, hold-off time and wait-to-restore time.
+-- A past is the list of an input's milliseconds from 0 on, the newest first; before 0 it is empty.
 use Rattle.std.specs.Prelude.{◌≡◌, ◌≤◌, ℕ, zero, suc, ◌+◌, ◌-◌, Bool, true, false, not, ◌&&◌, ◌||◌, nat_lt, if◌then◌else◌, List, [], ◌∷◌, length, Option, None, Some, ⊤}
 use Rattle.sync_ql.specs.declared.rules.Cond.{Cond}
 use Rattle.sync_ql.specs.declared.rules.Cond.TheVariants.{Good, HoldOff, Failed, Restoring}
 
--- one millisecond of an input: whether it is up at the end, and whether wait-to-restore was cleared for it
+-- one millisecond: whether the input is up at its end, and whether wait-to-restore is cleared in it
 pub record Signal : Type 0 where
   pub up : Bool
   pub clear : Bool
@@ -29,9 +30,9 @@ abbrev pub up_for : List Signal → ℕ
 up_for [] = 0
 up_for (now ∷ before) = if now.up then up_for before + 1 else 0
 
--- down for more than the hold-off time, the input is failed; up for more than the wait-to-restore time,
--- or cleared while up, it is not; else it is as before, and before 0 it is not. After G.781; the exact
--- millisecond is this project's own
+-- down for more than the hold-off time, an input is failed; up for more than the wait-to-restore
+-- time, or cleared while up, it is not; else it is as before, and before 0 it is not.
+-- After G.781; the exact millisecond is this project's own
 unfoldable pub failed_at : Timers → List Signal → Bool
 failed_at timers [] = false
 failed_at timers (now ∷ before) =
@@ -41,7 +42,8 @@ failed_at timers (now ∷ before) =
 
 -- the number of milliseconds after which the running time ends, if nothing happens
 unfoldable pub left_at : Timers → List Signal → ℕ
-left_at timers past = if is_up past then timers.wtr + 1 - up_for past else timers.holdoff + 1 - down_for past
+left_at timers past =
+    if is_up past then timers.wtr + 1 - up_for past else timers.holdoff + 1 - down_for past
 
 -- the condition of an input: up or down, failed or not, and what is left where a time runs
 abbrev pub condition_of : Bool → Bool → ℕ → Cond
@@ -74,13 +76,15 @@ IsSameKind Failed Failed = ⊤
 IsSameKind (Restoring a) (Restoring b) = ⊤
 IsSameKind a b = ⊥
 
--- the first later millisecond at which "failed" changes, if nothing happens: in all before it, it stays
+-- the first later millisecond in which "failed" is another, if nothing happens
 pub record IsFirstChange (timers : Timers) (past : List Signal) (due : ℕ) : Type 0 where
   pub later : length past ≤ due
   pub changed : failed_at timers (continued (due + 1) past) ≡ not (failed_at timers past)
-  pub same_before : (n : ℕ) → length past ≤ n → n ≤ due → failed_at timers (continued n past) ≡ failed_at timers past
+  pub same_before : (n : ℕ) → length past ≤ n → n ≤ due →
+      failed_at timers (continued n past) ≡ failed_at timers past
 
 -- that millisecond, or None where "failed" stays for ever
 abbrev pub IsDue : Timers → List Signal → Option ℕ → Type 0
 IsDue timers past (Some due) = IsFirstChange timers past due
-IsDue timers past None = (n : ℕ) → length past ≤ n → failed_at timers (continued n past) ≡ failed_at timers past
+IsDue timers past None = (n : ℕ) → length past ≤ n →
+    failed_at timers (continued n past) ≡ failed_at timers past

@@ -50,7 +50,7 @@ level_of_code option code = option_and_then (level_at option) (place_of_code opt
 abbrev pub level_of_name : NetOption → List ℕ → Option Level
 level_of_name option name = option_and_then (level_at option) (place_of_name option name)
 
--- the level that a clock sends where its signal must not be used as a reference: the last of the table
+-- the level that a clock sends where its signal must not be used: the last of the table
 abbrev pub do_not_use_of : NetOption → Level
 do_not_use_of I = record { option = I; place = length (levels_of I) - 1; is_row = lit< tt }
 do_not_use_of II = record { option = II; place = length (levels_of II) - 1; is_row = lit< tt }

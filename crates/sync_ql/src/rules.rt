@@ -1,7 +1,7 @@
 //! The rules of one element over time, which the simulating crates stand on.
 //!
-//! The rules themselves are definitions in `specs/`, over a list of past milliseconds. This module has
-//! the types in which they answer.
+//! The rules themselves are definitions in `specs/`, over a list of past milliseconds. This module
+//! has the types in which they answer.
 
 /// The condition of an input at a millisecond.
 ///

@@ -144,7 +144,7 @@ pub fn is_dnu(level: Level) -> bool
     level == do_not_use(level.option)
 }
 
-/// Whether a level is better than another of the same option: whether it stands earlier in the table.
+/// Whether a level is better than another of its option: whether it stands earlier in the table.
 ///
 /// After G.781, the order of quality levels; the place of QL-PROV is this project's own.
 pub fn better(a: Level, b: Level) -> bool
