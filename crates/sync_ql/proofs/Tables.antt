@@ -1,10 +1,11 @@
 -- What holds of the tables of both options.
-use Rattle.std.proofs.Common.{◌≡◌, ◌<◌, ℕ, Bool, true, false, List, length, refl, ap, Option, None, Some, position, arith, zero-add, sym, ◌∙◌, nat_eq, get_or}
+use Rattle.std.proofs.Common.{◌≡◌, ◌<◌, ℕ, Bool, true, false, List, length, refl, ap, Option, None, Some, position, arith, zero-add, sym, ◌∙◌, nat_eq, nat_lt, get_or}
 use Rattle.std.specs.Prelude.{option_and_then}
 use Rattle.std.specs.List.{list_all, range_with_len}
 use Rattle.std.proofs.Math.Decide.{dec_lt}
 use Rattle.std.proofs.Math.Bridge.{le_prop}
 use Rattle.std.proofs.lemmas.Bool.{eqb-true}
+use Rattle.std.proofs.lemmas.Bool.Decides.{nat_tests}
 use Rattle.std.proofs.lemmas.List.FromFn.{length-range_with_len, get_or-range_with_len}
 use Rattle.std.proofs.lemmas.List.Recursion.{and_at}
 use Rattle.sync_ql.specs.declared.levels.NetOption.{NetOption}
@@ -79,3 +80,18 @@ unfolding finds_name
 level_of_name-name_of level =
     let found = at_each (finds_name level.option) (length (levels_of level.option)) level.place (names_found level.option) level.is_row in
     ap (option_and_then (level_at level.option)) (is_place-true (place_of_name level.option (name_of level)) level.place found) ∙ level_at-place level
+
+has_four_bits : NetOption → ℕ → Bool
+has_four_bits option place = nat_lt (row_at option place).code 16
+
+codes_have_four_bits : (option : NetOption) → list_all (has_four_bits option) (range_with_len 0 (length (levels_of option))) ≡ true
+unfolding has_four_bits
+codes_have_four_bits I = refl
+codes_have_four_bits II = refl
+
+-- every code has four bits
+pub code_of-bound : (level : Level) → code_of level < 16
+unfolding has_four_bits
+code_of-bound level =
+    let small = at_each (has_four_bits level.option) (length (levels_of level.option)) level.place (codes_have_four_bits level.option) level.is_row in
+    grind (arith, nat_tests)

@@ -94,6 +94,7 @@ pub fn level_of_code(option: NetOption, code: u8) -> Option<Level>
 /// After G.781, the SSM codes of options I and II.
 pub fn code_of(level: Level) -> u8
     ensures code { result ≡ code_of level }
+    ensures four_bits { result < 16 }
     ensures back { level_of_code level.option result ≡ Some level }
 {
     row_of(level).code
@@ -129,6 +130,7 @@ pub fn level_of_name(option: NetOption, name: &[u8]) -> Option<Level>
 /// After G.781, do not use and do not use for synchronization.
 pub fn do_not_use(option: NetOption) -> Level
     ensures level { result ≡ do_not_use_of option }
+    ensures option { result.option ≡ option }
     ensures name { name_of result ≡ do_not_use_name option }
     ensures last { (level : Level) → level.option ≡ option → ¬ IsBetter result level }
 {
