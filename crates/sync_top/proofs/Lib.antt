@@ -1,3 +1,4 @@
 pub mod Finds
 pub mod RankLaws
 pub mod Certificates
+pub mod Cuts

@@ -18,8 +18,8 @@ use Rattle.sync_top.specs.Ranks.{Ranks, rank_of, IsFirstFall}
 use Rattle.sync_top.specs.CertificateText.{certificate_of}
 
 -- a text of one line
-abbrev pub line : List ℕ → List ℕ
-line words = words ++ codes "\n"
+abbrev pub text_line : List ℕ → List ℕ
+text_line words = words ++ codes "\n"
 
 -- how the reading of the files can end the work
 pub data End : Type 0 where
@@ -38,12 +38,12 @@ file name files = within (get files name)
   where
     within : Option (List ℕ) → Result (List ℕ) End
     within None = Err no_file
-    within (Some bytes) = if nat_lt file_limit (length bytes) then Err (answered TooLong (line (codes "too long"))) else Ok bytes
+    within (Some bytes) = if nat_lt file_limit (length bytes) then Err (answered TooLong (text_line (codes "too long"))) else Ok bytes
 
--- the value, where it is not refused
+-- the value; where it is refused, the work ends in this status and line
 abbrev pub accepted_or : {A E : Type 0} → Status → List ℕ → Result A E → Result A End
 accepted_or status refusal (Ok value) = Ok value
-accepted_or status refusal (Err reason) = Err (answered status (line refusal))
+accepted_or status refusal (Err reason) = Err (answered status (text_line refusal))
 
 -- the plan of a file
 abbrev pub plan_in : List ℕ → Contents → Result Topology End
@@ -66,10 +66,10 @@ documents plan_name certificate_name files = do
 
 -- accepted where ranks rise over every hop, and else the first hop over which they don't
 abbrev pub IsVerdict : Topology → Ranks → Status → List ℕ → Type 0
-IsVerdict plan ranks Done text = IsRising plan (rank_of ranks) × (text ≡ line (codes "accepted"))
+IsVerdict plan ranks Done text = IsRising plan (rank_of ranks) × (text ≡ text_line (codes "accepted"))
 IsVerdict plan ranks Refuted text =
     (from to : ℕ) × IsFirstFall plan ranks from to
-    × (text ≡ line (codes "falls " ++ line_name plan from ++ codes " " ++ line_name plan to))
+    × (text ≡ text_line (codes "falls " ++ line_name plan from ++ codes " " ++ line_name plan to))
 IsVerdict plan ranks status text = ⊥
 
 -- the answer to `check`: the verdict on both documents, or what ends their reading
@@ -83,40 +83,54 @@ CheckAnswer plan_name certificate_name files status text = ends (documents plan_
 
 -- the answer to a form, and to words that are none
 abbrev pub FormAnswer : Option Form → Contents → Status → List ℕ → Type 0
-FormAnswer None files status text = (status ≡ Usage) × (text ≡ line (codes "usage"))
+FormAnswer None files status text = (status ≡ Usage) × (text ≡ text_line (codes "usage"))
 FormAnswer (Some (check plan_name certificate_name)) files status text = CheckAnswer plan_name certificate_name files status text
 
 -- the program's answer to some words
 abbrev pub IsAnswer : List (List ℕ) → Contents → Status → List ℕ → Type 0
 IsAnswer words files status text = FormAnswer (form_of words) files status text
 
--- a file that the answer comes to isn't there
+-- a form whose answer comes to a file that isn't there
 abbrev pub FormMissesFile : Option Form → Contents → Type 0
 FormMissesFile None files = ⊥
 FormMissesFile (Some (check plan_name certificate_name)) files = documents plan_name certificate_name files ≡ Err no_file
 
+-- words whose answer comes to a file that isn't there
 abbrev pub MissesFile : List (List ℕ) → Contents → Type 0
 MissesFile words files = FormMissesFile (form_of words) files
 
--- contents that are told have each file that the answer comes to
+-- the contents are told, and have each file that the answer comes to
 abbrev pub HasFiles : List (List ℕ) → Option Contents → Type 0
 HasFiles words None = ⊥
 HasFiles words (Some files) = ¬ MissesFile words files
 
 -- the line that is written where a file can't be read
 abbrev pub fault_text : List ℕ
-fault_text = line (codes "read fault")
+fault_text = text_line (codes "read fault")
+
+-- what a folder tells before some work, and its count of faults before and after it
+pub record Outside : Type 0 where
+  pub told : Option Contents
+  pub steady : Bool
+  pub before : ℕ
+  pub now : ℕ
+
+abbrev pub across : {F : Type 0} → (F → Option Contents) → (F → Bool) → (F → ℕ) → F → F → Outside
+across contents steady faults old new =
+    record { told = contents old; steady = steady old; before = faults old; now = faults new }
+
+-- a fault of the folder may come: its count rose, and it isn't steady with every file there
+abbrev pub MayFault : List (List ℕ) → Outside → Type 0
+MayFault words outside = Rose outside.before outside.now × (IsTrue outside.steady → IfSome outside.told (MissesFile words))
 
 -- the text of the answer in this status was written
 abbrev pub Delivers : List (List ℕ) → Option (List ℕ) → Option (List ℕ) → Status → Contents → Type 0
 Delivers words before now status files = (text : List ℕ) × IsAnswer words files status text × Appends before now text
 
--- only a front was written: of the text of an answer, or of the line on a file that can't be read, where a fault of
--- the folder lets it come
-abbrev pub IsCut : List (List ℕ) → Option (List ℕ) → Option (List ℕ) → Type 0 → Contents → Type 0
-IsCut words before now MayFault files =
-    (text : List ℕ) × AppendsFront before now text × (((status : Status) × IsAnswer words files status text) ⊎ ((text ≡ fault_text) × MayFault))
+-- what was to be written: the text of an answer, or the line on a file that can't be read where that may come
+abbrev pub IsPending : List (List ℕ) → Type 0 → Contents → List ℕ → Type 0
+IsPending words Fault files text = ((status : Status) × IsAnswer words files status text) ⊎ ((text ≡ fault_text) × Fault)
 
--- a fault of the folder may come: its count rose, and it isn't steady with every file there
-abbrev pub MayFault : List (List ℕ) → Option Contents → Bool → ℕ → ℕ → Type 0
-MayFault words told steady before now = Rose before now × (IsTrue steady → IfSome told (MissesFile words))
+-- only a front of what was to be written was written
+abbrev pub IsCut : List (List ℕ) → Option (List ℕ) → Option (List ℕ) → Type 0 → Contents → Type 0
+IsCut words before now Fault files = (text : List ℕ) × AppendsFront before now text × IsPending words Fault files text

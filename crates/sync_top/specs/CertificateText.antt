@@ -23,6 +23,7 @@ pub data RowFault : Type 0 where
 pub data CertificateRefusal : Type 0 where
   -- there is no first record, or another one than the header
   bad_header : CertificateRefusal
+  -- the row of this number is at fault
   bad_row : RowFault → ℕ → CertificateRefusal
   -- no row has this nominated line, and it is the lowest-numbered such line
   missing : ℕ → CertificateRefusal
@@ -32,7 +33,7 @@ abbrev pub is_header : List (List ℕ) → Bool
 is_header (line ∷ rank ∷ []) = bytes_eq line (codes "line") && bytes_eq rank (codes "rank")
 is_header _ = false
 
--- the ranks with that of a row, which no earlier row has given
+-- the ranks after one more row: its line, which had none, gets its rank
 unfoldable pub with_row : Topology → Ranks → List (List ℕ) → Result Ranks RowFault
 with_row plan ranks row = do
   fields ← found (pair_of row) no_row
@@ -42,6 +43,7 @@ with_row plan ranks row = do
   fresh ← only_if (is_none (rank_at ranks line)) line_twice
   Ok (slice_set ranks line (Some rank))
 
+-- what a row gives, and its fault with the row's number
 abbrev pub at_row : ℕ → Result Ranks RowFault → Result Ranks CertificateRefusal
 at_row n (Ok ranks) = Ok ranks
 at_row n (Err fault) = Err (bad_row fault n)

@@ -143,6 +143,7 @@ pub(crate) fn read_cert(alloc: Global, plan: &Plan, bytes: &[u8]) -> Result<Cert
     cert_of(alloc, plan, records.as_slice())
 }
 
+/// The certificate of some records.
 #[tactic(auto, unfolding(crate::specs::CertificateText::ranks_of_records))]
 fn cert_of(alloc: Global, plan: &Plan, records: &[Record]) -> Result<Cert, CertErr>
     ensures exact { Gives result (ranks_of_records plan.now records.now) }
@@ -162,6 +163,7 @@ fn cert_of(alloc: Global, plan: &Plan, records: &[Record]) -> Result<Cert, CertE
     Ok(cert)
 }
 
+/// The record is the header `line,rank`.
 fn is_header(first: &Record) -> bool
     ensures { result ≡ is_header first.now }
 {

@@ -1,72 +1,25 @@
-ghost use Rattle.std.specs.Prelude.{◌≡◌, ◌++◌, ◌<◌, Some, IfOk, codes};
-ghost use Rattle.std.specs.String.{string_bytes};
+ghost use Rattle.std.specs.Prelude.{◌≡◌, ◌≢◌, ◌++◌, ◌<◌, Some, IfOk, codes};
 ghost use Rattle.sync_edge.specs.Contents.{KeepsFolder};
-ghost use Rattle.sync_top.specs.Answer.{line, file, plan_in, ranks_in, documents, IsVerdict, CheckAnswer, FormMissesFile};
-ghost use Rattle.sync_top.specs.Form.{check};
 ghost use Rattle.sync_topo.specs.Lines.{line_count, line_name};
+ghost use Rattle.sync_top.specs.Answer.{text_line, across, ranks_in, documents, IsVerdict, CheckAnswer, FormMissesFile};
+ghost use Rattle.sync_top.specs.Form.{check};
 ghost use Rattle.sync_top.specs.Ranks.{IsRanked};
-ghost use Rattle.sync_top.specs.Work.{Reads, Replies};
+ghost use Rattle.sync_top.specs.Work.{Reads, Replies, NeverUsage};
 
 use crate::certificate::{Cert, CertErr, read_cert};
+use crate::input::{file, plan_in};
 use crate::ranks::{Verdict, judge};
-use crate::reply::{Reply, Stop};
+use crate::reply::{Reply, Stop, line_text};
 use crate::status::Status;
-use plan_file::{PlanFileErr, read_plan};
 use std::alloc::Global;
-use sync_edge::{Folder, NoMemory, ReadErr, Text, read_all};
+use sync_edge::{Folder, NoMemory, Text};
 use sync_topo::{InputId, LineId, Plan};
-
-/// The most bytes that a file may have.
-const FILE_LIMIT: usize = 8_388_608;
-
-/// A text of one line.
-pub(crate) fn line_of(alloc: Global, words: &[u8]) -> Result<Text, NoMemory>
-    ensures { IfOk result (λ text. text ≡ line words.now) }
-{
-    let mut text = Text::new(alloc);
-    text.put(words)?;
-    text.put(b"\n")?;
-    Ok(text)
-}
-
-/// The bytes of a file.
-fn file<F: Folder>(alloc: Global, folder: &mut F, name: &str) -> Result<Text, Stop>
-    ensures reads { Reads (λ t. t) (F.contents folder.old) (F.steady folder.old) (F.faults folder.old) (F.faults folder.new) result (file name.now) }
-    ensures keeps { KeepsFolder F.contents F.steady F.faults folder.old folder.new }
-{
-    match read_all(alloc, folder, name, FILE_LIMIT) {
-        Ok(bytes) => Ok(bytes),
-        Err(ReadErr::Failed) => Err(Stop::Ended(Reply {
-            status: Status::ReadFault,
-            text: line_of(alloc, b"read fault")?,
-        })),
-        Err(ReadErr::TooLong) => Err(Stop::Ended(Reply {
-            status: Status::TooLong,
-            text: line_of(alloc, b"too long")?,
-        })),
-        Err(ReadErr::NoMemory) => Err(Stop::OutOfMemory),
-    }
-}
-
-/// The plan of a file.
-fn plan_in<F: Folder>(alloc: Global, folder: &mut F, name: &str) -> Result<Plan, Stop>
-    ensures reads { Reads (λ plan. plan) (F.contents folder.old) (F.steady folder.old) (F.faults folder.old) (F.faults folder.new) result (plan_in name.now) }
-    ensures keeps { KeepsFolder F.contents F.steady F.faults folder.old folder.new }
-{
-    let bytes = file(alloc, folder, name)?;
-    match read_plan(alloc, bytes.bytes()) {
-        Ok(plan) => Ok(plan),
-        Err(PlanFileErr::Refused) => Err(Stop::Ended(Reply {
-            status: Status::BadPlan,
-            text: line_of(alloc, b"bad plan")?,
-        })),
-        Err(PlanFileErr::NoMemory) => Err(Stop::OutOfMemory),
-    }
-}
 
 /// The certificate of a file.
 fn cert_in<F: Folder>(alloc: Global, folder: &mut F, plan: &Plan, name: &str) -> Result<Cert, Stop>
-    ensures reads { Reads (λ cert. cert) (F.contents folder.old) (F.steady folder.old) (F.faults folder.old) (F.faults folder.new) result (ranks_in plan.now name.now) }
+    ensures reads { Reads (λ cert. cert) (across F.contents F.steady F.faults folder.old folder.new) result
+        (ranks_in plan.now name.now) }
+    ensures form { NeverUsage result }
     ensures keeps { KeepsFolder F.contents F.steady F.faults folder.old folder.new }
     ensures ranked { IfOk result (IsRanked plan.now) }
 {
@@ -75,7 +28,7 @@ fn cert_in<F: Folder>(alloc: Global, folder: &mut F, plan: &Plan, name: &str) ->
         Ok(cert) => Ok(cert),
         Err(CertErr::Refused) => Err(Stop::Ended(Reply {
             status: Status::BadCert,
-            text: line_of(alloc, b"bad certificate")?,
+            text: line_text(alloc, b"bad certificate")?,
         })),
         Err(CertErr::NoMemory) => Err(Stop::OutOfMemory),
     }
@@ -88,7 +41,9 @@ fn documents<F: Folder>(
     plan: &str,
     cert: &str,
 ) -> Result<(Plan, Cert), Stop>
-    ensures reads { Reads (λ read. (read.0, read.1)) (F.contents folder.old) (F.steady folder.old) (F.faults folder.old) (F.faults folder.new) result (documents plan.now cert.now) }
+    ensures reads { Reads (λ read. (read.0, read.1)) (across F.contents F.steady F.faults folder.old folder.new) result
+        (documents plan.now cert.now) }
+    ensures form { NeverUsage result }
     ensures keeps { KeepsFolder F.contents F.steady F.faults folder.old folder.new }
     ensures ranked { IfOk result (λ read. IsRanked read.0 read.1) }
 {
@@ -103,7 +58,8 @@ fn documents<F: Folder>(
 fn falls_text(alloc: Global, plan: &Plan, from: LineId, to: LineId) -> Result<Text, NoMemory>
     requires from { from.0 < line_count plan.now }
     requires to { to.0 < line_count plan.now }
-    ensures { IfOk result (λ text. text ≡ line (codes "falls " ++ line_name plan.now from.0 ++ codes " " ++ line_name plan.now to.0)) }
+    ensures { IfOk result (λ text. text
+        ≡ text_line (codes "falls " ++ line_name plan.now from.0 ++ codes " " ++ line_name plan.now to.0)) }
 {
     let mut text = Text::new(alloc);
     text.put(b"falls ")?;
@@ -117,12 +73,13 @@ fn falls_text(alloc: Global, plan: &Plan, from: LineId, to: LineId) -> Result<Te
 /// The reply to the ranks of a certificate.
 fn verdict(alloc: Global, plan: &Plan, cert: &Cert) -> Result<Reply, NoMemory>
     requires { IsRanked plan.now cert.now }
-    ensures { IfOk result (λ reply. IsVerdict plan.now cert.now reply.status reply.text) }
+    ensures verdict { IfOk result (λ reply. IsVerdict plan.now cert.now reply.status reply.text) }
+    ensures form { IfOk result (λ reply. reply.status ≢ Status.Usage) }
 {
     match judge(plan, cert) {
         Verdict::Rising => Ok(Reply {
             status: Status::Done,
-            text: line_of(alloc, b"accepted")?,
+            text: line_text(alloc, b"accepted")?,
         }),
         Verdict::Falls(from, to) => Ok(Reply {
             status: Status::Refuted,
@@ -138,7 +95,10 @@ pub(crate) fn check<F: Folder>(
     plan: &str,
     cert: &str,
 ) -> Result<Reply, Stop>
-    ensures replies { Replies (CheckAnswer plan.now cert.now) (FormMissesFile (Some (check plan.now cert.now))) (F.contents folder.old) (F.steady folder.old) (F.faults folder.old) (F.faults folder.new) result }
+    ensures replies { Replies (CheckAnswer plan.now cert.now) (FormMissesFile (Some (check plan.now cert.now)))
+        (across F.contents F.steady F.faults folder.old folder.new) result }
+    ensures form { NeverUsage result }
+    ensures verdict { IfOk result (λ reply. reply.status ≢ Status.Usage) }
     ensures keeps { KeepsFolder F.contents F.steady F.faults folder.old folder.new }
 {
     let (plan, cert) = documents(alloc, folder, plan, cert)?;

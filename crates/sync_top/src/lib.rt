@@ -1,9 +1,15 @@
-//! The program as one call: `run` takes the words of the command line, a folder and a sink, and
+//! The program as one call: [`run`] takes the words of the command line, a folder and a sink, and
 //! gives the exit status.
+//!
+//! `IsAnswer` says which status and text the words have over which files; `Delivers` that it was
+//! written, and `IsCut` what a write fault leaves. Which words are a form is `form_of`. The reading
+//! of certificates and the test of their ranks are private parts. That memory is found is tested.
 #![tactic(auto)]
 
 mod certificate;
 mod check;
+mod form;
+mod input;
 mod program;
 mod ranks;
 mod reply;

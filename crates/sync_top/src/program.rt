@@ -1,39 +1,42 @@
-ghost use Rattle.std.specs.Prelude.{◌≡◌, ◌≢◌, map, None, IfOk, IfSome, IsTrue};
+ghost use Rattle.std.specs.Prelude.{◌≡◌, ◌≢◌, ◌↔◌, map, None, IfOk, IfSome, IsTrue};
 ghost use Rattle.std.specs.String.{string_bytes};
 ghost use Rattle.std.specs.Io.KnownBytes.{Appends};
 ghost use Rattle.sync_edge.specs.Contents.{KeepsFolder};
 ghost use Rattle.sync_edge.specs.Faults.{Rose};
 ghost use Rattle.sync_top.specs.Status.{OnAnswer};
 ghost use Rattle.sync_top.specs.Form.{form_of};
-ghost use Rattle.sync_top.specs.Answer.{IsAnswer, MissesFile, HasFiles, Delivers, IsCut, MayFault, fault_text};
-ghost use Rattle.sync_top.specs.Work.{Replies, EndsIn};
+ghost use Rattle.sync_top.specs.Answer.{across, IsAnswer, MissesFile, HasFiles, Delivers, IsCut, MayFault, fault_text};
+ghost use Rattle.sync_top.specs.Work.{Replies, EndsIn, UsageWhere};
 
-use crate::check::{check, line_of};
-use crate::reply::{Reply, Stop};
+use crate::check::check;
+use crate::form::{Form, form_of};
+use crate::reply::{Reply, Stop, line_text};
 use crate::status::Status;
 use std::alloc::Global;
 use sync_edge::{Folder, NoMemory, Sink, write_all};
 
 /// The work that the words ask for.
 fn work<F: Folder>(alloc: Global, words: &[String], folder: &mut F) -> Result<Reply, Stop>
-    ensures replies { Replies (IsAnswer (map string_bytes words.now)) (MissesFile (map string_bytes words.now)) (F.contents folder.old) (F.steady folder.old) (F.faults folder.old) (F.faults folder.new) result }
+    ensures replies { Replies (IsAnswer (map string_bytes words.now)) (MissesFile (map string_bytes words.now))
+        (across F.contents F.steady F.faults folder.old folder.new) result }
+    ensures usage { UsageWhere result (form_of (map string_bytes words.now) ≡ None) }
     ensures keeps { KeepsFolder F.contents F.steady F.faults folder.old folder.new }
     ensures no_call { form_of (map string_bytes words.now) ≡ None → folder.new ≡ folder.old }
 {
-    match words {
-        [word, plan, cert]
-            if word.as_str() == "check" && !plan.as_str().is_empty() && !cert.as_str().is_empty() =>
-            { check(alloc, folder, plan.as_str(), cert.as_str()) }
-        _ => Ok(Reply {
+    match form_of(words) {
+        Some(Form::Check { plan, cert }) => check(alloc, folder, plan, cert),
+        None => Ok(Reply {
             status: Status::Usage,
-            text: line_of(alloc, b"usage")?,
+            text: line_text(alloc, b"usage")?,
         }),
     }
 }
 
 /// The reply to the words.
 fn reply_to<F: Folder>(alloc: Global, words: &[String], folder: &mut F) -> Result<Reply, NoMemory>
-    ensures ends { IfOk result (λ reply. EndsIn (IsAnswer (map string_bytes words.now)) (MissesFile (map string_bytes words.now)) (F.contents folder.old) (F.steady folder.old) (F.faults folder.old) (F.faults folder.new) reply.status reply.text) }
+    ensures ends { IfOk result (λ reply. EndsIn (IsAnswer (map string_bytes words.now)) (MissesFile (map string_bytes words.now))
+        (across F.contents F.steady F.faults folder.old folder.new) reply.status reply.text) }
+    ensures usage { IfOk result (λ reply. (reply.status ≡ Status.Usage) ↔ (form_of (map string_bytes words.now) ≡ None)) }
     ensures keeps { KeepsFolder F.contents F.steady F.faults folder.old folder.new }
     ensures no_call { form_of (map string_bytes words.now) ≡ None → folder.new ≡ folder.old }
 {
@@ -58,18 +61,27 @@ pub fn run<F: Folder, K: Sink>(
     sink: &mut K,
 ) -> Status
     // Where the folder tells its contents, status and text are an answer to the words.
-    ensures answer { OnAnswer result (IfSome (F.contents folder.old) (Delivers (map string_bytes words.now) (K.written sink.old) (K.written sink.new) result)) }
+    ensures answer { OnAnswer result (IfSome (F.contents folder.old)
+        (Delivers (map string_bytes words.now) (K.written sink.old) (K.written sink.new) result)) }
 
-    // A read fault has a cause, and its line was written.
+    // Which words are a form doesn't depend on any file, and other words call the folder not at all.
+    ensures usage { OnAnswer result ((result ≡ Status.Usage) ↔ (form_of (map string_bytes words.now) ≡ None)) }
+    ensures no_call { form_of (map string_bytes words.now) ≡ None → folder.new ≡ folder.old }
+
+    // Where no fault is answered, no call of the folder failed: no file was tried after a refusal.
+    ensures calm { OnAnswer result (F.faults folder.new ≡ F.faults folder.old) }
+
+    // A read fault has a cause, and its line was written. A steady folder with every file has none.
     ensures read_fault_only { result ≡ Status.ReadFault → Rose (F.faults folder.old) (F.faults folder.new) }
     ensures read_fault_written { result ≡ Status.ReadFault → Appends (K.written sink.old) (K.written sink.new) fault_text }
-    ensures no_call { form_of (map string_bytes words.now) ≡ None → folder.new ≡ folder.old }
-    ensures sure { IsTrue (F.steady folder.old) → HasFiles (map string_bytes words.now) (F.contents folder.old) → result ≢ Status.ReadFault }
+    ensures sure { IsTrue (F.steady folder.old) → HasFiles (map string_bytes words.now) (F.contents folder.old)
+        → result ≢ Status.ReadFault }
 
     // A write fault has a cause, and what was written is a front of what was to be written.
     ensures write_fault_only { result ≡ Status.WriteFault → Rose (K.faults sink.old) (K.faults sink.new) }
-    ensures cut { result ≡ Status.WriteFault → IfSome (F.contents folder.old) (IsCut (map string_bytes words.now) (K.written sink.old) (K.written sink.new)
-        (MayFault (map string_bytes words.now) (F.contents folder.old) (F.steady folder.old) (F.faults folder.old) (F.faults folder.new))) }
+    ensures cut { result ≡ Status.WriteFault → IfSome (F.contents folder.old)
+        (IsCut (map string_bytes words.now) (K.written sink.old) (K.written sink.new)
+        (MayFault (map string_bytes words.now) (across F.contents F.steady F.faults folder.old folder.new))) }
 
     // Want of memory writes nothing.
     ensures no_memory { result ≡ Status.NoMemory → sink.new ≡ sink.old }

@@ -79,5 +79,6 @@ fn falls(plan: &Plan, cert: &Cert, line: LineId, next: LineId) -> bool
     requires to { next.0 < line_count plan.now }
     ensures { result ≡ falls plan.now cert.now line.0 next.0 }
 {
+    // The lines of a hop are nominated, so both have a rank.
     plan.hop(line, next) && cert.rank(next) <= cert.rank(line)
 }

@@ -1,4 +1,8 @@
+ghost use Rattle.std.specs.Prelude.{◌≡◌, IfOk};
+ghost use Rattle.sync_top.specs.Answer.{text_line};
+
 use crate::status::Status;
+use std::alloc::Global;
 use sync_edge::{NoMemory, Text};
 
 /// What the program writes, and the status that it ends with.
@@ -26,4 +30,14 @@ impl From<NoMemory> for Stop {
     fn from(_: NoMemory) -> Stop {
         Stop::OutOfMemory
     }
+}
+
+/// A text of one line.
+pub(crate) fn line_text(alloc: Global, words: &[u8]) -> Result<Text, NoMemory>
+    ensures { IfOk result (λ text. text ≡ text_line words.now) }
+{
+    let mut text = Text::new(alloc);
+    text.put(words)?;
+    text.put(b"\n")?;
+    Ok(text)
 }

@@ -26,11 +26,11 @@ pub enum Status {
 }
 
 impl Status {
-    ghost use Rattle.sync_top.specs.Status.{number_of};
+    ghost use Rattle.sync_top.specs.Status.{exit_number};
 
-    /// The exit status of the program, 0 to 11.
+    /// The exit status of the program, 0 to 10; 5 and 6 are kept for answers to come.
     pub fn number(self) -> u8
-        ensures { result ≡ number_of self }
+        ensures { result ≡ exit_number self }
     {
         match self {
             Status::Done => 0,

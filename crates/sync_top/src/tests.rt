@@ -86,7 +86,7 @@ fn answers(
 }
 
 #[test]
-fn check_answers(rt: HostRuntime) -> Result<(), Fail> {
+fn memory_is_found_and_check_answers(rt: HostRuntime) -> Result<(), Fail> {
     let check: &[&str] = &["check", "plan", "cert"];
     let done: (Status, &[u8]) = (Status::Done, b"accepted\n");
     let usage: (Status, &[u8]) = (Status::Usage, b"usage\n");

@@ -1,0 +1,11 @@
+use Rattle.std.proofs.Common.{◌≡◌, map}
+use Rattle.std.specs.String.{string_bytes}
+use Rattle.sync_top.proofs.Cuts.{cut-from}
+use Rattle.sync_top.proofs.program.run.Goals as goal
+
+pub returns-clause-cut : goal.returns-clause-cut
+returns-clause-cut g c = λ fault.
+    let F = g.F.Folder in let K = g.K.Sink in
+    cut-from (map string_bytes c.args.words.now) (F.contents c.args.folder.now) (F.steady c.args.folder.now) (F.faults c.args.folder.now) (F.faults c.reply_to.new.folder)
+    (K.written c.args.sink.now) (K.written c.write_all.new.sink) c.in-Ok.reply.status c.in-Ok.reply.text
+    c.in-Ok.ensures.ends (rw c.bytes.ensures at c.in-Err.ensures.front)

@@ -1,0 +1,8 @@
+-- How contracts see the code's form: what only private clauses cite.
+use Rattle.std.specs.Prelude.{ℕ, List}
+use Rattle.sync_top.specs.declared.form.Form as declared
+use Rattle.sync_top.specs.declared.form.Form.TheVariants as word
+use Rattle.sync_top.specs.Form.{Form, check}
+
+abbrev pub seen : declared.Form → Form
+seen (word.Check plan certificate) = check plan.now certificate.now
