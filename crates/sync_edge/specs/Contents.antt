@@ -8,22 +8,22 @@ use Rattle.std.specs.FinMap.{FinMap, get}
 abbrev pub Contents : Type 0
 Contents = FinMap (slice_cmp nat_cmp) (List ℕ)
 
--- contents that are told have this name
+-- the contents are told, and have this name
 abbrev pub HasName : Option Contents → List ℕ → Type 0
 HasName None name = ⊥
 HasName (Some files) name = IsSome (get files name)
 
--- contents that are told have these bytes under this name
+-- where contents are told, they have these bytes under this name
 abbrev pub Holds : Option Contents → List ℕ → List ℕ → Type 0
 Holds None name bytes = ⊤
 Holds (Some files) name bytes = get files name ≡ Some bytes
 
--- contents that are told have more than `limit` bytes under this name
+-- where contents are told, they have more than `limit` bytes under this name
 abbrev pub HoldsMoreThan : ℕ → Option Contents → List ℕ → Type 0
 HoldsMoreThan limit None name = ⊤
 HoldsMoreThan limit (Some files) name = IsSomeAnd (get files name) (λ bytes. limit < length bytes)
 
--- what is left is the whole file of this name
+-- where contents are told, what is left is the whole file of this name
 abbrev pub Starts : Option Contents → List ℕ → Option (List ℕ) → Type 0
 Starts None name left = ⊤
 Starts (Some files) name None = ⊥

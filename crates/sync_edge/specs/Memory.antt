@@ -38,16 +38,19 @@ abbrev pub left_of : List MemFile → Option ℕ → ℕ → List ℕ
 left_of files None at = []
 left_of files (Some place) at = drop at (bytes_of (slice_get files place))
 
--- what the members of the trait are for a folder in memory
+-- what the members of the trait are for a folder in memory: its contents are told
 abbrev pub told_contents : MemoryFolder → Option Contents
 told_contents folder = Some (contents_of folder.files)
 
+-- and so is what is left
 abbrev pub told_left : MemoryFolder → Option (List ℕ)
 told_left folder = Some folder.left
 
+-- no call to come is listed
 abbrev pub is_steady : MemoryFolder → Bool
 is_steady folder = none_from folder.fails folder.number
 
+-- how often a call has failed
 abbrev pub fault_count : MemoryFolder → ℕ
 fault_count folder = folder.faults
 
@@ -68,10 +71,11 @@ pub record MemorySink : Type 0 where
   pub number : ℕ
   pub faults : ℕ
 
--- what the members of the trait are for a sink in memory
+-- what the members of the trait are for a sink in memory: what was written is told
 abbrev pub told_written : MemorySink → Option (List ℕ)
 told_written sink = Some sink.written
 
+-- how often a write has failed
 abbrev pub sink_faults : MemorySink → ℕ
 sink_faults sink = sink.faults
 

@@ -26,6 +26,7 @@ pub struct MemFile {
 ///
 /// Its calls of `start` and `read` are numbered together, from 1. A call fails exactly where its number
 /// is listed, or where `start` has a name that no file has. Of files with one name the first counts.
+/// It is steady once no listed number is still to come.
 /// This project's own.
 #[derive(Debug, Drop)]
 pub struct MemFolder {
@@ -79,10 +80,7 @@ impl MemFolder {
     {
         let number = self.number;
         self.number = number.saturating_add(1);
-        self.fails
-            .as_slice()
-            .iter()
-            .any(|fail| u64::from(*fail) == number)
+        is_listed(self.fails.as_slice(), number)
     }
 
     /// Counts a fault.

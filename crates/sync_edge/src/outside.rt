@@ -20,7 +20,7 @@ pub trait Folder {
     /// No call fails from now on, but for a `start` with a name that isn't there.
     ghost steady: { Self → Bool };
 
-    /// How often a call has failed, up to 2^64 - 1.
+    /// How often a call has failed, up to 2^64 - 1. A call that doesn't fail leaves it as it was.
     ghost faults: { Self → ℕ };
 
     /// Begins the file at its first byte. A name that isn't there is a fault.
@@ -48,7 +48,7 @@ pub trait Sink {
     /// The bytes written so far, where the sink tells them.
     ghost written: { Self → Option (List ℕ) };
 
-    /// How often a call has failed, up to 2^64 - 1.
+    /// How often a call has failed, up to 2^64 - 1. A call that doesn't fail leaves it as it was.
     ghost faults: { Self → ℕ };
 
     /// Writes a front of the bytes, and gives how many it took: at least one, if there is one.
