@@ -151,6 +151,7 @@ impl Folder for MemFolder {
         // It fails exactly where its number is listed, or no file has the name.
         ensures exact { is_err result ≡ (fails_at self.old.fails self.old.number || is_none (get (contents_of self.old.files) name.now)) }
         ensures counted { IsNextCall self.old self.new }
+        ensures once { OnErr result (self.new.faults ≡ one_more self.old.faults) }
     {
         let place = self.place_to_start(name.as_bytes());
         self.begin(place);
@@ -173,6 +174,7 @@ impl Folder for MemFolder {
         ensures exact { is_err result ≡ fails_at self.old.fails self.old.number }
         ensures count { IfOk result (λ count. count ≡ min (min self.old.piece (length buf.old)) (length self.old.left)) }
         ensures counted { IsNextCall self.old self.new }
+        ensures once { OnErr result (self.new.faults ≡ one_more self.old.faults) }
     {
         if self.count_call() {
             self.count_fault();

@@ -1,4 +1,4 @@
-ghost use Rattle.std.specs.Prelude.{◌≡◌, ◌<◌, ◌≤◌, ◌+◌, ◌-◌, ◌++◌, ◌==◌, ◌&&◌, ◌||◌, min, nat_lt, [], length, take, is_err, IfOk};
+ghost use Rattle.std.specs.Prelude.{◌≡◌, ◌<◌, ◌≤◌, ◌+◌, ◌-◌, ◌++◌, ◌==◌, ◌&&◌, ◌||◌, min, nat_lt, [], length, take, is_err, IfOk, OnErr};
 ghost use Rattle.std.specs.Io.{WritesAtMost};
 ghost use Rattle.std.specs.Io.KnownBytes.{WriteAppends};
 ghost use Rattle.sync_edge.specs.Memory.{fails_at};
@@ -121,6 +121,7 @@ impl Sink for MemSink {
         ensures exact { is_err result ≡ (nat_lt 0 (length bytes.now) && (fails_at self.old.fails self.old.number || (self.old.room == 0))) }
         ensures count { IfOk result (λ count. count ≡ min (min self.old.piece self.old.room) (length bytes.now)) }
         ensures counted { 0 < length bytes.now → IsNextWrite self.old self.new }
+        ensures once { OnErr result (self.new.faults ≡ one_more self.old.faults) }
         ensures room { length self.new.written + self.new.room ≡ length self.old.written + self.old.room }
     {
         if bytes.is_empty() {

@@ -69,7 +69,9 @@ pub fn run<F: Folder, K: Sink>(
     ensures no_call { form_of (map string_bytes words.now) ≡ None → folder.new ≡ folder.old }
 
     // Where no fault is answered, no call of the folder failed: no file was tried after a refusal.
+    // Nor did a write fail, but where a write fault is answered.
     ensures calm { OnAnswer result (F.faults folder.new ≡ F.faults folder.old) }
+    ensures sink_calm { result ≢ Status.WriteFault → K.faults sink.new ≡ K.faults sink.old }
 
     // A read fault has a cause, and its line was written. A steady folder with every file has none.
     ensures read_fault_only { result ≡ Status.ReadFault → Rose (F.faults folder.old) (F.faults folder.new) }
