@@ -1,7 +1,9 @@
 // From the bytes of a file to its plan.
 
+ghost use Rattle.std.specs.Prelude.{IfOk};
 ghost use Rattle.toml.specs.View.{table_view};
 ghost use Rattle.sync_topo.specs.Refusal.{found};
+ghost use Rattle.sync_topo.specs.WellFormed.{IsWellFormed};
 ghost use Rattle.plan_file.specs.Refusal.{no_document};
 ghost use Rattle.plan_file.specs.PlanText.{document_of, plan_of};
 ghost use Rattle.plan_file.specs.Gives.{Gives, GivesBy};
@@ -20,6 +22,7 @@ use toml::Table;
 #[tactic(auto, unfolding(crate::specs::PlanText::plan_of))]
 pub fn read_plan(alloc: Global, bytes: &[u8]) -> Result<Plan, PlanFileErr>
     ensures exact { Gives result (plan_of bytes.now) }
+    ensures well_formed { IfOk result (λ plan. IsWellFormed plan) }
 {
     let document = document_of(alloc, bytes)?;
     let rows = rows_of(alloc, &document)?;

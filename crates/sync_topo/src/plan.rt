@@ -1,4 +1,4 @@
-ghost use Rattle.std.specs.Prelude.{◌≡◌, ℕ, ◌+◌, ◌*◌, ◌<◌, ◌↔◌, IsTrue, length, slice_get, Some, map};
+ghost use Rattle.std.specs.Prelude.{◌≡◌, ℕ, ◌+◌, ◌*◌, ◌<◌, ◌↔◌, IsTrue, IfOk, length, slice_get, Some, map};
 ghost use Rattle.std.specs.List.{All};
 ghost use Rattle.sync_topo.specs.Lines.{line_count, sender_of, receiver_of, reverse_of, priority_of, is_nominated, inputs_of, input_number};
 ghost use Rattle.sync_topo.specs.Hops.{hops, Hops};
@@ -46,6 +46,7 @@ impl Plan {
     #[tactic(auto, unfolding(crate::specs::PlanRows::plan_of_rows))]
     pub fn new(alloc: Global, rows: PlanRows) -> Result<Plan, PlanErr>
         ensures exact { Gives result (plan_of_rows rows) }
+        ensures well_formed { IfOk result (λ plan. IsWellFormed plan) }
     {
         let element_rows = rows.elements.as_slice();
         let link_rows = rows.links.as_slice();
