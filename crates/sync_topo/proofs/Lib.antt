@@ -4,3 +4,4 @@ pub mod HeldLemmas
 pub mod WellFormedLemmas
 pub mod LineNames
 pub mod LineLaws
+pub mod PlanOfRowsLemmas

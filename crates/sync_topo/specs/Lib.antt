@@ -3,6 +3,7 @@ pub mod Lines
 pub mod Hops
 pub mod Refusal
 pub mod PlanRows
+pub mod PlanOfRows
 pub mod WellFormed
 pub mod Names
 pub mod Gives

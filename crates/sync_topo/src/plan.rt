@@ -4,6 +4,7 @@ ghost use Rattle.sync_topo.specs.Lines.{line_count, sender_of, receiver_of, reve
 ghost use Rattle.sync_topo.specs.Hops.{hops, Hops};
 ghost use Rattle.sync_topo.specs.Gives.{Gives};
 ghost use Rattle.sync_topo.specs.PlanRows.{plan_of_rows};
+ghost use Rattle.sync_topo.specs.PlanOfRows.{IsPlanOfRows};
 ghost use Rattle.sync_topo.specs.WellFormed.{IsWellFormed};
 
 mod naming;
@@ -47,6 +48,7 @@ impl Plan {
     pub fn new(alloc: Global, rows: PlanRows) -> Result<Plan, PlanErr>
         ensures exact { Gives result (plan_of_rows rows) }
         ensures well_formed { IfOk result (λ plan. IsWellFormed plan) }
+        ensures ok { IfOk result (λ plan. IsPlanOfRows rows plan) }
     {
         let element_rows = rows.elements.as_slice();
         let link_rows = rows.links.as_slice();
