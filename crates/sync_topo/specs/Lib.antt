@@ -10,3 +10,4 @@ pub mod Gives
 pub mod Held
 pub mod Naming
 pub mod Indexed
+pub mod Examples
