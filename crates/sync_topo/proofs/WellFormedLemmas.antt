@@ -35,8 +35,8 @@ list_all-push names name all one = rw (list_all-append is_name names (name ∷ [
 
 JoinsTwo-more : (n : ℕ) (link : Link) → JoinsTwo n link → JoinsTwo (n + 1) link
 JoinsTwo-more n link joins = record {
-  from_element = omega (arith, joins.from_element);
-  to_element = omega (arith, joins.to_element);
+  a_is_element = omega (arith, joins.a_is_element);
+  b_is_element = omega (arith, joins.b_is_element);
   apart = joins.apart;
   priority_a_fits = joins.priority_a_fits;
   priority_b_fits = joins.priority_b_fits;

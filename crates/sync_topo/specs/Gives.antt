@@ -9,7 +9,7 @@ Gives (Ok value) answer = answer ≡ Ok value
 Gives (Err Refused) answer = IsErr answer
 Gives (Err NoMemory) answer = ⊤
 
--- the same of a step that has made the value
+-- the same of a step that answers nothing and leaves the value where it is kept
 abbrev pub GivesThat : {A E : Type 0} → Result (Unit {0}) PlanErr → A → Result A E → Type 0
 GivesThat (Ok done) value answer = answer ≡ Ok value
 GivesThat (Err Refused) value answer = IsErr answer

@@ -13,6 +13,7 @@ abbrev pub hops : Topology → ℕ → ℕ → Bool
 hops plan line next =
     is_nominated plan line && is_nominated plan next && receiver_of plan line == sender_of plan next && not (goes_back plan line next)
 
+-- the first line hops to the second
 abbrev pub Hops : Topology → ℕ → ℕ → Type 0
 Hops plan line next = IsTrue (hops plan line next)
 

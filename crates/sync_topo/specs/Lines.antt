@@ -43,6 +43,7 @@ priority_of plan line =
 abbrev pub is_nominated : Topology → ℕ → Bool
 is_nominated plan line = nat_lt 0 (priority_of plan line)
 
+-- the receiver gives the line a priority
 abbrev pub IsNominated : Topology → ℕ → Type 0
 IsNominated plan line = IsTrue (is_nominated plan line)
 

@@ -7,7 +7,7 @@ use Rattle.std.specs.Str.{bytes_eq}
 abbrev pub is_between : ℕ → ℕ → ℕ → Bool
 is_between low high byte = nat_le low byte && nat_le byte high
 
--- a letter of the alphabet, a digit, _ or -
+-- A to Z, a to z, 0 to 9, _ or -
 abbrev pub is_name_byte : ℕ → Bool
 is_name_byte byte = is_between 65 90 byte || is_between 97 122 byte || is_between 48 57 byte || byte == 95 || byte == 45
 

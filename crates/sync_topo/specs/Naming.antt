@@ -6,13 +6,13 @@ use Rattle.std.specs.Str.{bytes_eq}
 use Rattle.sync_topo.specs.Topology.{Topology}
 use Rattle.sync_topo.specs.Lines.{element_name}
 
--- the sign > stands in the bytes
+-- the sign >, whose code is 62, stands in the bytes
 abbrev pub has_sign : List ℕ → Bool
 has_sign bytes = list_any (λ byte. byte == 62) bytes
 
 -- the bytes are what stands before their first sign >, the sign, and what stands after it
 pub record IsCut (bytes front back : List ℕ) : Type 0 where
-  pub whole : bytes ≡ front ++ 62 ∷ back
+  pub whole : bytes ≡ front ++ (codes ">" ++ back)
   pub first : has_sign front ≡ false
 
 -- the line of a link into the element of a name

@@ -10,19 +10,23 @@ use Rattle.sync_topo.specs.Lines.{inputs_of}
 use Rattle.sync_topo.specs.Names.{is_name, is_named, place_of}
 use Rattle.sync_topo.specs.Refusal.{Section, elements, links, Reason, PlanRefusal, past_limit, bad_name, named_twice, no_element, self_link, out_of_range, ◌>>=◌, only_if, found, at_row}
 
--- the limits of a plan
+-- the most elements that a plan may have. This project's own.
 abbrev pub element_limit : ℕ
 element_limit = 2000
 
+-- the most links that a plan may have. This project's own.
 abbrev pub link_limit : ℕ
 link_limit = 4000
 
+-- the most nominated inputs that an element may have. This project's own.
 abbrev pub input_limit : ℕ
 input_limit = 64
 
+-- the names of elements, in order
 abbrev pub element_names : List Element → List (List ℕ)
 element_names es = map (λ e. e.name) es
 
+-- the names of links, in order
 abbrev pub link_names : List Link → List (List ℕ)
 link_names ls = map (λ l. l.name) ls
 

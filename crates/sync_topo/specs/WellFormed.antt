@@ -13,12 +13,13 @@ AreDistinct names = (i j : ℕ) → i < j → j < length names → slice_get nam
 
 -- the link joins two of the n elements, with priorities that fit
 pub record JoinsTwo (n : ℕ) (link : Link) : Type 0 where
-  pub from_element : link.a < n
-  pub to_element : link.b < n
+  pub a_is_element : link.a < n
+  pub b_is_element : link.b < n
   pub apart : link.a ≢ link.b
   pub priority_a_fits : link.priority_a ≤ 255
   pub priority_b_fits : link.priority_b ≤ 255
 
+-- every rule for plans holds
 pub record IsWellFormed (plan : Topology) : Type 0 where
   pub few_elements : length plan.elements ≤ element_limit
   pub few_links : length plan.links ≤ link_limit
