@@ -42,26 +42,26 @@ abbrev pub two_elements : List ElementRow
 two_elements = record { name = codes "A" } ∷ record { name = codes "B" } ∷ []
 
 pub name_twice_comes_before_an_end_that_is_no_element : plan_of_rows (record {
-      elements = two_elements;
-      links = record { name = codes "L1"; a = codes "A"; b = codes "B"; priority_a = None; priority_b = Some (pos 1) }
-          ∷ record { name = codes "L1"; a = codes "A"; b = codes "C"; priority_a = None; priority_b = Some (pos 1) }
-          ∷ [];
-    }) ≡ Err (record { reason = named_twice; place = record { section = links; row = 2 } })
+  elements = two_elements;
+  links = record { name = codes "L1"; a = codes "A"; b = codes "B"; priority_a = None; priority_b = Some (pos 1) }
+      ∷ record { name = codes "L1"; a = codes "A"; b = codes "C"; priority_a = None; priority_b = Some (pos 1) }
+      ∷ [];
+}) ≡ Err (record { reason = named_twice; place = record { section = links; row = 2 } })
 unfolding plan_of_rows element_of_row link_of_row
 name_twice_comes_before_an_end_that_is_no_element = refl
 
 pub self_link_comes_before_a_priority_out_of_range : plan_of_rows (record {
-      elements = two_elements;
-      links = record { name = codes "L1"; a = codes "A"; b = codes "B"; priority_a = None; priority_b = Some (pos 1) }
-          ∷ record { name = codes "L2"; a = codes "A"; b = codes "A"; priority_a = None; priority_b = Some (pos 256) }
-          ∷ [];
-    }) ≡ Err (record { reason = self_link; place = record { section = links; row = 2 } })
+  elements = two_elements;
+  links = record { name = codes "L1"; a = codes "A"; b = codes "B"; priority_a = None; priority_b = Some (pos 1) }
+      ∷ record { name = codes "L2"; a = codes "A"; b = codes "A"; priority_a = None; priority_b = Some (pos 256) }
+      ∷ [];
+}) ≡ Err (record { reason = self_link; place = record { section = links; row = 2 } })
 unfolding plan_of_rows element_of_row link_of_row
 self_link_comes_before_a_priority_out_of_range = refl
 
 pub bad_name_of_an_element_comes_before_any_link_row : plan_of_rows (record {
-      elements = record { name = codes "A" } ∷ record { name = codes "B>" } ∷ [];
-      links = record { name = codes "L1"; a = codes "A"; b = codes "A"; priority_a = None; priority_b = None } ∷ [];
-    }) ≡ Err (record { reason = bad_name; place = record { section = elements; row = 2 } })
+  elements = record { name = codes "A" } ∷ record { name = codes "B>" } ∷ [];
+  links = record { name = codes "L1"; a = codes "A"; b = codes "A"; priority_a = None; priority_b = None } ∷ [];
+}) ≡ Err (record { reason = bad_name; place = record { section = elements; row = 2 } })
 unfolding plan_of_rows element_of_row link_of_row
 bad_name_of_an_element_comes_before_any_link_row = refl

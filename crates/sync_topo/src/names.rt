@@ -78,6 +78,7 @@ pub(crate) fn is_name(name: &[u8]) -> bool
     1 <= name.len() && name.len() <= 32 && all_name_bytes(name)
 }
 
+/// Each of the bytes may stand in a name.
 fn all_name_bytes(name: &[u8]) -> bool
     ensures { result ≡ list_all is_name_byte name.now }
 {

@@ -57,7 +57,8 @@ impl Parts {
     #[tactic(auto, unfolding(crate::specs::PlanRows::element_of_row))]
     pub(crate) fn element_of(&self, alloc: Global, row: &ElementRow) -> Result<Element, PlanErr>
         requires { IsIndexed self.now }
-        ensures gives { Gives result (element_of_row (element_names self.now.elements.items) row.now) }
+        ensures gives { Gives result
+            (element_of_row (element_names self.now.elements.items) row.now) }
         ensures may_join { IfOk result (MayJoin self.now) }
     {
         check_name(&self.element_names, &row.name)?;
@@ -71,7 +72,8 @@ impl Parts {
         requires may_join { MayJoin self.old element }
         requires room { length self.old.elements.items < element_limit }
         ensures indexed { OnOk result (IsIndexed self.new) }
-        ensures elements { OnOk result (self.new.elements.items ≡ self.old.elements.items ++ element ∷ []) }
+        ensures elements { OnOk result
+            (self.new.elements.items ≡ self.old.elements.items ++ element ∷ []) }
         ensures links { OnOk result (self.new.links.items ≡ self.old.links.items) }
     {
         self.element_names.add(element.name.bytes())?;
@@ -84,7 +86,9 @@ impl Parts {
         Ok(())
     }
 
-    /// Puts the elements of all the rows at the end of none.
+    /// Puts the elements of all rows, in order, into parts that have none yet.
+    ///
+    /// After a refusal the parts are spent.
     pub(crate) fn add_elements(&mut self, alloc: Global, rows: &[ElementRow]) -> Result<(), PlanErr>
         requires indexed { IsIndexed self.old }
         requires no_elements { self.old.elements.items ≡ [] }
@@ -100,13 +104,16 @@ impl Parts {
         Ok(())
     }
 
-    /// Puts the links of all the rows at the end of none.
+    /// Puts the links of all rows, in order, into parts that have none yet.
+    ///
+    /// After a refusal the parts are spent.
     pub(crate) fn add_links(&mut self, alloc: Global, rows: &[LinkRow]) -> Result<(), PlanErr>
         requires indexed { IsIndexed self.old }
         requires no_links { self.old.links.items ≡ [] }
         requires within { length rows.now ≤ link_limit }
         ensures indexed { OnOk result (IsIndexed self.new) }
-        ensures gives { GivesThat result self.new.links.items (links_of_rows self.old.elements.items [] 1 rows.now) }
+        ensures gives { GivesThat result self.new.links.items
+            (links_of_rows self.old.elements.items [] 1 rows.now) }
         ensures elements { OnOk result (self.new.elements.items ≡ self.old.elements.items) }
     {
         for row in rows {
@@ -120,7 +127,8 @@ impl Parts {
     #[tactic(auto, unfolding(crate::specs::PlanRows::link_of_row))]
     pub(crate) fn link_of(&self, alloc: Global, row: &LinkRow) -> Result<Link, PlanErr>
         requires { IsIndexed self.now }
-        ensures gives { Gives result (link_of_row self.now.elements.items self.now.links.items row.now) }
+        ensures gives { Gives result
+            (link_of_row self.now.elements.items self.now.links.items row.now) }
         ensures may_link { IfOk result (MayLink self.now) }
     {
         check_name(&self.link_names, &row.name)?;
@@ -129,8 +137,8 @@ impl Parts {
         if a == b {
             return Err(PlanErr::Refused);
         }
-        let priority_a = priority_of(row.priority_a)?;
-        let priority_b = priority_of(row.priority_b)?;
+        let priority_a = priority_value(row.priority_a)?;
+        let priority_b = priority_value(row.priority_b)?;
         let name = copy_of(alloc, &row.name)?;
         let link = Link {
             name,
@@ -148,7 +156,8 @@ impl Parts {
     /// The number of the element of a name.
     fn element_named(&self, name: &Text) -> Result<u32, PlanErr>
         requires { IsIndexed self.now }
-        ensures gives { Gives result (found (place_of (element_names self.now.elements.items) name.now) no_element) }
+        ensures gives { Gives result
+            (found (place_of (element_names self.now.elements.items) name.now) no_element) }
         ensures within { IfOk result (λ e. e < length self.now.elements.items) }
     {
         let Some(place) = self.element_names.place_of(name.bytes()) else {
@@ -161,7 +170,9 @@ impl Parts {
     fn has_room_for(&self, link: &Link) -> bool
         requires indexed { IsIndexed self.now }
         requires joins { JoinsTwo (length self.now.elements.items) link.now }
-        ensures { result ≡ (has_room self.now.elements.items (self.now.links.items ++ link.now ∷ []) link.now.a && has_room self.now.elements.items (self.now.links.items ++ link.now ∷ []) link.now.b) }
+        ensures { let longer = self.now.links.items ++ link.now ∷ [] in
+            result ≡ (has_room self.now.elements.items longer link.now.a
+            && has_room self.now.elements.items longer link.now.b) }
     {
         self.has_room(link.a, link.priority_a) && self.has_room(link.b, link.priority_b)
     }
@@ -170,7 +181,8 @@ impl Parts {
     fn has_room(&self, element: u32, priority: u8) -> bool
         requires indexed { IsIndexed self.now }
         requires within { element < length self.now.elements.items }
-        ensures { result ≡ nat_le (length (inputs_of (topology self.now) element) + length (taken element priority 0 element)) input_limit }
+        ensures { let count = length (inputs_of (topology self.now) element) in
+            result ≡ nat_le (count + length (taken element priority 0 element)) input_limit }
     {
         priority == 0 || self.inputs[element as usize].len() < INPUT_LIMIT
     }
@@ -204,7 +216,8 @@ fn take_input(
 ) -> Result<(), NoMemory>
     requires { receiver < length inputs.old.items }
     ensures counted { OnOk result (length inputs.new.items ≡ length inputs.old.items) }
-    ensures held { OnOk result ((element : ℕ) → held inputs.new.items element ≡ held inputs.old.items element ++ taken receiver priority line.0 element) }
+    ensures held { OnOk result ((element : ℕ) → held inputs.new.items element
+        ≡ held inputs.old.items element ++ taken receiver priority line.0 element) }
 {
     if priority == 0 {
         return Ok(());
@@ -228,7 +241,7 @@ fn check_name(names: &Names, name: &Text) -> Result<(), PlanErr>
 }
 
 /// The priority that a row gives: 0 to 255, and 0 where it gives none.
-fn priority_of(given: Option<i64>) -> Result<u8, PlanErr>
+fn priority_value(given: Option<i64>) -> Result<u8, PlanErr>
     ensures { Gives result (found (priority_value given) out_of_range) }
 {
     match given {
@@ -237,6 +250,7 @@ fn priority_of(given: Option<i64>) -> Result<u8, PlanErr>
     }
 }
 
+/// A copy of a text.
 fn copy_of(alloc: Global, text: &Text) -> Result<Text, NoMemory>
     ensures { IfOk result (λ copy. copy ≡ text.now) }
 {

@@ -40,10 +40,10 @@ impl Model for Plan {
 impl Plan {
     /// The plan that rows give.
     ///
-    /// `Refused` comes exactly where the rows break a rule: more than 2,000 elements or 4,000 links,
-    /// a name that isn't 1 to 32 of `A-Z a-z 0-9 _ -` or that stands twice in its section, an end of
-    /// a link that is no element, a link from an element to itself, a priority outside 0 to 255, or
-    /// a 65th nominated input of an element. This project's own.
+    /// `Refused` comes exactly where the rows break a rule: more than 2,000 elements or 4,000
+    /// links, a name that isn't 1 to 32 of `A-Z a-z 0-9 _ -` or that stands twice in its section,
+    /// an end of a link that is no element, a link from an element to itself, a priority outside
+    /// 0 to 255, or a 65th nominated input of an element. This project's own.
     #[tactic(auto, unfolding(crate::specs::PlanRows::plan_of_rows))]
     pub fn new(alloc: Global, rows: PlanRows) -> Result<Plan, PlanErr>
         ensures exact { Gives result (plan_of_rows rows) }
@@ -132,10 +132,12 @@ impl Plan {
         ensures reverse { result.0 ≡ reverse_of l.0 }
         ensures within { result.0 < line_count self.now }
     {
+        // A plan has at most 4,000 links, so the sum fits.
         let _links = self.links();
         LineId(if l.0 % 2 == 0 { l.0 + 1 } else { l.0 - 1 })
     }
 
+    /// The priority that its receiver gives a line; 0 is not nominated.
     fn line_priority(&self, l: LineId) -> u8
         requires { l.0 < line_count self.now }
         ensures well_formed { IsWellFormed self.now }
@@ -180,7 +182,8 @@ impl Plan {
     }
 
     /// What line `l` brings to an element may go on over line `m`: both are nominated, `m` begins
-    /// where `l` ends, and it isn't the other direction of the same link.
+    /// where `l` ends, and it isn't the other direction of the same link. After G.781, do-not-use
+    /// towards the selected reference.
     pub fn hop(&self, l: LineId, m: LineId) -> bool
         requires from { l.0 < line_count self.now }
         requires to { m.0 < line_count self.now }

@@ -18,6 +18,8 @@ impl Plan {
         ensures line { option_map (λ line. line.0) result ≡ line_of_name self.now name.now }
         ensures within { IfSome result (λ line. line.0 < line_count self.now) }
     {
+        // No name holds the sign and no two links have one name, so what stands before the first
+        // sign tells the link.
         let _parts = &self.parts;
         let (link, receiver) = cut_at_sign(name)?;
         let k = self.parts.link_names.place_of(link)?;
@@ -42,7 +44,7 @@ impl Plan {
 
     /// Puts the name of an input at the end of a text: a line's as `L1>B`.
     ///
-    /// A refusal leaves the text as it was.
+    /// A refusal leaves the text as it was. This project's own.
     pub fn put_input_name(&self, alloc: Global, out: &mut Text, i: InputId) -> Result<(), NoMemory>
         requires { input_number i < line_count self.now }
         ensures well_formed { IsWellFormed self.now }
