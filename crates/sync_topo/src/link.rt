@@ -24,6 +24,18 @@ pub struct Link {
 #[derive(Clone, Copy, Debug, PartialEq, Eq, Drop)]
 pub struct LineId(pub u32);
 
+impl LineId {
+    ghost use Rattle.std.specs.Prelude.{◌≡◌};
+    ghost use Rattle.sync_topo.specs.Lines.{ends_at_b};
+
+    /// The line runs from end a of its link to end b.
+    pub(crate) fn ends_at_b(self) -> bool
+        ensures { result ≡ ends_at_b self.0 }
+    {
+        self.0 % 2 == 0
+    }
+}
+
 /// What an element may take its timing from.
 #[derive(Clone, Copy, Debug, PartialEq, Eq, Drop)]
 pub enum InputId {

@@ -111,7 +111,7 @@ impl Plan {
         ensures within { result < length self.now.elements }
     {
         let link = self.link(l.0 / 2);
-        if l.0 % 2 == 0 { link.a } else { link.b }
+        if l.ends_at_b() { link.a } else { link.b }
     }
 
     /// The element that a line brings timing to.
@@ -122,7 +122,7 @@ impl Plan {
         ensures within { result < length self.now.elements }
     {
         let link = self.link(l.0 / 2);
-        if l.0 % 2 == 0 { link.b } else { link.a }
+        if l.ends_at_b() { link.b } else { link.a }
     }
 
     /// The other direction of a line's link.
@@ -134,7 +134,7 @@ impl Plan {
     {
         // A plan has at most 4,000 links, so the sum fits.
         let _links = self.links();
-        LineId(if l.0 % 2 == 0 { l.0 + 1 } else { l.0 - 1 })
+        LineId(if l.ends_at_b() { l.0 + 1 } else { l.0 - 1 })
     }
 
     /// The priority that its receiver gives a line; 0 is not nominated.
@@ -144,7 +144,7 @@ impl Plan {
         ensures priority { result ≡ priority_of self.now l.0 }
     {
         let link = self.link(l.0 / 2);
-        if l.0 % 2 == 0 {
+        if l.ends_at_b() {
             link.priority_b
         } else {
             link.priority_a
