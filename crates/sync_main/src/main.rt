@@ -3,10 +3,9 @@
 #![tactic(auto)]
 
 use std::alloc::AllocError;
-use std::env;
-use std::io;
 use std::process::ExitCode;
 use std::rt::Env;
+use std::{env, io};
 use sync_edge::{RealFolder, RealSink};
 use sync_top::{Status, run};
 
