@@ -1,7 +1,7 @@
 -- Laws on lists that std does not have.
-use Rattle.std.proofs.Common.{◌≡◌, ℕ, ◌+◌, ◌<◌, Bool, true, false, not, cond, List, [], ◌∷◌, ◌++◌, length, map, filter, Option, Some, None, position, refl, ap, sym, subst, ◌∙◌, arith, slice_get, get_or, slice_set}
-use Rattle.std.specs.List.{list_any, list_all, range_with_len, prefix_len}
-use Rattle.std.proofs.Common.{zero, suc, ◌≤◌, ◌||◌}
+use Rattle.std.proofs.Common.{◌≡◌, ℕ, ◌+◌, ◌<◌, Bool, true, false, not, cond, List, [], ◌∷◌, ◌++◌, length, map, filter, Some, position, refl, ap, sym, subst, ◌∙◌, arith, slice_get, slice_set}
+use Rattle.std.specs.List.{list_any, range_with_len, prefix_len}
+use Rattle.std.proofs.Common.{zero, suc}
 use Rattle.std.specs.Prelude.{◌≢◌}
 use Rattle.std.proofs.Math.Bool.{or-true}
 use Rattle.std.proofs.lemmas.Option.{none-some, same_Some}
@@ -11,7 +11,6 @@ use Rattle.std.proofs.lemmas.List.{length-map, map-append, map-id}
 use Rattle.std.proofs.lemmas.List.FromFn.{filter_of_map_range_with_len_more}
 use Rattle.std.specs.Prelude.{if◌then◌else◌}
 use Rattle.std.specs.Str.{bytes_eq}
-use Rattle.std.proofs.lemmas.Grind.{common_steps}
 
 prefix_len-map : {A B : Type 0} (p : B → Bool) (f : A → B) (xs : List A) → prefix_len p (map f xs) ≡ prefix_len (λ x. p (f x)) xs
 prefix_len-map p f [] = refl

@@ -1,5 +1,5 @@
 -- A plan that rows give says what its rows say.
-use Rattle.std.proofs.Common.{◌≡◌, ℕ, ◌+◌, zero, suc, Bool, true, not, ◌&&◌, ◌==◌, List, [], ◌∷◌, ◌++◌, length, map, get_or, slice_get, Option, Some, None, position, refl, ap, sym, subst, ◌∙◌, append_assoc}
+use Rattle.std.proofs.Common.{◌≡◌, ℕ, ◌+◌, zero, suc, not, ◌&&◌, ◌==◌, List, [], ◌∷◌, ◌++◌, map, get_or, slice_get, Option, Some, None, refl, ap, sym, subst, ◌∙◌, append_assoc}
 use Rattle.std.specs.Prelude.{Result, Ok, Err}
 use Rattle.std.specs.Option.{option_map_or}
 use Rattle.std.specs.Str.{bytes_eq}
@@ -14,7 +14,7 @@ use Rattle.sync_topo.specs.declared.rows.PlanRows.{PlanRows}
 use Rattle.sync_topo.specs.Topology.{Topology}
 use Rattle.sync_topo.specs.Lines.{element_name}
 use Rattle.sync_topo.specs.Names.{place_of}
-use Rattle.sync_topo.specs.Refusal.{Section, elements, links, Reason, PlanRefusal, past_limit, no_element, self_link, out_of_range, ◌>>=◌, only_if, found, at_row}
+use Rattle.sync_topo.specs.Refusal.{Section, elements, links, Reason, past_limit, no_element, self_link, out_of_range, ◌>>=◌, only_if, found, at_row}
 use Rattle.sync_topo.specs.PlanRows.{element_names, link_names, element_limit, link_limit, within, fresh_name, priority_value, has_room, element_of_row, link_of_row, elements_of_rows, links_of_rows, plan_of_rows}
 use Rattle.sync_topo.specs.PlanOfRows.{IsPlanOfRows}
 
@@ -24,13 +24,16 @@ bind-Ok : {A B E : Type 0} (first : Result A E) (next : A → Result B E) (value
 bind-Ok (Ok given) next value e = (given, refl, e)
 bind-Ok (Err refusal) next value e = absurd (cc)
 
+-- what stands in two equal answers is equal
 same_Ok : {A E : Type 0} (x y : A) → ◌≡◌ {A = Result A E} (Ok x) (Ok y) → x ≡ y
 same_Ok x y e = cc
 
+-- a value that is found was there
 found-Ok : {A E : Type 0} (option : Option A) (refusal : E) (value : A) → found option refusal ≡ Ok value → option ≡ Some value
 found-Ok None refusal value e = absurd (cc)
 found-Ok (Some x) refusal value e = cc
 
+-- a row changes no value
 at_row-Ok : {A : Type 0} (section : Section) (n : ℕ) (given : Result A Reason) (value : A) → at_row section n given ≡ Ok value → given ≡ Ok value
 at_row-Ok section n (Ok x) value e = cc
 at_row-Ok section n (Err reason) value e = absurd (cc)
@@ -55,6 +58,7 @@ record IsLinkOfRow (es : List Element) (row : LinkRow) (link : Link) : Type 0 wh
   priority_a : Some link.priority_a ≡ priority_value row.priority_a
   priority_b : Some link.priority_b ≡ priority_value row.priority_b
 
+-- the link of a row is as its row says
 link_of_row-Ok : (es : List Element) (earlier : List Link) (row : LinkRow) (link : Link) → link_of_row es earlier row ≡ Ok link → IsLinkOfRow es row link
 unfolding link_of_row
 link_of_row-Ok es earlier row link e =
@@ -75,6 +79,7 @@ link_of_row-Ok es earlier row link e =
       priority_b = sym (found-Ok _ _ priority_b.0 priority_b.1 ∙ ap (λ (l : Link). Some l.priority_b) is);
     }
 
+-- the element of a row has its row's name
 element_of_row-Ok : (earlier : List (List ℕ)) (row : ElementRow) (element : Element) → element_of_row earlier row ≡ Ok element → element.name ≡ row.name
 unfolding element_of_row
 element_of_row-Ok earlier row element e =
@@ -103,6 +108,7 @@ links_of_rows-Ok of_link of_row es same earlier n (row ∷ rows) ls e =
     let rest = links_of_rows-Ok of_link of_row es same (earlier ++ first.0 ∷ []) (n + 1) rows ls first.2 in
     rest ∙ rw (map-append of_link earlier (first.0 ∷ []), append_assoc, one) refl
 
+-- the elements and the links of rows make a plan that says what the rows say
 parts_say : (rows : PlanRows) (es : List Element) (ls : List Link) → elements_of_rows [] 1 rows.elements ≡ Ok es → links_of_rows es [] 1 rows.links ≡ Ok ls
     → IsPlanOfRows rows (record { elements = es; links = ls })
 parts_say rows es ls made linked =

@@ -1,5 +1,5 @@
 -- What a step of the making of a plan answers. What only private clauses cite, but for `Gives`.
-use Rattle.std.specs.Prelude.{◌≡◌, ℕ, ⊤, Result, Ok, Err, IsErr}
+use Rattle.std.specs.Prelude.{◌≡◌, ⊤, Result, Ok, Err, IsErr}
 use Rattle.sync_topo.specs.declared.error.PlanErr.{PlanErr}
 use Rattle.sync_topo.specs.declared.error.PlanErr.TheVariants.{Refused, NoMemory}
 

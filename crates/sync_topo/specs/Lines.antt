@@ -1,11 +1,9 @@
 -- Lines and inputs: each link is two lines, one for each direction, and an element takes its timing from nominated lines.
-use Rattle.std.specs.Prelude.{◌≡◌, ℕ, ◌+◌, ◌-◌, ◌*◌, ◌/◌, ◌%◌, ◌<◌, Bool, ◌&&◌, ◌==◌, nat_lt, IsTrue, if◌then◌else◌, List, [], ◌++◌, length, map, filter, find, codes, Option, Some, None, slice_get}
+use Rattle.std.specs.Prelude.{ℕ, ◌+◌, ◌-◌, ◌*◌, ◌/◌, ◌%◌, Bool, ◌&&◌, ◌==◌, nat_lt, IsTrue, if◌then◌else◌, List, [], ◌++◌, length, filter, find, codes, Option, slice_get}
 use Rattle.std.specs.Option.{option_map_or}
 use Rattle.std.specs.List.{range_with_len}
 use Rattle.std.specs.Str.{bytes_eq}
-use Rattle.sync_topo.specs.declared.element.Element.{Element}
 use Rattle.sync_topo.specs.declared.link.Link.{Link}
-use Rattle.sync_topo.specs.declared.link.LineId.{LineId}
 use Rattle.sync_topo.specs.declared.link.InputId.{InputId}
 use Rattle.sync_topo.specs.declared.link.InputId.TheVariants.{Line}
 use Rattle.sync_topo.specs.Topology.{Topology}

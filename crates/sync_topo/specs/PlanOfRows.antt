@@ -1,5 +1,5 @@
 -- What a plan takes from its rows.
-use Rattle.std.specs.Prelude.{◌≡◌, Option, Some, map}
+use Rattle.std.specs.Prelude.{◌≡◌, Some, map}
 use Rattle.sync_topo.specs.declared.rows.PlanRows.{PlanRows}
 use Rattle.sync_topo.specs.Topology.{Topology}
 use Rattle.sync_topo.specs.Lines.{element_name}

@@ -1,5 +1,5 @@
 -- Why a plan is refused, and at which row.
-use Rattle.std.specs.Prelude.{◌≡◌, ℕ, Bool, Option, Some, None, Result, Ok, Err, ⊤, if◌then◌else◌}
+use Rattle.std.specs.Prelude.{ℕ, Bool, Option, Some, None, Result, Ok, Err, if◌then◌else◌}
 
 -- the part of a plan that a refusal is about
 pub data Section : Type 0 where

@@ -1,4 +1,4 @@
-use Rattle.std.proofs.Common.{◌≡◌, ◌<◌, arith}
+use Rattle.std.proofs.Common.{arith}
 use Rattle.sync_topo.proofs.HeldLemmas.{held-take}
 use Rattle.sync_topo.proofs.parts.take_input.Goals as goal
 

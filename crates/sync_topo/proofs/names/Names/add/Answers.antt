@@ -1,4 +1,3 @@
-use Rattle.std.proofs.Common.{◌≡◌, sym}
 use Rattle.sync_topo.proofs.Lists.{inserted}
 use Rattle.sync_topo.proofs.names.Names.add.Goals as goal
 

@@ -1,4 +1,3 @@
-use Rattle.std.proofs.Common.{◌≡◌}
 use Rattle.std.specs.Str.{bytes_eq}
 use Rattle.sync_topo.proofs.Lists.{list_any-map}
 use Rattle.sync_topo.proofs.names.Names.has.Goals as goal

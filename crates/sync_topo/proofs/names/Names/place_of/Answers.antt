@@ -1,4 +1,3 @@
-use Rattle.std.proofs.Common.{◌≡◌, sym, ◌∙◌}
 use Rattle.std.specs.Str.{bytes_eq}
 use Rattle.sync_topo.proofs.Lists.{position-map, list_any-map}
 use Rattle.sync_topo.proofs.names.Names.place_of.Goals as goal

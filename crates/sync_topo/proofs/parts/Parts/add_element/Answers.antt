@@ -1,5 +1,4 @@
-use Rattle.std.proofs.Common.{◌≡◌, sym, ◌∙◌, arith, length-append}
-use Rattle.std.proofs.lemmas.Grind.{common_steps}
+use Rattle.std.proofs.Common.{◌∙◌, arith}
 use Rattle.sync_topo.proofs.HeldLemmas.{held-new}
 use Rattle.sync_topo.proofs.WellFormedLemmas.{IsWellFormed-element, element_names-push}
 use Rattle.sync_topo.proofs.parts.Parts.add_element.Goals as goal

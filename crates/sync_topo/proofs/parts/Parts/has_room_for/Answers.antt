@@ -1,4 +1,4 @@
-use Rattle.std.proofs.Common.{◌≡◌, refl}
+use Rattle.std.proofs.Common.{refl}
 use Rattle.sync_topo.proofs.Inputs.{inputs-at_a, inputs-at_b}
 use Rattle.sync_topo.proofs.parts.Parts.has_room_for.Goals as goal
 
