@@ -1,0 +1,6 @@
+pub mod Lines
+pub mod Row
+pub mod Reading
+pub mod Capture
+pub mod Numbers
+pub mod Gives

@@ -1,0 +1,23 @@
+//! Captured frames as text: each frame a row that people read, each row a frame to send.
+//!
+//! [`decode_lines`] gives the rows of frames that stand as hexadecimal digits, one a line, and
+//! [`encode_rows`] the frames of rows. Both answer the whole text or the first line that is wrong, a
+//! [`CaptureErr`]. [`put_row`] and [`read_row`] are the same for one row.
+//!
+//! Contracts see texts as lists of bytes: `lines_of` (the lines of some bytes), `row_of` (the row of
+//! what a frame carries), `IsRow` (a line is a row of this value), `decoded_text` and `encoded_text`
+//! (the whole text, or the first refusal).
+//!
+//! Only tested: the texts by which an error is printed, and that memory is found.
+#![tactic(auto)]
+
+mod capture;
+mod error;
+mod lines;
+mod reading;
+mod row;
+
+pub use capture::{decode_lines, encode_rows};
+pub use error::CaptureErr;
+pub use reading::read_row;
+pub use row::put_row;
