@@ -12,8 +12,14 @@ use Rattle.sync_topo.specs.Hops.{IsRising}
 use Rattle.sync_topo.specs.Refusal.{◌>>=◌}
 use Rattle.plan_file.specs.PlanText.{plan_of}
 use Rattle.sync_top.specs.declared.status.Status.{Status}
-use Rattle.sync_top.specs.declared.status.Status.TheVariants.{Done, Refuted, Usage, BadPlan, BadCert, TooLong}
-use Rattle.sync_top.specs.Form.{Form, check, form_of}
+use Rattle.sync_top.specs.declared.status.Status.TheVariants.{Done, Refuted, Usage, BadPlan, BadCert, BadFrames, TooLong}
+use Rattle.std.specs.Fmt.{decimal}
+use Rattle.sync_ql.specs.declared.levels.NetOption.{NetOption}
+use Rattle.esmc_frame.specs.Numbers.{number_of}
+use Rattle.capture_text.specs.declared.error.CaptureErr.{CaptureErr}
+use Rattle.capture_text.specs.declared.error.CaptureErr.TheVariants as refusal
+use Rattle.capture_text.specs.Capture.{decoded_text, encoded_text}
+use Rattle.sync_top.specs.Form.{Form, check, decode, encode, form_of}
 use Rattle.sync_top.specs.Ranks.{Ranks, rank_of, IsFirstFall}
 use Rattle.sync_top.specs.CertificateText.{certificate_of}
 
@@ -81,10 +87,40 @@ CheckAnswer plan_name certificate_name files status text = ends (documents plan_
     ends (Err no_file) = ⊥
     ends (Err (answered known written)) = (status ≡ known) × (text ≡ written)
 
+-- the line on the first captured frame or row that is refused: the refusal's number, the line, and for a frame the
+-- number of its first wrong part
+abbrev pub capture_refusal : CaptureErr → List ℕ
+capture_refusal (refusal.Hex n) = codes "bad frames 12 " ++ decimal n
+capture_refusal (refusal.Frame n error) = codes "bad frames 13 " ++ decimal n ++ codes " " ++ decimal (number_of error)
+capture_refusal (refusal.Row n) = codes "bad frames 14 " ++ decimal n
+capture_refusal refusal.NoMemory = []
+
+-- the text that captured frames or rows give, where none is refused
+abbrev pub accepted_frames : Result (List ℕ) CaptureErr → Result (List ℕ) End
+accepted_frames (Ok text) = Ok text
+accepted_frames (Err refused) = Err (answered BadFrames (text_line (capture_refusal refused)))
+
+-- the text that the frames or rows of a file give
+abbrev pub captured : (NetOption → List ℕ → Result (List ℕ) CaptureErr) → NetOption → List ℕ → Contents → Result (List ℕ) End
+captured text_of option name files = do
+  bytes ← file name files
+  accepted_frames (text_of option bytes)
+
+-- the answer to `decode` and to `encode`: that text, or what ends the reading
+abbrev pub CaptureAnswer : (NetOption → List ℕ → Result (List ℕ) CaptureErr) → NetOption → List ℕ → Contents → Status → List ℕ → Type 0
+CaptureAnswer text_of option name files status text = ends (captured text_of option name files)
+  where
+    ends : Result (List ℕ) End → Type 0
+    ends (Ok given) = (status ≡ Done) × (text ≡ given)
+    ends (Err no_file) = ⊥
+    ends (Err (answered known written)) = (status ≡ known) × (text ≡ written)
+
 -- the answer to a form, and to words that are none
 abbrev pub FormAnswer : Option Form → Contents → Status → List ℕ → Type 0
 FormAnswer None files status text = (status ≡ Usage) × (text ≡ text_line (codes "usage"))
 FormAnswer (Some (check plan_name certificate_name)) files status text = CheckAnswer plan_name certificate_name files status text
+FormAnswer (Some (decode option name)) files status text = CaptureAnswer decoded_text option name files status text
+FormAnswer (Some (encode option name)) files status text = CaptureAnswer encoded_text option name files status text
 
 -- the program's answer to some words
 abbrev pub IsAnswer : List (List ℕ) → Contents → Status → List ℕ → Type 0
@@ -94,6 +130,8 @@ IsAnswer words files status text = FormAnswer (form_of words) files status text
 abbrev pub FormMissesFile : Option Form → Contents → Type 0
 FormMissesFile None files = ⊥
 FormMissesFile (Some (check plan_name certificate_name)) files = documents plan_name certificate_name files ≡ Err no_file
+FormMissesFile (Some (decode option name)) files = captured decoded_text option name files ≡ Err no_file
+FormMissesFile (Some (encode option name)) files = captured encoded_text option name files ≡ Err no_file
 
 -- words whose answer comes to a file that isn't there
 abbrev pub MissesFile : List (List ℕ) → Contents → Type 0

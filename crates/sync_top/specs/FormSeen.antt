@@ -2,7 +2,9 @@
 use Rattle.std.specs.Prelude.{ℕ, List}
 use Rattle.sync_top.specs.declared.form.Form as declared
 use Rattle.sync_top.specs.declared.form.Form.TheVariants as word
-use Rattle.sync_top.specs.Form.{Form, check}
+use Rattle.sync_top.specs.Form.{Form, check, decode, encode}
 
 abbrev pub seen : declared.Form → Form
 seen (word.Check plan certificate) = check plan.now certificate.now
+seen (word.Decode option name) = decode option name.now
+seen (word.Encode option name) = encode option name.now

@@ -1,15 +1,16 @@
 -- The exit status of the program. This project's own.
 use Rattle.std.specs.Prelude.{ℕ, ⊤}
 use Rattle.sync_top.specs.declared.status.Status.{Status}
-use Rattle.sync_top.specs.declared.status.Status.TheVariants.{Done, Refuted, Usage, BadPlan, BadCert, ReadFault, WriteFault, TooLong, NoMemory}
+use Rattle.sync_top.specs.declared.status.Status.TheVariants.{Done, Refuted, Usage, BadPlan, BadCert, BadFrames, ReadFault, WriteFault, TooLong, NoMemory}
 
--- the number of each status; 5, 6 and 11 are kept for forms to come
+-- the number of each status; 5 and 11 are kept for forms to come
 abbrev pub exit_number : Status → ℕ
 exit_number Done = 0
 exit_number Refuted = 1
 exit_number Usage = 2
 exit_number BadPlan = 3
 exit_number BadCert = 4
+exit_number BadFrames = 6
 exit_number ReadFault = 7
 exit_number WriteFault = 8
 exit_number TooLong = 9

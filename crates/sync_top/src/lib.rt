@@ -9,6 +9,7 @@
 mod certificate;
 mod check;
 mod form;
+mod frames;
 mod input;
 mod program;
 mod ranks;

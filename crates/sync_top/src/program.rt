@@ -10,6 +10,7 @@ ghost use Rattle.sync_top.specs.Work.{Replies, EndsIn, UsageWhere};
 
 use crate::check::check;
 use crate::form::{Form, form_of};
+use crate::frames::{decode, encode};
 use crate::reply::{Reply, Stop, line_text};
 use crate::status::Status;
 use std::alloc::Global;
@@ -25,6 +26,8 @@ fn work<F: Folder>(alloc: Global, words: &[String], folder: &mut F) -> Result<Re
 {
     match form_of(words) {
         Some(Form::Check { plan, cert }) => check(alloc, folder, plan, cert),
+        Some(Form::Decode(option, name)) => decode(alloc, folder, option, name),
+        Some(Form::Encode(option, name)) => encode(alloc, folder, option, name),
         None => Ok(Reply {
             status: Status::Usage,
             text: line_text(alloc, b"usage")?,

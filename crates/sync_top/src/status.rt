@@ -15,6 +15,8 @@ pub enum Status {
     BadPlan,
     /// The certificate is refused.
     BadCert,
+    /// A captured frame or a row is refused.
+    BadFrames,
     /// The folder failed, or a file isn't there.
     ReadFault,
     /// The sink failed.
@@ -28,7 +30,7 @@ pub enum Status {
 impl Status {
     ghost use Rattle.sync_top.specs.Status.{exit_number};
 
-    /// The exit status of the program, 0 to 10; 5 and 6 are kept for answers to come.
+    /// The exit status of the program, 0 to 10; 5 is kept for answers to come.
     pub fn number(self) -> u8
         ensures { result ≡ exit_number self }
     {
@@ -38,6 +40,7 @@ impl Status {
             Status::Usage => 2,
             Status::BadPlan => 3,
             Status::BadCert => 4,
+            Status::BadFrames => 6,
             Status::ReadFault => 7,
             Status::WriteFault => 8,
             Status::TooLong => 9,

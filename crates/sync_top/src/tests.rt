@@ -252,3 +252,78 @@ fn longest_file_is_read(rt: HostRuntime) -> Result<(), Fail> {
         (Status::TooLong, b"too long\n"),
     )
 }
+
+const SOURCE: &[u8] = b"020000000001,info,QL-PRC\n";
+
+const FRAME: &[u8] =
+    b"0180c200000202000000000188090a0019a7000110000000010004020000000000000000000000000000000000000000000000000000000000000000\n";
+
+#[test]
+fn captures_are_read_and_written(rt: HostRuntime) -> Result<(), Fail> {
+    let decode: &[&str] = &["decode", "I", "plan"];
+    let encode: &[&str] = &["encode", "I", "plan"];
+    let outside = Outside {
+        room: 300,
+        piece: 300,
+        ..CALM
+    };
+    let rows: [(&[&str], &[u8], (Status, &[u8])); 15] = [
+        (encode, SOURCE, (Status::Done, FRAME)),
+        (decode, FRAME, (Status::Done, SOURCE)),
+        // Padding that is not zero, and an event message.
+        (
+            decode,
+            b"0180c200000202000000000188090a0019a700011800000001000402ffffffffffffffffffffffffffffffffffffffffffffffffffffffffffffffff",
+            (Status::Done, b"020000000001,event,QL-PRC\n"),
+        ),
+        (
+            decode,
+            b"0180c200000202000000000188090a0019a70001100000000100040200000000000000000000000000000000000000000000000000000000000000\n",
+            (Status::BadFrames, b"bad frames 13 1 4\n"),
+        ),
+        (
+            decode,
+            b"0180c200000202000000000188090a0019a7000110000000010004030000000000000000000000000000000000000000000000000000000000000000\r\n",
+            (Status::Done, b"020000000001,info,code-3\n"),
+        ),
+        (
+            decode,
+            b"0180c200000202000000000188090a0019a7000110000000010004000000000000000000000000000000000000000000000000000000000000000000",
+            (Status::Done, b"020000000001,info,code-0\n"),
+        ),
+        (
+            &["decode", "II", "plan"],
+            b"0180c200000202000000000188090a0019a7000110000000010004000000000000000000000000000000000000000000000000000000000000000000",
+            (Status::Done, b"020000000001,info,QL-STU\n"),
+        ),
+        (decode, b"", (Status::Done, b"")),
+        (encode, b"", (Status::Done, b"")),
+        // Empty lines are counted.
+        (
+            decode,
+            b"\n\r\n0g\n",
+            (Status::BadFrames, b"bad frames 12 3\n"),
+        ),
+        (
+            encode,
+            b"020000000001,info,QL-PRS\n",
+            (Status::BadFrames, b"bad frames 14 1\n"),
+        ),
+        (
+            &["decode", "III", "plan"],
+            FRAME,
+            (Status::Usage, b"usage\n"),
+        ),
+        (&["decode", "I", ""], FRAME, (Status::Usage, b"usage\n")),
+        (&["encode", "I"], SOURCE, (Status::Usage, b"usage\n")),
+        (
+            &["decode", "I", "none"],
+            FRAME,
+            (Status::ReadFault, b"read fault\n"),
+        ),
+    ];
+    for (line, capture, want) in rows {
+        answers(&rt, line, (capture, b""), outside, want)?;
+    }
+    Ok(())
+}

@@ -1,0 +1,137 @@
+ghost use Rattle.std.specs.Prelude.{◌≡◌, ◌≢◌, ◌++◌, Some, IfOk, OnOk};
+ghost use Rattle.std.specs.Fmt.{decimal};
+ghost use Rattle.sync_edge.specs.Contents.{KeepsFolder};
+ghost use Rattle.capture_text.specs.Capture.{decoded_text, encoded_text};
+ghost use Rattle.sync_top.specs.Answer.{across, text_line, capture_refusal, captured, CaptureAnswer, FormMissesFile};
+ghost use Rattle.sync_top.specs.Form.{decode, encode};
+ghost use Rattle.sync_top.specs.Work.{Reads, Replies, NeverUsage};
+
+use crate::input::file;
+use crate::reply::{Reply, Stop};
+use crate::status::Status;
+use capture_text::{CaptureErr, decode_lines, encode_rows};
+use std::alloc::Global;
+use sync_edge::{Folder, NoMemory, Text};
+use sync_ql::NetOption;
+
+/// Puts a number at the end, in decimal digits.
+fn put_number(alloc: Global, text: &mut Text, number: u64) -> Result<(), NoMemory>
+    ensures { OnOk result (text.new ≡ text.old ++ decimal number) }
+{
+    let Ok(digits) = number.to_string(alloc) else {
+        return Err(NoMemory);
+    };
+    text.put(digits.as_bytes())
+}
+
+/// The line on the first frame or row that is refused.
+fn refusal_text(alloc: Global, refused: CaptureErr) -> Result<Text, NoMemory>
+    ensures { IfOk result (λ text. text ≡ text_line (capture_refusal refused)) }
+{
+    let mut text = Text::new(alloc);
+    match refused {
+        CaptureErr::Hex(line) => {
+            text.put(b"bad frames 12 ")?;
+            put_number(alloc, &mut text, line)?;
+        }
+        CaptureErr::Frame(line, error) => {
+            text.put(b"bad frames 13 ")?;
+            put_number(alloc, &mut text, line)?;
+            text.put(b" ")?;
+            put_number(alloc, &mut text, u64::from(error.number()))?;
+        }
+        CaptureErr::Row(line) => {
+            text.put(b"bad frames 14 ")?;
+            put_number(alloc, &mut text, line)?;
+        }
+        CaptureErr::NoMemory => return Err(NoMemory),
+    }
+    text.put(b"\n")?;
+    Ok(text)
+}
+
+/// The rows of the frames of a file.
+fn decoded<F: Folder>(
+    alloc: Global,
+    folder: &mut F,
+    option: NetOption,
+    name: &str,
+) -> Result<Text, Stop>
+    ensures reads { Reads (λ text. text) (across F.contents F.steady F.faults folder.old folder.new) result
+        (captured decoded_text option name.now) }
+    ensures form { NeverUsage result }
+    ensures keeps { KeepsFolder F.contents F.steady F.faults folder.old folder.new }
+{
+    let bytes = file(alloc, folder, name)?;
+    match decode_lines(alloc, bytes.bytes(), option) {
+        Ok(text) => Ok(text),
+        Err(CaptureErr::NoMemory) => Err(Stop::OutOfMemory),
+        Err(refused) => Err(Stop::Ended(Reply {
+            status: Status::BadFrames,
+            text: refusal_text(alloc, refused)?,
+        })),
+    }
+}
+
+/// The frames of the rows of a file.
+fn encoded<F: Folder>(
+    alloc: Global,
+    folder: &mut F,
+    option: NetOption,
+    name: &str,
+) -> Result<Text, Stop>
+    ensures reads { Reads (λ text. text) (across F.contents F.steady F.faults folder.old folder.new) result
+        (captured encoded_text option name.now) }
+    ensures form { NeverUsage result }
+    ensures keeps { KeepsFolder F.contents F.steady F.faults folder.old folder.new }
+{
+    let bytes = file(alloc, folder, name)?;
+    match encode_rows(alloc, bytes.bytes(), option) {
+        Ok(text) => Ok(text),
+        Err(CaptureErr::NoMemory) => Err(Stop::OutOfMemory),
+        Err(refused) => Err(Stop::Ended(Reply {
+            status: Status::BadFrames,
+            text: refusal_text(alloc, refused)?,
+        })),
+    }
+}
+
+/// The work of `decode`.
+pub(crate) fn decode<F: Folder>(
+    alloc: Global,
+    folder: &mut F,
+    option: NetOption,
+    name: &str,
+) -> Result<Reply, Stop>
+    ensures replies { Replies (CaptureAnswer decoded_text option name.now) (FormMissesFile (Some (decode option name.now)))
+        (across F.contents F.steady F.faults folder.old folder.new) result }
+    ensures form { NeverUsage result }
+    ensures done { IfOk result (λ reply. reply.status ≢ Status.Usage) }
+    ensures keeps { KeepsFolder F.contents F.steady F.faults folder.old folder.new }
+{
+    let text = decoded(alloc, folder, option, name)?;
+    Ok(Reply {
+        status: Status::Done,
+        text,
+    })
+}
+
+/// The work of `encode`.
+pub(crate) fn encode<F: Folder>(
+    alloc: Global,
+    folder: &mut F,
+    option: NetOption,
+    name: &str,
+) -> Result<Reply, Stop>
+    ensures replies { Replies (CaptureAnswer encoded_text option name.now) (FormMissesFile (Some (encode option name.now)))
+        (across F.contents F.steady F.faults folder.old folder.new) result }
+    ensures form { NeverUsage result }
+    ensures done { IfOk result (λ reply. reply.status ≢ Status.Usage) }
+    ensures keeps { KeepsFolder F.contents F.steady F.faults folder.old folder.new }
+{
+    let text = encoded(alloc, folder, option, name)?;
+    Ok(Reply {
+        status: Status::Done,
+        text,
+    })
+}
