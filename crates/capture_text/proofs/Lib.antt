@@ -1,3 +1,6 @@
 pub mod LineLemmas
 pub mod RowLemmas
 pub mod TextLemmas
+pub mod ReadingLemmas
+pub mod FrameLemmas
+pub mod RoundTrip

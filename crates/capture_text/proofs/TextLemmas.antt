@@ -1,5 +1,5 @@
 -- A text that grows line by line.
-use Rattle.std.proofs.Common.{◌≡◌, ℕ, ◌+◌, List, [], ◌∷◌, ◌++◌, Result, Ok, Err, refl, sym, ap, append_assoc}
+use Rattle.std.proofs.Common.{◌≡◌, ℕ, ◌+◌, List, [], ◌∷◌, ◌++◌, Result, Ok, Err, refl, sym, ap, append_assoc, append-nil, ◌∙◌}
 use Rattle.capture_text.specs.declared.error.CaptureErr.{CaptureErr}
 use Rattle.capture_text.specs.declared.error.CaptureErr.TheVariants.{Hex, Frame, Row, NoMemory}
 use Rattle.capture_text.specs.Capture.{◌>>=◌, text_of_lines}
@@ -29,3 +29,7 @@ stays NoMemory answer next refused = tt
 pub refused_at_line : (text_of_line : ℕ → List ℕ → Result (List ℕ) CaptureErr) (n : ℕ) (line : List ℕ) (lines : List (List ℕ)) (front : List ℕ) (error : CaptureErr) → Refuses error (with_front front (text_of_line n line)) → Refuses error (with_front front (text_of_lines text_of_line n (line ∷ lines)))
 refused_at_line text_of_line n line lines front error refused =
     rw (joined front (text_of_line n line) (text_of_lines text_of_line (n + 1) lines)) (stays error (with_front front (text_of_line n line)) (λ new. with_front new (text_of_lines text_of_line (n + 1) lines)) refused)
+
+-- where no line is left, the text is the whole text
+pub all_lines : (text : List ℕ) (whole : Result (List ℕ) CaptureErr) → with_front text (Ok []) ≡ whole → whole ≡ Ok text
+all_lines text whole is = sym is ∙ ap Ok (append-nil text)

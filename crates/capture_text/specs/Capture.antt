@@ -57,6 +57,13 @@ frame_of_line option n (first ∷ row) = do
   pdu ← said_at n (pdu_of option (first ∷ row))
   Ok (as_line (encode_lower (written_frame pdu)))
 
+-- for a row itself, in the form in which rows are written
+abbrev pub row_in_form : NetOption → ℕ → List ℕ → Result (List ℕ) CaptureErr
+row_in_form option n [] = Ok []
+row_in_form option n (first ∷ row) = do
+  pdu ← said_at n (pdu_of option (first ∷ row))
+  Ok (as_line (row_of option pdu))
+
 -- what lines give one after the other, the first of them line n, or the first refusal
 abbrev pub text_of_lines : (ℕ → List ℕ → Result (List ℕ) CaptureErr) → ℕ → List (List ℕ) → Result (List ℕ) CaptureErr
 text_of_lines text_of_line n [] = Ok []
@@ -72,3 +79,7 @@ decoded_text option bytes = text_of_lines (row_of_line option) 1 (lines_of bytes
 -- the frames of rows
 abbrev pub encoded_text : NetOption → List ℕ → Result (List ℕ) CaptureErr
 encoded_text option bytes = text_of_lines (frame_of_line option) 1 (lines_of bytes)
+
+-- rows in the form in which they are written
+abbrev pub rows_in_form : NetOption → List ℕ → Result (List ℕ) CaptureErr
+rows_in_form option bytes = text_of_lines (row_in_form option) 1 (lines_of bytes)

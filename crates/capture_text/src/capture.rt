@@ -2,7 +2,7 @@
 
 ghost use Rattle.std.specs.Prelude.{◌≡◌, ◌<◌, ◌++◌, IfOk, OnOk};
 ghost use Rattle.hex.specs.Hex.{encode_lower, decode_of};
-ghost use Rattle.capture_text.specs.Capture.{row_of_line, frame_of_line, decoded_text, encoded_text, carried_at, octets_at, as_line};
+ghost use Rattle.capture_text.specs.Capture.{row_of_line, frame_of_line, decoded_text, encoded_text, rows_in_form, carried_at, octets_at, as_line};
 ghost use Rattle.capture_text.specs.Row.{row_of};
 ghost use Rattle.capture_text.specs.Gives.{Gives, GivesBy, GivesThat, with_front};
 
@@ -45,6 +45,9 @@ pub fn decode_lines(alloc: Global, bytes: &[u8], option: NetOption) -> Result<Te
 /// This project's own; frames after G.8264, ESMC PDU format.
 pub fn encode_rows(alloc: Global, bytes: &[u8], option: NetOption) -> Result<Text, CaptureErr>
     ensures exact { Gives result (encoded_text option bytes.now) }
+
+    // The frames are decoded to the rows, in the form in which `put_row` writes them.
+    ensures decoded { IfOk result (λ text. decoded_text option text ≡ rows_in_form option bytes.now) }
 {
     let mut text = Text::new(alloc);
     let mut number = 0;

@@ -23,6 +23,7 @@ const SOURCE_DIGITS: usize = 12;
 /// This project's own.
 #[tactic(auto, unfolding(crate::specs::Reading::pdu_of))]
 pub fn read_row(line: &[u8], option: NetOption) -> Option<Pdu>
+    ensures row { (pdu : Pdu) → (result ≡ Some pdu) ↔ IsRow option line.now pdu }
     ensures exact { result ≡ pdu_of option line.now }
     ensures code { IfSome result (λ pdu. pdu.code < 16) }
 {

@@ -2,7 +2,7 @@
 
 ghost use Rattle.std.specs.Prelude.{◌≡◌, ◌<◌, ◌≤◌, ◌+◌, [], ◌∷◌, ◌++◌, codes, length, Some, OnOk, OnErr};
 ghost use Rattle.std.specs.Fmt.{decimal};
-ghost use Rattle.hex.specs.Hex.{encode_lower};
+ghost use Rattle.hex.specs.Hex.{IsBytes, encode_lower};
 ghost use Rattle.capture_text.specs.Row.{kind_text, level_text, row_of};
 ghost use Rattle.capture_text.specs.Reading.{pdu_of};
 
@@ -19,10 +19,14 @@ const LONGEST_ROW: usize = 27;
 /// SOURCE is twelve lower case digits, KIND `info` or `event`, LEVEL the level's name, and `code-N`
 /// where the option's table has no such code. A refused put leaves the text as it was.
 /// This project's own; the level's name after G.781.
+#[tactic(auto, using(crate::proofs::ReadingLemmas::row_is_read))]
 pub fn put_row(out: &mut Text, pdu: &Pdu, option: NetOption) -> Result<(), NoMemory>
     requires { pdu.now.code < 16 }
     ensures ok { OnOk result (out.new ≡ out.old ++ row_of option pdu.now) }
     ensures err { OnErr result (out.new ≡ out.old) }
+
+    // What `read_row` answers of the row is the value.
+    ensures read_back { pdu_of option (row_of option pdu.now) ≡ Some pdu.now }
 {
     let mut row = Row::new();
     row.put_source(&pdu.source);
@@ -86,6 +90,8 @@ impl Row {
         requires { length self.old ≤ 15 }
         ensures put { self.new ≡ self.old ++ encode_lower source.now }
         ensures len { length self.new ≡ length self.old + 12 }
+        ensures six { length source.now ≡ 6 }
+        ensures octets { IsBytes source.now }
     {
         let mut digits = [0; 12];
         let _ = hex::encode_to_slice(source.as_slice(), &mut digits);
@@ -104,16 +110,17 @@ impl Row {
         }
     }
 
-    #[tactic(auto, using(crate::proofs::RowLemmas::one_digit, crate::proofs::RowLemmas::two_digits))]
+    #[tactic(auto, using(crate::proofs::RowLemmas::one_digit, crate::proofs::RowLemmas::two_digits, std::proofs::Common::append_assoc))]
     fn put_number(&mut self, code: u8)
         requires room { length self.old ≤ 19 }
         requires code { code < 16 }
         ensures { self.new ≡ self.old ++ (codes "code-" ++ decimal code) }
     {
+        self.put(b"code-");
         if code < 10 {
-            self.put(&[b'c', b'o', b'd', b'e', b'-', b'0' + code]);
+            self.put(&[b'0' + code]);
         } else {
-            self.put(&[b'c', b'o', b'd', b'e', b'-', b'1', b'0' + (code - 10)]);
+            self.put(&[b'1', b'0' + (code - 10)]);
         }
     }
 }

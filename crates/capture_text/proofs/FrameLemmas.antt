@@ -1,0 +1,106 @@
+-- The digits of a written frame: they are decoded to what it carries, and no line ends in them.
+use Rattle.std.proofs.Common.{◌≡◌, ◌<◌, ◌-◌, ℕ, zero, suc, Bool, true, false, ◌==◌, List, [], ◌∷◌, ◌++◌, length, take, replicate, get_or, nat_lt, Ok, refl, sym, ◌∙◌, inl, inr, arith, lit<}
+use Rattle.std.specs.List.{All, list_all}
+use Rattle.std.proofs.lemmas.Bool.{cases_Bool, and_parts, ltb-true, eqb-true}
+use Rattle.std.proofs.lemmas.List.Elements.{All-get_or, All-weaker}
+use Rattle.hex.specs.Hex.{IsBytes, decode_of, encode_lower, encode_with, is_hex_digit}
+use Rattle.hex.proofs.HexLemmas.{decode_of-encode_lower, decode_of-ok, decode_sized-ok, decode_sized-twice}
+use Rattle.esmc_frame.specs.declared.frame.Pdu.{Pdu}
+use Rattle.esmc_frame.specs.Parts.{slow_protocols_address, slow_protocols_ethertype, ossp_subtype, itu_oui, esmc_subtype, ql_tlv_head}
+use Rattle.esmc_frame.specs.Frame.{version_and_flag, written_frame}
+use Rattle.esmc_frame.specs.Reading.{reading_of}
+use Rattle.esmc_frame.proofs.Laws.{reading_of-written_frame}
+use Rattle.capture_text.specs.Reading.{IsRow}
+use Rattle.sync_ql.specs.declared.levels.NetOption.{NetOption}
+
+IsBytes-append : (xs ys : List ℕ) → IsBytes xs → IsBytes ys → IsBytes (xs ++ ys)
+IsBytes-append [] ys front back i = back i
+IsBytes-append (x ∷ xs) ys front back zero = front 0
+IsBytes-append (x ∷ xs) ys front back (suc i) = IsBytes-append xs ys (λ k. front (suc k)) back i
+
+IsBytes-tested : (xs : List ℕ) → list_all (λ x. nat_lt x 256) xs ≡ true → IsBytes xs
+IsBytes-tested [] all i = lit< tt
+IsBytes-tested (x ∷ xs) all zero = ltb-true _ _ (and_parts _ _ all).0
+IsBytes-tested (x ∷ xs) all (suc i) = IsBytes-tested xs (and_parts _ _ all).1 i
+
+IsBytes-one : (x : ℕ) → x < 256 → IsBytes (x ∷ [])
+IsBytes-one x small zero = small
+IsBytes-one x small (suc i) = lit< tt
+
+IsBytes-flag : (event : Bool) → IsBytes (version_and_flag event ∷ [])
+IsBytes-flag true = IsBytes-tested (version_and_flag true ∷ []) refl
+IsBytes-flag false = IsBytes-tested (version_and_flag false ∷ []) refl
+
+-- what a row can say
+pub record IsSendable (pdu : Pdu) : Type 0 where
+  pub six : length pdu.source ≡ 6
+  pub octets : IsBytes pdu.source
+  pub small : pdu.code < 16
+
+-- a row says what can be sent
+pub sendable : (option : NetOption) (line : List ℕ) (pdu : Pdu) → IsRow option line pdu → IsSendable pdu
+sendable option line pdu row =
+    let twelve = decode_sized-ok (take 12 line) 6 pdu.source row.source in
+    let ok = decode_of-ok (take 12 line) pdu.source (sym (decode_sized-twice (take 12 line) 6 twelve) ∙ row.source) in
+    let len = ok.2 in
+    record { six = omega (arith, len, twelve); octets = ok.3; small = row.code }
+
+IsBytes-written : (pdu : Pdu) → IsSendable pdu → IsBytes (written_frame pdu)
+IsBytes-written pdu can =
+    let small = can.small in
+    let code : pdu.code < 256 = omega (arith, small) in
+    let address = slow_protocols_address ++ pdu.source in
+    let ethertype = address ++ slow_protocols_ethertype in
+    let subtype = ethertype ++ ossp_subtype in
+    let oui = subtype ++ itu_oui in
+    let itu_subtype = oui ++ esmc_subtype in
+    let flag = itu_subtype ++ version_and_flag pdu.event ∷ [] in
+    let reserved = flag ++ replicate 3 0 in
+    let tlv = reserved ++ ql_tlv_head in
+    let level = tlv ++ pdu.code ∷ [] in
+    let h_address = IsBytes-append slow_protocols_address pdu.source (IsBytes-tested slow_protocols_address refl) can.octets in
+    let h_ethertype = IsBytes-append address slow_protocols_ethertype h_address (IsBytes-tested slow_protocols_ethertype refl) in
+    let h_subtype = IsBytes-append ethertype ossp_subtype h_ethertype (IsBytes-tested ossp_subtype refl) in
+    let h_oui = IsBytes-append subtype itu_oui h_subtype (IsBytes-tested itu_oui refl) in
+    let h_itu_subtype = IsBytes-append oui esmc_subtype h_oui (IsBytes-tested esmc_subtype refl) in
+    let h_flag = IsBytes-append itu_subtype (version_and_flag pdu.event ∷ []) h_itu_subtype (IsBytes-flag pdu.event) in
+    let h_reserved = IsBytes-append flag (replicate 3 0) h_flag (IsBytes-tested (replicate 3 0) refl) in
+    let h_tlv = IsBytes-append reserved ql_tlv_head h_reserved (IsBytes-tested ql_tlv_head refl) in
+    let h_level = IsBytes-append tlv (pdu.code ∷ []) h_tlv (IsBytes-one pdu.code code) in
+    IsBytes-append level (replicate 32 0) h_level (IsBytes-tested (replicate 32 0) refl)
+
+-- the digits are decoded to the frame, and the frame is read as what it carries
+pub decode_of-digits : (pdu : Pdu) → IsSendable pdu → decode_of (encode_lower (written_frame pdu)) ≡ Ok (written_frame pdu)
+decode_of-digits pdu can = decode_of-encode_lower (written_frame pdu) (IsBytes-written pdu can)
+
+pub reading_of-written : (pdu : Pdu) → IsSendable pdu → reading_of (written_frame pdu) ≡ Ok pdu
+reading_of-written pdu can = reading_of-written_frame pdu can.six can.small
+
+pub some_digits : (pdu : Pdu) → 0 < length (encode_lower (written_frame pdu))
+unfolding encode_with
+some_digits pdu = omega arith
+
+-- no digit is a line feed or a carriage return
+abbrev differs : ℕ → ℕ → Type 0
+differs byte digit = (digit == byte) ≡ false
+
+no_line_feed : (digit : ℕ) → is_hex_digit digit ≡ true → differs 10 digit
+no_line_feed digit is =
+    elim (cases_Bool (digit == 10)) [
+      | inl same ↦ let e = eqb-true digit 10 same in cc (rw e at is)
+      | inr other ↦ other
+    ]
+
+no_carriage_return : (digit : ℕ) → is_hex_digit digit ≡ true → differs 13 digit
+no_carriage_return digit is =
+    elim (cases_Bool (digit == 13)) [
+      | inl same ↦ let e = eqb-true digit 13 same in cc (rw e at is)
+      | inr other ↦ other
+    ]
+
+pub no_line_feeds : (text octets : List ℕ) → decode_of text ≡ Ok octets → All (λ digit. (digit == 10) ≡ false) text
+no_line_feeds text octets is = All-weaker (λ digit. is_hex_digit digit ≡ true) (differs 10) no_line_feed text (decode_of-ok text octets is).1
+
+pub no_last_return : (text octets : List ℕ) → decode_of text ≡ Ok octets → 0 < length text → (get_or text (length text - 1) 0 == 13) ≡ false
+no_last_return text octets is some =
+    no_carriage_return _ (All-get_or (λ digit. is_hex_digit digit ≡ true) text (length text - 1) 0 (omega (arith, some)) (decode_of-ok text octets is).1)
