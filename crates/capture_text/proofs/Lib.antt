@@ -1,6 +1,7 @@
 pub mod LineLemmas
 pub mod RowLemmas
 pub mod TextLemmas
+pub mod CodeLemmas
 pub mod ReadingLemmas
 pub mod FrameLemmas
 pub mod RoundTrip

@@ -1,22 +1,18 @@
 -- A line is read as the value whose row it is.
-use Rattle.std.proofs.Common.{◌≡◌, ◌↔◌, ◌<◌, ℕ, zero, suc, ◌+◌, Bool, true, false, cond, List, [], ◌++◌, length, take, drop, codes, refl, nat_eq, Option, None, Some, Result, Ok, Err, inl, inr, sym, ap, subst, ◌∙◌, arith}
-use Rattle.std.specs.Fmt.{digits}
-use Rattle.std.specs.List.{find, list_all, range_with_len}
+use Rattle.std.proofs.Common.{◌≡◌, ◌↔◌, ◌<◌, ℕ, Bool, true, false, cond, List, [], ◌++◌, length, take, drop, codes, refl, Option, None, Some, Result, Ok, Err, inl, inr, sym, ap, subst, ◌∙◌, arith}
 use Rattle.std.specs.Result.{result_ok}
 use Rattle.std.specs.Str.{bytes_eq}
-use native.Mathlib.Decide.{dec_lt}
-use Rattle.std.proofs.lemmas.Bool.{cases_Bool, cond-true, cond-false, eqb-true}
+use Rattle.std.proofs.lemmas.Bool.{cases_Bool, cond-true, cond-false}
 use Rattle.std.proofs.lemmas.List.{take-append-drop}
 use Rattle.std.proofs.lemmas.Slice.Eq.{bytes_eq-Decides}
 use Rattle.std.proofs.Math.Seq.{take-append_seam, drop-append_seam}
 use Rattle.hex.specs.Hex.{IsBytes, decode_sized, encode_lower, lower_digits}
 use Rattle.hex.proofs.HexLemmas.{decode_sized-encode_lower, length-encode_with}
 use Rattle.sync_ql.specs.declared.levels.NetOption.{NetOption}
-use Rattle.sync_ql.specs.declared.levels.NetOption.TheVariants.{I, II}
 use Rattle.esmc_frame.specs.declared.frame.Pdu.{Pdu}
 use Rattle.capture_text.specs.Row.{kind_text, level_text, kind_and_level, row_of}
 use Rattle.capture_text.specs.Reading.{IsRow, ◌>>=◌, kind_and_rest, code_of_text, pdu_of}
-use Rattle.capture_text.proofs.RowLemmas.{at_each}
+use Rattle.capture_text.proofs.CodeLemmas.{code_has_text, code_of_text-level_text}
 
 -- what a step found, where the steps give a value
 bind_some : {A B : Type 0} (found : Option A) (next : A → Option B) (value : B) → (found >>= next) ≡ Some value → (first : A) × (found ≡ Some first) × (next first ≡ Some value)
@@ -26,43 +22,6 @@ bind_some (Some first) next value gives = (first, refl, gives)
 same_ok : {A E : Type 0} (result : Result A E) (value : A) → result_ok result ≡ Some value → result ≡ Ok value
 same_ok (Ok first) value is = cc
 same_ok (Err error) value is = cc
-
--- what a search over numbers finds
-found_number : (test : ℕ → Bool) (first n number : ℕ) → find test (range_with_len first n) ≡ Some number → (test number ≡ true) × (number < first + n)
-found_number test first zero number is = cc
-found_number test first (suc n) number is =
-    elim (cases_Bool (test first)) [
-      | inl passes ↦
-          let here : find test (range_with_len first (suc n)) ≡ Some first = cond-true _ _ _ passes in
-          let same : first ≡ number = cc in
-          (rw (← same) passes, omega arith)
-      | inr fails ↦
-          let later : find test (range_with_len first (suc n)) ≡ find test (range_with_len (first + 1) n) = cond-false _ _ _ fails in
-          let rest = found_number test (first + 1) n number (sym later ∙ is) in
-          let below = rest.1 in
-          (rest.0, omega (arith, below))
-    ]
-
--- each text of a level or a code is that of one code
-abbrev is_code : Option ℕ → ℕ → Bool
-is_code None code = false
-is_code (Some found) code = nat_eq found code
-
-is_code-true : (found : Option ℕ) (code : ℕ) → is_code found code ≡ true → found ≡ Some code
-is_code-true None code is = cc
-is_code-true (Some found) code is = ap Some (eqb-true found code is)
-
-finds_code : NetOption → ℕ → Bool
-finds_code option code = is_code (code_of_text option (level_text option code)) code
-
-codes_found : (option : NetOption) → list_all (finds_code option) (range_with_len 0 16) ≡ true
-unfolding finds_code digits dec_lt
-codes_found I = refl
-codes_found II = refl
-
-pub code_of_text-level_text : (option : NetOption) (code : ℕ) → code < 16 → code_of_text option (level_text option code) ≡ Some code
-unfolding finds_code
-code_of_text-level_text option code small = is_code-true _ _ (at_each (finds_code option) 16 code (codes_found option) small)
 
 -- the kind and the level of a row
 kind_and_rest-row : (event : Bool) (level : List ℕ) → kind_and_rest (codes "," ++ kind_text event ++ codes "," ++ level) ≡ Some (event, level)
@@ -114,14 +73,12 @@ row_of_pdu option line pdu is =
     let source = bind_some (result_ok (decode_sized (take 12 line) 6)) _ pdu is in
     let kind = bind_some (kind_and_rest (drop 12 line)) _ pdu source.2 in
     let code = bind_some (code_of_text option kind.0.1) _ pdu kind.2 in
-    let found = found_number (λ c. bytes_eq (level_text option c) kind.0.1) 0 16 code.0 code.1 in
+    let found = code_has_text option kind.0.1 code.0 code.1 in
     let same : record { source = source.0; event = kind.0.0; code = code.0 } ≡ pdu = cc code.2 in
-    let small = found.1 in
-    let text : level_text option code.0 ≡ kind.0.1 = (bytes_eq-Decides _ _).0 found.0 in
     subst (IsRow option line) same (record {
       source = same_ok _ _ source.1;
-      rest = kind_is (drop 12 line) kind.0.0 kind.0.1 kind.1 ∙ ap (λ level. codes "," ++ kind_text kind.0.0 ++ codes "," ++ level) (sym text);
-      code = omega (arith, small);
+      rest = kind_is (drop 12 line) kind.0.0 kind.0.1 kind.1 ∙ ap (λ level. codes "," ++ kind_text kind.0.0 ++ codes "," ++ level) (sym found.0);
+      code = found.1;
     })
 
 -- a line is read exactly as the value whose row it is

@@ -28,7 +28,7 @@ kind_and_rest text =
     else None
 
 -- the code of four bits that has this text
-abbrev pub code_of_text : NetOption → List ℕ → Option ℕ
+unfoldable pub code_of_text : NetOption → List ℕ → Option ℕ
 code_of_text option text = find (λ code. bytes_eq (level_text option code) text) (range_with_len 0 16)
 
 -- the value whose row the line is, if it is one

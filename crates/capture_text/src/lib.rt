@@ -16,6 +16,8 @@ mod error;
 mod lines;
 mod reading;
 mod row;
+#[cfg(test)]
+mod tests;
 
 pub use capture::{decode_lines, encode_rows};
 pub use error::CaptureErr;

@@ -1,17 +1,15 @@
 //! One row, as it is read.
 
-ghost use Rattle.std.specs.Prelude.{◌≡◌, ◌<◌, ◌↔◌, ◌++◌, codes, Some, IfSome, option_map};
+ghost use Rattle.std.specs.Prelude.{ℕ, ◌≡◌, ◌<◌, ◌↔◌, ◌++◌, codes, Some, IfSome, option_map, None};
 ghost use Rattle.std.specs.Fmt.{decimal};
-ghost use Rattle.std.specs.List.{find, range_with_len};
-ghost use Rattle.std.specs.Str.{bytes_eq};
+ghost use Rattle.sync_ql.specs.Level.{level_of_name};
 ghost use Rattle.esmc_frame.specs.declared.frame.Pdu.{Pdu};
-ghost use Rattle.capture_text.specs.Row.{level_text};
 ghost use Rattle.capture_text.specs.Reading.{IsRow, pdu_of, kind_and_rest, code_of_text};
 
 use esmc_frame::Pdu;
 use hex::FromHex;
 use sync_edge::read_number;
-use sync_ql::{NetOption, level_of_code, name_of};
+use sync_ql::{NetOption, code_of, level_of_code, level_of_name};
 
 /// How many digits a source has.
 const SOURCE_DIGITS: usize = 12;
@@ -49,29 +47,40 @@ fn kind_and_rest(text: &[u8]) -> Option<(bool, &[u8])>
     Some((true, rest))
 }
 
-/// The code whose level has this name, or whose number this is if no level has it.
+/// The code that the text of a level stands for: a level's name, or `code-N`.
+#[tactic(auto, using(crate::proofs::CodeLemmas::code_of_name))]
 fn code_of_text(option: NetOption, text: &[u8]) -> Option<u8>
     ensures code { result ≡ code_of_text option text.now }
     ensures four_bits { IfSome result (λ code. code < 16) }
 {
-    (0..16).find(|code| has_text(option, *code, text))
-}
-
-fn has_text(option: NetOption, code: u8, text: &[u8]) -> bool
-    requires { code < 16 }
-    ensures { result ≡ bytes_eq (level_text option code) text.now }
-{
-    match level_of_code(option, code) {
-        Some(level) => name_of(level).as_bytes() == text,
-        None => is_number_text(code, text),
+    match level_of_name(option, text) {
+        Some(level) => Some(code_of(level)),
+        None => code_of_number(option, text),
     }
 }
 
-fn is_number_text(code: u8, text: &[u8]) -> bool
-    ensures { result ≡ bytes_eq (codes "code-" ++ decimal code) text.now }
+/// The code of four bits whose number this is and which no level has.
+fn code_of_number(option: NetOption, text: &[u8]) -> Option<u8>
+    requires { level_of_name option text.now ≡ None }
+    ensures code { result ≡ code_of_text option text.now }
+    ensures four_bits { IfSome result (λ code. code < 16) }
 {
-    match text.strip_prefix(b"code-") {
-        Some(number) => read_number(number) == Some(u64::from(code)),
-        None => false,
+    let code = numbered_code(text)?;
+    match level_of_code(option, code) {
+        Some(_) => None,
+        None => Some(code),
+    }
+}
+
+/// N of `code-N`, from 0 to 15.
+fn numbered_code(text: &[u8]) -> Option<u8>
+    ensures text { IfSome result (λ code. (code < 16) × (text.now ≡ codes "code-" ++ decimal code)) }
+    ensures found { (n : ℕ) → n < 16 → text.now ≡ codes "code-" ++ decimal n → result ≡ Some n }
+{
+    let number = read_number(text.strip_prefix(b"code-")?)?;
+    if number < 16 {
+        Some(number as u8)
+    } else {
+        None
     }
 }
