@@ -7,7 +7,7 @@ ghost use Rattle.capture_text.specs.Row.{row_of};
 ghost use Rattle.capture_text.specs.Gives.{Gives, GivesBy, GivesThat, with_front};
 
 use crate::error::CaptureErr;
-use crate::lines::cut_line;
+use crate::lines::Lines;
 use crate::reading::read_row;
 use crate::row::put_row;
 use esmc_frame::{Pdu, decode, encode};
@@ -27,13 +27,9 @@ pub fn decode_lines(alloc: Global, bytes: &[u8], option: NetOption) -> Result<Te
     ensures exact { Gives result (decoded_text option bytes.now) }
 {
     let mut text = Text::new(alloc);
-    let mut number = 0;
-    let mut left = Some(bytes);
-    while let Some(lines) = left {
-        let (line, rest) = cut_line(lines);
-        number += 1;
+    let mut lines = Lines::of(bytes);
+    while let Some((number, line)) = lines.next_line() {
         put_row_of(alloc, &mut text, number, line, option)?;
-        left = rest;
     }
     Ok(text)
 }
@@ -50,13 +46,9 @@ pub fn encode_rows(alloc: Global, bytes: &[u8], option: NetOption) -> Result<Tex
     ensures decoded { IfOk result (λ text. decoded_text option text ≡ rows_in_form option bytes.now) }
 {
     let mut text = Text::new(alloc);
-    let mut number = 0;
-    let mut left = Some(bytes);
-    while let Some(lines) = left {
-        let (line, rest) = cut_line(lines);
-        number += 1;
+    let mut lines = Lines::of(bytes);
+    while let Some((number, line)) = lines.next_line() {
         put_frame_of(&mut text, number, line, option)?;
-        left = rest;
     }
     Ok(text)
 }

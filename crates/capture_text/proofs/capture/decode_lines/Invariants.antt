@@ -1,14 +1,12 @@
-use Rattle.std.proofs.Common.{◌≡◌, ◌≤◌, ◌+◌, length}
+use Rattle.std.proofs.Common.{◌≡◌, ◌+◌, ℕ, length}
 use Rattle.capture_text.specs.Capture.{row_of_line, text_of_lines, decoded_text}
 use Rattle.capture_text.specs.Gives.{with_front, lines_left, size_left}
 use Rattle.capture_text.proofs.capture.decode_lines.Given as goal
 
--- the text so far with that of the lines left is the whole text, and there are no more lines than bytes and one
-abbrev pub invariant-loop-left : goal.invariant-loop-left
-invariant-loop-left l = record {
-  counted : l.number + size_left l.left ≤ length l.fn.bytes + 1;
-  whole : with_front l.text (text_of_lines (row_of_line l.option) (l.number + 1) (lines_left l.left)) ≡ decoded_text l.option l.fn.bytes;
-}
+-- the text so far with that of the lines left is the whole text
+abbrev pub invariant-loop-number : goal.invariant-loop-number
+invariant-loop-number l =
+    with_front l.text (text_of_lines (row_of_line l.option) (l.lines.number + 1) (lines_left l.lines.left)) ≡ decoded_text l.option l.fn.bytes
 
-abbrev pub decreases-loop-left : goal.decreases-loop-left
-decreases-loop-left l = size_left l.left
+abbrev pub decreases-loop-number : goal.decreases-loop-number
+decreases-loop-number l = size_left l.lines.left

@@ -7,5 +7,5 @@ use Rattle.capture_text.proofs.capture.encode_rows.Goals as goal
 
 pub returns-clause-decoded : goal.returns-clause-decoded
 returns-clause-decoded c =
-    let whole = rw c.in_default.is at c.loop-left.invariant.whole in
-    encoded_is_decoded c.args.option (lines_of c.args.bytes.now) c.loop-left.text (all_lines c.loop-left.text (encoded_text c.args.option c.args.bytes.now) whole)
+    let whole = rw c.in_default.ensures.none at c.loop-number.invariant in
+    encoded_is_decoded c.args.option (lines_of c.args.bytes.now) c.loop-number.text (all_lines c.loop-number.text (encoded_text c.args.option c.args.bytes.now) whole)
