@@ -4,3 +4,4 @@ pub mod Reading
 pub mod Capture
 pub mod Numbers
 pub mod Gives
+pub mod Examples

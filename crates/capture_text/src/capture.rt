@@ -129,7 +129,7 @@ fn put_digits(text: &mut Text, frame: &[u8; 60]) -> Result<(), NoMemory>
     ensures { OnOk result (text.new ≡ text.old ++ as_line (encode_lower frame.now)) }
 {
     let mut digits = [0; 120];
-    let _ = hex::encode_to_slice(frame.as_slice(), &mut digits);
+    hex::encode_to_slice(frame.as_slice(), &mut digits).unwrap();
     text.put(&digits)?;
     text.put(b"\n")
 }

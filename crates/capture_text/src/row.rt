@@ -94,7 +94,7 @@ impl Row {
         ensures octets { IsBytes source.now }
     {
         let mut digits = [0; 12];
-        let _ = hex::encode_to_slice(source.as_slice(), &mut digits);
+        hex::encode_to_slice(source.as_slice(), &mut digits).unwrap();
         self.put(&digits);
     }
 
