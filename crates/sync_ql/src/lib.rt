@@ -1,5 +1,5 @@
 //! Quality levels and the rules of one element: which level a code or a name stands for, which of
-//! two levels is better, and when an input is failed.
+//! two levels is better, when an input is failed, and which input an element takes.
 //!
 //! A [`Level`] is always a row of its option's table, so no function here has to refuse one.
 //! Contracts see each option's table as a list of rows, best first (`levels_of`), and read what is
@@ -7,10 +7,12 @@
 //!
 //! The rules of one element over time are definitions here too, for the crates that simulate it:
 //! what holds at a millisecond is read off the list of the milliseconds until then, the newest
-//! first (`failed_at`, `condition_at`). The module [`rules`] has the types of their answers.
+//! first (`failed_at`, `condition_at`, `switches_at`, `selection_at`). The module [`rules`] has the
+//! types in which they ask and answer.
 //!
-//! After ITU-T G.781, quality levels and SSM codes of network options I and II. The place of
-//! QL-PROV is this project's own. That the table has the standard's values is tested.
+//! After ITU-T G.781, quality levels and SSM codes of network options I and II, hold-off and
+//! wait-to-restore times, external commands and selection. The place of QL-PROV is this project's
+//! own. That the table has the standard's values is tested.
 #![tactic(auto)]
 
 mod levels;

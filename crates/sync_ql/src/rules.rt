@@ -1,7 +1,9 @@
 //! The rules of one element over time, which the simulating crates stand on.
 //!
 //! The rules themselves are definitions in `specs/`, over a list of past milliseconds. This module
-//! has the types in which they answer.
+//! has the types in which they ask and answer.
+
+use crate::levels::Level;
 
 /// The condition of an input at a millisecond.
 ///
@@ -17,4 +19,35 @@ pub enum Cond {
     Failed,
     /// Up, and still failed: in how many milliseconds it is good, if it stays up.
     Restoring(u32),
+}
+
+/// An operator's command to one element. An input is named by its place among the element's
+/// inputs, from 0.
+///
+/// After G.781, lockout, forced switch, manual switch and clear.
+#[derive(Clone, Copy, Debug, PartialEq, Eq)]
+pub enum Cmd {
+    /// Lock an input out, so that it is never taken.
+    Lockout(u32),
+    /// Let an input that was locked out be taken again.
+    Unlock(u32),
+    /// Take this input and no other, whatever its level.
+    Forced(u32),
+    /// Take this input while no other has a better level.
+    Manual(u32),
+    /// End a forced or manual switch.
+    Clear,
+}
+
+/// What the choice among an element's inputs looks at in one input.
+///
+/// After G.781, quality level and priority.
+#[derive(Clone, Copy, Debug, PartialEq, Eq)]
+pub struct Candidate {
+    /// The level that the input has, if it has one.
+    pub level: Option<Level>,
+    /// The priority number, of which the smaller comes first.
+    pub priority: u8,
+    /// Not locked out, not failed, and not below the element's floor.
+    pub usable: bool,
 }
