@@ -1,0 +1,2 @@
+pub mod Switched
+pub use Rattle.sync_ql.specs.Switches
