@@ -1,0 +1,5 @@
+pub mod Beating
+pub mod Eligible
+pub mod FirstBest
+pub mod BestChoice
+pub mod ManualSwitch

@@ -1,0 +1,3 @@
+pub mod Scanned
+pub mod OneOption
+pub use Rattle.sync_ql.specs.Selection

@@ -1,0 +1,106 @@
+ghost use Rattle.std.specs.Prelude.{◌≡◌, ◌≤◌, ◌<◌, ◌⊎◌, ◌↔◌, ℕ, ◌&&◌, not, false, None, IsTrue, IsNone, IfSome, MatchOption, length};
+ghost use Rattle.sync_ql.specs.Selection.{choice, standing_manual, manual_stands, best_choice, candidate, is_eligible, beats, IsEligible, IsBestChoice, ManualStands, AreOfOneOption};
+ghost use Rattle.selector.specs.Scanned.{IsFirstBest};
+
+use crate::best::{beats, first_best, has_better_level, is_eligible};
+use sync_ql::rules::Candidate;
+
+/// The input that is taken, and whether the manual switch stands.
+///
+/// After G.781, the selected input and manual switch.
+#[derive(Clone, Copy, Debug, PartialEq, Eq)]
+pub struct Choice {
+    /// The place of the input that is taken; `None` exactly where none can be.
+    pub input: Option<u32>,
+    /// Whether there is a manual switch and its input is good enough.
+    pub manual_stands: bool,
+}
+
+/// The input to take, of at most 64, by place: the forced one if it may be taken, and else none;
+/// without one the manual one if its switch stands; else a best one, of which the current one
+/// stays, and otherwise the first is taken.
+///
+/// An input may be taken where it is usable and has a level better than do-not-use. A manual
+/// switch stands while its input may be taken and no other that may be has a better level.
+/// After G.781, selection by quality level and priority, forced switch and manual switch; the
+/// least place is this project's own.
+pub fn choose(
+    inputs: &[Candidate],
+    forced: Option<u32>,
+    manual: Option<u32>,
+    current: Option<u32>,
+) -> Choice
+    requires few { length inputs.now ≤ 64 }
+    requires one_option { AreOfOneOption inputs.now }
+    requires forced_place { IfSome forced (λ i. i < length inputs.now) }
+    requires manual_place { IfSome manual (λ i. i < length inputs.now) }
+    requires current_place { IfSome current (λ i. i < length inputs.now) }
+    requires one_switch { IsNone forced ⊎ IsNone manual }
+    ensures exact { result.input ≡
+        choice inputs.now forced (standing_manual inputs.now manual) current }
+    ensures exact_stands { result.manual_stands ≡ manual_stands inputs.now manual }
+
+    // The same in facts.
+    ensures place { IfSome result.input (λ i. i < length inputs.now) }
+    ensures eligible { IfSome result.input (IsEligible inputs.now) }
+    ensures forced { IfSome forced (λ i. IsEligible inputs.now i → result.input ≡ forced) }
+    ensures forced_fails { IfSome forced (λ i. ¬ IsEligible inputs.now i → result.input ≡ None) }
+    ensures manual { IsTrue result.manual_stands → result.input ≡ manual }
+    ensures stands { MatchOption manual (result.manual_stands ≡ false)
+        (λ i. IsTrue result.manual_stands ↔ ManualStands inputs.now i) }
+    ensures best { IsNone forced → ¬ IsTrue result.manual_stands →
+        IsBestChoice inputs.now current result.input }
+{
+    let best = first_best(inputs);
+    let manual_stands = stands(inputs, best, manual);
+    let input = match forced {
+        Some(forced) if is_eligible(&inputs[forced as usize]) => Some(forced),
+        Some(_) => None,
+        None if manual_stands => manual,
+        None => stay_or_take(inputs, best, current),
+    };
+    Choice {
+        input,
+        manual_stands,
+    }
+}
+
+// Whether there is a manual switch that stands. No level is better than that of a best input.
+fn stands(inputs: &[Candidate], best: Option<u32>, manual: Option<u32>) -> bool
+    requires place { IfSome manual (λ i. i < length inputs.now) }
+    requires one_option { AreOfOneOption inputs.now }
+    requires best { IsFirstBest inputs.now (length inputs.now) best }
+    ensures { result ≡ manual_stands inputs.now manual }
+{
+    match (manual, best) {
+        (Some(manual), Some(best)) => {
+            let manual = &inputs[manual as usize];
+            is_eligible(manual) && !has_better_level(&inputs[best as usize], manual)
+        }
+        (_, None) | (None, _) => false,
+    }
+}
+
+// The current input stays where no input that may be taken beats it.
+fn stay_or_take(inputs: &[Candidate], best: Option<u32>, current: Option<u32>) -> Option<u32>
+    requires place { IfSome current (λ i. i < length inputs.now) }
+    requires one_option { AreOfOneOption inputs.now }
+    requires best { IsFirstBest inputs.now (length inputs.now) best }
+    ensures { result ≡ best_choice inputs.now current }
+{
+    match (current, best) {
+        (Some(current), Some(best)) if is_as_good(inputs, current, best) => Some(current),
+        _ => best,
+    }
+}
+
+fn is_as_good(inputs: &[Candidate], current: u32, best: u32) -> bool
+    requires current { current < length inputs.now }
+    requires best { best < length inputs.now }
+    requires one_option { AreOfOneOption inputs.now }
+    ensures { result ≡ (is_eligible (candidate inputs.now current)
+        && not (beats (candidate inputs.now best) (candidate inputs.now current))) }
+{
+    let current = &inputs[current as usize];
+    is_eligible(current) && !beats(&inputs[best as usize], current)
+}

@@ -1,0 +1,21 @@
+//! Which of an element's inputs is taken.
+//!
+//! [`choose`] looks at one [`Candidate`] for each input, at the operator's forced or manual switch,
+//! and at the input taken so far. Contracts say which input that is by `choice`, and in facts: the
+//! one taken may be taken, and no input that may be taken beats it (`IsBestChoice`). It is one pass
+//! over at most 64 inputs, and takes no memory.
+//!
+//! After ITU-T G.781, selection by quality level and priority. That the current input stays on a
+//! tie is of the standard; that the least place is taken else is this project's own. The tests go
+//! through ties, switches and levels, beside a program that compares each input with each other.
+#![tactic(auto)]
+
+mod best;
+mod choice;
+#[cfg(test)]
+mod plain;
+#[cfg(test)]
+mod tests;
+
+pub use choice::{Choice, choose};
+pub use sync_ql::rules::Candidate;
