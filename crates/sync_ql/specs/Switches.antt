@@ -23,7 +23,7 @@ abbrev pub other_than : ℕ → Option ℕ → Option ℕ
 other_than i None = None
 other_than i (Some k) = if nat_eq k i then None else Some k
 
--- a switch to an input that is locked out is rejected, and a manual one while another is forced
+-- a switch to an input that is locked out is rejected, and a manual one while any input is forced
 abbrev pub is_rejected : Switches → Cmd → Bool
 is_rejected s (Lockout i) = false
 is_rejected s (Unlock i) = false
