@@ -3,7 +3,8 @@ use Rattle.std.proofs.Common.{◌≡◌, ℕ, ◌+◌, List, [], ◌∷◌, ◌+
 use Rattle.capture_text.specs.declared.error.CaptureErr.{CaptureErr}
 use Rattle.capture_text.specs.declared.error.CaptureErr.TheVariants.{Hex, Frame, Row, NoMemory}
 use Rattle.capture_text.specs.Capture.{◌>>=◌, text_of_lines}
-use Rattle.capture_text.specs.Gives.{Refuses, with_front}
+use Rattle.capture_text.specs.Gives.{Refuses}
+use Rattle.capture_text.specs.Steps.{with_front}
 
 -- a text with nothing in front of it
 pub with_nothing : (text : Result (List ℕ) CaptureErr) → with_front [] text ≡ text

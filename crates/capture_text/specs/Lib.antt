@@ -5,3 +5,4 @@ pub mod Capture
 pub mod Numbers
 pub mod Gives
 pub mod Examples
+pub mod Steps

@@ -4,7 +4,8 @@ ghost use Rattle.std.specs.Prelude.{◌≡◌, ◌<◌, ◌++◌, IfOk, OnOk};
 ghost use Rattle.hex.specs.Hex.{encode_lower, decode_of};
 ghost use Rattle.capture_text.specs.Capture.{row_of_line, frame_of_line, decoded_text, encoded_text, rows_in_form, carried_at, octets_at, as_line};
 ghost use Rattle.capture_text.specs.Row.{row_of};
-ghost use Rattle.capture_text.specs.Gives.{Gives, GivesBy, GivesThat, with_front};
+ghost use Rattle.capture_text.specs.Gives.{Gives};
+ghost use Rattle.capture_text.specs.Steps.{GivesBy, GivesThat, with_front};
 
 use crate::error::CaptureErr;
 use crate::lines::Lines;

@@ -3,7 +3,7 @@
 ghost use Rattle.std.specs.Prelude.{◌≡◌, ◌+◌, ◌^◌, ◌<◌, ◌==◌, [], ◌∷◌, length, position, IfNone, IfSome, OnSome};
 ghost use Rattle.std.specs.List.{slice_split};
 ghost use Rattle.std.specs.Str.Lines.{strip_carriage_return};
-ghost use Rattle.capture_text.specs.Gives.{lines_left, parts_left, size_left};
+ghost use Rattle.capture_text.specs.Steps.{lines_left, parts_left, size_left};
 ghost use Rattle.capture_text.specs.Lines.{lines_of};
 
 /// Lines that are taken off one by one, each with its number, the first with 1.

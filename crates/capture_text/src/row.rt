@@ -52,12 +52,13 @@ struct Row {
 
 impl Model for Row {
     ghost use Rattle.std.specs.Prelude.{ℕ, ◌≤◌, List, take};
+    ghost use Rattle.capture_text.specs.declared.row.TheConstants.{LONGEST_ROW};
 
     ghost Value = { List ℕ };
 
     ghost view = { λ row. take row.len row.octets };
 
-    ghost invariant = { λ row. row.len ≤ 27 };
+    ghost invariant = { λ row. row.len ≤ LONGEST_ROW };
 }
 
 impl Row {
@@ -77,7 +78,7 @@ impl Row {
     }
 
     fn put(&mut self, part: &[u8])
-        requires { length self.old + length part.now ≤ 27 }
+        requires { length self.old + length part.now ≤ LONGEST_ROW }
         ensures put { self.new ≡ self.old ++ part.now }
         ensures len { length self.new ≡ length self.old + length part.now }
     {
@@ -87,7 +88,7 @@ impl Row {
     }
 
     fn put_source(&mut self, source: &[u8; 6])
-        requires { length self.old ≤ 15 }
+        requires { length self.old + 12 ≤ LONGEST_ROW }
         ensures put { self.new ≡ self.old ++ encode_lower source.now }
         ensures len { length self.new ≡ length self.old + 12 }
         ensures six { length source.now ≡ 6 }
@@ -100,7 +101,7 @@ impl Row {
 
     #[tactic(auto, using(crate::proofs::RowLemmas::length_name))]
     fn put_level(&mut self, code: u8, option: NetOption)
-        requires room { length self.old ≤ 19 }
+        requires room { length self.old + 8 ≤ LONGEST_ROW }
         requires code { code < 16 }
         ensures { self.new ≡ self.old ++ level_text option code }
     {
@@ -112,7 +113,7 @@ impl Row {
 
     #[tactic(auto, using(crate::proofs::RowLemmas::one_digit, crate::proofs::RowLemmas::two_digits, std::proofs::Common::append_assoc))]
     fn put_number(&mut self, code: u8)
-        requires room { length self.old ≤ 19 }
+        requires room { length self.old + 8 ≤ LONGEST_ROW }
         requires code { code < 16 }
         ensures { self.new ≡ self.old ++ (codes "code-" ++ decimal code) }
     {

@@ -1,6 +1,6 @@
 use Rattle.std.proofs.Common.{◌≡◌, ◌+◌}
 use Rattle.capture_text.specs.Capture.{frame_of_line, text_of_lines, encoded_text}
-use Rattle.capture_text.specs.Gives.{with_front, lines_left, size_left}
+use Rattle.capture_text.specs.Steps.{with_front, lines_left, size_left}
 use Rattle.capture_text.proofs.capture.encode_rows.Given as goal
 
 -- the text so far with that of the lines left is the whole text
