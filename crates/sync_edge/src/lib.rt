@@ -4,6 +4,7 @@
 //!
 //! - [`Text`] and [`Rows`] grow at their end; contracts see each as a list.
 //! - [`read_number`] reads the one form of number that all texts of the program have (`number_of`).
+//! - [`Steps`] counts the steps of a work for contracts alone, at no cost.
 //! - [`Folder`] and [`Sink`] are where the program reads and writes. Their contracts speak of what a
 //!   folder holds (`Contents`), of what a sink was given, and of counts of faults (`Rose`, `HasCause`).
 //! - [`read_all`] reads a whole file and [`write_all`] writes all bytes. Each answers a fault only where
@@ -20,6 +21,7 @@ mod memory_sink;
 mod numbers;
 mod outside;
 mod real;
+mod steps;
 mod transfers;
 
 pub use errors::{Failed, NoMemory, ReadErr, WriteFailed};
@@ -29,6 +31,7 @@ pub use memory_sink::MemSink;
 pub use numbers::read_number;
 pub use outside::{Folder, Sink};
 pub use real::{RealFolder, RealSink};
+pub use steps::Steps;
 pub use transfers::{read_all, write_all};
 
 #[cfg(test)]

@@ -1,4 +1,5 @@
 ghost use Rattle.std.specs.Prelude.{◌≡◌, [], ◌∷◌, ◌++◌, OnOk, OnErr};
+ghost use Rattle.std.specs.Fmt.{decimal};
 
 use crate::errors::NoMemory;
 use std::alloc::Global;
@@ -43,11 +44,34 @@ impl Text {
         }
     }
 
+    /// Puts a number at the end, in decimal digits without a leading zero.
+    ///
+    /// A refused put leaves the text as it was. This project's own form of numbers.
+    pub fn put_number(&mut self, number: u64) -> Result<(), NoMemory>
+        ensures ok { OnOk result (self.new ≡ self.old ++ decimal number) }
+        ensures err { OnErr result (self.new ≡ self.old) }
+    {
+        let alloc = *self.kept.allocator();
+        match number.to_string(alloc) {
+            Ok(digits) => self.put(digits.as_bytes()),
+            Err(_) => Err(NoMemory),
+        }
+    }
+
     /// All the bytes.
     pub fn bytes(&self) -> &[u8]
         ensures { result.now ≡ self.now }
     {
         self.kept.as_slice()
+    }
+}
+
+impl From<Vec<u8>> for Text {
+    ghost from_gives = { λ bytes text. text ≡ bytes.items };
+
+    /// The text of these bytes. It takes no memory.
+    fn from(bytes: Vec<u8>) -> Text {
+        Text { kept: bytes }
     }
 }
 
@@ -82,6 +106,13 @@ impl<T> Rows<T> {
         ensures { result.now ≡ self.now }
     {
         self.kept.as_slice()
+    }
+
+    /// The items themselves, in the order in which they were pushed. It takes no memory.
+    pub fn into_vec(self) -> Vec<T>
+        ensures { result.items ≡ self }
+    {
+        self.kept
     }
 }
 
