@@ -1,5 +1,5 @@
 -- The rules at values that can be counted by hand.
-use Rattle.std.specs.Prelude.{◌≡◌, ℕ, true, false, List, [], ◌∷◌, Option, None, Some, refl}
+use Rattle.std.specs.Prelude.{◌≡◌, ℕ, true, false, List, [], ◌∷◌, Option, None, Some, map, refl}
 use Rattle.std.proofs.Common.{lit<}
 use Rattle.sync_ql.specs.declared.levels.NetOption.TheVariants.{I}
 use Rattle.sync_ql.specs.declared.levels.Level.{Level}
@@ -7,10 +7,18 @@ use Rattle.sync_ql.specs.declared.rules.Cond.{Cond}
 use Rattle.sync_ql.specs.declared.rules.Cond.TheVariants.{Good, HoldOff, Failed, Restoring}
 use Rattle.sync_ql.specs.declared.rules.Cmd.{Cmd}
 use Rattle.sync_ql.specs.declared.rules.Cmd.TheVariants.{Lockout, Unlock, Forced, Manual, Clear}
+use Rattle.sync_ql.specs.declared.rules.InputEvent.{InputEvent}
+use Rattle.sync_ql.specs.declared.rules.InputEvent.TheVariants.{Signal as Tells, Heard, ClearWtr, Command}
+use Rattle.sync_ql.specs.declared.rules.Mode.{Mode}
+use Rattle.sync_ql.specs.declared.rules.Mode.TheVariants as mode
+use Rattle.sync_ql.specs.declared.rules.ClockState.{ClockState}
+use Rattle.sync_ql.specs.declared.rules.ClockState.TheVariants.{FreeRun, Locked, Holdover}
 use Rattle.sync_ql.specs.Level.{do_not_use_of}
 use Rattle.sync_ql.specs.Condition.{Signal, Timers, failed_at, left_at, condition_at}
 use Rattle.sync_ql.specs.Switches.{unswitched, after_commands}
 use Rattle.sync_ql.specs.Moment.{Moment, Settings, switches_at, selection_at}
+use Rattle.sync_ql.specs.Told.{moment_after}
+use Rattle.sync_ql.specs.Output.{clock_level_at, sent_back_at, mode_at, state_at}
 
 -- a hold-off time of 2 milliseconds, and a wait-to-restore time of 3
 abbrev times : Timers
@@ -79,13 +87,20 @@ clears :
     ≡ record { locked = false ∷ false ∷ []; forced = None; manual = Some 0 }
 clears = refl
 
+-- the level that clocks of elements have
+abbrev sec : Level
+sec = record { option = I; place = 3; is_row = lit< tt }
+
+abbrev set_to : Timers → Option Level → List ℕ → List (Option Level) → Settings
+set_to timers floor priorities first_levels = record { own = sec; timers = timers; floor = floor; priorities = priorities; first_levels = first_levels }
+
 -- an element of two inputs with these priority numbers, without a floor
 abbrev two_inputs : ℕ → ℕ → Settings
-two_inputs a b = record { timers = record { holdoff = 2; wtr = 0 }; floor = None; priorities = a ∷ b ∷ [] }
+two_inputs a b = set_to (record { holdoff = 2; wtr = 0 }) None (a ∷ b ∷ []) (None ∷ None ∷ [])
 
 -- the same element with a floor
 abbrev with_floor : Option Level → Settings
-with_floor floor = record { timers = record { holdoff = 2; wtr = 0 }; floor = floor; priorities = 1 ∷ 2 ∷ [] }
+with_floor floor = set_to (record { holdoff = 2; wtr = 0 }) floor (1 ∷ 2 ∷ []) (None ∷ None ∷ [])
 
 -- both inputs up, or the first down, with these levels, and some commands
 abbrev both : Option Level → Option Level → List Cmd → Moment
@@ -126,3 +141,85 @@ floor_is_used :
     ≡ None ∷ Some 1 ∷ Some 1 ∷ []
 unfolding failed_at switches_at selection_at
 floor_is_used = refl
+
+-- an element of two inputs by what it is told in each millisecond, the newest first
+abbrev told : Settings → List (List InputEvent) → List Moment
+told settings [] = []
+told settings (now ∷ before) = moment_after settings (told settings before) now ∷ told settings before
+
+-- what it answers: the input that it takes, its level, its mode and its state
+record Answer : Type 0 where
+  selection : Option ℕ
+  level : Level
+  mode : Mode
+  state : ClockState
+
+abbrev answer : Option ℕ → Level → Mode → ClockState → Answer
+answer selection level mode state = record { selection = selection; level = level; mode = mode; state = state }
+
+abbrev answers : Settings → List Moment → List Answer
+answers settings [] = []
+answers settings (now ∷ before) =
+    answer (selection_at settings (now ∷ before)) (clock_level_at settings (now ∷ before)) (mode_at settings (now ∷ before)) (state_at settings (now ∷ before))
+    ∷ answers settings before
+
+-- the levels of option I without "if there is one"
+abbrev prc_level : Level
+prc_level = record { option = I; place = 0; is_row = lit< tt }
+
+-- an element whose two inputs have these priority numbers and first levels
+abbrev starts_with : Timers → List ℕ → Option Level → Option Level → Settings
+starts_with timers priorities a b = set_to timers None priorities (a ∷ b ∷ [])
+
+-- on a tie the second input stays, though the first is good again
+tie_after_a_failure :
+    selections (starts_with (record { holdoff = 2; wtr = 0 }) (1 ∷ 1 ∷ []) prc prc)
+    (told (starts_with (record { holdoff = 2; wtr = 0 }) (1 ∷ 1 ∷ []) prc prc)
+    ((Tells 0 true ∷ []) ∷ [] ∷ [] ∷ (Tells 0 false ∷ []) ∷ [] ∷ []))
+    ≡ Some 1 ∷ Some 1 ∷ Some 0 ∷ Some 0 ∷ Some 0 ∷ []
+unfolding failed_at switches_at selection_at moment_after
+tie_after_a_failure = refl
+
+-- a forced switch to an input that may not be used leaves the element without one; a lockout ends
+-- the switch, and it is not made again
+forced_then_locked_out :
+    answers (starts_with times (1 ∷ 2 ∷ []) prc ssu_a)
+    (told (starts_with times (1 ∷ 2 ∷ []) prc ssu_a)
+    ((Command (Forced 1) ∷ []) ∷ (Command (Lockout 1) ∷ []) ∷ (Command (Forced 1) ∷ []) ∷ (Heard 1 dnu ∷ []) ∷ [] ∷ []))
+    ≡ answer (Some 0) prc_level mode.Auto Locked
+    ∷ answer (Some 0) prc_level mode.Auto Locked
+    ∷ answer None sec mode.Forced Holdover
+    ∷ answer (Some 0) prc_level mode.Auto Locked
+    ∷ answer (Some 0) prc_level mode.Auto Locked
+    ∷ []
+unfolding failed_at switches_at selection_at moment_after clock_level_at mode_at state_at
+forced_then_locked_out = refl
+
+-- free-running before any input, and in holdover when the last one is gone; a manual switch ends
+-- where the other input has a better level
+first_lock_and_loss :
+    answers (starts_with times (1 ∷ 2 ∷ []) None None)
+    (told (starts_with times (1 ∷ 2 ∷ []) None None)
+    ((Heard 0 None ∷ Heard 1 dnu ∷ []) ∷ (Heard 0 prc ∷ Heard 1 ssu_a ∷ []) ∷ (Command (Manual 1) ∷ Heard 1 prc ∷ []) ∷ (Heard 0 prc ∷ []) ∷ [] ∷ []))
+    ≡ answer None sec mode.Auto Holdover
+    ∷ answer (Some 0) prc_level mode.Auto Locked
+    ∷ answer (Some 1) prc_level mode.Manual Locked
+    ∷ answer (Some 0) prc_level mode.Auto Locked
+    ∷ answer None sec mode.Auto FreeRun
+    ∷ []
+unfolding failed_at switches_at selection_at moment_after clock_level_at mode_at state_at
+first_lock_and_loss = refl
+
+-- do-not-use goes back on the input that is taken, and the level on the other
+what_goes_back :
+    map (sent_back_at (starts_with times (1 ∷ 2 ∷ []) prc ssu_a) (told (starts_with times (1 ∷ 2 ∷ []) prc ssu_a) ([] ∷ []))) (0 ∷ 1 ∷ [])
+    ≡ do_not_use_of I ∷ prc_level ∷ []
+unfolding failed_at switches_at selection_at moment_after clock_level_at sent_back_at
+what_goes_back = refl
+
+-- of the signals told in one millisecond the last one counts, and a clear counts in any order
+last_signal_counts :
+    (moment_after (starts_with times (1 ∷ 2 ∷ []) prc ssu_a) [] (ClearWtr 0 ∷ Tells 0 false ∷ Tells 0 true ∷ Tells 1 true ∷ Tells 1 false ∷ [])).inputs
+    ≡ record { signal = cleared; level = prc } ∷ record { signal = down; level = ssu_a } ∷ []
+unfolding moment_after
+last_signal_counts = refl

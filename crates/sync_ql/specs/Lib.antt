@@ -4,5 +4,7 @@ pub mod Condition
 pub mod Switches
 pub mod Selection
 pub mod Moment
+pub mod Told
+pub mod Output
 pub mod Examples
 pub mod Rows

@@ -7,8 +7,9 @@
 //!
 //! The rules of one element over time are definitions here too, for the crates that simulate it:
 //! what holds at a millisecond is read off the list of the milliseconds until then, the newest
-//! first (`failed_at`, `condition_at`, `switches_at`, `selection_at`). The module [`rules`] has the
-//! types in which they ask and answer.
+//! first (`failed_at`, `condition_at`, `switches_at`, `selection_at`, `clock_level_at`,
+//! `sent_back_at`, `mode_at`, `state_at`), and a millisecond by what is told in it (`moment_after`).
+//! The module [`rules`] has the types in which they ask and answer.
 //!
 //! After ITU-T G.781, quality levels and SSM codes of network options I and II, hold-off and
 //! wait-to-restore times, external commands and selection. The place of QL-PROV is this project's

@@ -51,3 +51,45 @@ pub struct Candidate {
     /// Not locked out, not failed, and not below the element's floor.
     pub usable: bool,
 }
+
+/// What is told of one element's inputs, or to the element, in a millisecond. An input is named by
+/// its place among the element's inputs, from 0.
+///
+/// After G.781, signal fail, quality level, and external commands.
+#[derive(Clone, Copy, Debug, PartialEq, Eq)]
+pub enum InputEvent {
+    /// The input is up from now on, or down.
+    Signal(u32, bool),
+    /// The input has this level from now on, or none.
+    Heard(u32, Option<Level>),
+    /// The wait-to-restore time of the input is cleared in this millisecond.
+    ClearWtr(u32),
+    /// The operator's command.
+    Command(Cmd),
+}
+
+/// How an element's input is chosen.
+///
+/// After G.781, automatic, forced and manual selection.
+#[derive(Clone, Copy, Debug, PartialEq, Eq)]
+pub enum Mode {
+    /// By level and priority alone.
+    Auto,
+    /// By a forced switch.
+    Forced,
+    /// By a manual switch.
+    Manual,
+}
+
+/// What an element's clock follows.
+///
+/// After G.781 and G.810, free-running, locked and holdover mode.
+#[derive(Clone, Copy, Debug, PartialEq, Eq)]
+pub enum ClockState {
+    /// No input, and there never was one.
+    FreeRun,
+    /// The input that is taken.
+    Locked,
+    /// No input, and there was one earlier.
+    Holdover,
+}
