@@ -1,6 +1,6 @@
 use crate::{
-    MemFile, MemFolder, MemSink, NoMemory, ReadErr, RealFolder, RealSink, Rows, Text, read_all,
-    write_all,
+    Folder, MemFile, MemFolder, MemSink, NoMemory, ReadErr, RealFolder, RealSink, Rows, Text,
+    read_all, write_all,
 };
 use std::alloc::Global;
 use std::fs;
@@ -199,10 +199,18 @@ fn a_real_file_is_read_and_an_absent_one_is_a_fault(rt: HostRuntime) -> Result<(
     fs::write(&rt, name, "one file\n")?;
     let mut folder = RealFolder::new(&rt);
     let read = read_all(rt.alloc(), &mut folder, name, 100);
+    let started = folder.start(name);
     fs::remove_file(&rt, name)?;
     assert_eq!(rt; answer(&read), b"one file\n".as_slice());
+    assert!(rt; started.is_ok());
     let absent = read_all(rt.alloc(), &mut folder, name, 100);
     assert_eq!(rt; answer(&absent), b"failed".as_slice());
+    let mut piece = [0; 4];
+    assert_eq!(rt;
+        folder.read(&mut piece).ok(),
+        Some(0),
+        "after a start that failed"
+    );
     Ok(())
 }
 
