@@ -1,0 +1,57 @@
+-- What is decided at the end of a millisecond is what the rules say.
+use Rattle.std.proofs.Common.{◌≡◌, ◌<◌, ℕ, Bool, ◌||◌, List, ◌∷◌, map, length, Option, ap, sym, ◌∙◌, arith, zero-add}
+use Rattle.std.specs.Prelude.{is_some}
+use Rattle.std.specs.List.{range_with_len}
+use Rattle.std.proofs.lemmas.List.{ext_get_or}
+use Rattle.std.proofs.lemmas.List.FromFn.{length-map-range_with_len, get_or-map-range_with_len}
+use Rattle.sync_ql.specs.declared.rules.Candidate.{Candidate}
+use Rattle.sync_ql.specs.Switches.{Switches}
+use Rattle.sync_ql.specs.Selection.{candidate, choice}
+use Rattle.sync_ql.specs.Moment.{Moment, Settings, candidates_at, at_end, switches_at, selection_at}
+use Rattle.sync_ql.specs.Output.{was_locked}
+use Rattle.selector.proofs.Eligible.{nobody}
+use Rattle.sync_element.proofs.QuietMoments.{seen, commanded, switches_at-cons, selection_at-cons}
+
+-- inputs that are seen as the rules say, place by place
+pub candidates_seen : (settings : Settings) (s : Switches) (past : List Moment) (inputs : List Candidate) → length inputs ≡ length settings.priorities → ((i : ℕ) → i < length settings.priorities → candidate inputs i ≡ seen settings s past i) → inputs ≡ candidates_at settings s past
+candidates_seen settings s past inputs long same =
+    let n = length settings.priorities in
+    let f : ℕ → Candidate = seen settings s past in
+    ext_get_or nobody inputs (map f (range_with_len 0 n)) (long ∙ sym (length-map-range_with_len f 0 n))
+    (λ i inside.
+    let within : i < n = omega (arith, inside, long) in
+    same i within ∙ sym (get_or-map-range_with_len f 0 n i i nobody within (zero-add i)))
+
+-- a millisecond after a past, at whose end an input was chosen
+pub record IsEvaluated (settings : Settings) (now : Moment) (before : List Moment) (inputs : List Candidate) (commands switches : Switches) (current selection : Option ℕ) (was was_then : Bool) : Type 0 where
+  pub seen_is : inputs ≡ candidates_at settings commands (now ∷ before)
+  pub commanded_is : commands ≡ commanded settings now before
+  pub ended : switches ≡ at_end inputs commands
+  pub chosen : selection ≡ choice inputs switches.forced switches.manual current
+  pub current_is : current ≡ selection_at settings before
+  pub was_is : was ≡ was_locked settings before
+  pub ever : was_then ≡ (is_some selection || was)
+
+pub switches_evaluated : (settings : Settings) (now : Moment) (before : List Moment) (inputs : List Candidate) (commands switches : Switches) (current selection : Option ℕ) (was was_then : Bool) → IsEvaluated settings now before inputs commands switches current selection was was_then → switches ≡ switches_at settings (now ∷ before)
+switches_evaluated settings now before inputs commands switches current selection was was_then is =
+    is.ended
+    ∙ ap (λ c. at_end c commands) is.seen_is
+    ∙ ap (λ s. at_end (candidates_at settings s (now ∷ before)) s) is.commanded_is
+    ∙ sym (switches_at-cons settings now before)
+
+pub selection_evaluated : (settings : Settings) (now : Moment) (before : List Moment) (inputs : List Candidate) (commands switches : Switches) (current selection : Option ℕ) (was was_then : Bool) → IsEvaluated settings now before inputs commands switches current selection was was_then → selection ≡ selection_at settings (now ∷ before)
+selection_evaluated settings now before inputs commands switches current selection was was_then is =
+    let past : List Moment = now ∷ before in
+    let s : Switches = switches_at settings past in
+    let same : candidates_at settings switches past ≡ candidates_at settings commands past = ap (λ u. candidates_at settings u past) is.ended in
+    is.chosen
+    ∙ ap (λ c. choice c switches.forced switches.manual current) (is.seen_is ∙ sym same)
+    ∙ ap (λ u. choice (candidates_at settings u past) u.forced u.manual current) (switches_evaluated settings now before inputs commands switches current selection was was_then is)
+    ∙ ap (choice (candidates_at settings s past) s.forced s.manual) is.current_is
+    ∙ sym (selection_at-cons settings now before)
+
+pub was_locked_evaluated : (settings : Settings) (now : Moment) (before : List Moment) (inputs : List Candidate) (commands switches : Switches) (current selection : Option ℕ) (was was_then : Bool) → IsEvaluated settings now before inputs commands switches current selection was was_then → was_then ≡ was_locked settings (now ∷ before)
+was_locked_evaluated settings now before inputs commands switches current selection was was_then is =
+    is.ever
+    ∙ ap (λ o. is_some o || was) (selection_evaluated settings now before inputs commands switches current selection was was_then is)
+    ∙ ap (λ b. is_some (selection_at settings (now ∷ before)) || b) is.was_is

@@ -1,0 +1,14 @@
+pub mod Choices
+pub mod QuietMoments
+pub mod Waiting
+pub mod Answering
+pub mod DueLemmas
+pub mod Starting
+pub mod TellingLemmas
+pub mod SteppingLemmas
+pub mod Evaluating
+pub mod Taking
+pub mod PlainCounting
+pub mod PlainStanding
+pub mod PlainStarting
+pub mod PlainFitting

@@ -1,0 +1,8 @@
+use Rattle.sync_element.specs.ElementState.{element_state}
+use Rattle.sync_element.proofs.Answering.{selected_until}
+use Rattle.sync_element.proofs.element.Element.selected.Goals as goal
+
+pub returns-clause-selected : goal.returns-clause-selected
+returns-clause-selected c =
+    rw (← c.self.view_is)
+    (selected_until (element_state c.self.inside) c.self.invariant)

@@ -1,0 +1,9 @@
+pub mod Configured
+pub mod ElementState
+pub mod StandsFor
+pub mod Due
+pub mod QuietLaw
+pub mod Starting
+pub mod Telling
+pub mod Plain
+pub mod Stepping

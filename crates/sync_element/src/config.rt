@@ -1,0 +1,30 @@
+use sync_edge::Rows;
+use sync_ql::Level;
+
+/// What one input of an element is set to.
+///
+/// After G.781, priority and quality level.
+#[derive(Clone, Copy, Debug, PartialEq, Eq)]
+pub struct InputConfig {
+    /// The priority number, from 1, of which the smaller comes first.
+    pub priority: u8,
+    /// The level that the input has until one is told.
+    pub first: Option<Level>,
+}
+
+/// What an element is set to.
+///
+/// After G.781, hold-off time, wait-to-restore time and quality level threshold.
+#[derive(Debug, Drop)]
+pub struct Config {
+    /// The level of the element's own clock, which it has without an input.
+    pub own: Level,
+    /// The floor: no input of a worse level is taken.
+    pub floor: Option<Level>,
+    /// The hold-off time of each input, 300 to 1800 milliseconds.
+    pub holdoff: u32,
+    /// The wait-to-restore time of each input, 0 to 720,000 milliseconds.
+    pub wtr: u32,
+    /// The inputs, at most 64.
+    pub inputs: Rows<InputConfig>,
+}

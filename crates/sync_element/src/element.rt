@@ -1,0 +1,288 @@
+ghost use Rattle.std.specs.Prelude.{◌≡◌, ◌≤◌, ◌<◌, ◌+◌, ◌*◌, ◌∷◌, [], ℕ, List, All, IfSome, IfOk, IsNone, MatchOption, None, length, unwrap_or, option_and_then, if◌then◌else◌, nat_eq, ◌↔◌};
+ghost use Rattle.sync_ql.specs.Level.{do_not_use_of};
+ghost use Rattle.sync_ql.specs.Condition.{condition_at, IsSameKind};
+ghost use Rattle.sync_ql.specs.Selection.{candidate};
+ghost use Rattle.sync_ql.specs.Moment.{Moment, Settings, signals_of, selection_at};
+ghost use Rattle.sync_ql.specs.Told.{moment_after, quiet_moment, moments_until, FitsElement, IsOfOption};
+ghost use Rattle.sync_ql.specs.Output.{clock_level_at, sent_back_at, mode_at, state_at, goes_back, mode_of, state_of};
+ghost use Rattle.sync_element.specs.Configured.{settings_of};
+ghost use Rattle.sync_element.specs.StandsFor.{StandsFor};
+ghost use Rattle.sync_element.specs.QuietLaw.{IsSameFailed, IsSameOutput};
+ghost use Rattle.sync_element.specs.Due.{IsLastStepPlusLeast, NoneEnds};
+ghost use Rattle.sync_element.specs.ElementState.{inputs_of, monitor_of, level_of, level_back_of, IsInTime};
+
+use crate::config::Config;
+use crate::inputs::{
+    MOST, all_up, first_candidates, first_due, new_monitors, step_all, steps_after, tell_all,
+};
+use crate::selection::{evaluate, level_back, level_of, mode_of, state_of, was_ever_locked};
+use input_monitor::Monitor;
+use operator_cmds::Cmds;
+use std::alloc::Global;
+use std::marker::Model;
+use std::sync::ledger::Ledger;
+use sync_edge::{NoMemory, Steps};
+use sync_ql::Level;
+use sync_ql::rules::{Candidate, ClockState, Cond, InputEvent, Mode};
+
+/// One network element: it takes one of its inputs, or none, and has a level by it.
+///
+/// Inputs are named by their place, from 0, and times are milliseconds from 0. Before its first
+/// step every input is up, good, and of its first level, and no input is taken.
+/// After G.781, selection, and hold-off and wait-to-restore times; the exact millisecond is this
+/// project's own.
+#[derive(Debug, Drop)]
+pub struct Element {
+    config: Config,
+    /// Of each input the monitor, whether it is up, and what the choice looks at.
+    monitors: Vec<Monitor>,
+    ups: Vec<bool>,
+    candidates: Vec<Candidate>,
+    commands: Cmds,
+    selected: Option<u32>,
+    /// Whether an input was taken in any millisecond.
+    was_locked: bool,
+    /// The first millisecond that no step has told of.
+    next: u64,
+    due: Option<u64>,
+    later_steps: u64,
+}
+
+impl Model for Element {
+    ghost use Rattle.sync_element.specs.ElementState.{ElementState, element_state, IsKept};
+
+    ghost Value = { ElementState };
+
+    ghost view = { element_state };
+
+    ghost invariant = { IsKept };
+}
+
+impl Element {
+    /// An element that was told nothing.
+    ///
+    /// Its times and priority numbers are in range, it has at most 64 inputs, and all levels are of
+    /// one network option.
+    /// After G.781, hold-off time, wait-to-restore time, priority and quality level.
+    pub fn new(alloc: Global, config: Config) -> Result<Element, NoMemory>
+        requires not_short { 300 ≤ config.holdoff }
+        requires not_long { config.holdoff ≤ 1800 }
+        requires minutes { config.wtr ≤ 12 * 60 * 1000 }
+        requires few { length config.inputs ≤ 64 }
+        requires priorities { All (λ input. 1 ≤ input.priority) config.inputs }
+        requires floor { IsOfOption config.own.option config.floor }
+        requires first { All (λ input. IsOfOption config.own.option input.first) config.inputs }
+        ensures settings { IfOk result (λ e. e.settings ≡ settings_of config) }
+        ensures next { IfOk result (λ e. e.next ≡ 0) }
+        ensures due { IfOk result (λ e. e.due ≡ None) }
+        ensures later_steps { IfOk result (λ e. e.later_steps ≡ 0) }
+        ensures stands { IfOk result (λ e. StandsFor e []) }
+    {
+        let inputs = config.inputs.as_slice();
+        let monitors = new_monitors(alloc, config.holdoff, config.wtr, inputs.len())?;
+        let ups = all_up(alloc, inputs.len())?;
+        let candidates = first_candidates(alloc, inputs)?;
+        let commands = Cmds::new(inputs.len() as u32);
+        Ok(Element {
+            config,
+            monitors,
+            ups,
+            candidates,
+            commands,
+            selected: None,
+            was_locked: false,
+            next: 0,
+            due: None,
+            later_steps: 0,
+        })
+    }
+
+    /// Tells what happens in a millisecond, and looks once at its end at which input is taken.
+    ///
+    /// The first step is at 0; a later one is after the last, at `due` at the latest, and at most at
+    /// 86,400,000. Between two steps nothing is told. Commands apply in the order of the list; of
+    /// the signals of one input the last counts, and of its levels too. A step takes no memory, and
+    /// is one step of the count.
+    /// After G.781, selection and external commands.
+    pub fn step<L: Ledger>(&mut self, now: u64, changes: &[InputEvent], steps: &mut Steps<L>)
+        requires in_time { IsInTime self.old now }
+        requires in_range { now ≤ 24 * 60 * 60 * 1000 }
+        requires fits { All (FitsElement self.old.settings) changes.now }
+        ensures next { self.new.next ≡ now + 1 }
+        ensures kept { self.new.settings ≡ self.old.settings }
+        ensures stands { (past : List Moment) → StandsFor self.old past →
+            StandsFor self.new
+            (moment_after self.old.settings (moments_until self.old.settings now past) changes.now
+            ∷ moments_until self.old.settings now past) }
+        ensures ticks { steps.new ≡ steps.old + 1 }
+        ensures counts { self.new.later_steps ≡
+            (if nat_eq self.old.next 0 then 0 else self.old.later_steps + 1) }
+    {
+        steps.tick();
+        self.advance(now, changes);
+    }
+
+    /// The input that is taken, by its place: from the last step up to but not at `due`, if nothing
+    /// is told.
+    ///
+    /// `None` exactly where no input is taken.
+    /// After G.781, selected input.
+    pub fn selected(&self) -> Option<u32>
+        ensures value { result ≡ self.now.selection }
+        ensures place { IfSome result (λ i. i < inputs_of self.now) }
+        ensures selected { (past : List Moment) (n : ℕ) → StandsFor self.now past →
+            IsInTime self.now n →
+            result ≡ selection_at self.now.settings (moments_until self.now.settings n past) }
+    {
+        self.selected
+    }
+
+    /// The element's level: that of the input that is taken, or its own clock's without one; from
+    /// the last step up to but not at `due`, if nothing is told.
+    ///
+    /// After G.781, quality level of a clock.
+    pub fn level(&self) -> Level
+        ensures value { result ≡ level_of self.now }
+        ensures option { result.option ≡ self.now.settings.own.option }
+        ensures level { (past : List Moment) (n : ℕ) → StandsFor self.now past →
+            IsInTime self.now n →
+            result ≡ clock_level_at self.now.settings (moments_until self.now.settings n past) }
+    {
+        level_of(self.candidates.as_slice(), self.selected, self.config.own)
+    }
+
+    /// How the input is chosen, as from the last step up to but not at `due`, if nothing is told.
+    ///
+    /// After G.781, forced, manual and automatic selection.
+    pub fn mode(&self) -> Mode
+        ensures value { result ≡ mode_of self.now.switches.forced self.now.switches.manual }
+        ensures mode { (past : List Moment) (n : ℕ) → StandsFor self.now past →
+            IsInTime self.now n →
+            result ≡ mode_at self.now.settings (moments_until self.now.settings n past) }
+    {
+        mode_of(self.commands.forced(), self.commands.manual())
+    }
+
+    /// What the element's clock follows, as from the last step up to but not at `due`, if nothing is
+    /// told.
+    ///
+    /// After G.781 and G.810, locked, holdover and free-running mode.
+    pub fn state(&self) -> ClockState
+        ensures value { result ≡ state_of self.now.selection self.now.was_locked }
+        ensures state { (past : List Moment) (n : ℕ) → StandsFor self.now past →
+            IsInTime self.now n →
+            result ≡ state_at self.now.settings (moments_until self.now.settings n past) }
+    {
+        state_of(self.selected, self.was_locked)
+    }
+
+    /// The level that is sent back on an input: do-not-use where the timing comes from, and the
+    /// element's level elsewhere; from the last step up to but not at `due`, if nothing is told.
+    ///
+    /// After G.781, do not use in the reverse direction of the selected input.
+    pub fn out_to(&self, i: u32) -> Level
+        requires place { i < inputs_of self.now }
+        ensures value { result ≡ level_back_of self.now i }
+        ensures option { result.option ≡ self.now.settings.own.option }
+        ensures sent { (past : List Moment) (n : ℕ) → StandsFor self.now past →
+            IsInTime self.now n →
+            result ≡ sent_back_at self.now.settings (moments_until self.now.settings n past) i }
+    {
+        let level = level_of(self.candidates.as_slice(), self.selected, self.config.own);
+        level_back(self.selected, i, level, self.config.own.option)
+    }
+
+    /// The condition of an input at the last step, and what was left then of a running time.
+    ///
+    /// From there up to but not at `due` it stays in this kind of condition, if nothing is told.
+    /// After G.781, signal fail, hold-off and wait-to-restore.
+    pub fn cond(&self, i: u32) -> Cond
+        requires place { i < inputs_of self.now }
+        ensures value { result ≡ (monitor_of self.now i).condition }
+        ensures last { (past : List Moment) → StandsFor self.now past →
+            result ≡ condition_at self.now.settings.timers (signals_of i past) }
+        ensures kind { (past : List Moment) (n : ℕ) → StandsFor self.now past →
+            IsInTime self.now n →
+            IsSameKind result (condition_at self.now.settings.timers
+            (signals_of i (moments_until self.now.settings n past))) }
+    {
+        self.monitors[i as usize].condition()
+    }
+
+    /// The first later millisecond at which a step has to be made: that of the last step plus the
+    /// least that was left of a condition.
+    ///
+    /// `None` exactly where every condition is good or failed.
+    /// After G.781, hold-off time and wait-to-restore time; the exact millisecond is this project's
+    /// own.
+    pub fn due(&self) -> Option<u64>
+        ensures value { result ≡ self.now.due }
+        ensures none { (past : List Moment) → StandsFor self.now past →
+            IsNone result ↔ NoneEnds self.now }
+        ensures least { (past : List Moment) → StandsFor self.now past →
+            IfSome result (IsLastStepPlusLeast self.now) }
+    {
+        self.due
+    }
+
+    /// The number of steps after the first, and 0 before any.
+    ///
+    /// This project's own.
+    pub fn later_steps(&self) -> u64
+        ensures { result ≡ self.now.later_steps }
+    {
+        self.later_steps
+    }
+
+    // A step, but for the count of the caller.
+    fn advance(&mut self, now: u64, changes: &[InputEvent])
+        requires in_time { IsInTime self.old now }
+        requires in_range { now ≤ 24 * 60 * 60 * 1000 }
+        requires fits { All (FitsElement self.old.settings) changes.now }
+        ensures next { self.new.next ≡ now + 1 }
+        ensures kept { self.new.settings ≡ self.old.settings }
+        ensures stands { (past : List Moment) → StandsFor self.old past →
+            StandsFor self.new
+            (moment_after self.old.settings (moments_until self.old.settings now past) changes.now
+            ∷ moments_until self.old.settings now past) }
+        ensures counts { self.new.later_steps ≡
+            (if nat_eq self.old.next 0 then 0 else self.old.later_steps + 1) }
+    {
+        let mut clear = [false; MOST];
+        tell_all(
+            self.ups.as_mut_slice(),
+            &mut clear,
+            self.candidates.as_mut_slice(),
+            &mut self.commands,
+            changes,
+        );
+        step_all(
+            self.monitors.as_mut_slice(),
+            self.candidates.as_mut_slice(),
+            self.ups.as_slice(),
+            &clear,
+            &self.commands,
+            self.config.floor,
+            now,
+        );
+        self.due = first_due(self.monitors.as_slice());
+        self.selected = evaluate(
+            self.candidates.as_slice(),
+            &mut self.commands,
+            self.selected,
+        );
+        self.was_locked = was_ever_locked(self.selected, self.was_locked);
+        self.later_steps = steps_after(self.next, self.later_steps);
+        self.next = now + 1;
+    }
+}
+
+/// The law of a quiet millisecond: where nothing is told in it, and each input is failed exactly as
+/// before, the selection, the level, the levels sent back, the mode and the state stay.
+///
+/// It does nothing: its contract is the law. This project's own.
+pub fn quiet_law()
+    ensures { (settings : Settings) (now : Moment) (before : List Moment) →
+        IsSameFailed settings (now ∷ before) (quiet_moment settings (now ∷ before) ∷ now ∷ before) →
+        IsSameOutput settings (now ∷ before) (quiet_moment settings (now ∷ before) ∷ now ∷ before) }
+{}

@@ -1,0 +1,93 @@
+//! What is decided at the end of a millisecond.
+
+ghost use Rattle.std.specs.Prelude.{◌≡◌, ◌≤◌, ◌<◌, IfSome, length, ◌||◌, is_some, unwrap_or, option_and_then, if◌then◌else◌};
+ghost use Rattle.sync_ql.specs.Selection.{candidate, choice, AreOfOneOption};
+ghost use Rattle.sync_ql.specs.Level.{do_not_use_of};
+ghost use Rattle.sync_ql.specs.Moment.{at_end};
+ghost use Rattle.sync_ql.specs.Output.{goes_back, mode_of, state_of};
+
+use operator_cmds::Cmds;
+use selector::choose;
+use sync_ql::rules::{Candidate, ClockState, Mode};
+use sync_ql::{Level, NetOption, do_not_use};
+
+// Chooses an input, and ends a manual switch that does not stand.
+pub fn evaluate(inputs: &[Candidate], commands: &mut Cmds, current: Option<u32>) -> Option<u32>
+    requires few { length inputs.now ≤ 64 }
+    requires locked_length { length commands.old.locked ≡ length inputs.now }
+    requires one_option { AreOfOneOption inputs.now }
+    requires current_place { IfSome current (λ i. i < length inputs.now) }
+    ensures input { result ≡
+        choice inputs.now commands.new.forced commands.new.manual current }
+    ensures switches { commands.new ≡ at_end inputs.now commands.old }
+    ensures place { IfSome result (λ i. i < length inputs.now) }
+{
+    let choice = choose(inputs, commands.forced(), commands.manual(), current);
+    if !choice.manual_stands {
+        commands.drop_manual();
+    }
+    choice.input
+}
+
+// Whether an input is taken, or was earlier.
+pub fn was_ever_locked(selected: Option<u32>, earlier: bool) -> bool
+    ensures { result ≡ (is_some selected || earlier) }
+{
+    selected.is_some() || earlier
+}
+
+// The level of the input that is taken, or that of the own clock without one.
+pub fn level_of(inputs: &[Candidate], selected: Option<u32>, own: Level) -> Level
+    requires place { IfSome selected (λ i. i < length inputs.now) }
+    ensures { result ≡
+        unwrap_or (option_and_then (λ i. (candidate inputs.now i).level) selected) own }
+{
+    match selected {
+        Some(i) => match inputs[i as usize].level {
+            Some(level) => level,
+            None => own,
+        },
+        None => own,
+    }
+}
+
+// Do-not-use on an input from which the timing comes, and the element's level on any other.
+pub fn level_back(selected: Option<u32>, i: u32, level: Level, option: NetOption) -> Level
+    ensures { result ≡ (if goes_back selected i then do_not_use_of option else level) }
+{
+    if goes_back(selected, i) {
+        do_not_use(option)
+    } else {
+        level
+    }
+}
+
+// Whether what is sent back on an input goes back to where the timing comes from.
+fn goes_back(selected: Option<u32>, i: u32) -> bool
+    ensures { result ≡ goes_back selected i }
+{
+    match selected {
+        Some(selected) => selected == i,
+        None => false,
+    }
+}
+
+pub fn mode_of(forced: Option<u32>, manual: Option<u32>) -> Mode
+    ensures { result ≡ mode_of forced manual }
+{
+    match (forced, manual) {
+        (Some(_), _) => Mode::Forced,
+        (None, Some(_)) => Mode::Manual,
+        (None, None) => Mode::Auto,
+    }
+}
+
+pub fn state_of(selected: Option<u32>, was_locked: bool) -> ClockState
+    ensures { result ≡ state_of selected was_locked }
+{
+    match (selected, was_locked) {
+        (Some(_), _) => ClockState::Locked,
+        (None, true) => ClockState::Holdover,
+        (None, false) => ClockState::FreeRun,
+    }
+}

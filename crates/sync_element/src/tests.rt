@@ -1,0 +1,497 @@
+ghost use Rattle.std.specs.Prelude.{◌≡◌, ◌≤◌, ◌<◌, ◌+◌, ℕ, IsTrue, IfSome, IfOk, All, length};
+ghost use Rattle.sync_ql.specs.Switches.{NamesInput};
+ghost use Rattle.sync_ql.specs.Moment.{Settings};
+ghost use Rattle.sync_ql.specs.Told.{IsOfOption, FitsElement};
+ghost use Rattle.sync_element.specs.Configured.{settings_of};
+ghost use Rattle.sync_element.specs.Plain.{IsPlainWhole, FitsOption};
+
+use crate::ClockState::{FreeRun, Holdover, Locked};
+use crate::Cmd::{Clear, Forced, Lockout, Manual, Unlock};
+use crate::Mode::{Auto, Forced as ByForce, Manual as ByHand};
+use crate::plain::{Answer, Plain};
+use crate::{ClockState, Cmd, Config, Element, InputConfig, InputEvent, Mode};
+use std::alloc::{AllocError, Global};
+use std::marker::Brand;
+use std::process::Abort;
+use std::sync::ledger::{Blank, Ledger};
+use std::test::Fail;
+use sync_edge::{Rows, Steps};
+use sync_ql::{Level, NetOption, do_not_use, level_of_name};
+
+/// What is told, with levels by their names, and "" for none.
+#[derive(Clone, Copy)]
+enum Told {
+    Up(u32),
+    Down(u32),
+    Cleared(u32),
+    Has(u32, &'static str),
+    Gives(Cmd),
+}
+
+use Told::{Cleared, Down, Gives, Has, Up};
+
+/// A millisecond and what is told in it; then the input, the level, the mode and the state.
+type Row = (
+    u64,
+    &'static [Told],
+    Option<u32>,
+    &'static str,
+    Mode,
+    ClockState,
+);
+
+struct Case {
+    shows: &'static str,
+    wtr: u32,
+    floor: &'static str,
+    /// The priority number and the first level of each input.
+    inputs: &'static [(u8, &'static str)],
+    rows: &'static [Row],
+}
+
+const CASES: [Case; 7] = [
+    Case {
+        shows: "on_a_tie_the_other_stays_when_the_first_is_good_again",
+        wtr: 0,
+        floor: "",
+        inputs: &[(1, "QL-PRC"), (1, "QL-PRC")],
+        rows: &[
+            (0, &[], Some(0), "QL-PRC", Auto, Locked),
+            (1000, &[Down(0)], Some(0), "QL-PRC", Auto, Locked),
+            (1300, &[], Some(1), "QL-PRC", Auto, Locked),
+            (2000, &[Up(0)], Some(1), "QL-PRC", Auto, Locked),
+        ],
+    },
+    Case {
+        shows: "forced_to_do_not_use_is_holdover_until_a_lockout",
+        wtr: 300_000,
+        floor: "",
+        inputs: &[(1, "QL-PRC"), (2, "QL-SSU-A")],
+        rows: &[
+            (0, &[], Some(0), "QL-PRC", Auto, Locked),
+            (1000, &[Has(1, "QL-DNU")], Some(0), "QL-PRC", Auto, Locked),
+            (2000, &[Gives(Forced(1))], None, "QL-SEC", ByForce, Holdover),
+            (3000, &[Gives(Lockout(1))], Some(0), "QL-PRC", Auto, Locked),
+            (3500, &[Gives(Forced(1))], Some(0), "QL-PRC", Auto, Locked),
+        ],
+    },
+    Case {
+        shows: "free_running_before_the_first_input_and_in_holdover_after_the_last",
+        wtr: 0,
+        floor: "",
+        inputs: &[(1, ""), (2, "")],
+        rows: &[
+            (0, &[], None, "QL-SEC", Auto, FreeRun),
+            (10, &[Has(0, "QL-DNU")], None, "QL-SEC", Auto, FreeRun),
+            (20, &[Has(1, "QL-SSU-B")], Some(1), "QL-SSU-B", Auto, Locked),
+            (30, &[Has(1, "")], None, "QL-SEC", Auto, Holdover),
+        ],
+    },
+    Case {
+        shows: "a_level_equal_to_the_floor_is_taken_and_a_worse_one_is_not",
+        wtr: 0,
+        floor: "QL-SSU-A",
+        inputs: &[(1, "QL-SSU-B"), (2, "QL-SSU-A")],
+        rows: &[
+            (0, &[], Some(1), "QL-SSU-A", Auto, Locked),
+            (5, &[Has(0, "QL-PRC")], Some(0), "QL-PRC", Auto, Locked),
+            (6, &[Has(0, "QL-SSU-B")], Some(1), "QL-SSU-A", Auto, Locked),
+            (7, &[Has(1, "QL-SEC")], None, "QL-SEC", Auto, Holdover),
+        ],
+    },
+    Case {
+        shows: "a_manual_switch_ends_for_a_better_level_a_clear_or_a_lockout",
+        wtr: 0,
+        floor: "",
+        inputs: &[(1, "QL-PRC"), (2, "QL-PRC")],
+        rows: &[
+            (0, &[], Some(0), "QL-PRC", Auto, Locked),
+            (1, &[Gives(Manual(1))], Some(1), "QL-PRC", ByHand, Locked),
+            (2, &[Has(1, "QL-SSU-A")], Some(0), "QL-PRC", Auto, Locked),
+            (3, &[Has(1, "QL-PRC")], Some(0), "QL-PRC", Auto, Locked),
+            (
+                4,
+                &[Gives(Manual(1)), Gives(Clear)],
+                Some(0),
+                "QL-PRC",
+                Auto,
+                Locked,
+            ),
+            (
+                5,
+                &[Gives(Clear), Gives(Manual(1))],
+                Some(1),
+                "QL-PRC",
+                ByHand,
+                Locked,
+            ),
+            (6, &[Gives(Lockout(1))], Some(0), "QL-PRC", Auto, Locked),
+            (
+                7,
+                &[Gives(Unlock(1)), Gives(Forced(1))],
+                Some(1),
+                "QL-PRC",
+                ByForce,
+                Locked,
+            ),
+            (8, &[Gives(Manual(0))], Some(1), "QL-PRC", ByForce, Locked),
+        ],
+    },
+    Case {
+        shows: "a_failed_input_is_taken_again_when_restored_or_cleared",
+        wtr: 500,
+        floor: "",
+        inputs: &[(1, "QL-PRC"), (2, "QL-SSU-A")],
+        rows: &[
+            (0, &[], Some(0), "QL-PRC", Auto, Locked),
+            (100, &[Down(0)], Some(0), "QL-PRC", Auto, Locked),
+            (399, &[], Some(0), "QL-PRC", Auto, Locked),
+            (400, &[], Some(1), "QL-SSU-A", Auto, Locked),
+            (450, &[Up(0)], Some(1), "QL-SSU-A", Auto, Locked),
+            (949, &[], Some(1), "QL-SSU-A", Auto, Locked),
+            (950, &[], Some(0), "QL-PRC", Auto, Locked),
+            (1000, &[Down(0)], Some(0), "QL-PRC", Auto, Locked),
+            (1310, &[Up(0)], Some(1), "QL-SSU-A", Auto, Locked),
+            (1320, &[Cleared(0)], Some(0), "QL-PRC", Auto, Locked),
+        ],
+    },
+    Case {
+        shows: "of_one_millisecond_the_last_signal_and_level_count",
+        wtr: 0,
+        floor: "",
+        inputs: &[(1, "QL-DNU"), (2, "QL-SSU-A")],
+        rows: &[
+            (
+                0,
+                &[Has(0, "QL-SEC"), Has(0, "QL-PRC")],
+                Some(0),
+                "QL-PRC",
+                Auto,
+                Locked,
+            ),
+            (1, &[Down(0), Up(0)], Some(0), "QL-PRC", Auto, Locked),
+            (400, &[Up(0), Down(0)], Some(0), "QL-PRC", Auto, Locked),
+            (700, &[], Some(1), "QL-SSU-A", Auto, Locked),
+        ],
+    },
+];
+
+fn event_of(told: Told) -> InputEvent {
+    match told {
+        Up(i) => InputEvent::Signal(i, true),
+        Down(i) => InputEvent::Signal(i, false),
+        Cleared(i) => InputEvent::ClearWtr(i),
+        Has(i, name) => InputEvent::Heard(i, level_of_name(NetOption::I, name.as_bytes())),
+        Gives(command) => InputEvent::Command(command),
+    }
+}
+
+fn events_of(alloc: Global, told: &[Told]) -> Result<Vec<InputEvent>, AllocError> {
+    let mut events = Vec::new(alloc);
+    for one in told {
+        events.push(event_of(*one))?;
+    }
+    Ok(events)
+}
+
+fn level(rt: &impl Abort, name: &'static str) -> Level {
+    let level = level_of_name(NetOption::I, name.as_bytes());
+    level.expect(rt, "a level of the option")
+}
+
+fn config_of(rt: &(impl Abort + AllocGlobal), case: &Case) -> Result<Config, Fail> {
+    let mut inputs = Rows::new(rt.alloc());
+    for (priority, first) in case.inputs {
+        inputs.push(InputConfig {
+            priority: *priority,
+            first: level_of_name(NetOption::I, first.as_bytes()),
+        })?;
+    }
+    Ok(Config {
+        own: level(rt, "QL-SEC"),
+        floor: level_of_name(NetOption::I, case.floor.as_bytes()),
+        holdoff: 300,
+        wtr: case.wtr,
+        inputs,
+    })
+}
+
+fn is_of(option: NetOption, level: Option<Level>) -> bool
+    ensures { IsTrue result → IsOfOption option level }
+{
+    match level {
+        Some(level) => level.option == option,
+        None => true,
+    }
+}
+
+fn has_times(config: &Config) -> bool
+    ensures low { IsTrue result → 300 ≤ config.now.holdoff }
+    ensures high { IsTrue result → config.now.holdoff ≤ 1800 }
+    ensures minutes { IsTrue result → config.now.wtr ≤ 720000 }
+{
+    300 <= config.holdoff && config.holdoff <= 1800 && config.wtr <= 720_000
+}
+
+fn is_of_one_option(config: &Config) -> bool
+    ensures own { IsTrue result → config.now.own.option ≡ NetOption.I }
+    ensures floor { IsTrue result → IsOfOption NetOption.I config.now.floor }
+{
+    config.own.option == NetOption::I && is_of(NetOption::I, config.floor)
+}
+
+fn has_inputs(inputs: &[InputConfig]) -> bool
+    ensures { IsTrue result → All (λ input. (1 ≤ input.priority) × IsOfOption NetOption.I input.first) inputs.now }
+{
+    inputs.iter().all(is_input)
+}
+
+fn is_input(input: &InputConfig) -> bool
+    ensures { IsTrue result → (1 ≤ input.now.priority) × IsOfOption NetOption.I input.now.first }
+{
+    1 <= input.priority && is_of(NetOption::I, input.first)
+}
+
+fn names_input(inputs: usize, command: Cmd) -> bool
+    ensures { IsTrue result → NamesInput inputs command }
+{
+    match command {
+        Lockout(i) | Unlock(i) | Forced(i) | Manual(i) => (i as usize) < inputs,
+        Clear => true,
+    }
+}
+
+fn fits(inputs: usize, event: &InputEvent) -> bool
+    ensures { IsTrue result → FitsOption NetOption.I inputs event.now }
+{
+    match *event {
+        InputEvent::Signal(i, _) | InputEvent::ClearWtr(i) => (i as usize) < inputs,
+        InputEvent::Heard(i, level) => (i as usize) < inputs && is_of(NetOption::I, level),
+        InputEvent::Command(command) => names_input(inputs, command),
+    }
+}
+
+fn all_fit(inputs: usize, events: &[InputEvent]) -> bool
+    ensures { (settings : Settings) → settings.own.option ≡ NetOption.I →
+        length settings.priorities ≡ inputs → IsTrue result →
+        All (FitsElement settings) events.now }
+{
+    all_fit_option(inputs, events)
+}
+
+fn all_fit_option(inputs: usize, events: &[InputEvent]) -> bool
+    ensures { IsTrue result → All (FitsOption NetOption.I inputs) events.now }
+{
+    events.iter().all(|event| fits(inputs, event))
+}
+
+fn is_in_time(element: &Element, now: u64) -> bool
+    ensures { IsTrue result → IfSome element.now.due (λ due. now ≤ due) }
+{
+    match element.due() {
+        Some(due) => now <= due,
+        None => true,
+    }
+}
+
+fn answer_of(element: &Element) -> Answer {
+    (
+        element.selected(),
+        element.level(),
+        element.mode(),
+        element.state(),
+    )
+}
+
+/// Steps an element where something is told or due, and compares it at every millisecond.
+fn agrees<L: Ledger>(
+    rt: &(impl Abort + AllocGlobal),
+    case: &Case,
+    steps: &mut Steps<L>,
+) -> Result<(), Fail> {
+    let config = config_of(rt, case)?;
+    let inputs = config.inputs.as_slice().len();
+    let mut element = element_of(rt, case, inputs)?;
+    let mut plain = plain_of(rt, &config)?;
+    assert!(rt; is_of_one_option(&config));
+    let mut next = 0;
+    for row in case.rows {
+        let at = row.0;
+        assert!(rt; next <= at && at <= 86_400_000);
+        come_to(
+            rt,
+            case.shows,
+            &config,
+            &mut element,
+            &mut plain,
+            next,
+            at,
+            steps,
+        );
+        tell(rt, &config, &mut element, &mut plain, row, steps)?;
+        let expected = (row.2, level(rt, row.3), row.4, row.5);
+        compare(rt, case.shows, at, answer_of(&element), expected);
+        compare(rt, case.shows, at, plain.answer(&config), expected);
+        next = at + 1;
+    }
+    Ok(())
+}
+
+fn element_of(rt: &(impl Abort + AllocGlobal), case: &Case, inputs: usize) -> Result<Element, Fail>
+    ensures option { IfOk result (λ e. e.settings.own.option ≡ NetOption.I) }
+    ensures inputs { IfOk result (λ e. length e.settings.priorities ≡ inputs) }
+    ensures next { IfOk result (λ e. e.next ≡ 0) }
+{
+    let config = config_of(rt, case)?;
+    assert!(rt; config.inputs.as_slice().len() == inputs && inputs <= 64);
+    assert!(rt; has_times(&config));
+    assert!(rt; is_of_one_option(&config));
+    assert!(rt; has_inputs(config.inputs.as_slice()));
+    let element = Element::new(rt.alloc(), config)?;
+    Ok(element)
+}
+
+fn plain_of(rt: &(impl Abort + AllocGlobal), config: &Config) -> Result<Plain, Fail>
+    ensures { IfOk result (λ p. IsPlainWhole (settings_of config.now)
+        p.ups.items p.candidates.items p.commands p.selected) }
+{
+    assert!(rt; config.inputs.as_slice().len() <= 64);
+    assert!(rt; is_of_one_option(config));
+    assert!(rt; has_inputs(config.inputs.as_slice()));
+    let plain = Plain::new(rt.alloc(), config)?;
+    Ok(plain)
+}
+
+fn compare(rt: &impl Abort, shows: &'static str, at: u64, given: Answer, expected: Answer) {
+    assert_eq!(rt; given, expected, "{shows} at {at}");
+}
+
+fn tell<L: Ledger>(
+    rt: &(impl Abort + AllocGlobal),
+    config: &Config,
+    element: &mut Element,
+    plain: &mut Plain,
+    row: &Row,
+    steps: &mut Steps<L>,
+) -> Result<(), Fail>
+    requires started { element.old.next ≡ 0 → row.now.0 ≡ 0 }
+    requires later { element.old.next ≤ row.now.0 }
+    requires in_range { row.now.0 ≤ 86400000 }
+    requires option { element.old.settings.own.option ≡ NetOption.I }
+    requires inputs { length element.old.settings.priorities ≡ length config.now.inputs }
+    requires same_option { config.now.own.option ≡ NetOption.I }
+    requires whole { IsPlainWhole (settings_of config.now)
+        plain.old.ups.items plain.old.candidates.items plain.old.commands plain.old.selected }
+    ensures next { IfOk result (λ _. element.new.next ≡ row.now.0 + 1) }
+    ensures kept { IfOk result (λ _. element.new.settings ≡ element.old.settings) }
+    ensures whole { IfOk result (λ _. IsPlainWhole (settings_of config.now)
+        plain.new.ups.items plain.new.candidates.items plain.new.commands plain.new.selected) }
+{
+    let events = events_of(rt.alloc(), row.1)?;
+    let told = events.as_slice();
+    assert!(rt; all_fit(config.inputs.as_slice().len(), told));
+    assert!(rt; is_in_time(element, row.0));
+    element.step(row.0, told, steps);
+    plain.next(config, told);
+    Ok(())
+}
+
+fn come_to<L: Ledger>(
+    rt: &impl Abort,
+    shows: &'static str,
+    config: &Config,
+    element: &mut Element,
+    plain: &mut Plain,
+    next: u64,
+    at: u64,
+    steps: &mut Steps<L>,
+)
+    requires next { element.old.next ≡ next }
+    requires order { next ≤ at }
+    requires in_range { at ≤ 86400000 }
+    requires whole { IsPlainWhole (settings_of config.now)
+        plain.old.ups.items plain.old.candidates.items plain.old.commands plain.old.selected }
+    ensures started { element.new.next ≡ 0 → at ≡ 0 }
+    ensures later { element.new.next ≤ at }
+    ensures kept { element.new.settings ≡ element.old.settings }
+    ensures whole { IsPlainWhole (settings_of config.now)
+        plain.new.ups.items plain.new.candidates.items plain.new.commands plain.new.selected }
+{
+    if next == at {
+        return;
+    }
+    assert!(rt; 0 < next, "{shows}: the first row is at 0");
+    wait_until(rt, shows, config, element, plain, next, at, steps);
+}
+
+fn wait_until<L: Ledger>(
+    rt: &impl Abort,
+    shows: &'static str,
+    config: &Config,
+    element: &mut Element,
+    plain: &mut Plain,
+    from: u64,
+    until: u64,
+    steps: &mut Steps<L>,
+)
+    requires started { 0 < element.old.next }
+    requires later { element.old.next ≤ from }
+    requires order { from ≤ until }
+    requires in_range { until ≤ 86400000 }
+    requires whole { IsPlainWhole (settings_of config.now)
+        plain.old.ups.items plain.old.candidates.items plain.old.commands plain.old.selected }
+    ensures started { 0 < element.new.next }
+    ensures later { element.new.next ≤ until }
+    ensures kept { element.new.settings ≡ element.old.settings }
+    ensures whole { IsPlainWhole (settings_of config.now)
+        plain.new.ups.items plain.new.candidates.items plain.new.commands plain.new.selected }
+{
+    for now in from..until {
+        wait(rt, config, element, plain, now, steps);
+        compare(rt, shows, now, answer_of(element), plain.answer(config));
+    }
+}
+
+/// A millisecond in which nothing is told, which is a step where one is due.
+fn wait<L: Ledger>(
+    rt: &impl Abort,
+    config: &Config,
+    element: &mut Element,
+    plain: &mut Plain,
+    now: u64,
+    steps: &mut Steps<L>,
+)
+    requires started { 0 < element.old.next }
+    requires later { element.old.next ≤ now }
+    requires in_range { now ≤ 86400000 }
+    requires whole { IsPlainWhole (settings_of config.now)
+        plain.old.ups.items plain.old.candidates.items plain.old.commands plain.old.selected }
+    ensures started { 0 < element.new.next }
+    ensures later { element.new.next ≤ now + 1 }
+    ensures kept { element.new.settings ≡ element.old.settings }
+    ensures whole { IsPlainWhole (settings_of config.now)
+        plain.new.ups.items plain.new.candidates.items plain.new.commands plain.new.selected }
+{
+    plain.next(config, &[]);
+    if element.due() == Some(now) {
+        assert!(rt; is_in_time(element, now));
+        element.step(now, &[], steps);
+    }
+}
+
+fn run_all<L: Ledger>(rt: &(impl Abort + AllocGlobal), blank: Blank) -> Result<(), Fail>
+    requires name { blank.name ≡ L.name }
+    requires parts { blank.parts ≡ L.parts }
+    requires some { 0 < blank.parts }
+{
+    let mut steps = Steps::<L>::new(blank);
+    for case in &CASES {
+        agrees(rt, case, &mut steps)?;
+    }
+    Ok(())
+}
+
+#[test]
+fn histories_are_answered_by_the_rules(rt: HostRuntime) -> Result<(), Fail> {
+    run_all::<Brand>(&rt, Blank::new(1))
+}
