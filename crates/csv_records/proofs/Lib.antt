@@ -1,2 +1,3 @@
 pub mod AllRecords
 pub mod FieldFacts
+pub mod WrittenRecords

@@ -1,3 +1,4 @@
 pub mod Records
 pub mod Fields
+pub mod Written
 pub mod Examples

@@ -1,43 +1,85 @@
--- The plan, or the first refusal with its place, of files that are known from outside.
-use Rattle.std.specs.Prelude.{◌≡◌, ◌∷◌, [], codes, Ok, Err, refl}
+-- Rows and refusals of documents that are known from outside.
+use Rattle.std.specs.Prelude.{◌≡◌, ◌∷◌, [], ℕ, List, codes, Option, Some, None, Ok, Err, pos, negsuc, option_and_then, refl}
+use Rattle.std.specs.Option.{option_map}
 use Rattle.std.specs.Str.{chars, is_utf8}
 use Rattle.toml.proofs.OnLiterals.{toml_on_literals}
-use Rattle.sync_topo.specs.PlanRows.{element_of_row, link_of_row, plan_of_rows}
-use Rattle.sync_topo.specs.Refusal.{head, elements, links, no_element}
-use Rattle.plan_file.specs.PlanText.{element_row, link_row, plan_of, rows_of_document}
-use Rattle.plan_file.specs.Refusal.{no_document, at_place, no_plan, wrong_key, wrong_kind}
+use Rattle.sync_ql.specs.declared.levels.NetOption.TheVariants.{I, II}
+use Rattle.sync_topo.specs.declared.place.Section.{Section}
+use Rattle.sync_topo.specs.declared.place.Section.TheVariants.{Head, Elements, Links, Sources}
+use Rattle.sync_topo.specs.declared.place.Place.{Place}
+use Rattle.sync_topo.specs.declared.error.PlanErr.TheVariants.{NoElement}
+use Rattle.sync_topo.specs.declared.element.Element.{Element}
+use Rattle.sync_topo.specs.RowValues.{default_own}
+use Rattle.sync_topo.specs.PlanRows.{plan_of_rows}
+use Rattle.plan_file.specs.declared.error.PlanFileErr.{PlanFileErr}
+use Rattle.plan_file.specs.declared.error.PlanFileErr.TheVariants.{Syntax, Key, Kind, Plan}
+use Rattle.plan_file.specs.Rules.{refusal_of}
+use Rattle.plan_file.specs.Rows.{element_row, link_row, source_row, said_rows, first_refusal, rows_of_document}
+use Rattle.plan_file.specs.PlanText.{document_of, plan_of}
 
-pub no_bytes_are_the_empty_plan : plan_of [] ≡ Ok (record { elements = []; links = [] })
-unfolding toml_on_literals is_utf8 chars plan_of rows_of_document plan_of_rows
-no_bytes_are_the_empty_plan = refl
+-- the first table of a text's document that is at fault
+abbrev first_fault : List ℕ → Option PlanFileErr
+first_fault text = option_and_then first_refusal (document_of text)
 
-pub priority_b_is_of_the_line_into_b : plan_of (codes "element=[{name='A'},{name='B'}]\nlink=[{name='L',a='A',b='B',priority_b=1}]")
-    ≡ Ok (record {
-      elements = record { name = codes "A" } ∷ record { name = codes "B" } ∷ [];
-      links = record { name = codes "L"; a = 0; b = 1; priority_a = 0; priority_b = 1 } ∷ [];
-    })
-unfolding toml_on_literals is_utf8 chars plan_of rows_of_document element_row link_row plan_of_rows element_of_row link_of_row
-priority_b_is_of_the_line_into_b = refl
+abbrev at : Section → ℕ → Place
+at section row = record { section = section; row = row }
 
-pub open_text_is_no_document : plan_of (codes "a='") ≡ Err no_document
-unfolding toml_on_literals is_utf8 chars plan_of rows_of_document plan_of_rows
+pub open_text_is_no_document : plan_of (codes "a='") ≡ Err Syntax
+unfolding toml_on_literals is_utf8 chars plan_of
 open_text_is_no_document = refl
 
-pub unknown_key_comes_before_a_wrong_kind : plan_of (codes "element=1\nversion=1") ≡ Err (at_place wrong_key (record { section = head; row = 0 }))
-unfolding toml_on_literals is_utf8 chars plan_of rows_of_document plan_of_rows
+pub unknown_key_comes_before_a_wrong_kind : first_fault (codes "version=2\ncolor=1") ≡ Some (Key (at Head 0))
+unfolding toml_on_literals is_utf8 chars refusal_of
 unknown_key_comes_before_a_wrong_kind = refl
 
-pub missing_key_is_told_at_its_row : plan_of (codes "element=[{name='A'},{}]\nlink=[1]")
-    ≡ Err (at_place wrong_key (record { section = elements; row = 2 }))
-unfolding toml_on_literals is_utf8 chars plan_of rows_of_document element_row link_row plan_of_rows
+pub other_version_is_of_the_wrong_kind : first_fault (codes "version=2\nelement=[1]") ≡ Some (Kind (at Head 0))
+unfolding toml_on_literals is_utf8 chars refusal_of
+other_version_is_of_the_wrong_kind = refl
+
+pub missing_key_is_told_at_its_row : first_fault (codes "element=[{name='A'},{}]\nlink=[1]") ≡ Some (Key (at Elements 2))
+unfolding toml_on_literals is_utf8 chars refusal_of
 missing_key_is_told_at_its_row = refl
 
-pub wrong_kind_comes_before_a_rule_for_plans : plan_of (codes "element=[{name=''}]\nlink=[1]")
-    ≡ Err (at_place wrong_kind (record { section = links; row = 1 }))
-unfolding toml_on_literals is_utf8 chars plan_of rows_of_document element_row link_row plan_of_rows
-wrong_kind_comes_before_a_rule_for_plans = refl
+pub element_comes_before_a_link : first_fault (codes "link=[{x=1}]\nelement=[{name='A',wtr='5'}]") ≡ Some (Kind (at Elements 1))
+unfolding toml_on_literals is_utf8 chars refusal_of
+element_comes_before_a_link = refl
 
-pub link_to_no_element_is_a_refusal_of_the_rows : plan_of (codes "element=[{name='A'}]\nlink=[{name='L',a='A',b='B'}]")
-    ≡ Err (no_plan (record { reason = no_element; place = record { section = links; row = 1 } }))
-unfolding toml_on_literals is_utf8 chars plan_of rows_of_document element_row link_row plan_of_rows element_of_row link_of_row
+pub source_without_a_level : first_fault (codes "source=[{name='S',at='A'}]") ≡ Some (Key (at Sources 1))
+unfolding toml_on_literals is_utf8 chars refusal_of
+source_without_a_level = refl
+
+pub no_bytes_say_no_rows : option_map said_rows (document_of []) ≡ Some (record { option = I; elements = []; links = []; sources = [] })
+unfolding toml_on_literals is_utf8 chars
+no_bytes_say_no_rows = refl
+
+pub each_key_has_its_field : option_map said_rows (document_of (codes "option='II'\nlink=[{name='L',a='A',b='B',priority_b=2,delay_a=-3}]\nsource=[{name='S',at='A',level='QL-PRS'}]"))
+    ≡ Some (record {
+      option = II;
+      elements = [];
+      links = record { name = codes "L"; a = codes "A"; b = codes "B"; priority_a = None; priority_b = Some (pos 2); delay_a = Some (negsuc 2); delay_b = None } ∷ [];
+      sources = record { name = codes "S"; at = codes "A"; level = codes "QL-PRS"; priority = None } ∷ [];
+    })
+unfolding toml_on_literals is_utf8 chars link_row source_row
+each_key_has_its_field = refl
+
+-- an element of option I of which a plan says the name alone
+abbrev plain_element : List ℕ → Element
+plain_element name = record { name = name; own = default_own I; floor = None; holdoff = 300; wtr = 300000 }
+
+pub no_bytes_are_the_empty_plan : plan_of [] ≡ Ok (record { option = I; elements = []; links = []; sources = [] })
+unfolding toml_on_literals is_utf8 chars refusal_of rows_of_document plan_of plan_of_rows
+no_bytes_are_the_empty_plan = refl
+
+pub delay_a_is_of_the_line_into_a : plan_of (codes "element=[{name='A'},{name='B'}]\nlink=[{name='L',a='A',b='B',priority_b=1,delay_a=7}]")
+    ≡ Ok (record {
+      option = I;
+      elements = plain_element (codes "A") ∷ plain_element (codes "B") ∷ [];
+      links = record { name = codes "L"; a = 0; b = 1; priority_a = 0; priority_b = 1; delay_a = 7; delay_b = 1 } ∷ [];
+      sources = [];
+    })
+unfolding toml_on_literals is_utf8 chars refusal_of element_row link_row rows_of_document plan_of plan_of_rows
+delay_a_is_of_the_line_into_a = refl
+
+pub link_to_no_element_is_a_refusal_of_the_rows : plan_of (codes "element=[{name='A'}]\nlink=[{name='L',a='A',b='B'}]") ≡ Err (Plan (NoElement (at Links 1)))
+unfolding toml_on_literals is_utf8 chars refusal_of element_row link_row rows_of_document plan_of plan_of_rows
 link_to_no_element_is_a_refusal_of_the_rows = refl

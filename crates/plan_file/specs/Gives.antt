@@ -1,23 +1,30 @@
 -- What the reading of a plan file answers.
-use Rattle.std.specs.Prelude.{◌≡◌, ⊤, Result, Ok, Err, IsErr}
+use Rattle.std.specs.Prelude.{◌≡◌, ◌⊎◌, ◌↔◌, ⊤, Result, Ok, Err}
 use Rattle.sync_topo.specs.declared.error.PlanErr.{PlanErr}
-use Rattle.sync_topo.specs.declared.error.PlanErr.TheVariants as plan
+use Rattle.sync_topo.specs.declared.error.PlanErr.TheVariants as rows
 use Rattle.plan_file.specs.declared.error.PlanFileErr.{PlanFileErr}
-use Rattle.plan_file.specs.declared.error.PlanFileErr.TheVariants.{Refused, NoMemory}
+use Rattle.plan_file.specs.declared.error.PlanFileErr.TheVariants.{Plan, NoMemory}
 
 -- the file's answer where its rows give no plan
 abbrev pub file_error : PlanErr → PlanFileErr
-file_error plan.Refused = Refused
-file_error plan.NoMemory = NoMemory
+file_error rows.NoMemory = NoMemory
+file_error error = Plan error
 
--- the value, or a refusal exactly where there is none; want of memory says nothing
-abbrev pub Gives : {A E : Type 0} → Result A PlanFileErr → Result A E → Type 0
+-- the refusal is the definition's; want of memory says nothing
+abbrev pub Refuses : {A : Type 0} → PlanFileErr → Result A PlanFileErr → Type 0
+Refuses NoMemory answer = ⊤
+Refuses refusal answer = answer ≡ Err refusal
+
+-- the answer is the definition's, value or refusal; want of memory says nothing
+abbrev pub Gives : {A : Type 0} → Result A PlanFileErr → Result A PlanFileErr → Type 0
 Gives (Ok value) answer = answer ≡ Ok value
-Gives (Err Refused) answer = IsErr answer
-Gives (Err NoMemory) answer = ⊤
+Gives (Err error) answer = Refuses error answer
 
 -- the same of a value that stands for what `see` makes of it
-abbrev pub GivesBy : {A B E : Type 0} → (A → B) → Result A PlanFileErr → Result B E → Type 0
+abbrev pub GivesBy : {A B : Type 0} → (A → B) → Result A PlanFileErr → Result B PlanFileErr → Type 0
 GivesBy see (Ok value) answer = answer ≡ Ok (see value)
-GivesBy see (Err Refused) answer = IsErr answer
-GivesBy see (Err NoMemory) answer = ⊤
+GivesBy see (Err error) answer = Refuses error answer
+
+-- unless memory ran out, the answer is this refusal exactly where the fact holds
+abbrev pub RefusesWhere : {A : Type 0} → Result A PlanFileErr → PlanFileErr → Type 0 → Type 0
+RefusesWhere result refusal Fact = (result ≡ Err NoMemory) ⊎ ((result ≡ Err refusal) ↔ Fact)

@@ -1,5 +1,10 @@
-pub mod Refusal
-pub mod Fields
+pub mod Format
+pub mod Rules
+pub mod Chain
+pub mod Rows
 pub mod PlanText
+pub mod IsPlanText
 pub mod Gives
+pub mod Steps
+pub mod Writing
 pub mod Examples

@@ -1,14 +1,24 @@
 use sync_edge::NoMemory;
-use sync_topo::PlanErr;
+use sync_topo::{Place, PlanErr};
 use thiserror::Error;
 
-/// Why a file gives no plan.
-#[derive(Debug, Drop, Error)]
+/// Why a file gives no plan, and where.
+///
+/// This project's own.
+#[derive(Clone, Copy, Debug, PartialEq, Eq, Error)]
 pub enum PlanFileErr {
-    /// The bytes are no TOML document, the document has an unknown or a missing key or a value of
-    /// another kind, or its rows break a rule for plans.
-    #[error("the plan file is refused")]
-    Refused,
+    /// The bytes are no TOML document in UTF-8.
+    #[error("no TOML document")]
+    Syntax,
+    /// The table at this place has an unknown key, or lacks one that it must have.
+    #[error("a table has an unknown key, or lacks one")]
+    Key(Place),
+    /// What stands at this place is no table, or has a value of another kind than its key's.
+    #[error("a value is of the wrong kind")]
+    Kind(Place),
+    /// The rows break a rule for plans.
+    #[error("{0}")]
+    Plan(PlanErr),
     /// Memory ran out.
     #[error("out of memory")]
     NoMemory,
@@ -33,8 +43,8 @@ impl From<PlanErr> for PlanFileErr {
 
     fn from(error: PlanErr) -> PlanFileErr {
         match error {
-            PlanErr::Refused => PlanFileErr::Refused,
             PlanErr::NoMemory => PlanFileErr::NoMemory,
+            refused => PlanFileErr::Plan(refused),
         }
     }
 }

@@ -1,21 +1,25 @@
 // The keys of a table of the document, and the values at them.
 
-ghost use Rattle.std.specs.Prelude.{◌≡◌, ◌||◌, map, option_map, is_some};
+ghost use Rattle.std.specs.Prelude.{◌≡◌, ◌||◌, map, option_map, is_some, IfOk};
 ghost use Rattle.std.specs.List.{list_all};
 ghost use Rattle.std.specs.BTreeMap.{keys};
 ghost use Rattle.std.specs.String.{string_bytes};
-ghost use Rattle.toml.specs.Data.{get_member};
-ghost use Rattle.toml.specs.View.{view, table_view, items_view};
-ghost use Rattle.plan_file.specs.Fields.{entries_at, integer_at, is_among, keyed, table_with, text_at};
+ghost use Rattle.toml.specs.Data.{get_member, table};
+ghost use Rattle.toml.specs.View.{view, table_view};
+ghost use Rattle.plan_file.specs.Format.{is_text, is_integer, is_array, is_version, is_option};
+ghost use Rattle.plan_file.specs.Rows.{name_at, text_at, integer_at, network_option};
+ghost use Rattle.plan_file.specs.Steps.{is_among, keyed, table_with, kind_at, of_kind, entries_at};
 ghost use Rattle.plan_file.specs.Gives.{Gives, GivesBy};
 
 use crate::error::PlanFileErr;
 use std::alloc::Global;
-use sync_edge::Text;
+use sync_edge::{NoMemory, Text};
+use sync_ql::NetOption;
+use sync_topo::Place;
 use toml::{Table, Value};
 
 /// The value at a key.
-fn find<'a>(fields: &'a Table, key: &str) -> Option<&'a Value>
+pub(crate) fn find<'a>(fields: &'a Table, key: &str) -> Option<&'a Value>
     ensures { option_map (λ value. view value.now) result
         ≡ get_member key.now (table_view fields.now) }
 {
@@ -49,20 +53,26 @@ fn has_all(fields: &Table, required: &[&str]) -> bool
 
 /// The table has its required keys, and others only of the optional ones.
 #[tactic(auto, using(crate::proofs::KeyFacts::key_facts))]
-pub(crate) fn keyed(fields: &Table, required: &[&str], optional: &[&str]) -> Result<(), PlanFileErr>
+pub(crate) fn keyed(
+    place: Place,
+    fields: &Table,
+    required: &[&str],
+    optional: &[&str],
+) -> Result<(), PlanFileErr>
     ensures { let needed = map (λ known. known.now) required.now in
         let allowed = map (λ known. known.now) optional.now in
-        GivesBy (λ _. tt) result (keyed needed allowed (table_view fields.now)) }
+        GivesBy (λ _. tt) result (keyed place needed allowed (table_view fields.now)) }
 {
     if has_only(fields, required, optional) && has_all(fields, required) {
         Ok(())
     } else {
-        Err(PlanFileErr::Refused)
+        Err(PlanFileErr::Key(place))
     }
 }
 
 /// The table that an entry is, with the keys that it must and may have.
 pub(crate) fn table_with<'a>(
+    place: Place,
     entry: &'a Value,
     required: &[&str],
     optional: &[&str],
@@ -70,52 +80,93 @@ pub(crate) fn table_with<'a>(
     ensures { let needed = map (λ known. known.now) required.now in
         let allowed = map (λ known. known.now) optional.now in
         GivesBy (λ fields. table_view fields.now) result
-        (table_with needed allowed (view entry.now)) }
+        (table_with place needed allowed (view entry.now)) }
 {
     let Some(fields) = entry.as_table() else {
-        return Err(PlanFileErr::Refused);
+        return Err(PlanFileErr::Kind(place));
     };
-    keyed(fields, required, optional)?;
+    keyed(place, fields, required, optional)?;
     Ok(fields)
 }
 
-/// The text at a key.
-pub(crate) fn text_at(alloc: Global, fields: &Table, key: &str) -> Result<Text, PlanFileErr>
-    ensures { Gives result (text_at key.now (table_view fields.now)) }
+/// A copy of a text.
+fn copy_of(alloc: Global, bytes: &[u8]) -> Result<Text, NoMemory>
+    ensures { IfOk result (λ copy. copy ≡ bytes.now) }
 {
-    if let Some(value) = find(fields, key)
-        && let Some(bytes) = value.as_str()
-    {
-        let mut text = Text::new(alloc);
-        text.put(bytes.as_bytes())?;
-        return Ok(text);
+    let mut copy = Text::new(alloc);
+    copy.put(bytes)?;
+    Ok(copy)
+}
+
+/// The text at a key, and none where the table lacks the key.
+pub(crate) fn text_at(
+    alloc: Global,
+    place: Place,
+    fields: &Table,
+    key: &str,
+) -> Result<Option<Text>, PlanFileErr>
+    ensures { let members = table_view fields.now in
+        Gives result (of_kind place is_text key.now members (text_at key.now (table members))) }
+{
+    let Some(value) = find(fields, key) else {
+        return Ok(None);
+    };
+    match value.as_str() {
+        Some(bytes) => Ok(Some(copy_of(alloc, bytes.as_bytes())?)),
+        None => Err(PlanFileErr::Kind(place)),
     }
-    Err(PlanFileErr::Refused)
+}
+
+/// The text at a key that the table has; empty where it lacks the key.
+pub(crate) fn name_at(
+    alloc: Global,
+    place: Place,
+    fields: &Table,
+    key: &str,
+) -> Result<Text, PlanFileErr>
+    ensures { let members = table_view fields.now in
+        Gives result (of_kind place is_text key.now members (name_at key.now (table members))) }
+{
+    match text_at(alloc, place, fields, key)? {
+        Some(text) => Ok(text),
+        None => Ok(Text::new(alloc)),
+    }
 }
 
 /// The integer at a key, and none where the table lacks the key.
-pub(crate) fn integer_at(fields: &Table, key: &str) -> Result<Option<i64>, PlanFileErr>
-    ensures { Gives result (integer_at key.now (table_view fields.now)) }
+pub(crate) fn integer_at(
+    place: Place,
+    fields: &Table,
+    key: &str,
+) -> Result<Option<i64>, PlanFileErr>
+    ensures { let members = table_view fields.now in
+        Gives result (of_kind place is_integer key.now members (integer_at key.now (table members))) }
 {
     let Some(value) = find(fields, key) else {
         return Ok(None);
     };
     match value.as_integer() {
         Some(number) => Ok(Some(number)),
-        None => Err(PlanFileErr::Refused),
+        None => Err(PlanFileErr::Kind(place)),
     }
 }
 
 /// The entries of the array at a key, and none where the table lacks the key.
-pub(crate) fn entries_at<'a>(fields: &'a Table, key: &str) -> Result<&'a [Value], PlanFileErr>
-    ensures { GivesBy (λ entries. items_view entries.now) result
-        (entries_at key.now (table_view fields.now)) }
+#[tactic(auto, using(crate::proofs::KeyFacts::data_of_items))]
+pub(crate) fn entries_at<'a>(
+    place: Place,
+    fields: &'a Table,
+    key: &str,
+) -> Result<&'a [Value], PlanFileErr>
+    ensures { let members = table_view fields.now in
+        GivesBy (λ entries. map view entries.now) result
+        (of_kind place is_array key.now members (entries_at key.now members)) }
 {
     let Some(value) = find(fields, key) else {
         return Ok(&[]);
     };
     match value.as_array() {
         Some(entries) => Ok(entries.as_slice()),
-        None => Err(PlanFileErr::Refused),
+        None => Err(PlanFileErr::Kind(place)),
     }
 }

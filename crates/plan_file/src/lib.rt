@@ -2,18 +2,22 @@
 //!
 //! [`read_plan`] gives the plan of a file's bytes. Which plan that is, or at which place the file is
 //! first refused, is `plan_of`: from the document that `toml` reads to rows, and from rows to the
-//! plan that sync_topo gives them.
+//! plan that sync_topo gives them. [`write_plan`] gives a text of a plan, one that is read as that
+//! plan (`IsPlanText`).
 //!
 //! That whole files from outside give the plans that one expects is tested.
 #![tactic(auto)]
 
 mod error;
 mod fields;
+mod head;
 mod reading;
 mod rows;
+mod writing;
 
 pub use error::PlanFileErr;
 pub use reading::read_plan;
+pub use writing::write_plan;
 
 #[cfg(test)]
 mod tests;

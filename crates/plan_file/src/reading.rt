@@ -1,12 +1,16 @@
 // From the bytes of a file to its plan.
 
-ghost use Rattle.std.specs.Prelude.{IfOk};
+ghost use Rattle.std.specs.Prelude.{◌≡◌, ◌≢◌, None, Ok, Err, IfOk};
 ghost use Rattle.toml.specs.View.{table_view};
-ghost use Rattle.sync_topo.specs.Refusal.{found};
+ghost use Rattle.sync_topo.specs.declared.error.PlanErr.{PlanErr};
+ghost use Rattle.sync_topo.specs.declared.error.PlanErr.TheVariants as rows;
+ghost use Rattle.sync_topo.specs.declared.place.Place.{Place};
 ghost use Rattle.sync_topo.specs.WellFormed.{IsWellFormed};
-ghost use Rattle.plan_file.specs.Refusal.{no_document};
-ghost use Rattle.plan_file.specs.PlanText.{document_of, plan_of};
-ghost use Rattle.plan_file.specs.Gives.{Gives, GivesBy};
+ghost use Rattle.plan_file.specs.declared.error.PlanFileErr.TheVariants as refusal;
+ghost use Rattle.plan_file.specs.Chain.{found};
+ghost use Rattle.plan_file.specs.Rules.{IsFirstBroken};
+ghost use Rattle.plan_file.specs.PlanText.{document_of, plan_of, OfDocument, GivesRows};
+ghost use Rattle.plan_file.specs.Gives.{Gives, GivesBy, RefusesWhere};
 
 use crate::error::PlanFileErr;
 use crate::rows::rows_of;
@@ -16,13 +20,37 @@ use toml::Table;
 
 /// The plan of a file.
 ///
-/// `Refused` comes exactly where the bytes are no TOML document in UTF-8, where the document has an
-/// unknown key, lacks a required one or has a value of another kind, and where its rows break a rule
-/// for plans. After TOML 1.1; the keys are this project's own.
-#[tactic(auto, unfolding(crate::specs::PlanText::plan_of))]
+/// A refusal tells the first rule that is broken, with its place. First `Syntax`, where the bytes are
+/// no TOML document in UTF-8. Then each table in order, the head, the elements, the links and the
+/// sources: `Key` where it has an unknown key or lacks one that it must have, and otherwise `Kind`
+/// where it is no table or a value is not of its key's kind. Then `Plan`, the refusal of the rows,
+/// which never is want of memory. After TOML 1.1; the keys are this project's own.
 pub fn read_plan(alloc: Global, bytes: &[u8]) -> Result<Plan, PlanFileErr>
     ensures exact { Gives result (plan_of bytes.now) }
     ensures well_formed { IfOk result (λ plan. IsWellFormed plan) }
+
+    // A plan comes only where no table breaks a rule, and it is the plan of the rows.
+    ensures ok { IfOk result (λ plan. GivesRows bytes.now (Ok plan)) }
+
+    // Unless memory ran out, a table is refused exactly where it breaks that rule and no table before
+    // it breaks one, and the rows are refused exactly where no table breaks a rule.
+    ensures syntax { RefusesWhere result refusal.Syntax (document_of bytes.now ≡ None) }
+    ensures key { (place : Place) → RefusesWhere result (refusal.Key place)
+        (OfDocument bytes.now (λ document. IsFirstBroken document place (refusal.Key place))) }
+    ensures kind { (place : Place) → RefusesWhere result (refusal.Kind place)
+        (OfDocument bytes.now (λ document. IsFirstBroken document place (refusal.Kind place))) }
+    ensures rows { (error : PlanErr) → RefusesWhere result (refusal.Plan error) (GivesRows bytes.now (Err error)) }
+    ensures memory { result ≢ Err (refusal.Plan rows.NoMemory) }
+{
+    plan_in(alloc, bytes)
+}
+
+/// The plan of a file, step by step.
+#[tactic(auto, unfolding(crate::specs::PlanText::plan_of))]
+fn plan_in(alloc: Global, bytes: &[u8]) -> Result<Plan, PlanFileErr>
+    ensures exact { Gives result (plan_of bytes.now) }
+    ensures well_formed { IfOk result (λ plan. IsWellFormed plan) }
+    ensures memory { result ≢ Err (refusal.Plan rows.NoMemory) }
 {
     let document = document_of(alloc, bytes)?;
     let rows = rows_of(alloc, &document)?;
@@ -31,7 +59,7 @@ pub fn read_plan(alloc: Global, bytes: &[u8]) -> Result<Plan, PlanFileErr>
 
 /// The TOML document that the bytes are.
 fn document_of(alloc: Global, bytes: &[u8]) -> Result<Table, PlanFileErr>
-    ensures { GivesBy table_view result (found (document_of bytes.now) no_document) }
+    ensures { GivesBy table_view result (found (document_of bytes.now) refusal.Syntax) }
 {
     match toml::table_from_slice(alloc, bytes) {
         Ok(document) => Ok(document),
@@ -39,7 +67,7 @@ fn document_of(alloc: Global, bytes: &[u8]) -> Result<Table, PlanFileErr>
             if error.is_memory() {
                 Err(PlanFileErr::NoMemory)
             } else {
-                Err(PlanFileErr::Refused)
+                Err(PlanFileErr::Syntax)
             }
         }
     }

@@ -1,78 +1,146 @@
 // The rows of a document's tables.
 
-ghost use Rattle.toml.specs.View.{view, items_view, table_view};
-ghost use Rattle.sync_topo.specs.Refusal.{elements, links};
-ghost use Rattle.plan_file.specs.PlanText.{element_row, link_row, rows_from, rows_of_document};
+ghost use Rattle.std.specs.Prelude.{◌≡◌, map};
+ghost use Rattle.toml.specs.View.{view, table_view};
+ghost use Rattle.sync_topo.specs.declared.place.Section.TheVariants as section;
+ghost use Rattle.plan_file.specs.Rows.{element_row, link_row, source_row, row_at, rows_of_document};
+ghost use Rattle.plan_file.specs.Steps.{rows_from};
 ghost use Rattle.plan_file.specs.Gives.{Gives};
 
 use crate::error::PlanFileErr;
-use crate::fields::{entries_at, integer_at, keyed, table_with, text_at};
+use crate::fields::{integer_at, name_at, table_with, text_at};
+use crate::head::head_of;
 use std::alloc::Global;
 use sync_edge::Rows;
-use sync_topo::{ElementRow, LinkRow, PlanRows};
+use sync_topo::{ElementRow, LinkRow, Place, PlanRows, Section, SourceRow};
 use toml::{Table, Value};
 
 /// The row that an entry of `element` says.
-#[tactic(auto, unfolding(crate::specs::PlanText::element_row))]
-fn element_row(alloc: Global, entry: &Value) -> Result<ElementRow, PlanFileErr>
-    ensures { Gives result (element_row (view entry.now)) }
+#[tactic(auto, using(crate::proofs::EntryFacts::element_is))]
+fn element_row(alloc: Global, row: u64, entry: &Value) -> Result<ElementRow, PlanFileErr>
+    ensures { Gives result (row_at element_row section.Elements row (view entry.now)) }
 {
-    let fields = table_with(entry, &["name"], &[])?;
-    let name = text_at(alloc, fields, "name")?;
-    Ok(ElementRow { name })
+    let place = Place {
+        section: Section::Elements,
+        row,
+    };
+    let fields = table_with(place, entry, &["name"], &["own", "floor", "holdoff", "wtr"])?;
+    let name = name_at(alloc, place, fields, "name")?;
+    let own = text_at(alloc, place, fields, "own")?;
+    let floor = text_at(alloc, place, fields, "floor")?;
+    let holdoff = integer_at(place, fields, "holdoff")?;
+    let wtr = integer_at(place, fields, "wtr")?;
+    Ok(ElementRow {
+        name,
+        own,
+        floor,
+        holdoff,
+        wtr,
+    })
 }
 
 /// The row that an entry of `link` says.
-#[tactic(auto, unfolding(crate::specs::PlanText::link_row))]
-fn link_row(alloc: Global, entry: &Value) -> Result<LinkRow, PlanFileErr>
-    ensures { Gives result (link_row (view entry.now)) }
+#[tactic(auto, using(crate::proofs::EntryFacts::link_is))]
+fn link_row(alloc: Global, row: u64, entry: &Value) -> Result<LinkRow, PlanFileErr>
+    ensures { Gives result (row_at link_row section.Links row (view entry.now)) }
 {
-    let fields = table_with(entry, &["name", "a", "b"], &["priority_a", "priority_b"])?;
-    let name = text_at(alloc, fields, "name")?;
-    let a = text_at(alloc, fields, "a")?;
-    let b = text_at(alloc, fields, "b")?;
-    let priority_a = integer_at(fields, "priority_a")?;
-    let priority_b = integer_at(fields, "priority_b")?;
+    let place = Place {
+        section: Section::Links,
+        row,
+    };
+    let fields = table_with(
+        place,
+        entry,
+        &["name", "a", "b"],
+        &["priority_a", "priority_b", "delay_a", "delay_b"],
+    )?;
+    let name = name_at(alloc, place, fields, "name")?;
+    let a = name_at(alloc, place, fields, "a")?;
+    let b = name_at(alloc, place, fields, "b")?;
+    let priority_a = integer_at(place, fields, "priority_a")?;
+    let priority_b = integer_at(place, fields, "priority_b")?;
+    let delay_a = integer_at(place, fields, "delay_a")?;
+    let delay_b = integer_at(place, fields, "delay_b")?;
     Ok(LinkRow {
         name,
         a,
         b,
         priority_a,
         priority_b,
+        delay_a,
+        delay_b,
+    })
+}
+
+/// The row that an entry of `source` says.
+#[tactic(auto, using(crate::proofs::EntryFacts::source_is))]
+fn source_row(alloc: Global, row: u64, entry: &Value) -> Result<SourceRow, PlanFileErr>
+    ensures { Gives result (row_at source_row section.Sources row (view entry.now)) }
+{
+    let place = Place {
+        section: Section::Sources,
+        row,
+    };
+    let fields = table_with(place, entry, &["name", "at", "level"], &["priority"])?;
+    let name = name_at(alloc, place, fields, "name")?;
+    let at = name_at(alloc, place, fields, "at")?;
+    let level = name_at(alloc, place, fields, "level")?;
+    let priority = integer_at(place, fields, "priority")?;
+    Ok(SourceRow {
+        name,
+        at,
+        level,
+        priority,
     })
 }
 
 /// The rows of the entries of `element`.
 fn element_rows(alloc: Global, entries: &[Value]) -> Result<Rows<ElementRow>, PlanFileErr>
-    ensures { Gives result (rows_from elements element_row 1 (items_view entries.now)) }
+    ensures { Gives result (rows_from element_row section.Elements 1 (map view entries.now)) }
 {
     let mut rows = Rows::new(alloc);
-    for entry in entries {
-        rows.push(element_row(alloc, entry)?)?;
+    for (index, entry) in entries.iter().enumerate() {
+        rows.push(element_row(alloc, index as u64 + 1, entry)?)?;
     }
     Ok(rows)
 }
 
 /// The rows of the entries of `link`.
 fn link_rows(alloc: Global, entries: &[Value]) -> Result<Rows<LinkRow>, PlanFileErr>
-    ensures { Gives result (rows_from links link_row 1 (items_view entries.now)) }
+    ensures { Gives result (rows_from link_row section.Links 1 (map view entries.now)) }
 {
     let mut rows = Rows::new(alloc);
-    for entry in entries {
-        rows.push(link_row(alloc, entry)?)?;
+    for (index, entry) in entries.iter().enumerate() {
+        rows.push(link_row(alloc, index as u64 + 1, entry)?)?;
     }
     Ok(rows)
 }
 
-/// The rows that a document says: its head first, then each element in order, then each link.
-#[tactic(auto, unfolding(crate::specs::PlanText::rows_of_document))]
+/// The rows of the entries of `source`.
+fn source_rows(alloc: Global, entries: &[Value]) -> Result<Rows<SourceRow>, PlanFileErr>
+    ensures { Gives result (rows_from source_row section.Sources 1 (map view entries.now)) }
+{
+    let mut rows = Rows::new(alloc);
+    for (index, entry) in entries.iter().enumerate() {
+        rows.push(source_row(alloc, index as u64 + 1, entry)?)?;
+    }
+    Ok(rows)
+}
+
+/// The rows that a document says: its head first, then each element in order, each link, and each
+/// source.
+#[tactic(auto, using(crate::proofs::RowsSoFar::document_is))]
 pub(crate) fn rows_of(alloc: Global, document: &Table) -> Result<PlanRows, PlanFileErr>
     ensures { Gives result (rows_of_document (table_view document.now)) }
 {
-    keyed(document, &[], &["element", "link"])?;
-    let element_entries = entries_at(document, "element")?;
-    let link_entries = entries_at(document, "link")?;
-    let elements = element_rows(alloc, element_entries)?;
-    let links = link_rows(alloc, link_entries)?;
-    Ok(PlanRows { elements, links })
+    let head = head_of(document)?;
+    let elements = element_rows(alloc, head.elements)?;
+    let links = link_rows(alloc, head.links)?;
+    let sources = source_rows(alloc, head.sources)?;
+    Ok(PlanRows {
+        option: head.option,
+        elements,
+        links,
+        sources,
+    })
 }

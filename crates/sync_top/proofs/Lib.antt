@@ -1,4 +1,1 @@
-pub mod Finds
-pub mod RankLaws
-pub mod Certificates
 pub mod Cuts

@@ -1,16 +1,27 @@
 -- The program's answer to some words over some files: a status and a text.
-use Rattle.std.specs.Prelude.{◌≡◌, ℕ, ◌⊎◌, Bool, nat_lt, ⊤, List, [], ◌++◌, length, codes, Option, Some, None, Result, Ok, Err, if◌then◌else◌}
+use Rattle.std.specs.Prelude.{◌≡◌, ℕ, ◌⊎◌, Bool, nat_lt, ⊤, List, [], ◌++◌, length, map, codes, Option, Some, None, Result, Ok, Err, if◌then◌else◌}
 use Rattle.std.specs.Prelude.{IsTrue, IfSome}
+use Rattle.std.specs.List.{concat}
 use Rattle.std.specs.FinMap.{get}
 use Rattle.std.specs.Io.KnownBytes.{Appends}
 use Rattle.sync_edge.specs.Faults.{Rose}
 use Rattle.sync_edge.specs.Transfers.{AppendsFront}
 use Rattle.sync_edge.specs.Contents.{Contents}
 use Rattle.sync_topo.specs.Topology.{Topology}
-use Rattle.sync_topo.specs.Lines.{line_name}
-use Rattle.sync_topo.specs.Hops.{IsRising}
-use Rattle.sync_topo.specs.Refusal.{◌>>=◌}
+use Rattle.sync_topo.specs.Lines.{line_name, is_nominated}
+use Rattle.sync_topo.specs.Hops.{hops, IsRising}
+use Rattle.sync_topo.specs.Ranks.{AreLeastRanks, IsFirstCycle}
+use Rattle.sync_topo.specs.declared.error.PlanErr.{PlanErr}
+use Rattle.sync_topo.specs.declared.place.Place.{Place}
+use Rattle.sync_topo.specs.declared.place.Section.{Section}
+use Rattle.sync_topo.specs.declared.place.Section.TheVariants.{Head, Elements, Links, Sources}
+use Rattle.sync_topo.specs.Refusal.{refusal_number, refused_place}
+use Rattle.plan_file.specs.declared.error.PlanFileErr.{PlanFileErr}
+use Rattle.plan_file.specs.declared.error.PlanFileErr.TheVariants as plan
+use Rattle.plan_file.specs.Chain.{◌>>=◌}
 use Rattle.plan_file.specs.PlanText.{plan_of}
+use Rattle.plan_file.specs.IsPlanText.{IsPlanText}
+use Rattle.plan_gen.specs.Ladder.{ladder}
 use Rattle.sync_top.specs.declared.status.Status.{Status}
 use Rattle.sync_top.specs.declared.status.Status.TheVariants.{Done, Refuted, Usage, BadPlan, BadCert, BadFrames, TooLong}
 use Rattle.std.specs.Fmt.{decimal}
@@ -19,9 +30,11 @@ use Rattle.esmc_frame.specs.Numbers.{number_of}
 use Rattle.capture_text.specs.declared.error.CaptureErr.{CaptureErr}
 use Rattle.capture_text.specs.declared.error.CaptureErr.TheVariants as refusal
 use Rattle.capture_text.specs.Capture.{decoded_text, encoded_text}
-use Rattle.sync_top.specs.Form.{Form, check, decode, encode, form_of}
-use Rattle.sync_top.specs.Ranks.{Ranks, rank_of, IsFirstFall}
-use Rattle.sync_top.specs.CertificateText.{certificate_of}
+use Rattle.sync_top.specs.Form.{Form, check, rank, decode, encode, gen, form_of}
+use Rattle.rank_cert.specs.declared.error.CertErr.{CertErr}
+use Rattle.rank_cert.specs.declared.error.CertErr.TheVariants as broken
+use Rattle.rank_cert.specs.Ranks.{Ranks, rank_at, rank_of, IsFirstFall}
+use Rattle.rank_cert.specs.CertificateText.{certificate_of, certificate_text}
 
 -- a text of one line
 abbrev pub text_line : List ℕ → List ℕ
@@ -46,22 +59,59 @@ file name files = within (get files name)
     within None = Err no_file
     within (Some bytes) = if nat_lt file_limit (length bytes) then Err (answered TooLong (text_line (codes "too long"))) else Ok bytes
 
--- the value; where it is refused, the work ends in this status and line
-abbrev pub accepted_or : {A E : Type 0} → Status → List ℕ → Result A E → Result A End
-accepted_or status refusal (Ok value) = Ok value
-accepted_or status refusal (Err reason) = Err (answered status (text_line refusal))
+-- a section by its name, and a place by its section and row
+abbrev pub section_name : Section → List ℕ
+section_name Head = codes "head"
+section_name Elements = codes "element"
+section_name Links = codes "link"
+section_name Sources = codes "source"
+
+abbrev pub place_text : Place → List ℕ
+place_text place = section_name place.section ++ codes " " ++ decimal place.row
+
+-- the refusal of a plan's rows: its number, and the row that breaks the rule
+abbrev pub rows_refusal : Option ℕ → Option Place → List ℕ
+rows_refusal (Some number) (Some place) = decimal number ++ codes " " ++ place_text place
+rows_refusal _ _ = []
+
+-- the line on a plan that is refused
+abbrev pub plan_refusal : PlanFileErr → List ℕ
+plan_refusal plan.Syntax = codes "bad plan 22"
+plan_refusal (plan.Key place) = codes "bad plan 23 " ++ place_text place
+plan_refusal (plan.Kind place) = codes "bad plan 24 " ++ place_text place
+plan_refusal (plan.Plan error) = codes "bad plan 25 " ++ rows_refusal (refusal_number error) (refused_place error)
+plan_refusal plan.NoMemory = []
+
+-- the plan, where it isn't refused
+abbrev pub accepted_plan : Result Topology PlanFileErr → Result Topology End
+accepted_plan (Ok topology) = Ok topology
+accepted_plan (Err refused) = Err (answered BadPlan (text_line (plan_refusal refused)))
 
 -- the plan of a file
 abbrev pub plan_in : List ℕ → Contents → Result Topology End
 plan_in name files = do
   bytes ← file name files
-  accepted_or BadPlan (codes "bad plan") (plan_of bytes)
+  accepted_plan (plan_of bytes)
+
+-- the line on a certificate that is refused: the refusal's number, and the row or the line that it names
+abbrev pub certificate_refusal : Topology → CertErr → List ℕ
+certificate_refusal plan broken.Header = codes "bad certificate 34"
+certificate_refusal plan (broken.Row n) = codes "bad certificate 35 " ++ decimal n
+certificate_refusal plan (broken.Line n) = codes "bad certificate 36 " ++ decimal n
+certificate_refusal plan (broken.Twice n) = codes "bad certificate 37 " ++ decimal n
+certificate_refusal plan (broken.Missing line) = codes "bad certificate 38 " ++ line_name plan line.0
+certificate_refusal plan broken.NoMemory = []
+
+-- the ranks of a certificate, where it isn't refused
+abbrev pub accepted_ranks : Topology → Result Ranks CertErr → Result Ranks End
+accepted_ranks plan (Ok ranks) = Ok ranks
+accepted_ranks plan (Err refused) = Err (answered BadCert (text_line (certificate_refusal plan refused)))
 
 -- the ranks that a file gives the lines of a plan
 abbrev pub ranks_in : Topology → List ℕ → Contents → Result Ranks End
 ranks_in plan name files = do
   bytes ← file name files
-  accepted_or BadCert (codes "bad certificate") (certificate_of plan bytes)
+  accepted_ranks plan (certificate_of plan bytes)
 
 -- the plan first, and then its certificate
 abbrev pub documents : List ℕ → List ℕ → Contents → Result (Topology × Ranks) End
@@ -84,6 +134,27 @@ CheckAnswer plan_name certificate_name files status text = ends (documents plan_
   where
     ends : Result (Topology × Ranks) End → Type 0
     ends (Ok read) = IsVerdict read.0 read.1 status text
+    ends (Err no_file) = ⊥
+    ends (Err (answered known written)) = (status ≡ known) × (text ≡ written)
+
+-- the line on a cycle: its lines by their names
+abbrev pub cycle_text : Topology → List ℕ → List ℕ
+cycle_text plan lines = text_line (codes "cycle" ++ concat (map (λ line. codes " " ++ line_name plan line) lines))
+
+-- the certificate of the least ranks, which is read back as these ranks, and they rise; or the first cycle
+abbrev pub IsPlanned : Topology → Status → List ℕ → Type 0
+IsPlanned plan Done text =
+    (ranks : Ranks) × AreLeastRanks (hops plan) (is_nominated plan) (rank_at ranks) × IsRising plan (rank_of ranks)
+    × (text ≡ certificate_text plan ranks) × (certificate_of plan text ≡ Ok ranks)
+IsPlanned plan Refuted text = (lines : List ℕ) × IsFirstCycle (hops plan) lines × (text ≡ cycle_text plan lines)
+IsPlanned plan status text = ⊥
+
+-- the answer to `rank`: what the planner finds, or what ends the reading
+abbrev pub RankAnswer : List ℕ → Contents → Status → List ℕ → Type 0
+RankAnswer plan_name files status text = ends (plan_in plan_name files)
+  where
+    ends : Result Topology End → Type 0
+    ends (Ok plan) = IsPlanned plan status text
     ends (Err no_file) = ⊥
     ends (Err (answered known written)) = (status ≡ known) × (text ≡ written)
 
@@ -115,12 +186,18 @@ CaptureAnswer text_of option name files status text = ends (captured text_of opt
     ends (Err no_file) = ⊥
     ends (Err (answered known written)) = (status ≡ known) × (text ≡ written)
 
+-- the answer to `gen`: any text of the ladder of so many elements
+abbrev pub GenAnswer : ℕ → Status → List ℕ → Type 0
+GenAnswer n status text = (status ≡ Done) × IsPlanText (ladder n) text
+
 -- the answer to a form, and to words that are none
 abbrev pub FormAnswer : Option Form → Contents → Status → List ℕ → Type 0
 FormAnswer None files status text = (status ≡ Usage) × (text ≡ text_line (codes "usage"))
 FormAnswer (Some (check plan_name certificate_name)) files status text = CheckAnswer plan_name certificate_name files status text
+FormAnswer (Some (rank plan_name)) files status text = RankAnswer plan_name files status text
 FormAnswer (Some (decode option name)) files status text = CaptureAnswer decoded_text option name files status text
 FormAnswer (Some (encode option name)) files status text = CaptureAnswer encoded_text option name files status text
+FormAnswer (Some (gen n)) files status text = GenAnswer n status text
 
 -- the program's answer to some words
 abbrev pub IsAnswer : List (List ℕ) → Contents → Status → List ℕ → Type 0
@@ -130,8 +207,10 @@ IsAnswer words files status text = FormAnswer (form_of words) files status text
 abbrev pub FormMissesFile : Option Form → Contents → Type 0
 FormMissesFile None files = ⊥
 FormMissesFile (Some (check plan_name certificate_name)) files = documents plan_name certificate_name files ≡ Err no_file
+FormMissesFile (Some (rank plan_name)) files = plan_in plan_name files ≡ Err no_file
 FormMissesFile (Some (decode option name)) files = captured decoded_text option name files ≡ Err no_file
 FormMissesFile (Some (encode option name)) files = captured encoded_text option name files ≡ Err no_file
+FormMissesFile (Some (gen n)) files = ⊥
 
 -- words whose answer comes to a file that isn't there
 abbrev pub MissesFile : List (List ℕ) → Contents → Type 0

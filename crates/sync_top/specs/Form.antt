@@ -1,7 +1,8 @@
 -- The words of the command line. This project's own.
-use Rattle.std.specs.Prelude.{ℕ, Bool, ◌&&◌, nat_lt, List, [], ◌∷◌, length, codes, Option, Some, None, if◌then◌else◌}
+use Rattle.std.specs.Prelude.{ℕ, Bool, ◌&&◌, nat_lt, nat_le, true, false, List, [], ◌∷◌, length, codes, Option, Some, None, option_and_then, if◌then◌else◌}
 use Rattle.std.specs.Option.{option_map}
 use Rattle.std.specs.Str.{bytes_eq}
+use Rattle.sync_edge.specs.Number.{number_of}
 use Rattle.sync_ql.specs.declared.levels.NetOption.{NetOption}
 use Rattle.sync_ql.specs.declared.levels.NetOption.TheVariants.{I, II}
 
@@ -9,10 +10,14 @@ use Rattle.sync_ql.specs.declared.levels.NetOption.TheVariants.{I, II}
 pub data Form : Type 0 where
   -- a test of the ranks of a certificate on a plan
   check : List ℕ → List ℕ → Form
+  -- the least ranks of a plan, or its first cycle
+  rank : List ℕ → Form
   -- the rows of captured frames
   decode : NetOption → List ℕ → Form
   -- the frames of rows
   encode : NetOption → List ℕ → Form
+  -- the ladder of so many elements
+  gen : ℕ → Form
 
 -- a word that may name a file: any but the empty one
 abbrev pub is_file_word : List ℕ → Bool
@@ -22,6 +27,10 @@ is_file_word word = nat_lt 0 (length word)
 abbrev pub check_form : List ℕ → List ℕ → Option Form
 check_form plan certificate = if is_file_word plan && is_file_word certificate then Some (check plan certificate) else None
 
+-- the form `rank`, if the word may name a file
+abbrev pub rank_form : List ℕ → Option Form
+rank_form plan = if is_file_word plan then Some (rank plan) else None
+
 -- the network option of a word
 abbrev pub option_of : List ℕ → Option NetOption
 option_of word = if bytes_eq word (codes "I") then Some I else if bytes_eq word (codes "II") then Some II else None
@@ -30,8 +39,29 @@ option_of word = if bytes_eq word (codes "I") then Some I else if bytes_eq word 
 abbrev pub capture_form : (NetOption → List ℕ → Form) → List ℕ → List ℕ → Option Form
 capture_form form option name = if is_file_word name then option_map (λ o. form o name) (option_of option) else None
 
+-- how many elements a ladder may have
+abbrev pub is_ladder_size : ℕ → Bool
+is_ladder_size n = nat_le 2 n && nat_le n 2000
+
+-- the form `gen`, if the word is such a number
+abbrev pub gen_form : List ℕ → Option Form
+gen_form word = option_and_then sized (number_of word)
+  where
+    sized : ℕ → Option Form
+    sized n = if is_ladder_size n then Some (gen n) else None
+
+-- the form reads a file
+abbrev pub reads_file : Option Form → Bool
+reads_file None = false
+reads_file (Some (gen n)) = false
+reads_file (Some form) = true
+
 -- the form of the words, if they have one
 abbrev pub form_of : List (List ℕ) → Option Form
+form_of (word ∷ second ∷ []) =
+    if bytes_eq word (codes "rank") then rank_form second
+    else if bytes_eq word (codes "gen") then gen_form second
+    else None
 form_of (word ∷ second ∷ third ∷ []) =
     if bytes_eq word (codes "check") then check_form second third
     else if bytes_eq word (codes "decode") then capture_form decode second third

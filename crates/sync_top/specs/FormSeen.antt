@@ -1,10 +1,17 @@
 -- How contracts see the code's form: what only private clauses cite.
-use Rattle.std.specs.Prelude.{ℕ, List}
+use Rattle.std.specs.Prelude.{ℕ, ◌≤◌, ⊤, List}
 use Rattle.sync_top.specs.declared.form.Form as declared
 use Rattle.sync_top.specs.declared.form.Form.TheVariants as word
-use Rattle.sync_top.specs.Form.{Form, check, decode, encode}
+use Rattle.sync_top.specs.Form.{Form, check, rank, decode, encode, gen}
 
 abbrev pub seen : declared.Form → Form
 seen (word.Check plan certificate) = check plan.now certificate.now
+seen (word.Rank plan) = rank plan.now
 seen (word.Decode option name) = decode option name.now
 seen (word.Encode option name) = encode option name.now
+seen (word.Gen n) = gen n
+
+-- a ladder that is asked for may have so many elements
+abbrev pub IsSized : declared.Form → Type 0
+IsSized (word.Gen n) = (2 ≤ n) × (n ≤ 2000)
+IsSized form = ⊤

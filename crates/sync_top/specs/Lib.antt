@@ -1,10 +1,6 @@
 pub mod Status
 pub mod Form
-pub mod Ranks
-pub mod CertificateText
 pub mod Answer
 pub mod Examples
-pub mod CertificateGives
-pub mod FirstFall
 pub mod Work
 pub mod FormSeen

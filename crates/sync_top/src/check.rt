@@ -1,19 +1,50 @@
 ghost use Rattle.std.specs.Prelude.{◌≡◌, ◌≢◌, ◌++◌, ◌<◌, Some, IfOk, codes};
 ghost use Rattle.sync_edge.specs.Contents.{KeepsFolder};
 ghost use Rattle.sync_topo.specs.Lines.{line_count, line_name};
-ghost use Rattle.sync_top.specs.Answer.{text_line, across, ranks_in, documents, IsVerdict, CheckAnswer, FormMissesFile};
+ghost use Rattle.sync_top.specs.Answer.{text_line, certificate_refusal, across, ranks_in, documents, IsVerdict, CheckAnswer, FormMissesFile};
 ghost use Rattle.sync_top.specs.Form.{check};
-ghost use Rattle.sync_top.specs.Ranks.{IsRanked};
+ghost use Rattle.rank_cert.specs.Ranks.{IsRanked};
+ghost use Rattle.rank_cert.specs.Rules.{NamesLine};
 ghost use Rattle.sync_top.specs.Work.{Reads, Replies, NeverUsage};
 
-use crate::certificate::{Cert, CertErr, read_cert};
-use crate::input::{file, plan_in};
-use crate::ranks::{Verdict, judge};
+use crate::input::file;
+use crate::plan_input::plan_in;
 use crate::reply::{Reply, Stop, line_text};
 use crate::status::Status;
+use rank_cert::{Cert, CertErr, Verdict, read_cert};
 use std::alloc::Global;
 use sync_edge::{Folder, NoMemory, Text};
 use sync_topo::{InputId, LineId, Plan};
+
+/// The line on a certificate that is refused.
+fn refusal_text(alloc: Global, plan: &Plan, refused: CertErr) -> Result<Text, NoMemory>
+    requires { NamesLine plan.now refused }
+    ensures { IfOk result (λ text. text ≡ text_line (certificate_refusal plan.now refused)) }
+{
+    let mut text = Text::new(alloc);
+    match refused {
+        CertErr::Header => text.put(b"bad certificate 34")?,
+        CertErr::Row(row) => {
+            text.put(b"bad certificate 35 ")?;
+            text.put_number(row)?;
+        }
+        CertErr::Line(row) => {
+            text.put(b"bad certificate 36 ")?;
+            text.put_number(row)?;
+        }
+        CertErr::Twice(row) => {
+            text.put(b"bad certificate 37 ")?;
+            text.put_number(row)?;
+        }
+        CertErr::Missing(line) => {
+            text.put(b"bad certificate 38 ")?;
+            plan.put_input_name(alloc, &mut text, InputId::Line(line))?;
+        }
+        CertErr::NoMemory => return Err(NoMemory),
+    }
+    text.put(b"\n")?;
+    Ok(text)
+}
 
 /// The certificate of a file.
 fn cert_in<F: Folder>(alloc: Global, folder: &mut F, plan: &Plan, name: &str) -> Result<Cert, Stop>
@@ -26,11 +57,11 @@ fn cert_in<F: Folder>(alloc: Global, folder: &mut F, plan: &Plan, name: &str) ->
     let bytes = file(alloc, folder, name)?;
     match read_cert(alloc, plan, bytes.bytes()) {
         Ok(cert) => Ok(cert),
-        Err(CertErr::Refused) => Err(Stop::Ended(Reply {
-            status: Status::BadCert,
-            text: line_text(alloc, b"bad certificate")?,
-        })),
         Err(CertErr::NoMemory) => Err(Stop::OutOfMemory),
+        Err(refused) => Err(Stop::Ended(Reply {
+            status: Status::BadCert,
+            text: refusal_text(alloc, plan, refused)?,
+        })),
     }
 }
 
@@ -76,7 +107,7 @@ fn verdict(alloc: Global, plan: &Plan, cert: &Cert) -> Result<Reply, NoMemory>
     ensures verdict { IfOk result (λ reply. IsVerdict plan.now cert.now reply.status reply.text) }
     ensures form { IfOk result (λ reply. reply.status ≢ Status.Usage) }
 {
-    match judge(plan, cert) {
+    match rank_cert::check(plan, cert) {
         Verdict::Rising => Ok(Reply {
             status: Status::Done,
             text: line_text(alloc, b"accepted")?,

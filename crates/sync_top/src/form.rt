@@ -1,9 +1,10 @@
-ghost use Rattle.std.specs.Prelude.{◌≡◌, ◌∷◌, [], None, map, if◌then◌else◌};
+ghost use Rattle.std.specs.Prelude.{◌≡◌, ◌∷◌, [], None, map, IfSome, if◌then◌else◌};
 ghost use Rattle.std.specs.Option.{option_map};
 ghost use Rattle.std.specs.String.{string_bytes};
-ghost use Rattle.sync_top.specs.Form.{form_of, check_form, option_of, is_file_word};
-ghost use Rattle.sync_top.specs.FormSeen.{seen};
+ghost use Rattle.sync_top.specs.Form.{form_of, check_form, gen_form, option_of, is_file_word};
+ghost use Rattle.sync_top.specs.FormSeen.{seen, IsSized};
 
+use sync_edge::read_number;
 use sync_ql::NetOption;
 
 /// What the program is asked for.
@@ -16,25 +17,57 @@ pub(crate) enum Form<'a> {
         /// The certificate's file.
         cert: &'a str,
     },
+    /// The least ranks of a plan or its first cycle, by the name of its file.
+    Rank(&'a str),
     /// The rows of captured frames, by the option of their levels and the name of their file.
     Decode(NetOption, &'a str),
     /// The frames of rows.
     Encode(NetOption, &'a str),
+    /// The ladder of so many elements, 2 to 2,000.
+    Gen(u32),
 }
 
 /// The form of the words, if they have one.
 pub(crate) fn form_of(words: &[String]) -> Option<Form<'_>>
-    ensures { option_map seen result ≡ form_of (map string_bytes words.now) }
+    ensures form { option_map seen result ≡ form_of (map string_bytes words.now) }
+    ensures sized { IfSome result IsSized }
 {
     match words {
+        [word, second] => form_of_two(word.as_str(), second.as_str()),
         [word, second, third] => form_of_three(word.as_str(), second.as_str(), third.as_str()),
+        _ => None,
+    }
+}
+
+/// The form of two words, if they have one.
+fn form_of_two<'a>(word: &str, second: &'a str) -> Option<Form<'a>>
+    ensures form { option_map seen result ≡ form_of (word.now ∷ second.now ∷ []) }
+    ensures sized { IfSome result IsSized }
+{
+    if word == "rank" && !second.is_empty() {
+        return Some(Form::Rank(second));
+    }
+    if word == "gen" {
+        return gen_form(second);
+    }
+    None
+}
+
+/// The form `gen`, if the word is a number of elements that a ladder may have.
+fn gen_form(word: &str) -> Option<Form<'static>>
+    ensures form { option_map seen result ≡ gen_form word.now }
+    ensures sized { IfSome result IsSized }
+{
+    match read_number(word.as_bytes()) {
+        Some(n) if 2 <= n && n <= 2000 => Some(Form::Gen(n as u32)),
         _ => None,
     }
 }
 
 /// The form of three words, if they have one.
 fn form_of_three<'a>(word: &str, second: &'a str, third: &'a str) -> Option<Form<'a>>
-    ensures { option_map seen result ≡ form_of (word.now ∷ second.now ∷ third.now ∷ []) }
+    ensures form { option_map seen result ≡ form_of (word.now ∷ second.now ∷ third.now ∷ []) }
+    ensures sized { IfSome result IsSized }
 {
     if word == "check" {
         return check_form(second, third);
@@ -73,7 +106,8 @@ fn option_with(option: &str, name: &str) -> Option<NetOption>
 
 /// The form `check`, if both words may name a file.
 fn check_form<'a>(plan: &'a str, cert: &'a str) -> Option<Form<'a>>
-    ensures { option_map seen result ≡ check_form plan.now cert.now }
+    ensures form { option_map seen result ≡ check_form plan.now cert.now }
+    ensures sized { IfSome result IsSized }
 {
     if plan.is_empty() || cert.is_empty() {
         return None;

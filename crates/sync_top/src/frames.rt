@@ -1,5 +1,4 @@
-ghost use Rattle.std.specs.Prelude.{◌≡◌, ◌≢◌, ◌++◌, Some, IfOk, OnOk};
-ghost use Rattle.std.specs.Fmt.{decimal};
+ghost use Rattle.std.specs.Prelude.{◌≡◌, ◌≢◌, Some, IfOk};
 ghost use Rattle.sync_edge.specs.Contents.{KeepsFolder};
 ghost use Rattle.capture_text.specs.Capture.{decoded_text, encoded_text};
 ghost use Rattle.sync_top.specs.Answer.{across, text_line, capture_refusal, captured, CaptureAnswer, FormMissesFile};
@@ -14,16 +13,6 @@ use std::alloc::Global;
 use sync_edge::{Folder, NoMemory, Text};
 use sync_ql::NetOption;
 
-/// Puts a number at the end, in decimal digits.
-fn put_number(alloc: Global, text: &mut Text, number: u64) -> Result<(), NoMemory>
-    ensures { OnOk result (text.new ≡ text.old ++ decimal number) }
-{
-    let Ok(digits) = number.to_string(alloc) else {
-        return Err(NoMemory);
-    };
-    text.put(digits.as_bytes())
-}
-
 /// The line on the first frame or row that is refused.
 fn refusal_text(alloc: Global, refused: CaptureErr) -> Result<Text, NoMemory>
     ensures { IfOk result (λ text. text ≡ text_line (capture_refusal refused)) }
@@ -32,17 +21,17 @@ fn refusal_text(alloc: Global, refused: CaptureErr) -> Result<Text, NoMemory>
     match refused {
         CaptureErr::Hex(line) => {
             text.put(b"bad frames 12 ")?;
-            put_number(alloc, &mut text, line)?;
+            text.put_number(line)?;
         }
         CaptureErr::Frame(line, error) => {
             text.put(b"bad frames 13 ")?;
-            put_number(alloc, &mut text, line)?;
+            text.put_number(line)?;
             text.put(b" ")?;
-            put_number(alloc, &mut text, u64::from(error.number()))?;
+            text.put_number(u64::from(error.number()))?;
         }
         CaptureErr::Row(line) => {
             text.put(b"bad frames 14 ")?;
-            put_number(alloc, &mut text, line)?;
+            text.put_number(line)?;
         }
         CaptureErr::NoMemory => return Err(NoMemory),
     }

@@ -2,17 +2,18 @@
 //! gives the exit status.
 //!
 //! `IsAnswer` says which status and text the words have over which files; `Delivers` that it was
-//! written, and `IsCut` what a write fault leaves. Which words are a form is `form_of`. The reading
-//! of certificates and the test of their ranks are private parts. That memory is found is tested.
+//! written, and `IsCut` what a write fault leaves. Which words are a form is `form_of`. That memory
+//! is found is tested.
 #![tactic(auto)]
 
-mod certificate;
 mod check;
 mod form;
 mod frames;
 mod input;
+mod ladder;
+mod plan_input;
+mod planner;
 mod program;
-mod ranks;
 mod reply;
 mod status;
 

@@ -1,16 +1,18 @@
-ghost use Rattle.std.specs.Prelude.{◌≡◌, ◌≢◌, ◌↔◌, map, None, IfOk, IfSome, IsTrue};
+ghost use Rattle.std.specs.Prelude.{◌≡◌, ◌≢◌, ◌↔◌, map, None, false, IfOk, IfSome, IsTrue};
 ghost use Rattle.std.specs.String.{string_bytes};
 ghost use Rattle.std.specs.Io.KnownBytes.{Appends};
 ghost use Rattle.sync_edge.specs.Contents.{KeepsFolder};
 ghost use Rattle.sync_edge.specs.Faults.{Rose};
 ghost use Rattle.sync_top.specs.Status.{OnAnswer};
-ghost use Rattle.sync_top.specs.Form.{form_of};
+ghost use Rattle.sync_top.specs.Form.{form_of, reads_file};
 ghost use Rattle.sync_top.specs.Answer.{across, IsAnswer, MissesFile, HasFiles, Delivers, IsCut, MayFault, fault_text};
 ghost use Rattle.sync_top.specs.Work.{Replies, EndsIn, UsageWhere};
 
 use crate::check::check;
 use crate::form::{Form, form_of};
 use crate::frames::{decode, encode};
+use crate::ladder::ladder_text;
+use crate::planner::rank;
 use crate::reply::{Reply, Stop, line_text};
 use crate::status::Status;
 use std::alloc::Global;
@@ -22,12 +24,17 @@ fn work<F: Folder>(alloc: Global, words: &[String], folder: &mut F) -> Result<Re
         (across F.contents F.steady F.faults folder.old folder.new) result }
     ensures usage { UsageWhere result (form_of (map string_bytes words.now) ≡ None) }
     ensures keeps { KeepsFolder F.contents F.steady F.faults folder.old folder.new }
-    ensures no_call { form_of (map string_bytes words.now) ≡ None → folder.new ≡ folder.old }
+    ensures no_call { reads_file (form_of (map string_bytes words.now)) ≡ false → folder.new ≡ folder.old }
 {
     match form_of(words) {
         Some(Form::Check { plan, cert }) => check(alloc, folder, plan, cert),
+        Some(Form::Rank(plan)) => rank(alloc, folder, plan),
         Some(Form::Decode(option, name)) => decode(alloc, folder, option, name),
         Some(Form::Encode(option, name)) => encode(alloc, folder, option, name),
+        Some(Form::Gen(n)) => Ok(Reply {
+            status: Status::Done,
+            text: ladder_text(alloc, n)?,
+        }),
         None => Ok(Reply {
             status: Status::Usage,
             text: line_text(alloc, b"usage")?,
@@ -41,7 +48,7 @@ fn reply_to<F: Folder>(alloc: Global, words: &[String], folder: &mut F) -> Resul
         (across F.contents F.steady F.faults folder.old folder.new) reply.status reply.text) }
     ensures usage { IfOk result (λ reply. (reply.status ≡ Status.Usage) ↔ (form_of (map string_bytes words.now) ≡ None)) }
     ensures keeps { KeepsFolder F.contents F.steady F.faults folder.old folder.new }
-    ensures no_call { form_of (map string_bytes words.now) ≡ None → folder.new ≡ folder.old }
+    ensures no_call { reads_file (form_of (map string_bytes words.now)) ≡ false → folder.new ≡ folder.old }
 {
     match work(alloc, words, folder) {
         Ok(reply) => Ok(reply),
@@ -53,7 +60,9 @@ fn reply_to<F: Folder>(alloc: Global, words: &[String], folder: &mut F) -> Resul
 /// Runs the program: does what the words ask for, writes the answer, and gives the exit status.
 ///
 /// The words are those after the program's name. `check PLAN CERT` tests the ranks of a certificate
-/// on a plan; PLAN and CERT are nonempty names of files. The whole text is made before its first
+/// on a plan, and `rank PLAN` gives the least ranks as a certificate, or the first cycle; PLAN and
+/// CERT are nonempty names of files. `gen N` writes the ladder of N elements, 2 to 2,000. The whole
+/// text is made before its first
 /// byte is written, and it is written by one `write_all`.
 ///
 /// This project's own.
@@ -67,9 +76,10 @@ pub fn run<F: Folder, K: Sink>(
     ensures answer { OnAnswer result (IfSome (F.contents folder.old)
         (Delivers (map string_bytes words.now) (K.written sink.old) (K.written sink.new) result)) }
 
-    // Which words are a form doesn't depend on any file, and other words call the folder not at all.
+    // Which words are a form doesn't depend on any file. Other words, and `gen`, call the folder not
+    // at all.
     ensures usage { OnAnswer result ((result ≡ Status.Usage) ↔ (form_of (map string_bytes words.now) ≡ None)) }
-    ensures no_call { form_of (map string_bytes words.now) ≡ None → folder.new ≡ folder.old }
+    ensures no_call { reads_file (form_of (map string_bytes words.now)) ≡ false → folder.new ≡ folder.old }
 
     // Where no fault is answered, no call of the folder failed: no file was tried after a refusal.
     // Nor did a write fail, but where a write fault is answered.

@@ -90,8 +90,8 @@ fn memory_is_found_and_check_answers(rt: HostRuntime) -> Result<(), Fail> {
     let check: &[&str] = &["check", "plan", "cert"];
     let done: (Status, &[u8]) = (Status::Done, b"accepted\n");
     let usage: (Status, &[u8]) = (Status::Usage, b"usage\n");
-    let bad_plan: (Status, &[u8]) = (Status::BadPlan, b"bad plan\n");
-    let rows: [(&[&str], &[u8], &[u8], (Status, &[u8])); 14] = [
+    let unknown_key: (Status, &[u8]) = (Status::BadPlan, b"bad plan 23 head 0\n");
+    let rows: [(&[&str], &[u8], &[u8], (Status, &[u8])); 28] = [
         (check, CHAIN, RISING, done),
         (
             check,
@@ -108,20 +108,64 @@ fn memory_is_found_and_check_answers(rt: HostRuntime) -> Result<(), Fail> {
             b"line,rank\nL1>B,0\nL1>A,5\nL2>B,0\nL2>A,9\n",
             (Status::Refuted, b"falls L1>A L2>B\n"),
         ),
+        (
+            &["rank", "plan"],
+            PAIR,
+            b"",
+            (Status::Done, b"line,rank\nL1>B,0\nL1>A,0\n"),
+        ),
+        (
+            &["rank", "plan"],
+            TWIN,
+            b"",
+            (Status::Refuted, b"cycle L1>B L2>A\n"),
+        ),
+        (&["rank", ""], CHAIN, RISING, usage),
+        (&["rank", "plan", "cert"], CHAIN, RISING, usage),
         (&[], CHAIN, RISING, usage),
         (&["check", "plan"], CHAIN, RISING, usage),
         (&["check", "plan", "cert", "more"], CHAIN, RISING, usage),
         (&["check", "", "cert"], CHAIN, RISING, usage),
         (&["Check", "plan", "cert"], CHAIN, RISING, usage),
-        (check, b"[[elem", b"", bad_plan),
-        (check, b"version = 1\n", RISING, bad_plan),
+        (&["gen"], CHAIN, RISING, usage),
+        (&["gen", "1"], CHAIN, RISING, usage),
+        (&["gen", "2001"], CHAIN, RISING, usage),
+        (&["gen", "02"], CHAIN, RISING, usage),
+        (&["gen", "+3"], CHAIN, RISING, usage),
+        (&["gen", "3", "4"], CHAIN, RISING, usage),
+        (check, b"[[elem", b"", (Status::BadPlan, b"bad plan 22\n")),
+        (check, b"color = 'red'\n", RISING, unknown_key),
+        (
+            check,
+            b"element = [{ name = 'A' }, { name = 'B', color = 'red' }]\n",
+            RISING,
+            (Status::BadPlan, b"bad plan 23 element 2\n"),
+        ),
+        (
+            check,
+            b"source = [{ name = 'S', at = 1, level = 'QL-PRC' }]\n",
+            RISING,
+            (Status::BadPlan, b"bad plan 24 source 1\n"),
+        ),
+        (
+            check,
+            b"element = [{ name = 'A' }]\nlink = [{ name = 'L1', a = 'A', b = 'X' }]\n",
+            RISING,
+            (Status::BadPlan, b"bad plan 25 18 link 1\n"),
+        ),
+        (
+            check,
+            b"element = [{ name = 'A' }]\nlink = [{ name = 'L1', a = 'A', b = 'A' }]\n",
+            RISING,
+            (Status::BadPlan, b"bad plan 25 19 link 1\n"),
+        ),
         (
             &["check", "plan", "none"],
             CHAIN,
             RISING,
             (Status::ReadFault, b"read fault\n"),
         ),
-        (&["check", "plan", "none"], b"x = 1", RISING, bad_plan),
+        (&["check", "plan", "none"], b"x = 1", RISING, unknown_key),
     ];
     for (line, plan, cert, want) in rows {
         answers(&rt, line, (plan, cert), CALM, want)?;
@@ -131,41 +175,72 @@ fn memory_is_found_and_check_answers(rt: HostRuntime) -> Result<(), Fail> {
 
 #[test]
 fn certificates_are_read_by_their_format(rt: HostRuntime) -> Result<(), Fail> {
-    let rows: [(&[u8], bool); 22] = [
-        (b"line,rank\r\nL1>B,0\r\nL2>C,1\r\n", true),
-        (b"\xef\xbb\xbfline,rank\nL2>C,1\nL1>B,0", true),
+    let rows: [(&[u8], &[u8]); 32] = [
+        (b"line,rank\r\nL1>B,0\r\nL2>C,1\r\n", b"accepted\n"),
+        (b"\xef\xbb\xbfline,rank\nL2>C,1\nL1>B,0", b"accepted\n"),
         (
             b"\"line\",\"rank\"\n\n\"L1>B\",\"0\"\nL2>C,18446744073709551615\n",
-            true,
+            b"accepted\n",
         ),
-        (b"", false),
-        (b"line\nL1>B,0\nL2>C,1\n", false),
-        (b"line,rank,more\nL1>B,0\nL2>C,1\n", false),
-        (b"Line,rank\nL1>B,0\nL2>C,1\n", false),
-        (b"L1>B,0\nL2>C,1\n", false),
-        (b"line,rank\nL1>B,0\nL2>C\n", false),
-        (b"line,rank\nL1>B,0\nL2>C,1,2\n", false),
-        (b"line,rank\nL1>B,0\nL2>C,18446744073709551616\n", false),
-        (b"line,rank\nL1>B,0\nL2>C,01\n", false),
-        (b"line,rank\nL1>B,0\nL2>C, 1\n", false),
-        (b"line,rank\nL1>B,0\nL2>C,-1\n", false),
-        (b"line,rank\nL1>B,0\nL2>C,\n", false),
-        (b"line,rank\nL1>B,0\nL9>C,1\n", false),
-        (b"line,rank\nL1>B,0\nL2,1\n", false),
-        (b"line,rank\nL1>B,0\nL2>A,1\n", false),
+        (b"", b"bad certificate 34\n"),
+        (b"line\nL1>B,0\nL2>C,1\n", b"bad certificate 34\n"),
+        (b"line,rank,more\nL1>B,0\nL2>C,1\n", b"bad certificate 34\n"),
+        (b"Line,rank\nL1>B,0\nL2>C,1\n", b"bad certificate 34\n"),
+        (b"L1>B,0\nL2>C,1\n", b"bad certificate 34\n"),
+        (b"line,rank\nL1>B,0\nL2>C\n", b"bad certificate 35 2\n"),
+        (b"line,rank\nL1>B,0\nL2>C,1,2\n", b"bad certificate 35 2\n"),
+        (
+            b"line,rank\nL1>B,0\nL2>C,18446744073709551616\n",
+            b"bad certificate 35 2\n",
+        ),
+        (b"line,rank\nL1>B,0\nL2>C,01\n", b"bad certificate 35 2\n"),
+        (b"line,rank\nL1>B,0\nL2>C, 1\n", b"bad certificate 35 2\n"),
+        (b"line,rank\nL1>B,-1\nL2>C,1\n", b"bad certificate 35 1\n"),
+        (b"line,rank\nL1>B,+0\nL2>C,1\n", b"bad certificate 35 1\n"),
+        (b"line,rank\nL1>B,0\nL2>C,\n", b"bad certificate 35 2\n"),
+        (b"line,rank\nL1>B,0\nL2>C,\"1\n", b"bad certificate 35 2\n"),
+        (b"line,rank\nL9>B,0\nL2>C,1\n", b"bad certificate 36 1\n"),
+        (b"line,rank\nL1>B,0\nL2,1\n", b"bad certificate 36 2\n"),
+        (b"line,rank\nL1>B,0\nL2>A,1\n", b"bad certificate 36 2\n"),
+        (b"line,rank\nL1>B,0\n L2>C,1\n", b"bad certificate 36 2\n"),
         // A line of the plan that is not nominated.
-        (b"line,rank\nL1>B,0\nL2>C,1\nL2>B,2\n", false),
-        (b"line,rank\nL1>B,0\nL1>B,0\nL2>C,1\n", false),
-        (b"line,rank\nL1>B,0\n", false),
-        (b"line,rank\nL1>B,0\nL2>C,\"1\n", false),
+        (
+            b"line,rank\nL1>B,0\nL2>C,1\nL2>B,2\n",
+            b"bad certificate 36 3\n",
+        ),
+        (
+            b"line,rank\nL1>B,0\nL1>B,0\nL2>C,1\n",
+            b"bad certificate 37 2\n",
+        ),
+        (
+            b"line,rank\nL1>B,0\nL2>C,1\nL1>B,7\n",
+            b"bad certificate 37 3\n",
+        ),
+        (b"line,rank\nL1>B,0\n", b"bad certificate 38 L2>C\n"),
+        (b"line,rank\n", b"bad certificate 38 L1>B\n"),
+        // Two faults at once: the header first, then each row in order with its fields and its
+        // number before its line, and a missing line last.
+        (b"rank,line\nL9>B,x\n", b"bad certificate 34\n"),
+        (b"line,rank\nL9>B,x\n", b"bad certificate 35 1\n"),
+        (
+            b"line,rank\nL1>B,0\nL1>B,x\nL9>B,0\n",
+            b"bad certificate 35 2\n",
+        ),
+        (
+            b"line,rank\nL1>B,0\nL9>B,0\n\n5\n",
+            b"bad certificate 36 2\n",
+        ),
+        (b"line,rank\nL2>C,0\nL2>C,0\n", b"bad certificate 37 2\n"),
+        (b"line,rank\nL2>C\n", b"bad certificate 35 1\n"),
     ];
-    for (cert, good) in rows {
-        let want: (Status, &[u8]) = if good {
-            (Status::Done, b"accepted\n")
+    for (cert, text) in rows {
+        let status = if text == b"accepted\n".as_slice() {
+            Status::Done
         } else {
-            (Status::BadCert, b"bad certificate\n")
+            Status::BadCert
         };
-        answers(&rt, &["check", "plan", "cert"], (CHAIN, cert), CALM, want)?;
+        let check: &[&str] = &["check", "plan", "cert"];
+        answers(&rt, check, (CHAIN, cert), CALM, (status, text))?;
     }
     Ok(())
 }

@@ -1,25 +1,22 @@
--- What is kept for each element when one more line or element comes.
+-- What is kept for each element when one more input or element comes.
 use Rattle.std.proofs.Common.{◌≡◌, ℕ, ◌<◌, true, nat_lt, List, [], ◌∷◌, ◌++◌, length, Some, None, slice_get, slice_set, get_or, refl, sym, arith, Vec}
 use Rattle.std.proofs.Common.{inl, inr, length-append}
 use Rattle.std.proofs.lemmas.Bool.{cases_lt, lt-ltb}
 use Rattle.std.specs.declared.alloc.Global.{Global}
 use Rattle.std.proofs.lemmas.Bool.Decides.{eqb_tells}
-use Rattle.std.proofs.lemmas.List.{append-nil, map-append}
+use Rattle.std.proofs.lemmas.List.{append-nil}
 use Rattle.std.proofs.lemmas.Option.{slice_get_past, slice_get_read}
-use Rattle.sync_topo.specs.declared.link.InputId.{InputId}
-use Rattle.sync_topo.specs.declared.link.LineId.{LineId}
-use Rattle.sync_topo.specs.declared.link.InputId.TheVariants.{Line}
-use Rattle.sync_topo.specs.Lines.{input_number}
+use Rattle.sync_topo.specs.declared.input.InputId.{InputId}
 use Rattle.sync_topo.specs.Held.{held, taken}
 use Rattle.sync_topo.proofs.Lists.{slice_get-set_same, slice_get-set_other, slice_get-push_before, slice_get-push_last}
 
--- an input with a priority is kept for its receiver, and for no other element
-pub held-take : (inputs : List (Vec InputId Global)) (own taken_too : Vec InputId Global) (receiver priority : ℕ) (line : LineId) (element : ℕ)
+-- an input with a priority is kept for its element, and for no other
+pub held-take : (inputs : List (Vec InputId Global)) (own taken_too : Vec InputId Global) (receiver priority : ℕ) (input : InputId) (element : ℕ)
     → receiver < length inputs → 0 < priority
     → own ≡ get_or inputs receiver own
-    → taken_too.items ≡ own.items ++ Line line ∷ []
-    → held (slice_set inputs receiver taken_too) element ≡ held inputs element ++ taken receiver priority line.0 element
-held-take inputs own taken_too receiver priority line element inside nominated read pushed =
+    → taken_too.items ≡ own.items ++ input ∷ []
+    → held (slice_set inputs receiver taken_too) element ≡ held inputs element ++ taken receiver priority input element
+held-take inputs own taken_too receiver priority input element inside nominated read pushed =
     let here : slice_get inputs receiver ≡ Some own = slice_get_read inputs (length inputs) receiver own refl inside read in
     let given : nat_lt 0 priority ≡ true = lt-ltb 0 priority nominated in
     elim (eqb_tells receiver element) [
@@ -27,7 +24,7 @@ held-take inputs own taken_too receiver priority line element inside nominated r
           let at : slice_get (slice_set inputs receiver taken_too) element ≡ Some taken_too
           = rw (← same.1) (slice_get-set_same inputs receiver taken_too inside) in
           let before : slice_get inputs element ≡ Some own = rw (← same.1) here in
-          rw (at, before, given, same.0, pushed, map-append input_number own.items (Line line ∷ [])) refl
+          rw (at, before, given, same.0, pushed) refl
       | inr other ↦
           rw (slice_get-set_other inputs receiver element taken_too other.1, given, other.0) (sym (append-nil (held inputs element)))
     ]

@@ -1,102 +1,183 @@
--- The inputs of the elements when one more link comes.
-use Rattle.std.proofs.Common.{◌≡◌, ℕ, ◌+◌, ◌*◌, ◌/◌, ◌%◌, ◌<◌, Bool, true, false, ◌&&◌, nat_lt, List, [], ◌∷◌, ◌++◌, length, refl, sym, arith, ne_eqb, length-append}
+-- The inputs of the elements when one more link or source comes.
+use Rattle.std.proofs.Common.{◌≡◌, ℕ, ◌+◌, ◌*◌, ◌/◌, ◌%◌, ◌<◌, Bool, true, false, ◌&&◌, nat_lt, List, [], ◌∷◌, ◌++◌, length, map, filter, refl, sym, ap, ◌∙◌, arith, ne_eqb, length-append, zero-add, append_assoc}
 use Rattle.std.specs.Prelude.{if◌then◌else◌, ◌==◌, ◌≢◌}
-use Rattle.std.proofs.lemmas.List.{append-nil}
 use Rattle.std.specs.List.{range_with_len, All}
-use Rattle.std.proofs.Common.{map, zero-add}
-use Rattle.std.proofs.lemmas.List.{length-map, get_or-map}
-use Rattle.std.proofs.lemmas.List.Elements.{All-filter}
+use Rattle.std.proofs.lemmas.Bool.{eq-eqb}
+use Rattle.std.proofs.lemmas.List.{append-nil, map-append}
+use Rattle.std.proofs.lemmas.List.Elements.{All-filter, All-append, All-map}
 use Rattle.std.proofs.lemmas.List.FromFn.{length-range_with_len, get_or-range_with_len}
-use Rattle.sync_topo.specs.declared.link.InputId.{InputId}
-use Rattle.sync_topo.specs.Lines.{input_number}
-use Rattle.sync_topo.specs.declared.element.Element.{Element}
+use Rattle.sync_topo.specs.declared.input.InputId.{InputId}
+use Rattle.sync_topo.specs.declared.input.InputId.TheVariants.{Source}
 use Rattle.sync_topo.specs.declared.link.Link.{Link}
+use Rattle.sync_topo.specs.declared.source.Source as declared
 use Rattle.sync_topo.specs.Topology.{Topology}
-use Rattle.sync_topo.specs.Lines.{inputs_of, is_nominated, receiver_of, line_count}
+use Rattle.sync_topo.specs.Lines.{line_count, is_nominated, receiver_of, source_priority, element_of_source, lines_into, sources_at, line_input, inputs_of, IsInput}
 use Rattle.sync_topo.specs.Held.{taken}
 use Rattle.sync_topo.proofs.Lists.{slice_get-push_before, slice_get-push_last, filter_range_more, filter_range_agree}
 
--- a plan with one more link
-abbrev pub with_link : List Element → List Link → Link → Topology
-with_link es ls link = record { elements = es; links = ls ++ link ∷ [] }
+-- a plan with one more link, and with one more source
+abbrev pub with_link : Topology → Link → Topology
+with_link plan link = record plan { links = plan.links ++ link ∷ [] }
 
-abbrev pub plan_with : List Element → List Link → Topology
-plan_with es ls = record { elements = es; links = ls }
+abbrev pub with_source : Topology → declared.Source → Topology
+with_source plan source = record plan { sources = plan.sources ++ source ∷ [] }
 
 -- the line is an input of the element
-abbrev pub is_input : Topology → ℕ → ℕ → Bool
-is_input plan element line = is_nominated plan line && receiver_of plan line == element
+abbrev is_line_into : Topology → ℕ → ℕ → Bool
+is_line_into plan element line = is_nominated plan line && receiver_of plan line == element
+
+-- the source is an input of the element
+abbrev is_source_at : Topology → ℕ → ℕ → Bool
+is_source_at plan element source = nat_lt 0 (source_priority plan source) && element_of_source plan source == element
+
+-- a number that is taken, or none
+abbrev taken_number : ℕ → ℕ → ℕ → ℕ → List ℕ
+taken_number receiver priority number element = if nat_lt 0 priority && receiver == element then number ∷ [] else []
 
 -- the lines of the earlier links stay what they were
-is_input-before : (es : List Element) (ls : List Link) (link : Link) (element line : ℕ) → line < 2 * length ls
-    → is_input (with_link es ls link) element line ≡ is_input (plan_with es ls) element line
-is_input-before es ls link element line h =
-    rw (slice_get-push_before ls link (line / 2) (omega arith)) refl
+is_line_into-before : (plan : Topology) (link : Link) (element line : ℕ) → line < 2 * length plan.links
+    → is_line_into (with_link plan link) element line ≡ is_line_into plan element line
+is_line_into-before plan link element line h =
+    rw (slice_get-push_before plan.links link (line / 2) (omega arith)) refl
 
-is_input-to_b : (es : List Element) (ls : List Link) (link : Link) (element : ℕ)
-    → is_input (with_link es ls link) element (2 * length ls) ≡ (nat_lt 0 link.priority_b && link.b == element)
-is_input-to_b es ls link element =
-    let half : 2 * length ls / 2 ≡ length ls = omega arith in
-    let even : 2 * length ls % 2 ≡ 0 = omega arith in
-    rw (slice_get-push_last ls link (2 * length ls / 2) half, even) refl
+is_line_into-to_b : (plan : Topology) (link : Link) (element : ℕ)
+    → is_line_into (with_link plan link) element (2 * length plan.links) ≡ (nat_lt 0 link.priority_b && link.b == element)
+is_line_into-to_b plan link element =
+    let half : 2 * length plan.links / 2 ≡ length plan.links = omega arith in
+    let even : 2 * length plan.links % 2 ≡ 0 = omega arith in
+    rw (slice_get-push_last plan.links link (2 * length plan.links / 2) half, even) refl
 
-is_input-to_a : (es : List Element) (ls : List Link) (link : Link) (element : ℕ)
-    → is_input (with_link es ls link) element (2 * length ls + 1) ≡ (nat_lt 0 link.priority_a && link.a == element)
-is_input-to_a es ls link element =
-    let half : (2 * length ls + 1) / 2 ≡ length ls = omega arith in
-    let odd : (2 * length ls + 1) % 2 ≡ 1 = omega arith in
-    rw (slice_get-push_last ls link ((2 * length ls + 1) / 2) half, odd) refl
+is_line_into-to_a : (plan : Topology) (link : Link) (element : ℕ)
+    → is_line_into (with_link plan link) element (2 * length plan.links + 1) ≡ (nat_lt 0 link.priority_a && link.a == element)
+is_line_into-to_a plan link element =
+    let half : (2 * length plan.links + 1) / 2 ≡ length plan.links = omega arith in
+    let odd : (2 * length plan.links + 1) % 2 ≡ 1 = omega arith in
+    rw (slice_get-push_last plan.links link ((2 * length plan.links + 1) / 2) half, odd) refl
 
--- the inputs that a link brings come last
-pub inputs_of-push : (es : List Element) (ls : List Link) (link : Link) (element : ℕ)
-    → inputs_of (with_link es ls link) element
-    ≡ inputs_of (plan_with es ls) element ++ taken link.b link.priority_b (2 * length ls) element ++ taken link.a link.priority_a (2 * length ls + 1) element
-inputs_of-push es ls link element =
-    let n = length ls in
-    let count : 2 * length (ls ++ link ∷ []) ≡ 2 * n + 1 + 1 = omega (arith, length-append ls (link ∷ [])) in
-    let p = is_input (with_link es ls link) element in
+-- the lines that a link brings come last
+lines_into-push : (plan : Topology) (link : Link) (element : ℕ)
+    → lines_into (with_link plan link) element
+    ≡ lines_into plan element ++ taken_number link.b link.priority_b (2 * length plan.links) element ++ taken_number link.a link.priority_a (2 * length plan.links + 1) element
+lines_into-push plan link element =
+    let n = length plan.links in
+    let count : 2 * length (plan.links ++ link ∷ []) ≡ 2 * n + 1 + 1 = omega (arith, length-append plan.links (link ∷ [])) in
+    let p = is_line_into (with_link plan link) element in
     rw (
       count,
       filter_range_more p (2 * n + 1),
       filter_range_more p (2 * n),
-      filter_range_agree p (is_input (plan_with es ls) element) (2 * n) (is_input-before es ls link element),
-      is_input-to_b es ls link element,
-      is_input-to_a es ls link element,
+      filter_range_agree p (is_line_into plan element) (2 * n) (is_line_into-before plan link element),
+      is_line_into-to_b plan link element,
+      is_line_into-to_a plan link element,
     ) refl
 
--- an element takes nothing of a line to another
-pub taken-other : (receiver priority line element : ℕ) → receiver ≢ element → taken receiver priority line element ≡ []
-taken-other receiver priority line element other =
-    let apart : (receiver == element) ≡ false = ne_eqb receiver element other in
-    rw apart (elim (nat_lt 0 priority) as (λ b. (if b && false then line ∷ [] else []) ≡ []) [ true ↦ refl | false ↦ refl ])
+-- a number that is taken, as the input that it stands for
+map-taken_number : (f : ℕ → InputId) (receiver priority number element : ℕ)
+    → map f (taken_number receiver priority number element) ≡ taken receiver priority (f number) element
+map-taken_number f receiver priority number element =
+    elim (nat_lt 0 priority && receiver == element) as (λ b. map f (if b then number ∷ [] else []) ≡ (if b then f number ∷ [] else [])) [ true ↦ refl | false ↦ refl ]
 
--- how many inputs a line brings doesn't depend on its number
-length-taken : (receiver priority line other element : ℕ) → length (taken receiver priority line element) ≡ length (taken receiver priority other element)
-length-taken receiver priority line other element =
-    elim (nat_lt 0 priority && receiver == element) as (λ b. length (if b then line ∷ [] else []) ≡ length (if b then other ∷ [] else [])) [ true ↦ refl | false ↦ refl ]
+-- the inputs that a link brings come last, while there are no sources
+pub inputs_of-link : (plan : Topology) (link : Link) (element : ℕ) → plan.sources ≡ []
+    → inputs_of (with_link plan link) element
+    ≡ inputs_of plan element ++ taken link.b link.priority_b (line_input (2 * length plan.links)) element ++ taken link.a link.priority_a (line_input (2 * length plan.links + 1)) element
+inputs_of-link plan link element none =
+    let n = length plan.links in
+    let to_b = taken_number link.b link.priority_b (2 * n) element in
+    let to_a = taken_number link.a link.priority_a (2 * n + 1) element in
+    rw (
+      none,
+      lines_into-push plan link element,
+      append-nil (map line_input (lines_into plan element ++ to_b ++ to_a)),
+      append-nil (map line_input (lines_into plan element)),
+      map-append line_input (lines_into plan element ++ to_b) to_a,
+      map-append line_input (lines_into plan element) to_b,
+      map-taken_number line_input link.b link.priority_b (2 * n) element,
+      map-taken_number line_input link.a link.priority_a (2 * n + 1) element,
+    ) refl
+
+-- the earlier sources stay what they were, and a source comes last
+is_source_at-before : (plan : Topology) (source : declared.Source) (element j : ℕ) → j < length plan.sources
+    → is_source_at (with_source plan source) element j ≡ is_source_at plan element j
+is_source_at-before plan source element j h = rw (slice_get-push_before plan.sources source j h) refl
+
+is_source_at-last : (plan : Topology) (source : declared.Source) (element : ℕ)
+    → is_source_at (with_source plan source) element (length plan.sources) ≡ (nat_lt 0 source.priority && source.at == element)
+is_source_at-last plan source element = rw (slice_get-push_last plan.sources source (length plan.sources) refl) refl
+
+sources_at-push : (plan : Topology) (source : declared.Source) (element : ℕ)
+    → sources_at (with_source plan source) element ≡ sources_at plan element ++ taken_number source.at source.priority (length plan.sources) element
+sources_at-push plan source element =
+    let n = length plan.sources in
+    let p = is_source_at (with_source plan source) element in
+    rw (
+      length-append plan.sources (source ∷ []),
+      filter_range_more p n,
+      filter_range_agree p (is_source_at plan element) n (is_source_at-before plan source element),
+      is_source_at-last plan source element,
+    ) refl
+
+pub inputs_of-source : (plan : Topology) (source : declared.Source) (element : ℕ)
+    → inputs_of (with_source plan source) element
+    ≡ inputs_of plan element ++ taken source.at source.priority (Source (length plan.sources)) element
+inputs_of-source plan source element =
+    let last = taken_number source.at source.priority (length plan.sources) element in
+    rw (
+      sources_at-push plan source element,
+      map-append Source (sources_at plan element) last,
+      map-taken_number Source source.at source.priority (length plan.sources) element,
+    ) (sym (append_assoc (map line_input (lines_into plan element)) (map Source (sources_at plan element)) (taken source.at source.priority (Source (length plan.sources)) element)))
+
+-- an element takes nothing of an input of another
+pub taken-other : (receiver priority : ℕ) (input : InputId) (element : ℕ) → receiver ≢ element → taken receiver priority input element ≡ []
+taken-other receiver priority input element other =
+    let apart : (receiver == element) ≡ false = ne_eqb receiver element other in
+    rw apart (elim (nat_lt 0 priority) as (λ b. (if b && false then input ∷ [] else []) ≡ []) [ true ↦ refl | false ↦ refl ])
+
+-- how many inputs an element takes of one of its own
+length-taken : (priority : ℕ) (input : InputId) (element : ℕ) → length (taken element priority input element) ≡ (if nat_lt 0 priority then 1 else 0)
+length-taken priority input element =
+    let same : (element == element) ≡ true = eq-eqb element element refl in
+    rw same (elim (nat_lt 0 priority) as (λ b. length (if b && true then input ∷ [] else []) ≡ (if b then 1 else 0)) [ true ↦ refl | false ↦ refl ])
 
 -- how many inputs each end of a link then has
-pub inputs-at_a : (es : List Element) (ls : List Link) (link : Link) → link.a ≢ link.b
-    → length (inputs_of (with_link es ls link) link.a) ≡ length (inputs_of (plan_with es ls) link.a) + length (taken link.a link.priority_a 0 link.a)
-inputs-at_a es ls link apart =
-    let n = length ls in
-    let none : taken link.b link.priority_b (2 * n) link.a ≡ [] = taken-other link.b link.priority_b (2 * n) link.a (λ e. apart (sym e)) in
-    rw (inputs_of-push es ls link link.a, none, append-nil (inputs_of (plan_with es ls) link.a), length-append (inputs_of (plan_with es ls) link.a) _, length-taken link.a link.priority_a (2 * n + 1) 0 link.a) refl
+pub inputs-at_a : (plan : Topology) (link : Link) → plan.sources ≡ [] → link.a ≢ link.b
+    → length (inputs_of (with_link plan link) link.a) ≡ length (inputs_of plan link.a) + (if nat_lt 0 link.priority_a then 1 else 0)
+inputs-at_a plan link empty apart =
+    let n = length plan.links in
+    let before = inputs_of plan link.a in
+    let none : taken link.b link.priority_b (line_input (2 * n)) link.a ≡ [] = taken-other link.b link.priority_b (line_input (2 * n)) link.a (λ e. apart (sym e)) in
+    let own = taken link.a link.priority_a (line_input (2 * n + 1)) link.a in
+    let is : inputs_of (with_link plan link) link.a ≡ before ++ own = rw (inputs_of-link plan link link.a empty, none, append-nil before) refl in
+    ap length is ∙ length-append before own ∙ ap (λ (k : ℕ). length before + k) (length-taken link.priority_a (line_input (2 * n + 1)) link.a)
 
-pub inputs-at_b : (es : List Element) (ls : List Link) (link : Link) → link.a ≢ link.b
-    → length (inputs_of (with_link es ls link) link.b) ≡ length (inputs_of (plan_with es ls) link.b) + length (taken link.b link.priority_b 0 link.b)
-inputs-at_b es ls link apart =
-    let n = length ls in
-    let none : taken link.a link.priority_a (2 * n + 1) link.b ≡ [] = taken-other link.a link.priority_a (2 * n + 1) link.b apart in
-    rw (inputs_of-push es ls link link.b, none, append-nil (inputs_of (plan_with es ls) link.b ++ taken link.b link.priority_b (2 * n) link.b), length-append (inputs_of (plan_with es ls) link.b) _, length-taken link.b link.priority_b (2 * n) 0 link.b) refl
+pub inputs-at_b : (plan : Topology) (link : Link) → plan.sources ≡ [] → link.a ≢ link.b
+    → length (inputs_of (with_link plan link) link.b) ≡ length (inputs_of plan link.b) + (if nat_lt 0 link.priority_b then 1 else 0)
+inputs-at_b plan link empty apart =
+    let n = length plan.links in
+    let before = inputs_of plan link.b in
+    let none : taken link.a link.priority_a (line_input (2 * n + 1)) link.b ≡ [] = taken-other link.a link.priority_a (line_input (2 * n + 1)) link.b apart in
+    let own = taken link.b link.priority_b (line_input (2 * n)) link.b in
+    let is : inputs_of (with_link plan link) link.b ≡ before ++ own = rw (inputs_of-link plan link link.b empty, none, append-nil (before ++ own)) refl in
+    ap length is ∙ length-append before own ∙ ap (λ (k : ℕ). length before + k) (length-taken link.priority_b (line_input (2 * n)) link.b)
 
--- every input has the number of a line
-pub inputs-within : (plan : Topology) (element : ℕ) (inputs : List InputId) → map input_number inputs ≡ inputs_of plan element
-    → All (λ i. input_number i < line_count plan) inputs
-inputs-within plan element inputs same k d within =
-    let numbered : All (λ n. n < line_count plan) (range_with_len 0 (line_count plan))
-    = λ j e h. rw (get_or-range_with_len 0 (line_count plan) j e (rw (length-range_with_len 0 (line_count plan)) at h), zero-add j) (rw (length-range_with_len 0 (line_count plan)) at h) in
-    let kept : All (λ n. n < line_count plan) (inputs_of plan element)
-    = All-filter (is_input plan element) (λ n. n < line_count plan) (range_with_len 0 (line_count plan)) numbered in
-    let there : k < length (map input_number inputs) = rw (length-map) within in
-    rw (← get_or-map input_number inputs k d (input_number d) within, same) (kept k (input_number d) (rw same at there))
+-- how many inputs the element of a source then has
+pub inputs-at_source : (plan : Topology) (source : declared.Source)
+    → length (inputs_of (with_source plan source) source.at) ≡ length (inputs_of plan source.at) + (if nat_lt 0 source.priority then 1 else 0)
+inputs-at_source plan source =
+    let before = inputs_of plan source.at in
+    let own = taken source.at source.priority (Source (length plan.sources)) source.at in
+    ap length (inputs_of-source plan source source.at) ∙ length-append before own ∙ ap (λ (k : ℕ). length before + k) (length-taken source.priority (Source (length plan.sources)) source.at)
+
+-- what is kept of a range is within it
+filter_range-within : (p : ℕ → Bool) (n : ℕ) → All (λ k. k < n) (filter p (range_with_len 0 n))
+filter_range-within p n =
+    All-filter p (λ k. k < n) (range_with_len 0 n)
+    (λ j e h. rw (get_or-range_with_len 0 n j e (rw (length-range_with_len 0 n) at h), zero-add j) (rw (length-range_with_len 0 n) at h))
+
+-- every input is one of the plan's
+pub inputs_of-within : (plan : Topology) (element : ℕ) → All (IsInput plan) (inputs_of plan element)
+inputs_of-within plan element =
+    All-append (IsInput plan) (map line_input (lines_into plan element)) (map Source (sources_at plan element))
+    (All-map (IsInput plan) line_input (lines_into plan element) (filter_range-within (is_line_into plan element) (line_count plan)))
+    (All-map (IsInput plan) Source (sources_at plan element) (filter_range-within (is_source_at plan element) (length plan.sources)))

@@ -1,7 +1,14 @@
 pub mod Lists
+pub mod RowLoops
+pub mod RowRules
+pub mod FirstBroken
 pub mod Inputs
 pub mod HeldLemmas
 pub mod WellFormedLemmas
 pub mod LineNames
 pub mod LineLaws
-pub mod PlanOfRowsLemmas
+pub mod RuleLemmas
+pub mod KeptRules
+pub mod RowsOfPlan
+pub mod PlaceLaws
+pub mod NameLaws

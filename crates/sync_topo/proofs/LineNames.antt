@@ -12,7 +12,7 @@ use Rattle.sync_topo.specs.declared.link.Link.{Link}
 use Rattle.sync_topo.specs.Topology.{Topology}
 use Rattle.sync_topo.specs.Lines.{line_count, receiver_of, line_name, line_of_name, element_name}
 use Rattle.sync_topo.specs.Names.{is_name, is_name_byte, is_named, place_of}
-use Rattle.sync_topo.specs.PlanRows.{link_names}
+use Rattle.sync_topo.specs.Names.{link_names}
 use Rattle.sync_topo.specs.WellFormed.{IsWellFormed}
 use Rattle.sync_topo.specs.Naming.{has_sign, IsCut, line_into}
 use Rattle.std.proofs.Math.Bool.{or-true}
@@ -27,7 +27,7 @@ not_same xs ys apart = false_unless (bytes_eq xs ys) (λ e. apart ((bytes_eq-Dec
     false_unless false never = refl
 
 -- the sign > stands in no name
-no_sign : (bytes : List ℕ) → list_all is_name_byte bytes ≡ true → has_sign bytes ≡ false
+pub no_sign : (bytes : List ℕ) → list_all is_name_byte bytes ≡ true → has_sign bytes ≡ false
 no_sign [] all = refl
 no_sign (byte ∷ bytes) all =
     let parts = and_parts (is_name_byte byte) (list_all is_name_byte bytes) all in
@@ -37,7 +37,7 @@ no_sign (byte ∷ bytes) all =
     ]
 
 -- bytes are cut at their first sign > in one way only
-cut_once : (front other : List ℕ) (back rest : List ℕ) → has_sign front ≡ false → has_sign other ≡ false
+pub cut_once : (front other : List ℕ) (back rest : List ℕ) → has_sign front ≡ false → has_sign other ≡ false
     → front ++ 62 ∷ back ≡ other ++ 62 ∷ rest → (front ≡ other) × (back ≡ rest)
 cut_once [] [] back rest f g e = (refl, cc)
 cut_once [] (x ∷ other) back rest f g e =
@@ -72,7 +72,7 @@ find_range_first p a (suc n) k low high here before =
     ]
 
 -- a link of a plan, by a number in range
-link_there : (plan : Topology) (line : ℕ) → line < line_count plan → (link : Link) × (slice_get plan.links (line / 2) ≡ Some link)
+pub link_there : (plan : Topology) (line : ℕ) → line < line_count plan → (link : Link) × (slice_get plan.links (line / 2) ≡ Some link)
 link_there plan line within = there plan.links (line / 2) (omega arith)
   where
     there : (links : List Link) (k : ℕ) → k < length links → (link : Link) × (slice_get links k ≡ Some link)
@@ -81,7 +81,7 @@ link_there plan line within = there plan.links (line / 2) (omega arith)
     there (link ∷ links) (suc k) inside = there links k (omega arith)
 
 -- a link's name has no sign >
-link_no_sign : (links : List Link) (k : ℕ) (link : Link) → list_all is_name (link_names links) ≡ true → slice_get links k ≡ Some link → has_sign link.name ≡ false
+pub link_no_sign : (links : List Link) (k : ℕ) (link : Link) → list_all is_name (link_names links) ≡ true → slice_get links k ≡ Some link → has_sign link.name ≡ false
 link_no_sign [] k link all at = absurd (none-some link at)
 link_no_sign (first ∷ links) zero link all at =
     let same : first ≡ link = same_Some first link at in
@@ -89,7 +89,7 @@ link_no_sign (first ∷ links) zero link all at =
     rw (← same) (no_sign first.name (and_parts _ _ good).1)
 link_no_sign (first ∷ links) (suc k) link all at = link_no_sign links k link (and_parts _ _ all).1 at
 
-line_name-is : (plan : Topology) (line : ℕ) (link : Link) → slice_get plan.links (line / 2) ≡ Some link
+pub line_name-is : (plan : Topology) (line : ℕ) (link : Link) → slice_get plan.links (line / 2) ≡ Some link
     → line_name plan line ≡ link.name ++ 62 ∷ element_name plan (receiver_of plan line)
 line_name-is plan line link at = rw (at) (append_assoc link.name (62 ∷ []) _)
 
@@ -134,7 +134,7 @@ unknown_link-names_no_line plan name front back well cut unknown =
     true≢false (sym (is_named-at (link_names plan.links) front (line / 2) at) ∙ unknown)))
 
 -- two links of one name are one link
-one_link : (plan : Topology) (j k : ℕ) (name : List ℕ) → IsWellFormed plan
+pub one_link : (plan : Topology) (j k : ℕ) (name : List ℕ) → IsWellFormed plan
     → slice_get (link_names plan.links) j ≡ Some name → slice_get (link_names plan.links) k ≡ Some name → j ≡ k
 one_link plan j k name well at_j at_k =
     let within_j = slice_get_within (link_names plan.links) j name at_j in

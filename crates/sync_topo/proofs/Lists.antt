@@ -1,10 +1,12 @@
 -- Laws on lists that std does not have.
-use Rattle.std.proofs.Common.{◌≡◌, ℕ, ◌+◌, ◌<◌, Bool, true, false, not, cond, List, [], ◌∷◌, ◌++◌, length, map, filter, Some, position, refl, ap, sym, subst, ◌∙◌, arith, slice_get, slice_set}
+use Rattle.std.proofs.Common.{◌≡◌, ℕ, ◌+◌, ◌<◌, Bool, true, false, not, cond, List, [], ◌∷◌, ◌++◌, length, map, filter, get_or, Some, None, position, refl, ap, sym, subst, ◌∙◌, arith, slice_get, slice_set}
 use Rattle.std.specs.List.{list_any, range_with_len, prefix_len}
 use Rattle.std.proofs.Common.{zero, suc}
-use Rattle.std.specs.Prelude.{◌≢◌}
+use Rattle.std.specs.Prelude.{◌≢◌, IfSome, Option}
 use Rattle.std.proofs.Math.Bool.{or-true}
-use Rattle.std.proofs.lemmas.Option.{none-some, same_Some}
+use Rattle.std.proofs.lemmas.Bool.{true≢false}
+use Rattle.std.proofs.lemmas.List.Quantifiers.{position-Some}
+use Rattle.std.proofs.lemmas.Option.{none-some, same_Some, slice_get-get_or}
 use Rattle.std.proofs.lemmas.Slice.Eq.{bytes_eq-Decides}
 use Rattle.std.proofs.Math.Numerals.{suc-eq-add-one}
 use Rattle.std.proofs.lemmas.List.{length-map, map-append, map-id}
@@ -84,3 +86,18 @@ is_named-at (first ∷ names) name zero h =
     let same : bytes_eq name first ≡ true = (bytes_eq-Decides name first).1 (sym (same_Some first name h)) in
     rw same refl
 is_named-at (first ∷ names) name (suc i) h = rw (is_named-at names name i h) (or-true (bytes_eq name first))
+
+-- the name at the place of a name is that name
+pub place_of-names : (names : List (List ℕ)) (name : List ℕ) (place : Option ℕ) → place ≡ position (bytes_eq name) names
+    → IfSome place (λ k. slice_get names k ≡ Some name)
+place_of-names names name None found = tt
+place_of-names names name (Some k) found =
+    let facts = position-Some (bytes_eq name) names k [] (sym found) in
+    let same : name ≡ get_or names k [] = (bytes_eq-Decides name _).0 facts.1 in
+    slice_get-get_or names k [] facts.0 ∙ ap Some (sym same)
+
+-- two names that differ stand at two places
+pub places-apart : (names : List (List ℕ)) (a b : ℕ) (x y : List ℕ) → slice_get names a ≡ Some x → slice_get names b ≡ Some y → bytes_eq x y ≡ false → a ≢ b
+places-apart names a b x y at_a at_b differ same =
+    let one : x ≡ y = same_Some x y (sym at_a ∙ ap (slice_get names) same ∙ at_b) in
+    true≢false (sym ((bytes_eq-Decides x y).1 one) ∙ differ)

@@ -1,20 +1,25 @@
--- A plan that keeps every rule still does when one more element or link comes.
-use Rattle.std.proofs.Common.{◌≡◌, ℕ, ◌+◌, ◌*◌, ◌<◌, ◌≤◌, true, false, List, [], ◌∷◌, ◌++◌, length, Some, slice_get, refl, sym, ◌∙◌, inl, inr, arith, length-append}
+-- A plan that keeps every rule still does when one more element, link or source comes.
+use Rattle.std.proofs.Common.{◌≡◌, ℕ, ◌+◌, ◌*◌, ◌<◌, ◌≤◌, true, false, List, [], ◌∷◌, ◌++◌, length, map, Some, slice_get, refl, sym, ◌∙◌, inl, inr, arith, length-append}
 use Rattle.std.specs.List.{list_all}
 use Rattle.std.proofs.lemmas.Bool.{cases_lt, leb-true, true≢false}
 use Rattle.std.proofs.lemmas.Bool.Decides.{eqb_tells}
 use Rattle.std.proofs.lemmas.List.{append-nil, map-append}
 use Rattle.std.proofs.lemmas.List.Folds.{list_all-append}
 use Rattle.std.proofs.lemmas.Option.{slice_get_within, same_Some}
+use Rattle.sync_ql.specs.declared.levels.NetOption.{NetOption}
 use Rattle.sync_topo.specs.declared.element.Element.{Element}
 use Rattle.sync_topo.specs.declared.link.Link.{Link}
-use Rattle.sync_topo.specs.Lines.{inputs_of}
-use Rattle.sync_topo.specs.Names.{is_name, is_named}
-use Rattle.sync_topo.specs.PlanRows.{element_names, link_names, has_room, element_limit, link_limit, input_limit}
+use Rattle.sync_topo.specs.declared.source.Source.{Source}
+use Rattle.sync_topo.specs.declared.input.InputId.TheVariants as input
+use Rattle.sync_topo.specs.Topology.{Topology}
+use Rattle.sync_topo.specs.Lines.{inputs_of, line_input}
+use Rattle.sync_topo.specs.Names.{is_name, is_named, element_names, link_names, source_names}
+use Rattle.sync_topo.specs.Limits.{element_limit, link_limit, source_limit, input_limit}
 use Rattle.sync_topo.specs.Held.{taken}
-use Rattle.sync_topo.specs.WellFormed.{AreDistinct, JoinsTwo, IsWellFormed}
+use Rattle.sync_topo.specs.WellFormed.{AreDistinct, JoinsTwo, IsSourceOf, IsWellFormed}
+use Rattle.sync_topo.specs.Indexed.{MayJoin, MayLink, MayFeed}
 use Rattle.sync_topo.proofs.Lists.{slice_get-push_before, slice_get-push_last, is_named-at}
-use Rattle.sync_topo.proofs.Inputs.{plan_with, with_link, inputs_of-push, taken-other}
+use Rattle.sync_topo.proofs.Inputs.{with_link, with_source, inputs_of-link, inputs_of-source, taken-other}
 
 -- a name that none of them is may come last
 AreDistinct-push : (names : List (List ℕ)) (name : List ℕ) → AreDistinct names → is_named names name ≡ false → AreDistinct (names ++ name ∷ [])
@@ -32,6 +37,19 @@ AreDistinct-push names name distinct fresh i j before within same =
 list_all-push : (names : List (List ℕ)) (name : List ℕ) → list_all is_name names ≡ true → is_name name ≡ true → list_all is_name (names ++ name ∷ []) ≡ true
 list_all-push names name all one = rw (list_all-append is_name names (name ∷ []), all, one) refl
 
+-- what holds of each item, by its place, still does when one more comes of which it holds
+each-push : {A : Type 0} (P : A → Type 0) (xs : List A) (last : A) → ((i : ℕ) (x : A) → slice_get xs i ≡ Some x → P x) → P last
+    → (i : ℕ) (x : A) → slice_get (xs ++ last ∷ []) i ≡ Some x → P x
+each-push {A} P xs last each one i x at =
+    elim (cases_lt i (length xs)) [
+      | inl before ↦ each i x (sym (slice_get-push_before xs last i before) ∙ at)
+      | inr end ↦
+          let within : i < length (xs ++ last ∷ []) = slice_get_within _ i x at in
+          let e : i ≡ length xs = omega (arith, length-append xs (last ∷ [])) in
+          let same : last ≡ x = same_Some last x (sym (slice_get-push_last xs last i e) ∙ at) in
+          rw (← same) one
+    ]
+
 JoinsTwo-more : (n : ℕ) (link : Link) → JoinsTwo n link → JoinsTwo (n + 1) link
 JoinsTwo-more n link joins = record {
   a_is_element = omega (arith, joins.a_is_element);
@@ -39,79 +57,115 @@ JoinsTwo-more n link joins = record {
   apart = joins.apart;
   priority_a_fits = joins.priority_a_fits;
   priority_b_fits = joins.priority_b_fits;
+  least_delay_a = joins.least_delay_a;
+  greatest_delay_a = joins.greatest_delay_a;
+  least_delay_b = joins.least_delay_b;
+  greatest_delay_b = joins.greatest_delay_b;
 }
 
-pub IsWellFormed-element : (es : List Element) (ls : List Link) (element : Element)
-    → IsWellFormed (plan_with es ls) → length es < element_limit
-    → is_name element.name ≡ true → is_named (element_names es) element.name ≡ false
-    → IsWellFormed (plan_with (es ++ element ∷ []) ls)
-IsWellFormed-element es ls element well room named fresh =
-    let size : length (es ++ element ∷ []) ≡ length es + 1 = length-append es (element ∷ []) in
-    let names : element_names (es ++ element ∷ []) ≡ element_names es ++ element.name ∷ [] = map-append (λ (e : Element). e.name) es (element ∷ []) in
+IsSourceOf-more : (option : NetOption) (n : ℕ) (source : Source) → IsSourceOf option n source → IsSourceOf option (n + 1) source
+IsSourceOf-more option n source fits = record {
+  at_is_element = omega (arith, fits.at_is_element);
+  of_option = fits.of_option;
+  priority_fits = fits.priority_fits;
+}
+
+pub IsWellFormed-element : (plan : Topology) (element : Element) → IsWellFormed plan → length plan.elements < element_limit → MayJoin plan element
+    → IsWellFormed (record plan { elements = plan.elements ++ element ∷ [] })
+IsWellFormed-element plan element well room may =
+    let size : length (plan.elements ++ element ∷ []) ≡ length plan.elements + 1 = length-append plan.elements (element ∷ []) in
+    let names : element_names (plan.elements ++ element ∷ []) ≡ element_names plan.elements ++ element.name ∷ [] = map-append (λ (e : Element). e.name) plan.elements (element ∷ []) in
     record {
       few_elements = rw size (omega arith);
       few_links = well.few_links;
-      elements_named = rw names (list_all-push (element_names es) element.name well.elements_named named);
-      elements_distinct = rw names (AreDistinct-push (element_names es) element.name well.elements_distinct fresh);
+      few_sources = well.few_sources;
+      elements_named = rw names (list_all-push (element_names plan.elements) element.name well.elements_named may.named);
+      elements_distinct = rw names (AreDistinct-push (element_names plan.elements) element.name well.elements_distinct may.fresh);
+      elements_fit = each-push _ plan.elements element well.elements_fit may.fits;
       links_named = well.links_named;
       links_distinct = well.links_distinct;
-      links_join = λ k link at. rw size (JoinsTwo-more (length es) link (well.links_join k link at));
+      links_join = λ k link at. rw size (JoinsTwo-more (length plan.elements) link (well.links_join k link at));
+      sources_named = well.sources_named;
+      sources_distinct = well.sources_distinct;
+      sources_are_no_links = well.sources_are_no_links;
+      sources_fit = λ j source at. rw size (IsSourceOf-more plan.option (length plan.elements) source (well.sources_fit j source at));
       few_inputs = well.few_inputs;
     }
 
-few_inputs-push : (es : List Element) (ls : List Link) (link : Link) (element : ℕ) → IsWellFormed (plan_with es ls)
-    → has_room es (ls ++ link ∷ []) link.a ≡ true → has_room es (ls ++ link ∷ []) link.b ≡ true
-    → length (inputs_of (with_link es ls link) element) ≤ input_limit
-few_inputs-push es ls link element well room_a room_b =
+few_inputs-link : (plan : Topology) (link : Link) (element : ℕ) → IsWellFormed plan → plan.sources ≡ [] → MayLink plan link
+    → length (inputs_of (with_link plan link) element) ≤ input_limit
+few_inputs-link plan link element well empty may =
     elim (eqb_tells link.a element) [
-      | inl at_a ↦ rw (← at_a.1) (leb-true _ _ room_a)
+      | inl at_a ↦ rw (← at_a.1) (leb-true _ _ may.room_at_a)
       | inr not_a ↦ elim (eqb_tells link.b element) [
-        | inl at_b ↦ rw (← at_b.1) (leb-true _ _ room_b)
+        | inl at_b ↦ rw (← at_b.1) (leb-true _ _ may.room_at_b)
         | inr not_b ↦
-            let n = length ls in
-            let none_a : taken link.a link.priority_a (2 * n + 1) element ≡ [] = taken-other link.a link.priority_a (2 * n + 1) element not_a.1 in
-            let none_b : taken link.b link.priority_b (2 * n) element ≡ [] = taken-other link.b link.priority_b (2 * n) element not_b.1 in
-            rw (inputs_of-push es ls link element, none_a, none_b, append-nil (inputs_of (plan_with es ls) element ++ []), append-nil (inputs_of (plan_with es ls) element)) (well.few_inputs element)
+            let n = length plan.links in
+            let none_a : taken link.a link.priority_a (line_input (2 * n + 1)) element ≡ [] = taken-other link.a link.priority_a (line_input (2 * n + 1)) element not_a.1 in
+            let none_b : taken link.b link.priority_b (line_input (2 * n)) element ≡ [] = taken-other link.b link.priority_b (line_input (2 * n)) element not_b.1 in
+            rw (inputs_of-link plan link element empty, none_a, none_b, append-nil (inputs_of plan element ++ []), append-nil (inputs_of plan element)) (well.few_inputs element)
       ]
     ]
 
-pub IsWellFormed-link : (es : List Element) (ls : List Link) (link : Link)
-    → IsWellFormed (plan_with es ls) → length ls < link_limit
-    → is_name link.name ≡ true → is_named (link_names ls) link.name ≡ false → JoinsTwo (length es) link
-    → has_room es (ls ++ link ∷ []) link.a ≡ true → has_room es (ls ++ link ∷ []) link.b ≡ true
-    → IsWellFormed (with_link es ls link)
-IsWellFormed-link es ls link well room named fresh joins room_a room_b =
-    let size : length (ls ++ link ∷ []) ≡ length ls + 1 = length-append ls (link ∷ []) in
-    let names : link_names (ls ++ link ∷ []) ≡ link_names ls ++ link.name ∷ [] = map-append (λ (l : Link). l.name) ls (link ∷ []) in
+pub IsWellFormed-link : (plan : Topology) (link : Link) → IsWellFormed plan → plan.sources ≡ [] → length plan.links < link_limit → MayLink plan link
+    → IsWellFormed (with_link plan link)
+IsWellFormed-link plan link well empty room may =
+    let size : length (plan.links ++ link ∷ []) ≡ length plan.links + 1 = length-append plan.links (link ∷ []) in
+    let names : link_names (plan.links ++ link ∷ []) ≡ link_names plan.links ++ link.name ∷ [] = map-append (λ (l : Link). l.name) plan.links (link ∷ []) in
     record {
       few_elements = well.few_elements;
       few_links = rw size (omega arith);
+      few_sources = well.few_sources;
       elements_named = well.elements_named;
       elements_distinct = well.elements_distinct;
-      links_named = rw names (list_all-push (link_names ls) link.name well.links_named named);
-      links_distinct = rw names (AreDistinct-push (link_names ls) link.name well.links_distinct fresh);
-      links_join = λ k other at. joined k other at;
-      few_inputs = λ element. few_inputs-push es ls link element well room_a room_b;
+      elements_fit = well.elements_fit;
+      links_named = rw names (list_all-push (link_names plan.links) link.name well.links_named may.named);
+      links_distinct = rw names (AreDistinct-push (link_names plan.links) link.name well.links_distinct may.fresh);
+      links_join = each-push _ plan.links link well.links_join may.joins;
+      sources_named = well.sources_named;
+      sources_distinct = well.sources_distinct;
+      sources_are_no_links = λ j source at. absurd (none j source (rw empty at at));
+      sources_fit = well.sources_fit;
+      few_inputs = λ element. few_inputs-link plan link element well empty may;
     }
   where
-    joined : (k : ℕ) (other : Link) → slice_get (ls ++ link ∷ []) k ≡ Some other → JoinsTwo (length es) other
-    joined k other at =
-        elim (cases_lt k (length ls)) [
-          | inl before ↦ well.links_join k other (sym (slice_get-push_before ls link k before) ∙ at)
-          | inr end ↦
-              let within : k < length (ls ++ link ∷ []) = slice_get_within _ k other at in
-              let e : k ≡ length ls = omega (arith, length-append ls (link ∷ [])) in
-              let same : link ≡ other = same_Some link other (sym (slice_get-push_last ls link k e) ∙ at) in
-              rw (← same) joins
-        ]
+    none : (j : ℕ) (source : Source) → slice_get [] j ≡ Some source → ⊥
+    none j source at = omega (arith, slice_get_within [] j source at)
 
--- the names that are kept follow the elements, and the links
-pub element_names-push : (es now : List Element) (element : Element) (names names_now : List (List ℕ)) (name : List ℕ)
-    → names ≡ element_names es → now ≡ es ++ element ∷ [] → names_now ≡ names ++ name ∷ [] → name ≡ element.name → names_now ≡ element_names now
-element_names-push es now element names names_now name kept pushed added e =
-    rw (added, kept, e, pushed, map-append (λ (x : Element). x.name) es (element ∷ [])) refl
+few_inputs-source : (plan : Topology) (source : Source) (element : ℕ) → IsWellFormed plan → MayFeed plan source
+    → length (inputs_of (with_source plan source) element) ≤ input_limit
+few_inputs-source plan source element well may =
+    elim (eqb_tells source.at element) [
+      | inl here ↦ rw (← here.1) (leb-true _ _ may.room)
+      | inr other ↦
+          let none : taken source.at source.priority (input.Source (length plan.sources)) element ≡ [] = taken-other source.at source.priority (input.Source (length plan.sources)) element other.1 in
+          rw (inputs_of-source plan source element, none, append-nil (inputs_of plan element)) (well.few_inputs element)
+    ]
 
-pub link_names-push : (ls now : List Link) (link : Link) (names names_now : List (List ℕ)) (name : List ℕ)
-    → names ≡ link_names ls → now ≡ ls ++ link ∷ [] → names_now ≡ names ++ name ∷ [] → name ≡ link.name → names_now ≡ link_names now
-link_names-push ls now link names names_now name kept pushed added e =
-    rw (added, kept, e, pushed, map-append (λ (x : Link). x.name) ls (link ∷ [])) refl
+pub IsWellFormed-source : (plan : Topology) (source : Source) → IsWellFormed plan → length plan.sources < source_limit → MayFeed plan source
+    → IsWellFormed (with_source plan source)
+IsWellFormed-source plan source well room may =
+    let size : length (plan.sources ++ source ∷ []) ≡ length plan.sources + 1 = length-append plan.sources (source ∷ []) in
+    let names : source_names (plan.sources ++ source ∷ []) ≡ source_names plan.sources ++ source.name ∷ [] = map-append (λ (s : Source). s.name) plan.sources (source ∷ []) in
+    record {
+      few_elements = well.few_elements;
+      few_links = well.few_links;
+      few_sources = rw size (omega arith);
+      elements_named = well.elements_named;
+      elements_distinct = well.elements_distinct;
+      elements_fit = well.elements_fit;
+      links_named = well.links_named;
+      links_distinct = well.links_distinct;
+      links_join = well.links_join;
+      sources_named = rw names (list_all-push (source_names plan.sources) source.name well.sources_named may.named);
+      sources_distinct = rw names (AreDistinct-push (source_names plan.sources) source.name well.sources_distinct may.fresh);
+      sources_are_no_links = each-push (λ s. is_named (link_names plan.links) s.name ≡ false) plan.sources source well.sources_are_no_links may.no_link;
+      sources_fit = each-push _ plan.sources source well.sources_fit may.fits;
+      few_inputs = λ element. few_inputs-source plan source element well may;
+    }
+
+-- the names that are kept follow the elements, the links and the sources
+pub names-push : {A : Type 0} (name_of : A → List ℕ) (items now : List A) (item : A) (names names_now : List (List ℕ)) (name : List ℕ)
+    → names ≡ map name_of items → now ≡ items ++ item ∷ [] → names_now ≡ names ++ name ∷ [] → name ≡ name_of item → names_now ≡ map name_of now
+names-push name_of items now item names names_now name kept pushed added e =
+    rw (added, kept, e, pushed, map-append name_of items (item ∷ [])) refl

@@ -1,19 +1,40 @@
--- Lines, hops and refusals at plans and rows written by hand.
-use Rattle.std.specs.Prelude.{◌≡◌, true, false, [], ◌∷◌, codes, List, Some, None, Err, pos, refl}
+-- Lines, inputs, hops and refusals at plans and rows written by hand.
+use Rattle.std.specs.Prelude.{◌≡◌, ℕ, true, false, [], ◌∷◌, codes, List, Some, None, Ok, Err, pos, unwrap_or, refl}
+use native.Mathlib.Decide.{dec_lt}
+use Rattle.sync_ql.specs.declared.levels.NetOption.TheVariants.{I, II}
+use Rattle.sync_ql.specs.Level.{name_of, level_of_name, do_not_use_of}
+use Rattle.sync_topo.specs.declared.place.Section.{Section}
+use Rattle.sync_topo.specs.declared.place.Section.TheVariants.{Elements, Links, Sources}
+use Rattle.sync_topo.specs.declared.place.Place.{Place}
+use Rattle.sync_topo.specs.declared.error.PlanErr.TheVariants.{Name, Twice, SelfLink, LevelName}
+use Rattle.sync_topo.specs.declared.element.Element.{Element}
+use Rattle.sync_topo.specs.declared.link.Link.{Link}
+use Rattle.sync_topo.specs.declared.input.InputId.TheVariants as input
 use Rattle.sync_topo.specs.declared.rows.ElementRow.{ElementRow}
+use Rattle.sync_topo.specs.declared.rows.LinkRow.{LinkRow}
+use Rattle.sync_topo.specs.declared.rows.SourceRow.{SourceRow}
+use Rattle.sync_topo.specs.declared.rows.PlanRows.{PlanRows}
 use Rattle.sync_topo.specs.Topology.{Topology}
-use Rattle.sync_topo.specs.Lines.{line_name, line_of_name, inputs_of}
+use Rattle.sync_topo.specs.Lines.{line_name, line_of_name, line_input, input_number, input_of_name, inputs_of}
 use Rattle.sync_topo.specs.Hops.{hops}
-use Rattle.sync_topo.specs.Refusal.{elements, links, bad_name, named_twice, self_link}
-use Rattle.sync_topo.specs.PlanRows.{element_of_row, link_of_row, plan_of_rows}
+use Rattle.sync_topo.specs.RowValues.{default_own, element_from}
+use Rattle.sync_topo.specs.PlanRows.{plan_of_rows}
 
--- two elements with two links between them
+-- an element with the defaults of option I
+abbrev pub element : List ℕ → Element
+element name = element_from I (record { name = name; own = None; floor = None; holdoff = None; wtr = None })
+
+-- a link from A to B that is nominated at both ends
+abbrev pub link : List ℕ → Link
+link name = record { name = name; a = 0; b = 1; priority_a = 1; priority_b = 1; delay_a = 10; delay_b = 10 }
+
+-- two elements with two links between them, and a source at B
 abbrev pub twin : Topology
 twin = record {
-  elements = record { name = codes "A" } ∷ record { name = codes "B" } ∷ [];
-  links = record { name = codes "L1"; a = 0; b = 1; priority_a = 1; priority_b = 1 }
-      ∷ record { name = codes "L2"; a = 0; b = 1; priority_a = 1; priority_b = 1 }
-      ∷ [];
+  option = I;
+  elements = element (codes "A") ∷ element (codes "B") ∷ [];
+  links = link (codes "L1") ∷ link (codes "L2") ∷ [];
+  sources = record { name = codes "S"; at = 1; level = do_not_use_of I; priority = 1 } ∷ [];
 }
 
 pub even_line_ends_at_b : line_name twin 0 ≡ codes "L1>B"
@@ -34,34 +55,91 @@ line_is_found_by_its_name = refl
 pub line_into_no_element_is_not_found : line_of_name twin (codes "L1>C") ≡ None
 line_into_no_element_is_not_found = refl
 
-pub inputs_are_the_lines_into_an_element : inputs_of twin 1 ≡ 0 ∷ 2 ∷ []
-inputs_are_the_lines_into_an_element = refl
+pub source_is_an_input_of_its_name : input_of_name twin (codes "S") ≡ Some (input.Source 0)
+source_is_an_input_of_its_name = refl
 
--- rows of two elements
-abbrev pub two_elements : List ElementRow
-two_elements = record { name = codes "A" } ∷ record { name = codes "B" } ∷ []
+pub inputs_are_lines_and_then_sources : inputs_of twin 1 ≡ line_input 0 ∷ line_input 2 ∷ input.Source 0 ∷ []
+inputs_are_lines_and_then_sources = refl
 
-pub name_twice_comes_before_an_end_that_is_no_element : plan_of_rows (record {
-  elements = two_elements;
-  links = record { name = codes "L1"; a = codes "A"; b = codes "B"; priority_a = None; priority_b = Some (pos 1) }
-      ∷ record { name = codes "L1"; a = codes "A"; b = codes "C"; priority_a = None; priority_b = Some (pos 1) }
-      ∷ [];
-}) ≡ Err (record { reason = named_twice; place = record { section = links; row = 2 } })
-unfolding plan_of_rows element_of_row link_of_row
+pub numbers_of_sources_come_after_all_lines : input_number twin (input.Source 0) ≡ 4
+numbers_of_sources_come_after_all_lines = refl
+
+pub own_clock_is_sec_in_option_I : name_of (default_own I) ≡ codes "QL-SEC"
+unfolding dec_lt
+own_clock_is_sec_in_option_I = refl
+
+pub own_clock_is_st3_in_option_II : name_of (default_own II) ≡ codes "QL-ST3"
+unfolding dec_lt
+own_clock_is_st3_in_option_II = refl
+
+pub minutes_are_kept_in_milliseconds : (element (codes "A")).wtr ≡ 300000
+minutes_are_kept_in_milliseconds = refl
+
+-- rows that give only what they must
+abbrev pub element_row : List ℕ → ElementRow
+element_row name = record { name = name; own = None; floor = None; holdoff = None; wtr = None }
+
+abbrev pub link_row : List ℕ → List ℕ → List ℕ → LinkRow
+link_row name a b = record { name = name; a = a; b = b; priority_a = None; priority_b = Some (pos 1); delay_a = None; delay_b = None }
+
+abbrev pub source_row : List ℕ → List ℕ → List ℕ → SourceRow
+source_row name at level = record { name = name; at = at; level = level; priority = None }
+
+-- rows of two elements in option I
+abbrev pub two_elements : List LinkRow → List SourceRow → PlanRows
+two_elements links sources = record {
+  option = I;
+  elements = element_row (codes "A") ∷ element_row (codes "B") ∷ [];
+  links = links;
+  sources = sources;
+}
+
+abbrev pub at : Section → ℕ → Place
+at section row = record { section = section; row = row }
+
+pub name_twice_comes_before_an_end_that_is_no_element
+    : plan_of_rows (two_elements (link_row (codes "L1") (codes "A") (codes "B") ∷ link_row (codes "L1") (codes "A") (codes "C") ∷ []) [])
+    ≡ Err (Twice (at Links 2))
+unfolding plan_of_rows
 name_twice_comes_before_an_end_that_is_no_element = refl
 
-pub self_link_comes_before_a_priority_out_of_range : plan_of_rows (record {
-  elements = two_elements;
-  links = record { name = codes "L1"; a = codes "A"; b = codes "B"; priority_a = None; priority_b = Some (pos 1) }
-      ∷ record { name = codes "L2"; a = codes "A"; b = codes "A"; priority_a = None; priority_b = Some (pos 256) }
-      ∷ [];
-}) ≡ Err (record { reason = self_link; place = record { section = links; row = 2 } })
-unfolding plan_of_rows element_of_row link_of_row
-self_link_comes_before_a_priority_out_of_range = refl
+pub self_link_comes_before_a_delay_out_of_range
+    : plan_of_rows (two_elements (record (link_row (codes "L1") (codes "A") (codes "A")) { delay_a = Some (pos 0) } ∷ []) [])
+    ≡ Err (SelfLink (at Links 1))
+unfolding plan_of_rows
+self_link_comes_before_a_delay_out_of_range = refl
 
 pub bad_name_of_an_element_comes_before_any_link_row : plan_of_rows (record {
-  elements = record { name = codes "A" } ∷ record { name = codes "B>" } ∷ [];
-  links = record { name = codes "L1"; a = codes "A"; b = codes "A"; priority_a = None; priority_b = None } ∷ [];
-}) ≡ Err (record { reason = bad_name; place = record { section = elements; row = 2 } })
-unfolding plan_of_rows element_of_row link_of_row
+  option = I;
+  elements = element_row (codes "A") ∷ element_row (codes "B>") ∷ [];
+  links = link_row (codes "L1") (codes "A") (codes "A") ∷ [];
+  sources = [];
+}) ≡ Err (Name (at Elements 2))
+unfolding plan_of_rows
 bad_name_of_an_element_comes_before_any_link_row = refl
+
+pub do_not_use_is_no_floor : plan_of_rows (record {
+  option = II;
+  elements = record (element_row (codes "A")) { floor = Some (codes "QL-DUS") } ∷ [];
+  links = [];
+  sources = [];
+}) ≡ Err (LevelName (at Elements 1))
+unfolding plan_of_rows dec_lt
+do_not_use_is_no_floor = refl
+
+pub source_may_not_have_a_links_name
+    : plan_of_rows (two_elements (link_row (codes "L1") (codes "A") (codes "B") ∷ []) (source_row (codes "L1") (codes "X") (codes "QL-PRC") ∷ []))
+    ≡ Err (Twice (at Sources 1))
+unfolding plan_of_rows
+source_may_not_have_a_links_name = refl
+
+pub source_may_have_an_elements_name_and_do_not_use
+    : plan_of_rows (two_elements [] (source_row (codes "A") (codes "A") (codes "QL-DNU") ∷ []))
+    ≡ Ok (record {
+      option = I;
+      elements = element (codes "A") ∷ element (codes "B") ∷ [];
+      links = [];
+      sources = record { name = codes "A"; at = 0; level = unwrap_or (level_of_name I (codes "QL-DNU")) (default_own I); priority = 1 } ∷ [];
+    })
+unfolding plan_of_rows dec_lt
+source_may_have_an_elements_name_and_do_not_use = refl

@@ -1,16 +1,20 @@
--- What a step of the making of a plan answers. What only private clauses cite, but for `Gives`.
-use Rattle.std.specs.Prelude.{◌≡◌, ⊤, Result, Ok, Err, IsErr}
+-- What a call answers that may refuse rows, or want memory.
+use Rattle.std.specs.Prelude.{◌≡◌, ⊤, Result, Ok, Err}
 use Rattle.sync_topo.specs.declared.error.PlanErr.{PlanErr}
-use Rattle.sync_topo.specs.declared.error.PlanErr.TheVariants.{Refused, NoMemory}
+use Rattle.sync_topo.specs.declared.error.PlanErr.TheVariants.{Limit, Name, Twice, NoElement, SelfLink, Range, LevelName, NoMemory}
 
--- the value, or a refusal exactly where there is none; want of memory says nothing
-abbrev pub Gives : {A E : Type 0} → Result A PlanErr → Result A E → Type 0
+-- the refusal is the definition's; want of memory says nothing
+abbrev pub Refuses : {A : Type 0} → PlanErr → Result A PlanErr → Type 0
+Refuses (Limit place) answer = answer ≡ Err (Limit place)
+Refuses (Name place) answer = answer ≡ Err (Name place)
+Refuses (Twice place) answer = answer ≡ Err (Twice place)
+Refuses (NoElement place) answer = answer ≡ Err (NoElement place)
+Refuses (SelfLink place) answer = answer ≡ Err (SelfLink place)
+Refuses (Range place) answer = answer ≡ Err (Range place)
+Refuses (LevelName place) answer = answer ≡ Err (LevelName place)
+Refuses NoMemory answer = ⊤
+
+-- the answer is the definition's, plan or refusal; want of memory says nothing
+abbrev pub Gives : {A : Type 0} → Result A PlanErr → Result A PlanErr → Type 0
 Gives (Ok value) answer = answer ≡ Ok value
-Gives (Err Refused) answer = IsErr answer
-Gives (Err NoMemory) answer = ⊤
-
--- the same of a step that answers nothing and leaves the value where it is kept
-abbrev pub GivesThat : {A E : Type 0} → Result (Unit {0}) PlanErr → A → Result A E → Type 0
-GivesThat (Ok done) value answer = answer ≡ Ok value
-GivesThat (Err Refused) value answer = IsErr answer
-GivesThat (Err NoMemory) value answer = ⊤
+Gives (Err error) answer = Refuses error answer

@@ -1,7 +1,10 @@
--- Names of elements and links.
-use Rattle.std.specs.Prelude.{ℕ, Bool, ◌&&◌, ◌||◌, ◌==◌, nat_le, List, length, Option, position}
+-- Names of elements, links and sources.
+use Rattle.std.specs.Prelude.{ℕ, Bool, ◌&&◌, ◌||◌, ◌==◌, nat_le, List, length, map, Option, position}
 use Rattle.std.specs.List.{list_all, list_any}
 use Rattle.std.specs.Str.{bytes_eq}
+use Rattle.sync_topo.specs.declared.element.Element.{Element}
+use Rattle.sync_topo.specs.declared.link.Link.{Link}
+use Rattle.sync_topo.specs.declared.source.Source.{Source}
 
 -- the byte is within the two
 abbrev pub is_between : ℕ → ℕ → ℕ → Bool
@@ -22,3 +25,13 @@ is_named names name = list_any (bytes_eq name) names
 -- the place of a name in the list, counted from 0
 abbrev pub place_of : List (List ℕ) → List ℕ → Option ℕ
 place_of names name = position (bytes_eq name) names
+
+-- the names of elements, of links and of sources, in order
+abbrev pub element_names : List Element → List (List ℕ)
+element_names elements = map (λ element. element.name) elements
+
+abbrev pub link_names : List Link → List (List ℕ)
+link_names links = map (λ link. link.name) links
+
+abbrev pub source_names : List Source → List (List ℕ)
+source_names sources = map (λ source. source.name) sources

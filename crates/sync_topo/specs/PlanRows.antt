@@ -1,93 +1,69 @@
--- The plan that rows give, or the first refusal in the order of the rows.
-use Rattle.std.specs.Prelude.{ℕ, ◌+◌, Bool, not, ◌&&◌, ◌==◌, nat_le, List, [], ◌∷◌, ◌++◌, length, map, Option, Some, None, Result, Ok, ℤ, pos, negsuc, if◌then◌else◌}
-use Rattle.sync_topo.specs.declared.element.Element.{Element}
-use Rattle.sync_topo.specs.declared.link.Link.{Link}
+-- The plan that rows give, or the first refusal in the order of the rules and the rows.
+use Rattle.std.specs.Prelude.{◌≡◌, IsTrue, true, not, if◌then◌else◌, List, [], ◌∷◌, ◌++◌, Option, Some, None, Result, Ok, Err}
+use Rattle.std.specs.List.{list_all}
+use Rattle.sync_topo.specs.declared.place.Section.TheVariants.{Elements, Links, Sources}
+use Rattle.sync_topo.specs.declared.error.PlanErr.{PlanErr}
 use Rattle.sync_topo.specs.declared.rows.ElementRow.{ElementRow}
 use Rattle.sync_topo.specs.declared.rows.LinkRow.{LinkRow}
+use Rattle.sync_topo.specs.declared.rows.SourceRow.{SourceRow}
 use Rattle.sync_topo.specs.declared.rows.PlanRows.{PlanRows}
 use Rattle.sync_topo.specs.Topology.{Topology}
-use Rattle.sync_topo.specs.Lines.{inputs_of}
-use Rattle.sync_topo.specs.Names.{is_name, is_named, place_of}
-use Rattle.sync_topo.specs.Refusal.{Section, elements, links, Reason, PlanRefusal, past_limit, bad_name, named_twice, no_element, self_link, out_of_range, ◌>>=◌, only_if, found, at_row}
+use Rattle.sync_topo.specs.Limits.{element_limit, link_limit, source_limit}
+use Rattle.sync_topo.specs.RowValues.{plan_from}
+use Rattle.sync_topo.specs.Rules.{Rule, rule, element_rules, link_rules, source_rules, row_limit}
 
--- the most elements that a plan may have. This project's own.
-abbrev pub element_limit : ℕ
-element_limit = 2000
+-- what rules there are for each of the rows, in order, where `rules` says it of a row after the rows before it
+abbrev pub each_row : {A : Type 0} → (List A → A → List Rule) → List A → List A → List Rule
+each_row rules before [] = []
+each_row rules before (row ∷ rows) = rules before row ++ each_row rules (before ++ row ∷ []) rows
 
--- the most links that a plan may have. This project's own.
-abbrev pub link_limit : ℕ
-link_limit = 4000
+-- the rules for the element rows, then for the link rows, then for the source rows
+abbrev pub element_row_rules : PlanRows → List ElementRow → ElementRow → List Rule
+element_row_rules rows before row = element_rules (plan_from (record rows { elements = before; links = []; sources = [] })) row
 
--- the most nominated inputs that an element may have. This project's own.
-abbrev pub input_limit : ℕ
-input_limit = 64
+abbrev pub link_row_rules : PlanRows → List LinkRow → LinkRow → List Rule
+link_row_rules rows before row = link_rules (plan_from (record rows { links = before; sources = [] })) row
 
--- the names of elements, in order
-abbrev pub element_names : List Element → List (List ℕ)
-element_names es = map (λ e. e.name) es
+abbrev pub source_row_rules : PlanRows → List SourceRow → SourceRow → List Rule
+source_row_rules rows before row = source_rules (plan_from (record rows { sources = before })) row
 
--- the names of links, in order
-abbrev pub link_names : List Link → List (List ℕ)
-link_names ls = map (λ l. l.name) ls
+-- the rules on how many rows there are
+abbrev pub limits_of : PlanRows → List Rule
+limits_of rows =
+    row_limit Elements element_limit rows.elements
+    ∷ row_limit Links link_limit rows.links
+    ∷ row_limit Sources source_limit rows.sources
+    ∷ []
 
--- a section has at most so many rows; the first row past the limit is refused
-abbrev pub within : {A : Type 0} → ℕ → Section → List A → Result (Unit {0}) PlanRefusal
-within limit section rows = at_row section (limit + 1) (only_if (nat_le (length rows) limit) past_limit)
+-- every rule at every row, in order: how many rows there are, then the rows one after the other
+abbrev pub rules_of : PlanRows → List Rule
+rules_of rows =
+    limits_of rows
+    ++ each_row (element_row_rules rows) [] rows.elements
+    ++ each_row (link_row_rules rows) [] rows.links
+    ++ each_row (source_row_rules rows) [] rows.sources
 
--- a name that keeps the rule for names and that no earlier row has
-abbrev pub fresh_name : List (List ℕ) → List ℕ → Result (Unit {0}) Reason
-fresh_name earlier name = do
-  good ← only_if (is_name name) bad_name
-  only_if (not (is_named earlier name)) named_twice
+-- the refusal of the first rule that is broken
+abbrev pub first_broken : List Rule → Option PlanErr
+first_broken [] = None
+first_broken (rule ∷ rules) = if rule.broken then Some rule.refusal else first_broken rules
 
--- a priority is 0 to 255, and 0, not nominated, where none is given
-abbrev pub priority_value : Option ℤ → Option ℕ
-priority_value None = Some 0
-priority_value (Some (pos n)) = if nat_le n 255 then Some n else None
-priority_value (Some (negsuc n)) = None
+-- the plan, or the refusal where there is one
+abbrev pub or_refusal : {A : Type 0} → Option PlanErr → A → Result A PlanErr
+or_refusal None plan = Ok plan
+or_refusal (Some refusal) plan = Err refusal
 
--- the element of a row, after earlier rows with these names
-unfoldable pub element_of_row : List (List ℕ) → ElementRow → Result Element Reason
-element_of_row earlier row = do
-  fresh ← fresh_name earlier row.name
-  Ok (record { name = row.name })
+-- the plan of the rows: what they say where no rule is broken, and otherwise the refusal of the first rule that is
+unfoldable pub plan_of_rows : PlanRows → Result Topology PlanErr
+plan_of_rows rows = or_refusal (first_broken (rules_of rows)) (plan_from rows)
 
--- the element has no more nominated inputs than an element may have
-abbrev pub has_room : List Element → List Link → ℕ → Bool
-has_room es ls element = nat_le (length (inputs_of (record { elements = es; links = ls }) element)) input_limit
+-- no rule is broken
+abbrev pub AreKept : List Rule → Type 0
+AreKept rules = IsTrue (list_all (λ rule. not rule.broken) rules)
 
--- the link of a row between these elements, after the links of the earlier rows
-unfoldable pub link_of_row : List Element → List Link → LinkRow → Result Link Reason
-link_of_row es earlier row = do
-  fresh ← fresh_name (link_names earlier) row.name
-  a ← found (place_of (element_names es) row.a) no_element
-  b ← found (place_of (element_names es) row.b) no_element
-  apart ← only_if (not (a == b)) self_link
-  priority_a ← found (priority_value row.priority_a) out_of_range
-  priority_b ← found (priority_value row.priority_b) out_of_range
-  let link : Link = record { name = row.name; a = a; b = b; priority_a = priority_a; priority_b = priority_b }
-  room ← only_if (has_room es (earlier ++ link ∷ []) a && has_room es (earlier ++ link ∷ []) b) past_limit
-  Ok link
-
--- the elements of the earlier rows, and of the rows from row n on
-abbrev pub elements_of_rows : List Element → ℕ → List ElementRow → Result (List Element) PlanRefusal
-elements_of_rows earlier n [] = Ok earlier
-elements_of_rows earlier n (row ∷ rows) = do
-  element ← at_row elements n (element_of_row (element_names earlier) row)
-  elements_of_rows (earlier ++ element ∷ []) (n + 1) rows
-
--- the links of the earlier rows, and of the rows from row n on
-abbrev pub links_of_rows : List Element → List Link → ℕ → List LinkRow → Result (List Link) PlanRefusal
-links_of_rows es earlier n [] = Ok earlier
-links_of_rows es earlier n (row ∷ rows) = do
-  link ← at_row links n (link_of_row es earlier row)
-  links_of_rows es (earlier ++ link ∷ []) (n + 1) rows
-
--- the plan of the rows: limits first, then each element row in order, then each link row
-unfoldable pub plan_of_rows : PlanRows → Result Topology PlanRefusal
-plan_of_rows rows = do
-  elements_within ← within element_limit elements rows.elements
-  links_within ← within link_limit links rows.links
-  es ← elements_of_rows [] 1 rows.elements
-  ls ← links_of_rows es [] 1 rows.links
-  Ok (record { elements = es; links = ls })
+-- one of the rules tells this refusal and is broken, and no rule before it is
+pub record IsFirstBroken (rules : List Rule) (refusal : PlanErr) : Type 0 where
+  pub before : List Rule
+  pub after : List Rule
+  pub order : rules ≡ before ++ rule refusal true ∷ after
+  pub kept : AreKept before

@@ -1,19 +1,85 @@
+//! Why rows give no plan.
+
+ghost use Rattle.std.specs.Prelude.{◌≡◌};
+ghost use Rattle.sync_topo.specs.Refusal.{refusal_number, refused_place};
+
+use crate::place::Place;
 use sync_edge::NoMemory;
 use thiserror::Error;
 
-/// Why rows give no plan.
-#[derive(Debug, Drop, Error)]
+/// The first rule for plans that rows break, and the row that breaks it.
+///
+/// This project's own.
+#[derive(Clone, Copy, Debug, PartialEq, Eq, Error)]
 pub enum PlanErr {
-    /// The rows break a rule for plans.
-    #[error("the plan is refused")]
-    Refused,
+    /// The section has more rows than its limit, and this is the first one past it; or by this row
+    /// an element has more nominated inputs than its limit.
+    #[error("a limit of the plan is passed")]
+    Limit(Place),
+    /// The row's name isn't 1 to 32 of `A-Z a-z 0-9 _ -`.
+    #[error("a name breaks the rule for names")]
+    Name(Place),
+    /// An earlier row has the name: for an element an earlier element, for a link an earlier link,
+    /// and for a source a link or an earlier source.
+    #[error("a name stands twice")]
+    Twice(Place),
+    /// An end of the link, or the element of the source, is no element of the plan.
+    #[error("a name is no element's")]
+    NoElement(Place),
+    /// Both ends of the link are one element.
+    #[error("a link joins an element to itself")]
+    SelfLink(Place),
+    /// A time, a delay or a priority is outside its limits.
+    #[error("a number is outside its limits")]
+    Range(Place),
+    /// A name is no level of the plan's option, or it is do-not-use as the level of a clock or as the
+    /// lowest level that an element accepts.
+    #[error("a name is no level that may stand here")]
+    LevelName(Place),
     /// Memory ran out.
     #[error("out of memory")]
     NoMemory,
 }
 
+impl PlanErr {
+    /// The number by which the refusal is printed, from 15 to 21.
+    ///
+    /// `None` where memory ran out, which refuses no row. This project's own.
+    pub fn number(self) -> Option<u8>
+        ensures { result ≡ refusal_number self }
+    {
+        match self {
+            PlanErr::Limit(_) => Some(15),
+            PlanErr::Name(_) => Some(16),
+            PlanErr::Twice(_) => Some(17),
+            PlanErr::NoElement(_) => Some(18),
+            PlanErr::SelfLink(_) => Some(19),
+            PlanErr::Range(_) => Some(20),
+            PlanErr::LevelName(_) => Some(21),
+            PlanErr::NoMemory => None,
+        }
+    }
+
+    /// The row that breaks the rule.
+    ///
+    /// `None` where memory ran out, which refuses no row. This project's own.
+    pub fn place(self) -> Option<Place>
+        ensures { result ≡ refused_place self }
+    {
+        match self {
+            PlanErr::Limit(place)
+            | PlanErr::Name(place)
+            | PlanErr::Twice(place)
+            | PlanErr::NoElement(place)
+            | PlanErr::SelfLink(place)
+            | PlanErr::Range(place)
+            | PlanErr::LevelName(place) => Some(place),
+            PlanErr::NoMemory => None,
+        }
+    }
+}
+
 impl From<NoMemory> for PlanErr {
-    ghost use Rattle.std.specs.Prelude.{◌≡◌};
     ghost use Rattle.sync_topo.specs.declared.error.PlanErr.TheVariants as refusal;
 
     ghost from_gives = { λ _ e. e ≡ refusal.NoMemory };

@@ -1,25 +1,37 @@
-//! Plans: the elements of a network, the links between them, and the lines that carry timing.
+//! Plans: the elements of a network, the links between them, the sources at them, and the lines that
+//! carry timing.
 //!
-//! [`PlanRows`] is what a plan file says, and [`Plan::new`] gives the [`Plan`] of it. Contracts see
-//! a plan as a `Topology`, its elements and its links.
+//! [`PlanRows`] is what a plan file says, and [`Plan::new`] gives the [`Plan`] of it, or tells the
+//! first rule that the rows break and where. Contracts see a plan as a `Topology`: its option, its
+//! elements, its links and its sources.
 //!
-//! Each link is two lines. Which lines there are and their names is `Lines`, which line goes on
-//! over which is `Hops`, the plan of rows or its first refusal is `plan_of_rows`, and what holds of
-//! every plan is `IsWellFormed`.
+//! Each link is two lines. Which lines and inputs there are and their names is `Lines`, which line
+//! goes on over which is `Hops`, and which events a plan may have is `Events`. The rules for one row
+//! are `Rules`, the plan of rows or the first refusal is `plan_of_rows`, and what holds of every plan
+//! is `IsWellFormed`.
 //!
 //! This crate has no tests; whole plans are tested in plan_file.
 #![tactic(auto)]
 
 mod element;
 mod error;
+mod event;
+mod input;
 mod link;
 mod names;
 mod parts;
+mod place;
 mod plan;
 mod rows;
+mod source;
+mod values;
 
 pub use element::Element;
 pub use error::PlanErr;
-pub use link::{InputId, LineId, Link};
+pub use event::{Event, Part, What};
+pub use input::{InputId, LineId};
+pub use link::Link;
+pub use place::{Place, Section};
 pub use plan::Plan;
-pub use rows::{ElementRow, LinkRow, PlanRows};
+pub use rows::{ElementRow, LinkRow, PlanRows, SourceRow};
+pub use source::Source;

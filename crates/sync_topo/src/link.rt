@@ -12,33 +12,12 @@ pub struct Link {
     /// The number of the element at end b, which is another.
     pub b: u32,
     /// The priority of the line into end a: 1 is the highest, 255 the lowest, and 0 is not
-    /// nominated.
+    /// nominated. After G.781, priority.
     pub priority_a: u8,
     /// The priority of the line into end b.
     pub priority_b: u8,
-}
-
-/// The number of a line.
-///
-/// Line 2k runs from end a of link k to its end b, and line 2k + 1 from b to a. This project's own.
-#[derive(Clone, Copy, Debug, PartialEq, Eq, Drop)]
-pub struct LineId(pub u32);
-
-impl LineId {
-    ghost use Rattle.std.specs.Prelude.{◌≡◌};
-    ghost use Rattle.sync_topo.specs.Lines.{ends_at_b};
-
-    /// The line runs from end a of its link to end b.
-    pub(crate) fn ends_at_b(self) -> bool
-        ensures { result ≡ ends_at_b self.0 }
-    {
-        self.0 % 2 == 0
-    }
-}
-
-/// What an element may take its timing from.
-#[derive(Clone, Copy, Debug, PartialEq, Eq, Drop)]
-pub enum InputId {
-    /// A line into the element.
-    Line(LineId),
+    /// How long a message takes on the line into end a, 1 to 2,000 milliseconds.
+    pub delay_a: u32,
+    /// How long a message takes on the line into end b, 1 to 2,000 milliseconds.
+    pub delay_b: u32,
 }

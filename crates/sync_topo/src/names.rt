@@ -1,4 +1,4 @@
-ghost use Rattle.std.specs.Prelude.{◌≡◌, [], ◌∷◌, ◌++◌, false, true, not, IfOk, OnOk, OnErr, is_some, IfSome, length, ◌<◌};
+ghost use Rattle.std.specs.Prelude.{◌≡◌, [], ◌∷◌, ◌++◌, false, true, not, IfOk, OnOk, OnErr, is_some, IfSome, Some, slice_get, length, ◌<◌};
 ghost use Rattle.std.specs.List.{list_all};
 ghost use Rattle.sync_topo.specs.Names.{is_name, is_name_byte, is_named, place_of};
 
@@ -37,6 +37,7 @@ impl Names {
     pub(crate) fn place_of(&self, name: &[u8]) -> Option<usize>
         ensures place { result ≡ place_of self.now name.now }
         ensures found { is_some result ≡ is_named self.now name.now }
+        ensures named { IfSome result (λ place. slice_get self.now place ≡ Some name.now) }
         ensures within { IfSome result (λ place. place < length self.now) }
     {
         self.set.get_index_of(name)

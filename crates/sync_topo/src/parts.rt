@@ -1,260 +1,166 @@
-ghost use Rattle.std.specs.Prelude.{◌≡◌, ◌∷◌, [], ◌++◌, ◌<◌, ◌≤◌, ◌+◌, ℕ, nat_le, ◌&&◌, length, false, IsTrue, IfOk, OnOk};
-ghost use Rattle.sync_topo.specs.Names.{is_name, is_named, place_of};
-ghost use Rattle.sync_topo.specs.Refusal.{found, no_element, out_of_range};
-ghost use Rattle.sync_topo.specs.Gives.{Gives, GivesThat};
-ghost use Rattle.sync_topo.specs.PlanRows.{element_names, element_of_row, link_of_row, elements_of_rows, links_of_rows, fresh_name, priority_value, has_room, element_limit, link_limit, input_limit};
-ghost use Rattle.sync_topo.specs.Lines.{inputs_of};
+//! What a plan keeps, and how it is made.
+
+ghost use Rattle.std.specs.Prelude.{◌≡◌, [], ◌∷◌, ◌++◌, ◌<◌, ◌≤◌, ◌+◌, ◌^◌, ℕ, length, slice_get, Some, OnOk, IfOk, IfSome, is_some, nat_lt, nat_le, if◌then◌else◌};
 ghost use Rattle.sync_topo.specs.Held.{held, taken};
-ghost use Rattle.sync_topo.specs.WellFormed.{JoinsTwo};
+ghost use Rattle.sync_topo.specs.Limits.{element_limit, link_limit, source_limit, input_limit};
+ghost use Rattle.sync_topo.specs.Lines.{inputs_of};
+ghost use Rattle.sync_topo.specs.Names.{is_named, element_names};
+ghost use Rattle.sync_topo.specs.PlanRows.{limits_of, rules_of};
+ghost use Rattle.sync_topo.specs.RowValues.{element_of_name, plan_from};
+ghost use Rattle.sync_topo.specs.Steps.{Follows};
+
+mod elements;
+mod links;
+mod sources;
 
 use crate::element::Element;
 use crate::error::PlanErr;
-use crate::link::{InputId, LineId, Link};
-use crate::names::{Names, is_name};
-use crate::rows::{ElementRow, LinkRow};
+use crate::input::InputId;
+use crate::link::Link;
+use crate::names::Names;
+use crate::place::{Place, Section};
+use crate::rows::PlanRows;
+use crate::source::Source;
 use std::alloc::Global;
 use sync_edge::{NoMemory, Text};
+use sync_ql::NetOption;
 
 /// The most elements that a plan may have.
-pub(crate) const ELEMENT_LIMIT: usize = 2000;
+const ELEMENT_LIMIT: usize = 2000;
 
 /// The most links that a plan may have.
-pub(crate) const LINK_LIMIT: usize = 4000;
+const LINK_LIMIT: usize = 4000;
+
+/// The most sources that a plan may have.
+const SOURCE_LIMIT: usize = 2000;
 
 /// The most nominated inputs that an element may have.
-pub(crate) const INPUT_LIMIT: usize = 64;
+const INPUT_LIMIT: usize = 64;
 
-/// What a plan keeps: its elements and links, and indexes that are found from them.
+/// What a plan keeps: what it holds, and indexes that are found from that.
 #[derive(Drop)]
 pub(crate) struct Parts {
+    pub(crate) option: NetOption,
     pub(crate) elements: Vec<Element>,
     pub(crate) links: Vec<Link>,
+    pub(crate) sources: Vec<Source>,
     pub(crate) element_names: Names,
     pub(crate) link_names: Names,
+    pub(crate) source_names: Names,
     /// For each element its inputs, in order of number.
     pub(crate) inputs: Vec<Vec<InputId>>,
 }
 
 impl Parts {
-    ghost use Rattle.sync_topo.specs.Indexed.{topology, IsIndexed, MayJoin, MayLink};
+    ghost use Rattle.sync_topo.specs.Indexed.{topology, IsIndexed};
 
-    /// No elements and no links.
-    pub(crate) fn new(alloc: Global) -> Parts
+    /// No elements, no links and no sources.
+    pub(crate) fn new(alloc: Global, option: NetOption) -> Parts
         ensures indexed { IsIndexed result }
+        ensures option { result.option ≡ option }
         ensures no_elements { result.elements.items ≡ [] }
         ensures no_links { result.links.items ≡ [] }
+        ensures no_sources { result.sources.items ≡ [] }
     {
         Parts {
+            option,
             elements: Vec::new(alloc),
             links: Vec::new(alloc),
+            sources: Vec::new(alloc),
             element_names: Names::new(alloc),
             link_names: Names::new(alloc),
+            source_names: Names::new(alloc),
             inputs: Vec::new(alloc),
         }
     }
 
-    /// The element of a row, which may come next.
-    #[tactic(auto, unfolding(crate::specs::PlanRows::element_of_row))]
-    pub(crate) fn element_of(&self, alloc: Global, row: &ElementRow) -> Result<Element, PlanErr>
-        requires { IsIndexed self.now }
-        ensures gives { Gives result
-            (element_of_row (element_names self.now.elements.items) row.now) }
-        ensures may_join { IfOk result (MayJoin self.now) }
+    /// What the rows give, or the refusal of the first rule that they break.
+    pub(crate) fn of_rows(alloc: Global, rows: PlanRows) -> Result<Parts, PlanErr>
+        ensures rules { Follows (rules_of rows) result }
+        ensures indexed { IfOk result IsIndexed }
+        ensures plan { IfOk result (λ parts. topology parts ≡ plan_from rows) }
     {
-        check_name(&self.element_names, &row.name)?;
-        let name = copy_of(alloc, &row.name)?;
-        Ok(Element { name })
-    }
-
-    /// Puts an element at the end.
-    pub(crate) fn add_element(&mut self, alloc: Global, element: Element) -> Result<(), NoMemory>
-        requires indexed { IsIndexed self.old }
-        requires may_join { MayJoin self.old element }
-        requires room { length self.old.elements.items < element_limit }
-        ensures indexed { OnOk result (IsIndexed self.new) }
-        ensures elements { OnOk result
-            (self.new.elements.items ≡ self.old.elements.items ++ element ∷ []) }
-        ensures links { OnOk result (self.new.links.items ≡ self.old.links.items) }
-    {
-        self.element_names.add(element.name.bytes())?;
-        let Ok(()) = self.elements.push(element) else {
-            return Err(NoMemory);
-        };
-        let Ok(()) = self.inputs.push(Vec::new(alloc)) else {
-            return Err(NoMemory);
-        };
-        Ok(())
-    }
-
-    /// Puts the elements of all rows, in order, into parts that have none yet.
-    ///
-    /// After a refusal the parts are spent.
-    pub(crate) fn add_elements(&mut self, alloc: Global, rows: &[ElementRow]) -> Result<(), PlanErr>
-        requires indexed { IsIndexed self.old }
-        requires no_elements { self.old.elements.items ≡ [] }
-        requires within { length rows.now ≤ element_limit }
-        ensures indexed { OnOk result (IsIndexed self.new) }
-        ensures gives { GivesThat result self.new.elements.items (elements_of_rows [] 1 rows.now) }
-        ensures links { OnOk result (self.new.links.items ≡ self.old.links.items) }
-    {
-        for row in rows {
-            let element = self.element_of(alloc, row)?;
-            self.add_element(alloc, element)?;
-        }
-        Ok(())
-    }
-
-    /// Puts the links of all rows, in order, into parts that have none yet.
-    ///
-    /// After a refusal the parts are spent.
-    pub(crate) fn add_links(&mut self, alloc: Global, rows: &[LinkRow]) -> Result<(), PlanErr>
-        requires indexed { IsIndexed self.old }
-        requires no_links { self.old.links.items ≡ [] }
-        requires within { length rows.now ≤ link_limit }
-        ensures indexed { OnOk result (IsIndexed self.new) }
-        ensures gives { GivesThat result self.new.links.items
-            (links_of_rows self.old.elements.items [] 1 rows.now) }
-        ensures elements { OnOk result (self.new.elements.items ≡ self.old.elements.items) }
-    {
-        for row in rows {
-            let link = self.link_of(alloc, row)?;
-            self.add_link(link)?;
-        }
-        Ok(())
-    }
-
-    /// The link of a row, which may come next.
-    #[tactic(auto, unfolding(crate::specs::PlanRows::link_of_row))]
-    pub(crate) fn link_of(&self, alloc: Global, row: &LinkRow) -> Result<Link, PlanErr>
-        requires { IsIndexed self.now }
-        ensures gives { Gives result
-            (link_of_row self.now.elements.items self.now.links.items row.now) }
-        ensures may_link { IfOk result (MayLink self.now) }
-    {
-        check_name(&self.link_names, &row.name)?;
-        let a = self.element_named(&row.a)?;
-        let b = self.element_named(&row.b)?;
-        if a == b {
-            return Err(PlanErr::Refused);
-        }
-        let priority_a = priority_value(row.priority_a)?;
-        let priority_b = priority_value(row.priority_b)?;
-        let name = copy_of(alloc, &row.name)?;
-        let link = Link {
-            name,
-            a,
-            b,
-            priority_a,
-            priority_b,
-        };
-        if !self.has_room_for(&link) {
-            return Err(PlanErr::Refused);
-        }
-        Ok(link)
+        check_limits(&rows)?;
+        let mut parts = Parts::new(alloc, rows.option);
+        parts.add_elements(alloc, rows.elements)?;
+        parts.add_links(rows.links)?;
+        parts.add_sources(rows.sources)?;
+        Ok(parts)
     }
 
     /// The number of the element of a name.
-    fn element_named(&self, name: &Text) -> Result<u32, PlanErr>
+    fn element_named(&self, name: &Text) -> Option<u32>
         requires { IsIndexed self.now }
-        ensures gives { Gives result
-            (found (place_of (element_names self.now.elements.items) name.now) no_element) }
-        ensures within { IfOk result (λ e. e < length self.now.elements.items) }
+        ensures found { is_some result
+            ≡ is_named (element_names self.now.elements.items) name.now }
+        ensures number { IfSome result
+            (λ e. e ≡ element_of_name self.now.elements.items name.now) }
+        ensures named { IfSome result
+            (λ e. slice_get (element_names self.now.elements.items) e ≡ Some name.now) }
+        ensures within { IfSome result (λ e. e < length self.now.elements.items) }
     {
-        let Some(place) = self.element_names.place_of(name.bytes()) else {
-            return Err(PlanErr::Refused);
-        };
-        Ok(place as u32)
-    }
-
-    /// Neither end of the link gets more inputs than an element may have.
-    fn has_room_for(&self, link: &Link) -> bool
-        requires indexed { IsIndexed self.now }
-        requires joins { JoinsTwo (length self.now.elements.items) link.now }
-        ensures { let longer = self.now.links.items ++ link.now ∷ [] in
-            result ≡ (has_room self.now.elements.items longer link.now.a
-            && has_room self.now.elements.items longer link.now.b) }
-    {
-        self.has_room(link.a, link.priority_a) && self.has_room(link.b, link.priority_b)
+        let place = self.element_names.place_of(name.bytes())?;
+        Some(place as u32)
     }
 
     /// The element may have one more input, if the priority makes it one.
     fn has_room(&self, element: u32, priority: u8) -> bool
         requires indexed { IsIndexed self.now }
         requires within { element < length self.now.elements.items }
-        ensures { let count = length (inputs_of (topology self.now) element) in
-            result ≡ nat_le (count + length (taken element priority 0 element)) input_limit }
+        ensures { let more = if nat_lt 0 priority then 1 else 0 in
+            result ≡ nat_le (length (inputs_of (topology self.now) element) + more) input_limit }
     {
         priority == 0 || self.inputs[element as usize].len() < INPUT_LIMIT
     }
-
-    /// Puts a link at the end.
-    pub(crate) fn add_link(&mut self, link: Link) -> Result<(), NoMemory>
-        requires indexed { IsIndexed self.old }
-        requires may_link { MayLink self.old link }
-        requires room { length self.old.links.items < link_limit }
-        ensures indexed { OnOk result (IsIndexed self.new) }
-        ensures elements { OnOk result (self.new.elements.items ≡ self.old.elements.items) }
-        ensures links { OnOk result (self.new.links.items ≡ self.old.links.items ++ link ∷ []) }
-    {
-        let line = 2 * self.links.len() as u32;
-        self.link_names.add(link.name.bytes())?;
-        take_input(&mut self.inputs, link.b, link.priority_b, LineId(line))?;
-        take_input(&mut self.inputs, link.a, link.priority_a, LineId(line + 1))?;
-        let Ok(()) = self.links.push(link) else {
-            return Err(NoMemory);
-        };
-        Ok(())
-    }
 }
 
-/// Keeps a line as an input of its receiver, if the receiver gives it a priority.
+/// No section has more rows than its limit.
+fn check_limits(rows: &PlanRows) -> Result<(), PlanErr>
+    ensures rules { Follows (limits_of rows.now) result }
+    ensures few_elements { OnOk result (length rows.now.elements ≤ element_limit) }
+    ensures few_links { OnOk result (length rows.now.links ≤ link_limit) }
+    ensures few_sources { OnOk result (length rows.now.sources ≤ source_limit) }
+{
+    if ELEMENT_LIMIT < rows.elements.as_slice().len() {
+        return Err(PlanErr::Limit(row_after(Section::Elements, ELEMENT_LIMIT)));
+    }
+    if LINK_LIMIT < rows.links.as_slice().len() {
+        return Err(PlanErr::Limit(row_after(Section::Links, LINK_LIMIT)));
+    }
+    if SOURCE_LIMIT < rows.sources.as_slice().len() {
+        return Err(PlanErr::Limit(row_after(Section::Sources, SOURCE_LIMIT)));
+    }
+    Ok(())
+}
+
+/// Keeps an input for the element, if the element gives it a priority.
 fn take_input(
     inputs: &mut Vec<Vec<InputId>>,
-    receiver: u32,
+    element: u32,
     priority: u8,
-    line: LineId,
+    input: InputId,
 ) -> Result<(), NoMemory>
-    requires { receiver < length inputs.old.items }
+    requires { element < length inputs.old.items }
     ensures counted { OnOk result (length inputs.new.items ≡ length inputs.old.items) }
-    ensures held { OnOk result ((element : ℕ) → held inputs.new.items element
-        ≡ held inputs.old.items element ++ taken receiver priority line.0 element) }
+    ensures held { OnOk result ((e : ℕ) → held inputs.new.items e
+        ≡ held inputs.old.items e ++ taken element priority input e) }
 {
     if priority == 0 {
         return Ok(());
     }
-    let Ok(()) = inputs[receiver as usize].push(InputId::Line(line)) else {
+    let Ok(()) = inputs[element as usize].push(input) else {
         return Err(NoMemory);
     };
     Ok(())
 }
 
-/// The name keeps the rule for names, and isn't among those.
-fn check_name(names: &Names, name: &Text) -> Result<(), PlanErr>
-    ensures gives { Gives result (fresh_name names.now name.now) }
-    ensures named { OnOk result (IsTrue (is_name name.now)) }
-    ensures fresh { OnOk result (is_named names.now name.now ≡ false) }
+/// The row of a section after so many.
+fn row_after(section: Section, before: usize) -> Place
+    requires { before < 2 ^ 32 }
+    ensures { result ≡ record { section = section; row = before + 1 } }
 {
-    if !is_name(name.bytes()) || names.has(name.bytes()) {
-        return Err(PlanErr::Refused);
+    Place {
+        section,
+        row: before as u64 + 1,
     }
-    Ok(())
-}
-
-/// The priority that a row gives: 0 to 255, and 0 where it gives none.
-fn priority_value(given: Option<i64>) -> Result<u8, PlanErr>
-    ensures { Gives result (found (priority_value given) out_of_range) }
-{
-    match given {
-        None => Ok(0),
-        Some(number) => u8::try_from(number).map_err(|_| PlanErr::Refused),
-    }
-}
-
-/// A copy of a text.
-fn copy_of(alloc: Global, text: &Text) -> Result<Text, NoMemory>
-    ensures { IfOk result (λ copy. copy ≡ text.now) }
-{
-    let mut copy = Text::new(alloc);
-    copy.put(text.bytes())?;
-    Ok(copy)
 }

@@ -1,25 +1,33 @@
-ghost use Rattle.std.specs.Prelude.{◌≡◌, ℕ, ◌+◌, ◌*◌, ◌<◌, ◌↔◌, IsTrue, IfOk, length, slice_get, Some, map};
+ghost use Rattle.std.specs.Prelude.{◌≡◌, ℕ, ◌+◌, ◌*◌, ◌<◌, ◌≤◌, ◌↔◌, IsTrue, IfOk, Ok, Err, length, slice_get, Some};
 ghost use Rattle.std.specs.List.{All};
-ghost use Rattle.sync_topo.specs.Lines.{line_count, sender_of, receiver_of, reverse_of, priority_of, is_nominated, inputs_of, input_number};
+ghost use Rattle.sync_topo.specs.Lines.{line_count, sender_of, receiver_of, reverse_of, delay_of, priority_of, is_nominated, inputs_of, input_number, input_priority, is_nominated_input, IsInput};
 ghost use Rattle.sync_topo.specs.Hops.{hops, Hops};
 ghost use Rattle.sync_topo.specs.Gives.{Gives};
-ghost use Rattle.sync_topo.specs.PlanRows.{plan_of_rows};
-ghost use Rattle.sync_topo.specs.PlanOfRows.{IsPlanOfRows};
-ghost use Rattle.sync_topo.specs.WellFormed.{IsWellFormed};
+ghost use Rattle.sync_topo.specs.Limits.{input_limit, least_delay, greatest_delay};
+ghost use Rattle.sync_topo.specs.RowValues.{plan_from};
+ghost use Rattle.sync_topo.specs.PlanRows.{rules_of, plan_of_rows, AreKept, IsFirstBroken};
+ghost use Rattle.sync_topo.specs.RowsOfPlan.{rows_of_plan};
+ghost use Rattle.sync_topo.specs.Topology.{Topology};
+ghost use Rattle.sync_topo.specs.WellFormed.{IsWellFormed, IsElementOf, JoinsTwo, IsSourceOf};
+ghost use Rattle.sync_topo.specs.declared.error.PlanErr.{PlanErr};
 
+mod fitting;
 mod naming;
 
 use crate::element::Element;
 use crate::error::PlanErr;
-use crate::link::{InputId, LineId, Link};
-use crate::parts::{ELEMENT_LIMIT, LINK_LIMIT, Parts};
+use crate::input::{InputId, LineId};
+use crate::link::Link;
+use crate::parts::Parts;
 use crate::rows::PlanRows;
+use crate::source::Source;
 use std::alloc::Global;
 use std::marker::Model;
+use sync_ql::NetOption;
 
 /// A plan that keeps every rule.
 ///
-/// Contracts see its elements and links.
+/// Contracts see its option, its elements, its links and its sources.
 #[derive(Drop)]
 pub struct Plan {
     parts: Parts,
@@ -40,25 +48,37 @@ impl Model for Plan {
 impl Plan {
     /// The plan that rows give.
     ///
-    /// `Refused` comes exactly where the rows break a rule: more than 2,000 elements or 4,000
-    /// links, a name that isn't 1 to 32 of `A-Z a-z 0-9 _ -` or that stands twice in its section,
-    /// an end of a link that is no element, a link from an element to itself, a priority outside
-    /// 0 to 255, or a 65th nominated input of an element. This project's own.
-    #[tactic(auto, unfolding(crate::specs::PlanRows::plan_of_rows))]
+    /// A refusal tells the first rule that is broken, with its place. First come the numbers of rows:
+    /// `Limit` at the first element, link or source past 2,000, 4,000 or 2,000. Then each element row
+    /// in order: `Name`, `Twice`, `Range` for its times, `LevelName`. Then each link row: `Name`,
+    /// `Twice`, `NoElement`, `SelfLink`, `Range`, and `Limit` where an end has a 65th nominated input
+    /// by this row. Then each source row: `Name`, `Twice`, `NoElement`, `Range`, `LevelName`, and
+    /// `Limit` as for links. This project's own.
     pub fn new(alloc: Global, rows: PlanRows) -> Result<Plan, PlanErr>
         ensures exact { Gives result (plan_of_rows rows) }
         ensures well_formed { IfOk result (λ plan. IsWellFormed plan) }
-        ensures ok { IfOk result (λ plan. IsPlanOfRows rows plan) }
+        ensures plan { IfOk result (λ plan. plan ≡ plan_from rows) }
+
+        // Rows give what they say exactly where no rule is broken, and a refusal exactly where that
+        // rule is broken at that place and no rule before it is.
+        ensures kept { (plan_of_rows rows ≡ Ok (plan_from rows)) ↔ AreKept (rules_of rows) }
+        ensures refused { (refusal : PlanErr) →
+            (plan_of_rows rows ≡ Err refusal) ↔ IsFirstBroken (rules_of rows) refusal }
+
+        // What keeps the rules is the plan of some rows: of those that say it in full.
+        ensures again { (plan : Topology) → IsWellFormed plan →
+            plan_of_rows (rows_of_plan plan) ≡ Ok plan }
     {
-        let element_rows = rows.elements.as_slice();
-        let link_rows = rows.links.as_slice();
-        if ELEMENT_LIMIT < element_rows.len() || LINK_LIMIT < link_rows.len() {
-            return Err(PlanErr::Refused);
-        }
-        let mut parts = Parts::new(alloc);
-        parts.add_elements(alloc, element_rows)?;
-        parts.add_links(alloc, link_rows)?;
+        let parts = Parts::of_rows(alloc, rows)?;
         Ok(Plan { parts })
+    }
+
+    /// The network option. After G.781, network options I and II.
+    pub fn option(&self) -> NetOption
+        ensures well_formed { IsWellFormed self.now }
+        ensures option { result ≡ self.now.option }
+    {
+        self.parts.option
     }
 
     /// How many elements there are.
@@ -77,6 +97,14 @@ impl Plan {
         self.parts.links.len() as u32
     }
 
+    /// How many sources there are.
+    pub fn sources(&self) -> u32
+        ensures well_formed { IsWellFormed self.now }
+        ensures count { result ≡ length self.now.sources }
+    {
+        self.parts.sources.len() as u32
+    }
+
     /// How many lines there are: two for each link.
     pub fn lines(&self) -> u32
         ensures well_formed { IsWellFormed self.now }
@@ -90,6 +118,7 @@ impl Plan {
         requires { e < length self.now.elements }
         ensures well_formed { IsWellFormed self.now }
         ensures element { slice_get self.now.elements e ≡ Some result.now }
+        ensures fits { IsElementOf self.now.option result.now }
     {
         &self.parts.elements[e as usize]
     }
@@ -99,8 +128,19 @@ impl Plan {
         requires { k < length self.now.links }
         ensures well_formed { IsWellFormed self.now }
         ensures link { slice_get self.now.links k ≡ Some result.now }
+        ensures fits { JoinsTwo (length self.now.elements) result.now }
     {
         &self.parts.links[k as usize]
+    }
+
+    /// A source, by its number.
+    pub fn source(&self, j: u32) -> &Source
+        requires { j < length self.now.sources }
+        ensures well_formed { IsWellFormed self.now }
+        ensures source { slice_get self.now.sources j ≡ Some result.now }
+        ensures fits { IsSourceOf self.now.option (length self.now.elements) result.now }
+    {
+        &self.parts.sources[j as usize]
     }
 
     /// The element that a line brings timing from.
@@ -137,6 +177,22 @@ impl Plan {
         LineId(if l.ends_at_b() { l.0 + 1 } else { l.0 - 1 })
     }
 
+    /// How long a message takes on a line, 1 to 2,000 milliseconds.
+    pub fn delay(&self, l: LineId) -> u32
+        requires { l.0 < line_count self.now }
+        ensures well_formed { IsWellFormed self.now }
+        ensures delay { result ≡ delay_of self.now l.0 }
+        ensures at_least { least_delay ≤ result }
+        ensures at_most { result ≤ greatest_delay }
+    {
+        let link = self.link(l.0 / 2);
+        if l.ends_at_b() {
+            link.delay_b
+        } else {
+            link.delay_a
+        }
+    }
+
     /// The priority that its receiver gives a line; 0 is not nominated.
     fn line_priority(&self, l: LineId) -> u8
         requires { l.0 < line_count self.now }
@@ -154,29 +210,47 @@ impl Plan {
     /// The priority that an element gives an input: 1 is the highest, 255 the lowest, and 0 is not
     /// nominated. After G.781, priority.
     pub fn priority(&self, i: InputId) -> u8
-        requires { input_number i < line_count self.now }
+        requires { IsInput self.now i }
         ensures well_formed { IsWellFormed self.now }
-        ensures priority { result ≡ priority_of self.now (input_number i) }
+        ensures priority { result ≡ input_priority self.now i }
     {
-        let InputId::Line(l) = i;
-        self.line_priority(l)
+        match i {
+            InputId::Line(l) => self.line_priority(l),
+            InputId::Source(j) => self.source(j).priority,
+        }
     }
 
     /// An element may take its timing from the input. After G.781, nominated input.
     pub fn nominated(&self, i: InputId) -> bool
-        requires { input_number i < line_count self.now }
+        requires { IsInput self.now i }
         ensures well_formed { IsWellFormed self.now }
-        ensures nominated { result ≡ is_nominated self.now (input_number i) }
+        ensures nominated { result ≡ is_nominated_input self.now i }
     {
         0 < self.priority(i)
     }
 
-    /// The inputs of an element, in order of number: the nominated lines into it.
+    /// The number of an input: a line's is the line's own, and those of the sources come after all
+    /// lines. This project's own.
+    pub fn number(&self, i: InputId) -> u32
+        requires { IsInput self.now i }
+        ensures well_formed { IsWellFormed self.now }
+        ensures number { result ≡ input_number self.now i }
+    {
+        let lines = self.lines();
+        match i {
+            InputId::Line(l) => l.0,
+            InputId::Source(j) => lines + j,
+        }
+    }
+
+    /// The inputs of an element, in order of number: the nominated lines into it, and then the
+    /// nominated sources at it. There are at most 64. After G.781, nominated inputs.
     pub fn inputs(&self, e: u32) -> &[InputId]
         requires { e < length self.now.elements }
         ensures well_formed { IsWellFormed self.now }
-        ensures inputs { map input_number result.now ≡ inputs_of self.now e }
-        ensures within { All (λ i. input_number i < line_count self.now) result.now }
+        ensures inputs { result.now ≡ inputs_of self.now e }
+        ensures within { All (IsInput self.now) result.now }
+        ensures few { length result.now ≤ input_limit }
     {
         self.parts.inputs[e as usize].as_slice()
     }

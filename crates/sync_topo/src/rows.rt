@@ -1,10 +1,21 @@
+//! What a plan file says. Nothing of it is tested yet.
+
 use sync_edge::{Rows, Text};
+use sync_ql::NetOption;
 
 /// What a plan file says of one element.
 #[derive(Debug, Drop)]
 pub struct ElementRow {
     /// The element's name.
     pub name: Text,
+    /// The level of its own clock; QL-SEC in option I and QL-ST3 in option II where it is left out.
+    pub own: Option<Text>,
+    /// The worst level that it takes; none where it is left out.
+    pub floor: Option<Text>,
+    /// The hold-off time in milliseconds; 300 where it is left out.
+    pub holdoff: Option<i64>,
+    /// The wait-to-restore time in minutes; 5 where it is left out.
+    pub wtr: Option<i64>,
 }
 
 /// What a plan file says of one link.
@@ -16,17 +27,38 @@ pub struct LinkRow {
     pub a: Text,
     /// The name of the element at end b.
     pub b: Text,
-    /// The priority of the line into end a; not nominated where it is left out.
+    /// The priority of the line into end a; 0, not nominated, where it is left out.
     pub priority_a: Option<i64>,
-    /// The priority of the line into end b; not nominated where it is left out.
+    /// The priority of the line into end b; 0, not nominated, where it is left out.
     pub priority_b: Option<i64>,
+    /// The delay of the line into end a in milliseconds; 1 where it is left out.
+    pub delay_a: Option<i64>,
+    /// The delay of the line into end b in milliseconds; 1 where it is left out.
+    pub delay_b: Option<i64>,
 }
 
-/// What a plan file says, in the order of the file. Nothing of it is tested yet.
+/// What a plan file says of one source.
+#[derive(Debug, Drop)]
+pub struct SourceRow {
+    /// The source's name.
+    pub name: Text,
+    /// The name of its element.
+    pub at: Text,
+    /// The level that it has at first.
+    pub level: Text,
+    /// Its priority; 1 where it is left out.
+    pub priority: Option<i64>,
+}
+
+/// What a plan file says, in the order of the file.
 #[derive(Debug, Drop)]
 pub struct PlanRows {
+    /// The network option.
+    pub option: NetOption,
     /// The elements.
     pub elements: Rows<ElementRow>,
     /// The links.
     pub links: Rows<LinkRow>,
+    /// The sources.
+    pub sources: Rows<SourceRow>,
 }

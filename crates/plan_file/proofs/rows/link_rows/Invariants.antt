@@ -1,12 +1,13 @@
-use Rattle.std.proofs.Common.{◌≡◌, ◌+◌, drop}
-use Rattle.toml.specs.View.{items_view}
-use Rattle.sync_topo.specs.Refusal.{links}
-use Rattle.plan_file.specs.PlanText.{link_row, rows_from}
+use Rattle.std.proofs.Common.{◌≡◌, ◌+◌, drop, map}
+use Rattle.toml.specs.View.{view}
+use Rattle.sync_topo.specs.declared.place.Section.TheVariants.{Links}
+use Rattle.plan_file.specs.Rows.{link_row}
+use Rattle.plan_file.specs.Steps.{rows_from}
 use Rattle.plan_file.proofs.RowsSoFar.{with_front}
 use Rattle.plan_file.proofs.rows.link_rows.Given as goal
 
 -- the rows so far and those of the entries left are those of all entries
-abbrev pub invariant-loop-entry : goal.invariant-loop-entry
-invariant-loop-entry l =
-    with_front l.rows (rows_from links link_row (l.entry-index + 1) (items_view (drop l.entry-index l.entries)))
-    ≡ rows_from links link_row 1 (items_view l.entries)
+abbrev pub invariant-loop-index : goal.invariant-loop-index
+invariant-loop-index l =
+    with_front l.rows (rows_from link_row Links (l.index + 1) (map view (drop l.index l.entries)))
+    ≡ rows_from link_row Links 1 (map view l.entries)

@@ -3,6 +3,6 @@ use Rattle.sync_topo.proofs.HeldLemmas.{held-take}
 use Rattle.sync_topo.proofs.parts.take_input.Goals as goal
 
 pub returns-clause-held : goal.returns-clause-held
-returns-clause-held c = λ element.
-    held-take c.args.inputs.now.items c.index_mut.result.now c.push.new.self c.args.receiver c.args.priority c.args.line element
+returns-clause-held c = λ e.
+    held-take c.args.inputs.now.items c.index_mut.result.now c.push.new.self c.args.element c.args.priority c.args.input e
     c.requires (omega arith) c.index_mut.ensures.value c.in-Ok.ensures.items

@@ -1,15 +1,18 @@
 use Rattle.std.proofs.Common.{◌∙◌, arith}
+use Rattle.sync_topo.specs.declared.element.Element.{Element}
+use Rattle.sync_topo.specs.Indexed.{topology}
 use Rattle.sync_topo.proofs.HeldLemmas.{held-new}
-use Rattle.sync_topo.proofs.WellFormedLemmas.{IsWellFormed-element, element_names-push}
+use Rattle.sync_topo.proofs.WellFormedLemmas.{IsWellFormed-element, names-push}
 use Rattle.sync_topo.proofs.parts.Parts.add_element.Goals as goal
 
 pub returns-clause-indexed : goal.returns-clause-indexed
 returns-clause-indexed c =
     let parts = c.args.self.now in let old = c.requires.indexed in
     record {
-      well_formed = rw c.in-Ok.ensures.items (IsWellFormed-element parts.elements.items parts.links.items c.args.element old.well_formed c.requires.room c.requires.may_join.named c.requires.may_join.fresh);
-      element_names_kept = element_names-push parts.elements.items _ c.args.element _ _ _ old.element_names_kept c.in-Ok.ensures.items c.in_ok-add.ensures c.bytes.ensures;
+      well_formed = rw c.in-Ok.ensures.items (IsWellFormed-element (topology parts) c.args.element old.well_formed c.requires.room c.requires.may_join);
+      element_names_kept = names-push (λ (e : Element). e.name) parts.elements.items _ c.args.element _ _ _ old.element_names_kept c.in-Ok.ensures.items c.in_ok-add.ensures c.bytes.ensures;
       link_names_kept = old.link_names_kept;
+      source_names_kept = old.source_names_kept;
       inputs_counted = omega (arith, c.in-Ok.ensures.len, c.in-Ok-push.ensures.len, old.inputs_counted);
       inputs_kept = λ element. rw (c.in-Ok-push.ensures.items) (held-new parts.inputs.items c.new.result element c.new.ensures.items ∙ old.inputs_kept element);
     }

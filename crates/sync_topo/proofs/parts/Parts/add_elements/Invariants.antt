@@ -1,12 +1,24 @@
-use Rattle.std.proofs.Common.{◌≡◌, ◌+◌, [], drop, length}
+use Rattle.std.proofs.Common.{◌≡◌, [], ◌++◌, length, map}
+use Rattle.std.specs.Vec.Iter.{into_iter_items, into_iter_len}
 use Rattle.sync_topo.specs.Indexed.{IsIndexed}
-use Rattle.sync_topo.specs.PlanRows.{elements_of_rows}
+use Rattle.sync_topo.specs.PlanRows.{each_row, first_broken}
+use Rattle.sync_topo.specs.RowValues.{element_from}
+use Rattle.sync_topo.specs.Steps.{element_rules_after}
 use Rattle.sync_topo.proofs.parts.Parts.add_elements.Given as goal
 
 abbrev pub invariant-loop-row : goal.invariant-loop-row
-invariant-loop-row l = record {
-  indexed : IsIndexed l.self;
-  added : length l.self.elements.items ≡ l.row-index;
-  links : l.self.links.items ≡ l.fn.self.links.items;
-  so_far : elements_of_rows l.self.elements.items (l.row-index + 1) (drop l.row-index l.rows) ≡ elements_of_rows [] 1 l.rows;
-}
+invariant-loop-row l =
+    let rest = into_iter_items l.row-iterator in
+    let rules = element_rules_after l.fn.self.option in
+    record {
+      can_next : (goal.iterator-loop-row).can_next l.row-iterator;
+      is_finite : (goal.iterator-loop-row).is_finite l.row-iterator;
+      counted : into_iter_len l.row-iterator ≡ length rest;
+      whole : l.yielded ++ rest ≡ l.fn.rows;
+      indexed : IsIndexed l.self;
+      option : l.self.option ≡ l.fn.self.option;
+      elements : l.self.elements.items ≡ map (element_from l.fn.self.option) l.yielded;
+      links : l.self.links.items ≡ l.fn.self.links.items;
+      sources : l.self.sources.items ≡ l.fn.self.sources.items;
+      so_far : first_broken (each_row rules l.yielded rest) ≡ first_broken (each_row rules [] l.fn.rows);
+    }

@@ -1,18 +1,21 @@
 use Rattle.std.proofs.Common.{◌≡◌, sym, ◌∙◌, arith, length}
-use Rattle.sync_topo.proofs.Inputs.{inputs_of-push}
-use Rattle.sync_topo.proofs.WellFormedLemmas.{IsWellFormed-link, link_names-push}
+use Rattle.sync_topo.specs.declared.link.Link.{Link}
+use Rattle.sync_topo.specs.Indexed.{topology}
+use Rattle.sync_topo.proofs.Inputs.{inputs_of-link}
+use Rattle.sync_topo.proofs.WellFormedLemmas.{IsWellFormed-link, names-push}
 use Rattle.sync_topo.proofs.parts.Parts.add_link.Goals as goal
 
 pub returns-clause-indexed : goal.returns-clause-indexed
 returns-clause-indexed c =
-    let parts = c.args.self.now in let may = c.requires.may_link in let old = c.requires.indexed in
+    let parts = c.args.self.now in let old = c.requires.indexed in
     let count : c.len.result ≡ length parts.links.items = omega (arith, c.len.ensures, parts.links.ok) in
     record {
-      well_formed = rw c.in-Ok.ensures.items (IsWellFormed-link parts.elements.items parts.links.items c.args.link old.well_formed c.requires.room may.named may.fresh may.joins may.room_at_a may.room_at_b);
+      well_formed = rw c.in-Ok.ensures.items (IsWellFormed-link (topology parts) c.args.link old.well_formed c.requires.no_sources c.requires.room c.requires.may_link);
       element_names_kept = old.element_names_kept;
-      link_names_kept = link_names-push parts.links.items _ c.args.link _ _ _ old.link_names_kept c.in-Ok.ensures.items c.in_ok-add.ensures c.bytes.ensures;
+      link_names_kept = names-push (λ (l : Link). l.name) parts.links.items _ c.args.link _ _ _ old.link_names_kept c.in-Ok.ensures.items c.in_ok-add.ensures c.bytes.ensures;
+      source_names_kept = old.source_names_kept;
       inputs_counted = c.in_ok-take_input-2.ensures.counted ∙ c.in_ok-take_input.ensures.counted ∙ old.inputs_counted;
       inputs_kept = λ element.
           rw (c.in_ok-take_input-2.ensures.held element, c.in_ok-take_input.ensures.held element, old.inputs_kept element, c.in-Ok.ensures.items, count)
-          (sym (inputs_of-push parts.elements.items parts.links.items c.args.link element));
+          (sym (inputs_of-link (topology parts) c.args.link element c.requires.no_sources));
     }

@@ -1,8 +1,9 @@
 use Rattle.std.proofs.Common.{◌≡◌, false, Some, sym, ap, ◌∙◌}
 use Rattle.sync_topo.specs.Topology.{Topology}
 use Rattle.sync_topo.specs.Names.{is_named, place_of}
-use Rattle.sync_topo.specs.PlanRows.{link_names}
+use Rattle.sync_topo.specs.Names.{link_names}
 use Rattle.sync_topo.proofs.LineNames.{unsigned-names_no_line, unknown_link-names_no_line, known_link-names_line}
+use Rattle.sync_topo.proofs.NameLaws.{line-by-name}
 use Rattle.sync_topo.proofs.plan.Plan.line_of_name.Goals as goal
 
 pub returns-in_err-link-clause-line : goal.returns-in_err-link-clause-line
@@ -24,3 +25,11 @@ returns-clause-line c =
     = c.self.invariant.link_names_kept ∙ ap (λ (plan : Topology). link_names plan.links) c.self.view_is in
     let placed : place_of (link_names c.args.self.now.links) c.in_ok-link.link.now ≡ Some c.in_ok-k.k = rw kept at (sym c.in_ok-k.ensures.place) in
     c.line_into.ensures.line ∙ known_link-names_line c.args.self.now c.args.name.now c.in_ok-link.link.now c.in_ok-link.receiver.now c.in_ok-k.k well c.in_ok-link.ensures.cut placed
+
+pub returns-in_err-k-clause-exact : goal.returns-in_err-k-clause-exact
+returns-in_err-k-clause-exact c =
+    rw (returns-in_err-k-clause-line c) (line-by-name c.args.self.now c.args.name.now (rw c.self.view_is at c.self.invariant.well_formed))
+
+pub returns-clause-exact : goal.returns-clause-exact
+returns-clause-exact c =
+    rw (returns-clause-line c) (line-by-name c.args.self.now c.args.name.now (rw c.self.view_is at c.self.invariant.well_formed))

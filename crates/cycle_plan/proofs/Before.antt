@@ -1,0 +1,239 @@
+-- The line before a line, in a plan in which all that can be ranked is ranked.
+use Rattle.std.proofs.Common.{◌≡◌, ℕ, ◌<◌, ◌≤◌, zero, suc, Bool, true, false, List, length, Option, Some, None, refl, sym, ap, ◌∙◌, inl, inr, arith}
+use Rattle.std.specs.Prelude.{◌≢◌, ◌⊎◌, ◌&&◌, is_none, find}
+use Rattle.std.specs.List.{range_with_len}
+use Rattle.std.proofs.lemmas.Bool.{true≢false, cases_lt, cases_eq, and_from, and_parts}
+use Rattle.std.proofs.lemmas.Option.{same_Some}
+use Rattle.sync_topo.specs.Topology.{Topology}
+use Rattle.sync_topo.specs.Ranks.{IsResidue, IsBefore, IsLowestResidue, StepsBack}
+use Rattle.sync_topo.specs.Lines.{line_count, is_nominated, IsNominated, sender_of, reverse_of, inputs_of}
+use Rattle.sync_topo.specs.Hops.{hops, Hops}
+use Rattle.sync_topo.proofs.LineLaws.{IsNominated-within, find_range-Some, find_range-None}
+use Rattle.rank_cert.specs.Ranks.{Ranks, rank_at}
+use Rattle.sync_topo.specs.declared.input.InputId.{InputId}
+use Rattle.cycle_plan.specs.Inputs.{line_at, is_open, AreFirstOpen}
+use Rattle.cycle_plan.specs.Peeling.{IsPeeled}
+use Rattle.cycle_plan.specs.Rings.{IsLeft, HasRound}
+use Rattle.cycle_plan.proofs.Back.{comes_round}
+use Rattle.cycle_plan.specs.declared.inputs.Watch.{Watch}
+use Rattle.cycle_plan.proofs.HopFacts.{line_at_within, hop_parts, hop_from, input_place, input_is, inputs_rise, reverse_twice}
+use Rattle.cycle_plan.proofs.Settling.{closed_line, unranked_at}
+use Rattle.cycle_plan.proofs.Walks.{endless, residue_unranked, residue_nominated}
+
+-- a plan in which all that can be ranked is ranked
+abbrev pub IsPeeledPlan : Topology → Ranks → Type 0
+IsPeeledPlan plan ranks = IsPeeled (hops plan) (is_nominated plan) (rank_at ranks)
+
+-- what is left over is the residue
+pub left_residue : (plan : Topology) (ranks : Ranks) (line : ℕ) → IsPeeledPlan plan ranks → IsLeft plan ranks line → IsResidue (hops plan) line
+left_residue plan ranks line peeled left =
+    λ n. endless (hops plan) (is_nominated plan) (rank_at ranks) (λ from next hop. (hop_parts plan from next hop).0) peeled n line left.nominated left.unranked
+
+pub residue_left : (plan : Topology) (ranks : Ranks) (line : ℕ) → IsPeeledPlan plan ranks → IsResidue (hops plan) line → IsLeft plan ranks line
+residue_left plan ranks line peeled residue =
+    let nominated : IsNominated plan line = residue_nominated (hops plan) (is_nominated plan) (λ from next hop. (hop_parts plan from next hop).1) line residue in
+    record {
+      nominated = nominated;
+      within = IsNominated-within plan line nominated;
+      unranked = residue_unranked (hops plan) (rank_at ranks) peeled.exact line residue;
+    }
+
+-- a line without a rank that hops to the line is among the inputs of its sender, at or behind the first open place
+place_of_hop : (plan : Topology) (ranks : Ranks) (watch : Watch) (line from : ℕ)
+    → AreFirstOpen ranks (inputs_of plan (sender_of plan line)) watch → Hops plan from line → rank_at ranks from ≡ None
+    → (place : ℕ) × (line_at (inputs_of plan (sender_of plan line)) place ≡ Some from) × (watch.first ≤ place) × ((place ≡ watch.first) ⊎ (watch.second ≤ place))
+place_of_hop plan ranks watch line from places hop none =
+    let inputs : List InputId = inputs_of plan (sender_of plan line) in
+    let parts = hop_parts plan from line hop in
+    let at = input_place plan (sender_of plan line) from parts.0 parts.2 in
+    let closed : is_open ranks inputs at.0 ≡ false → ⊥ = λ is_closed. closed_line ranks inputs at.0 from is_closed at.1 none in
+    elim (cases_lt at.0 watch.first) [
+      | inl before ↦ absurd (closed (places.watched.before at.0 before))
+      | inr not_before ↦ elim (cases_eq at.0 watch.first) [
+        | inl same ↦ (at.0, at.1, not_before, inl same)
+        | inr differs ↦ elim (cases_lt at.0 watch.second) [
+          | inl between ↦ absurd (closed (places.watched.between at.0 (omega (arith, not_before, differs)) between))
+          | inr behind ↦ (at.0, at.1, not_before, inr behind)
+        ]
+      ]
+    ]
+
+-- the lines at two places, of which one is not behind the other
+in_order : (plan : Topology) (element place later one other : ℕ) → place ≤ later → line_at (inputs_of plan element) place ≡ Some one
+    → line_at (inputs_of plan element) later ≡ Some other → one ≤ other
+in_order plan element place later one other order here there = elim (cases_eq place later) [
+  | inl same ↦
+      let is : one ≡ other = same_Some one other (sym here ∙ ap (λ p. line_at (inputs_of plan element) p) same ∙ there) in omega (arith, is)
+  | inr differs ↦ let less = inputs_rise plan element place later one other (omega (arith, order, differs)) here there in omega (arith, less)
+]
+
+-- where no line stands, though an open one would stand there inside the list, the list has ended
+past_end : (ranks : Ranks) (inputs : List InputId) (place : ℕ) → (place < length inputs → is_open ranks inputs place ≡ true) → line_at inputs place ≡ None
+    → length inputs ≤ place
+past_end ranks inputs place holds none = elim (cases_lt place (length inputs)) [
+  | inl inside ↦
+      let closed : is_open ranks inputs place ≡ false = rw none refl in
+      absurd (true≢false (sym (holds inside) ∙ closed))
+  | inr past ↦ past
+]
+
+-- the first open input is there
+pub first_there : (plan : Topology) (ranks : Ranks) (watch : Watch) (line : ℕ) → IsPeeledPlan plan ranks
+    → AreFirstOpen ranks (inputs_of plan (sender_of plan line)) watch → IsLeft plan ranks line → line_at (inputs_of plan (sender_of plan line)) watch.first ≡ None → ⊥
+first_there plan ranks watch line peeled places left none =
+    let held = peeled.stuck line left.nominated left.unranked in
+    let at = place_of_hop plan ranks watch line held.0 places held.1 held.2 in
+    let inside = line_at_within (inputs_of plan (sender_of plan line)) at.0 held.0 at.1 in
+    let end = past_end ranks (inputs_of plan (sender_of plan line)) watch.first places.first none in
+    omega (arith, inside, end, at.2)
+
+-- the second is there where the first goes back to the line
+pub second_there : (plan : Topology) (ranks : Ranks) (watch : Watch) (line first : ℕ) → IsPeeledPlan plan ranks
+    → AreFirstOpen ranks (inputs_of plan (sender_of plan line)) watch → IsLeft plan ranks line
+    → line_at (inputs_of plan (sender_of plan line)) watch.first ≡ Some first → first ≡ reverse_of line
+    → line_at (inputs_of plan (sender_of plan line)) watch.second ≡ None → ⊥
+second_there plan ranks watch line first peeled places left here back none =
+    let held = peeled.stuck line left.nominated left.unranked in
+    let at = place_of_hop plan ranks watch line held.0 places held.1 held.2 in
+    let inside = line_at_within (inputs_of plan (sender_of plan line)) at.0 held.0 at.1 in
+    let end = past_end ranks (inputs_of plan (sender_of plan line)) watch.second places.second none in
+    let parts = hop_parts plan held.0 line held.1 in
+    elim at.3 [
+      | inl same ↦
+          let is : held.0 ≡ first = same_Some held.0 first (sym at.1 ∙ ap (λ p. line_at (inputs_of plan (sender_of plan line)) p) same ∙ here) in
+          parts.3 (reverse_twice line held.0 (is ∙ back))
+      | inr behind ↦ omega (arith, inside, end, behind)
+    ]
+
+-- the line at an open place, which doesn't go back to the line, is before it where no open place in front leads there
+pub left_at : (plan : Topology) (ranks : Ranks) (line from place : ℕ) → line_at (inputs_of plan (sender_of plan line)) place ≡ Some from
+    → rank_at ranks from ≡ None → IsLeft plan ranks from
+left_at plan ranks line from place here none =
+    let is = input_is plan (sender_of plan line) place from here in
+    record { nominated = is.0; within = IsNominated-within plan from is.0; unranked = none }
+
+hops_at : (plan : Topology) (line from place : ℕ) → IsNominated plan line → line_at (inputs_of plan (sender_of plan line)) place ≡ Some from
+    → from ≢ reverse_of line → Hops plan from line
+hops_at plan line from place nominated here apart =
+    let is = input_is plan (sender_of plan line) place from here in
+    hop_from plan from line is.0 nominated is.1 (λ same. apart (reverse_twice from line same))
+
+pub before_first : (plan : Topology) (ranks : Ranks) (watch : Watch) (line first : ℕ) → IsPeeledPlan plan ranks
+    → AreFirstOpen ranks (inputs_of plan (sender_of plan line)) watch → IsLeft plan ranks line
+    → line_at (inputs_of plan (sender_of plan line)) watch.first ≡ Some first → first ≢ reverse_of line
+    → IsLeft plan ranks first × IsBefore (hops plan) first line
+before_first plan ranks watch line first peeled places left here apart =
+    let first_left : IsLeft plan ranks first =
+    left_at plan ranks line first watch.first here
+    (unranked_at ranks (inputs_of plan (sender_of plan line)) watch.first first (places.first (line_at_within (inputs_of plan (sender_of plan line)) watch.first first here)) here) in (
+      first_left,
+      record {
+        residue = left_residue plan ranks first peeled first_left;
+        hops = hops_at plan line first watch.first left.nominated here apart;
+        lowest = λ other residue hop.
+            let at = place_of_hop plan ranks watch line other places hop (residue_left plan ranks other peeled residue).unranked in
+            in_order plan (sender_of plan line) watch.first at.0 first other at.2 here at.1;
+      },
+    )
+
+pub before_second : (plan : Topology) (ranks : Ranks) (watch : Watch) (line first second : ℕ) → IsPeeledPlan plan ranks
+    → AreFirstOpen ranks (inputs_of plan (sender_of plan line)) watch → IsLeft plan ranks line
+    → line_at (inputs_of plan (sender_of plan line)) watch.first ≡ Some first → first ≡ reverse_of line
+    → line_at (inputs_of plan (sender_of plan line)) watch.second ≡ Some second
+    → IsLeft plan ranks second × IsBefore (hops plan) second line
+before_second plan ranks watch line first second peeled places left here back there =
+    let second_inside = line_at_within (inputs_of plan (sender_of plan line)) watch.second second there in
+    let second_left : IsLeft plan ranks second =
+    left_at plan ranks line second watch.second there
+    (unranked_at ranks (inputs_of plan (sender_of plan line)) watch.second second (places.second second_inside) there) in
+    let order = inputs_rise plan (sender_of plan line) watch.first watch.second first second (places.apart second_inside) here there in (
+      second_left,
+      record {
+        residue = left_residue plan ranks second peeled second_left;
+        hops = hops_at plan line second watch.second left.nominated there (λ same. omega (arith, same, back, order));
+        lowest = λ other residue hop.
+            let at = place_of_hop plan ranks watch line other places hop (residue_left plan ranks other peeled residue).unranked in
+            elim at.3 [
+              | inl same ↦
+                  let is : other ≡ first = same_Some other first (sym at.1 ∙ ap (λ p. line_at (inputs_of plan (sender_of plan line)) p) same ∙ here) in
+                  absurd ((hop_parts plan other line hop).3 (reverse_twice line other (is ∙ back)))
+              | inr behind ↦ in_order plan (sender_of plan line) watch.second at.0 second other behind there at.1
+            ];
+      },
+    )
+
+-- the lowest line that is left is the lowest of the residue
+pub lowest_left : (plan : Topology) (ranks : Ranks) (line : ℕ) → IsPeeledPlan plan ranks → IsLeft plan ranks line
+    → ((other : ℕ) → IsLeft plan ranks other → line ≤ other) → IsLowestResidue (hops plan) line
+lowest_left plan ranks line peeled left low = record {
+  residue = left_residue plan ranks line peeled left;
+  lowest = λ other residue. low other (residue_left plan ranks other peeled residue);
+}
+
+-- each line that is left has a line before it
+pub before_there : (plan : Topology) (ranks : Ranks) (line : ℕ) → IsPeeledPlan plan ranks → IsLeft plan ranks line
+    → (before : ℕ) × IsBefore (hops plan) before line × IsLeft plan ranks before
+before_there plan ranks line peeled left = cases (find holds (range_with_len 0 (line_count plan))) refl
+  where
+    holds : ℕ → Bool
+    holds from = hops plan from line && is_none (rank_at ranks from)
+
+    holds_from : (from : ℕ) → IsLeft plan ranks from → Hops plan from line → holds from ≡ true
+    holds_from from from_left hop = and_from (hops plan from line) (is_none (rank_at ranks from)) hop (rw from_left.unranked refl)
+
+    unranked_from : (o : Option ℕ) → is_none o ≡ true → o ≡ None
+    unranked_from None e = refl
+    unranked_from (Some rank) e = absurd (true≢false (sym e))
+
+    cases : (o : Option ℕ) → find holds (range_with_len 0 (line_count plan)) ≡ o
+        → (before : ℕ) × IsBefore (hops plan) before line × IsLeft plan ranks before
+    cases None none =
+        let held = peeled.stuck line left.nominated left.unranked in
+        let nominated = (hop_parts plan held.0 line held.1).0 in
+        let within = IsNominated-within plan held.0 nominated in
+        let held_left : IsLeft plan ranks held.0 = record { nominated = nominated; within = within; unranked = held.2 } in
+        absurd (true≢false (sym (holds_from held.0 held_left held.1) ∙ find_range-None holds 0 (line_count plan) none held.0 (omega arith) (omega (arith, within))))
+    cases (Some from) found =
+        let facts = find_range-Some holds 0 (line_count plan) from found in
+        let parts = and_parts (hops plan from line) (is_none (rank_at ranks from)) facts.0 in
+        let nominated = (hop_parts plan from line parts.0).0 in
+        let from_left : IsLeft plan ranks from =
+        record { nominated = nominated; within = IsNominated-within plan from nominated; unranked = unranked_from (rank_at ranks from) parts.1 } in (
+          from,
+          record {
+            residue = left_residue plan ranks from peeled from_left;
+            hops = parts.0;
+            lowest = λ other residue hop. elim (cases_lt other from) [
+              | inl lower ↦
+                  absurd (true≢false (sym (holds_from other (residue_left plan ranks other peeled residue) hop) ∙ facts.1 other (omega arith) lower))
+              | inr not_lower ↦ not_lower
+            ];
+          },
+          from_left,
+        )
+
+-- so one may go back for ever
+trail : (plan : Topology) (ranks : Ranks) (start : ℕ) → IsPeeledPlan plan ranks → IsLeft plan ranks start → (steps : ℕ)
+    → (line : ℕ) × StepsBack (hops plan) steps start line × IsLeft plan ranks line
+trail plan ranks start peeled left zero = (start, refl, left)
+trail plan ranks start peeled left (suc steps) =
+    let at = trail plan ranks start peeled left steps in
+    let next = before_there plan ranks at.0 peeled at.2 in
+    (next.0, (at.0, at.1, next.1), next.2)
+
+-- and after as many steps as there are lines one is on a ring
+pub round_there : (plan : Topology) (ranks : Ranks) (start on : ℕ) → IsPeeledPlan plan ranks → IsLeft plan ranks start
+    → StepsBack (hops plan) (line_count plan) start on → HasRound (hops plan) (line_count plan) on
+round_there plan ranks start on peeled left taken =
+    comes_round (hops plan) (line_count plan) start on
+    (λ steps. let at = trail plan ranks start peeled left steps in (at.0, at.1, at.2.within)) taken
+
+-- a line that is nominated and has no rank is left
+pub left_from : (plan : Topology) (ranks : Ranks) (line : ℕ) → (is_nominated plan line && is_none (rank_at ranks line)) ≡ true → IsLeft plan ranks line
+left_from plan ranks line lacks =
+    let parts = and_parts (is_nominated plan line) (is_none (rank_at ranks line)) lacks in
+    record { nominated = parts.0; within = IsNominated-within plan line parts.0; unranked = none_from (rank_at ranks line) parts.1 }
+  where
+    none_from : (o : Option ℕ) → is_none o ≡ true → o ≡ None
+    none_from None e = refl
+    none_from (Some rank) e = absurd (true≢false (sym e))

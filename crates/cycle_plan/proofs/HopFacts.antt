@@ -1,0 +1,167 @@
+-- Inputs, ways back, and hops.
+use Rattle.std.proofs.Common.{◌≡◌, ℕ, ◌+◌, ◌-◌, ◌/◌, ◌%◌, ◌<◌, ◌≤◌, zero, suc, Bool, true, false, not, ◌&&◌, nat_eq, List, [], ◌∷◌, ◌++◌, length, map, filter, Some, None, refl, sym, ap, ◌∙◌, inl, inr, arith, zero-add}
+use Rattle.std.specs.Prelude.{◌≢◌, slice_get, if◌then◌else◌}
+use Rattle.std.specs.List.{range_with_len}
+use Rattle.std.specs.Cmp.Derive.{both_true}
+use Rattle.std.specs.Option.{option_and_then}
+use Rattle.std.proofs.lemmas.Bool.{and_parts, true≢false, cases_lt, cases_eq, eqb-true, eqb-false, eq-eqb, ne_eqb, not-true, not_from_false}
+use Rattle.std.proofs.lemmas.Option.{none-some, same_Some, slice_get_past}
+use Rattle.sync_topo.specs.Topology.{Topology}
+use Rattle.sync_topo.specs.Lines.{line_count, is_nominated, IsNominated, receiver_of, sender_of, reverse_of, ends_at_b, lines_into, sources_at, line_input, inputs_of}
+use Rattle.sync_topo.specs.Hops.{Hops, goes_back}
+use Rattle.sync_topo.proofs.LineLaws.{IsNominated-within}
+use Rattle.sync_topo.specs.declared.input.InputId.{InputId}
+use Rattle.sync_topo.specs.declared.input.InputId.TheVariants.{Source}
+use Rattle.cycle_plan.specs.Inputs.{line_of, line_at, AreWithin}
+use Rattle.cycle_plan.specs.Tops.{AreRising}
+
+-- what a filter over a range keeps
+kept_in_range : (p : ℕ → Bool) (a n k : ℕ) → p k ≡ true → a ≤ k → k < a + n → (place : ℕ) × (slice_get (filter p (range_with_len a n)) place ≡ Some k)
+kept_in_range p a zero k holds low high = absurd (omega arith)
+kept_in_range p a (suc n) k holds low high = cases (p a) refl (λ above. kept_in_range p (a + 1) n k holds above (omega arith))
+  where
+    cases : (b : Bool) → p a ≡ b → (a + 1 ≤ k → (place : ℕ) × (slice_get (filter p (range_with_len (a + 1) n)) place ≡ Some k))
+        → (place : ℕ) × (slice_get (if b then a ∷ filter p (range_with_len (a + 1) n) else filter p (range_with_len (a + 1) n)) place ≡ Some k)
+    cases true e rest = elim (cases_eq a k) [
+      | inl same ↦ (0, ap (λ m. Some m) same)
+      | inr differs ↦ let found = rest (omega (arith, differs)) in (suc found.0, found.1)
+    ]
+    cases false e rest = elim (cases_eq a k) [
+      | inl same ↦ absurd (true≢false (sym holds ∙ ap p (sym same) ∙ e))
+      | inr differs ↦ rest (omega (arith, differs))
+    ]
+
+kept_passes : (p : ℕ → Bool) (a n place k : ℕ) → slice_get (filter p (range_with_len a n)) place ≡ Some k → (p k ≡ true) × (a ≤ k)
+kept_passes p a zero place k here = absurd (none-some k here)
+kept_passes p a (suc n) place k here = cases (p a) refl place here (λ at found. kept_passes p (a + 1) n at k found)
+  where
+    cases : (b : Bool) → p a ≡ b → (at : ℕ)
+        → slice_get (if b then a ∷ filter p (range_with_len (a + 1) n) else filter p (range_with_len (a + 1) n)) at ≡ Some k
+        → ((at : ℕ) → slice_get (filter p (range_with_len (a + 1) n)) at ≡ Some k → (p k ≡ true) × (a + 1 ≤ k)) → (p k ≡ true) × (a ≤ k)
+    cases true e zero found rest = let same = same_Some a k found in (ap p (sym same) ∙ e, omega arith)
+    cases true e (suc at) found rest = let facts = rest at found in (facts.0, omega (arith, facts.1))
+    cases false e at found rest = let facts = rest at found in (facts.0, omega (arith, facts.1))
+
+kept_rises : (p : ℕ → Bool) (a n i j k l : ℕ) → i < j → slice_get (filter p (range_with_len a n)) i ≡ Some k
+    → slice_get (filter p (range_with_len a n)) j ≡ Some l → k < l
+kept_rises p a zero i j k l less here there = absurd (none-some k here)
+kept_rises p a (suc n) i j k l less here there = cases (p a) refl i j less here there (λ i j. kept_rises p (a + 1) n i j k l)
+  where
+    cases : (b : Bool) → p a ≡ b → (i j : ℕ) → i < j
+        → slice_get (if b then a ∷ filter p (range_with_len (a + 1) n) else filter p (range_with_len (a + 1) n)) i ≡ Some k
+        → slice_get (if b then a ∷ filter p (range_with_len (a + 1) n) else filter p (range_with_len (a + 1) n)) j ≡ Some l
+        → ((i j : ℕ) → i < j → slice_get (filter p (range_with_len (a + 1) n)) i ≡ Some k → slice_get (filter p (range_with_len (a + 1) n)) j ≡ Some l → k < l)
+        → k < l
+    cases true e i zero less here there rest = absurd (omega arith)
+    cases true e zero (suc j) less here there rest =
+        let same = same_Some a k here in
+        let above = kept_passes p (a + 1) n j l there in
+        omega (arith, same, above.1)
+    cases true e (suc i) (suc j) less here there rest = rest i j (omega arith) here there
+    cases false e i j less here there rest = rest i j less here there
+
+-- the lines among inputs are those in front
+lines_in_front : (lines sources : List ℕ) (place : ℕ) → line_at (map line_input lines ++ map Source sources) place ≡ slice_get lines place
+lines_in_front [] sources place = no_lines sources place
+  where
+    no_lines : (sources : List ℕ) (place : ℕ) → line_at (map Source sources) place ≡ None
+    no_lines [] place = refl
+    no_lines (source ∷ sources) zero = refl
+    no_lines (source ∷ sources) (suc place) = no_lines sources place
+lines_in_front (line ∷ lines) sources zero = refl
+lines_in_front (line ∷ lines) sources (suc place) = lines_in_front lines sources place
+
+line_of_input : (plan : Topology) (element place : ℕ) → line_at (inputs_of plan element) place ≡ slice_get (lines_into plan element) place
+line_of_input plan element place = lines_in_front (lines_into plan element) (sources_at plan element) place
+
+-- the inputs of an element stand in order of number
+pub inputs_rise : (plan : Topology) (element : ℕ) → AreRising (inputs_of plan element)
+inputs_rise plan element i j k l less here there =
+    kept_rises (λ line. is_nominated plan line && nat_eq (receiver_of plan line) element) 0 (line_count plan) i j k l less
+    (sym (line_of_input plan element i) ∙ here) (sym (line_of_input plan element j) ∙ there)
+
+-- each nominated line into an element is one of its inputs
+pub input_place : (plan : Topology) (element line : ℕ) → IsNominated plan line → receiver_of plan line ≡ element
+    → (place : ℕ) × (line_at (inputs_of plan element) place ≡ Some line)
+input_place plan element line nominated into =
+    let at = kept_in_range (λ line. is_nominated plan line && nat_eq (receiver_of plan line) element) 0 (line_count plan) line
+    (both_true {s = is_nominated plan line} {t = nat_eq (receiver_of plan line) element} nominated (eq-eqb _ _ into))
+    (omega arith) (rw zero-add (IsNominated-within plan line nominated)) in
+    (at.0, line_of_input plan element at.0 ∙ at.1)
+
+-- an input that is a line is a nominated line into the element
+pub input_is : (plan : Topology) (element place line : ℕ) → line_at (inputs_of plan element) place ≡ Some line
+    → IsNominated plan line × (receiver_of plan line ≡ element)
+input_is plan element place line here =
+    let passes = kept_passes (λ line. is_nominated plan line && nat_eq (receiver_of plan line) element) 0 (line_count plan) place line (sym (line_of_input plan element place) ∙ here) in
+    let parts = and_parts (is_nominated plan line) (nat_eq (receiver_of plan line) element) passes.0 in
+    (parts.0, eqb-true _ _ parts.1)
+
+-- so the lines among an element's inputs are lines of the plan
+pub AreWithin-inputs : (plan : Topology) (element : ℕ) → AreWithin (line_count plan) (inputs_of plan element)
+AreWithin-inputs plan element place line here = IsNominated-within plan line (input_is plan element place line here).0
+
+-- a line stands inside the list
+pub line_at_within : (inputs : List InputId) (place line : ℕ) → line_at inputs place ≡ Some line → place < length inputs
+line_at_within inputs place line here = elim (cases_lt place (length inputs)) [
+  | inl inside ↦ inside
+  | inr past ↦
+      let none : line_at inputs place ≡ None = ap (λ o. option_and_then line_of o) (slice_get_past inputs place past) in
+      absurd (none-some line (sym none ∙ here))
+]
+
+-- the way back of the way back
+pub reverse_twice : (line back : ℕ) → back ≡ reverse_of line → line ≡ reverse_of back
+reverse_twice line back e = cases (ends_at_b line) refl e
+  where
+    cases : (b : Bool) → ends_at_b line ≡ b → back ≡ (if b then line + 1 else line - 1) → line ≡ reverse_of back
+    cases true even is =
+        let half : line % 2 ≡ 0 = eqb-true _ _ even in
+        let odd : ends_at_b back ≡ false = ne_eqb (back % 2) 0 (λ zero_rest. omega (arith, half, is, zero_rest)) in
+        rw odd (omega (arith, is))
+    cases false odd is =
+        let half : line % 2 ≡ 0 → ⊥ = eqb-false _ _ odd in
+        let even : ends_at_b back ≡ true = eq-eqb (back % 2) 0 (omega (arith, half, is)) in
+        rw even (omega (arith, is, half))
+
+-- what a hop says
+pub hop_parts : (plan : Topology) (line next : ℕ) → Hops plan line next
+    → IsNominated plan line × IsNominated plan next × (receiver_of plan line ≡ sender_of plan next) × (next ≢ reverse_of line)
+hop_parts plan line next hop =
+    let ends = and_parts (is_nominated plan line && is_nominated plan next && nat_eq (receiver_of plan line) (sender_of plan next)) (not (goes_back plan line next)) hop in
+    let both = and_parts (is_nominated plan line && is_nominated plan next) (nat_eq (receiver_of plan line) (sender_of plan next)) ends.0 in
+    let each = and_parts (is_nominated plan line) (is_nominated plan next) both.0 in
+    (each.0, each.1, eqb-true _ _ both.1, eqb-false _ _ (not-true (goes_back plan line next) ends.1))
+
+pub hop_from : (plan : Topology) (line next : ℕ) → IsNominated plan line → IsNominated plan next → receiver_of plan line ≡ sender_of plan next
+    → next ≢ reverse_of line → Hops plan line next
+hop_from plan line next nominated next_nominated meets apart =
+    both_true {s = is_nominated plan line && is_nominated plan next && nat_eq (receiver_of plan line) (sender_of plan next)} {t = not (goes_back plan line next)}
+    (both_true {s = is_nominated plan line && is_nominated plan next} {t = nat_eq (receiver_of plan line) (sender_of plan next)}
+    (both_true {s = is_nominated plan line} {t = is_nominated plan next} nominated next_nominated) (eq-eqb _ _ meets))
+    (not_from_false (goes_back plan line next) (ne_eqb _ _ apart))
+
+-- the way back begins where the line ends
+pub sender_of_reverse : (plan : Topology) (line : ℕ) → sender_of plan (reverse_of line) ≡ receiver_of plan line
+sender_of_reverse plan line = cases (ends_at_b line) refl
+  where
+    cases : (b : Bool) → ends_at_b line ≡ b → sender_of plan (if b then line + 1 else line - 1) ≡ receiver_of plan line
+    cases true even =
+        let half : line % 2 ≡ 0 = eqb-true _ _ even in
+        let odd : ends_at_b (line + 1) ≡ false = ne_eqb ((line + 1) % 2) 0 (λ zero_rest. omega (arith, half, zero_rest)) in
+        let link : (line + 1) / 2 ≡ line / 2 = omega (arith, half) in
+        rw (odd, even, link) refl
+    cases false odd =
+        let half : line % 2 ≡ 0 → ⊥ = eqb-false _ _ odd in
+        let even : ends_at_b (line - 1) ≡ true = eq-eqb ((line - 1) % 2) 0 (omega (arith, half)) in
+        let link : (line - 1) / 2 ≡ line / 2 = omega (arith, half) in
+        rw (odd, even, link) refl
+
+-- a line isn't its own way back
+pub reverse_differs : (line : ℕ) → line ≢ reverse_of line
+reverse_differs line = cases (ends_at_b line) refl
+  where
+    cases : (b : Bool) → ends_at_b line ≡ b → line ≢ (if b then line + 1 else line - 1)
+    cases true even same = omega (arith, same)
+    cases false odd same =
+        let half : line % 2 ≡ 0 → ⊥ = eqb-false _ _ odd in omega (arith, half, same)

@@ -1,0 +1,10 @@
+pub mod TopLemmas
+pub mod OutputLemmas
+pub mod HopFacts
+pub mod PeelingLemmas
+pub mod Settling
+pub mod Walks
+pub mod Back
+pub mod Before
+pub mod Rounds
+pub mod CycleLaws

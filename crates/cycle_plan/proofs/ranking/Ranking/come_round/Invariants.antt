@@ -1,0 +1,10 @@
+use Rattle.sync_topo.specs.Hops.{hops}
+use Rattle.sync_topo.specs.Ranks.{StepsBack}
+use Rattle.cycle_plan.specs.Rings.{IsLeft}
+use Rattle.cycle_plan.proofs.ranking.Ranking.come_round.Given as goal
+
+abbrev pub invariant-loop-step : goal.invariant-loop-step
+invariant-loop-step l = record {
+  back : StepsBack (hops l.plan) l._step l.fn.start.0 l.at.0;
+  left : IsLeft l.plan l.self.ranks l.at.0;
+}

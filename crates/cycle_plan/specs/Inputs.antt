@@ -1,0 +1,38 @@
+-- Which inputs of an element have no rank yet: what only private clauses cite.
+use Rattle.std.specs.Prelude.{◌≡◌, ℕ, ◌<◌, ◌≤◌, Bool, true, false, List, length, slice_get, is_none, Option, Some, None}
+use Rattle.std.specs.Option.{option_map_or, option_and_then}
+use Rattle.sync_topo.specs.declared.input.InputId.{InputId}
+use Rattle.sync_topo.specs.declared.input.InputId.TheVariants.{Line, Source}
+use Rattle.rank_cert.specs.Ranks.{Ranks, rank_at}
+use Rattle.cycle_plan.specs.declared.inputs.Watch.{Watch}
+
+-- the line that an input is; a source is none
+abbrev pub line_of : InputId → Option ℕ
+line_of (Line line) = Some line.0
+line_of (Source source) = None
+
+-- the line at a place among inputs, if one stands there
+abbrev pub line_at : List InputId → ℕ → Option ℕ
+line_at inputs place = option_and_then line_of (slice_get inputs place)
+
+-- each input that is a line has a number below n
+abbrev pub AreWithin : ℕ → List InputId → Type 0
+AreWithin n inputs = (place line : ℕ) → line_at inputs place ≡ Some line → line < n
+
+-- the input at a place is a line without a rank
+abbrev pub is_open : Ranks → List InputId → ℕ → Bool
+is_open ranks inputs place = option_map_or (λ line. is_none (rank_at ranks line)) (line_at inputs place) false
+
+-- no input before the first place is open, and none between the two places
+pub record IsWatch (ranks : Ranks) (inputs : List InputId) (watch : Watch) : Type 0 where
+  pub first_within : watch.first ≤ length inputs
+  pub second_within : watch.second ≤ length inputs
+  pub before : (place : ℕ) → place < watch.first → is_open ranks inputs place ≡ false
+  pub between : (place : ℕ) → watch.first < place → place < watch.second → is_open ranks inputs place ≡ false
+
+-- the places are those of the first two open inputs, or the end where there are fewer
+pub record AreFirstOpen (ranks : Ranks) (inputs : List InputId) (watch : Watch) : Type 0 where
+  pub watched : IsWatch ranks inputs watch
+  pub first : watch.first < length inputs → is_open ranks inputs watch.first ≡ true
+  pub second : watch.second < length inputs → is_open ranks inputs watch.second ≡ true
+  pub apart : watch.second < length inputs → watch.first < watch.second

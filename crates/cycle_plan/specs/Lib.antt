@@ -1,0 +1,6 @@
+pub mod Ranked
+pub mod Inputs
+pub mod Outputs
+pub mod Tops
+pub mod Peeling
+pub mod Rings

@@ -1,0 +1,93 @@
+-- How lines get their ranks one after another: what only private clauses cite.
+use Rattle.std.specs.Prelude.{◌≡◌, ◌≢◌, ℕ, ◌+◌, ◌*◌, ◌<◌, ◌≤◌, ◌⊎◌, Bool, true, IsTrue, length, Option, Some, None, slice_get, is_none}
+use Rattle.std.specs.List.{All, Contains, count_by}
+use Rattle.sync_topo.specs.Topology.{Topology}
+use Rattle.sync_topo.specs.Lines.{line_count, IsNominated, sender_of, receiver_of, reverse_of, inputs_of}
+use Rattle.sync_topo.specs.Hops.{hops, Hops}
+use Rattle.sync_topo.specs.Ranks.{HopTest}
+use Rattle.rank_cert.specs.Ranks.{Ranks, rank_at}
+use Rattle.cycle_plan.specs.Inputs.{IsWatch}
+use Rattle.cycle_plan.specs.Tops.{rank_after}
+use Rattle.cycle_plan.specs.declared.top.Top.{Top}
+use Rattle.cycle_plan.specs.declared.inputs.Watch.{Watch}
+use Rattle.cycle_plan.specs.declared.ranking.Ranking.{Ranking}
+
+-- all lines that hop to the line have ranks, and the rank is one more than their greatest, or 0 without any
+pub record IsNext (hop : HopTest) (rank_at : ℕ → Option ℕ) (line rank : ℕ) : Type 0 where
+  pub above : (from : ℕ) → IsTrue (hop from line) → (lower : ℕ) × (rank_at from ≡ Some lower) × (lower < rank)
+  pub reached : (rank ≡ 0) ⊎ ((from : ℕ) × (lower : ℕ) × IsTrue (hop from line) × (rank_at from ≡ Some lower) × (rank ≡ lower + 1))
+
+-- each rank is the next after those of the lines that hop there
+abbrev pub AreExact : HopTest → (ℕ → Option ℕ) → Type 0
+AreExact hop rank_at = (line rank : ℕ) → rank_at line ≡ Some rank → IsNext hop rank_at line rank
+
+-- all that can be ranked is ranked: a line hops to each nominated line without a rank that has none either
+pub record IsPeeled (hop : HopTest) (nominated : ℕ → Bool) (rank_at : ℕ → Option ℕ) : Type 0 where
+  pub exact : AreExact hop rank_at
+  pub only : (line rank : ℕ) → rank_at line ≡ Some rank → IsTrue (nominated line)
+  pub stuck : (line : ℕ) → IsTrue (nominated line) → rank_at line ≡ None → (from : ℕ) × IsTrue (hop from line) × (rank_at from ≡ None)
+
+-- how many lines have no rank
+abbrev pub left_over : Ranks → ℕ
+left_over ranks = count_by is_none ranks
+
+-- the ranks so far
+pub record IsRanking (plan : Topology) (ranks : Ranks) : Type 0 where
+  pub counted : length ranks ≡ line_count plan
+  pub exact : AreExact (hops plan) (rank_at ranks)
+  pub only : (line rank : ℕ) → rank_at ranks line ≡ Some rank → IsNominated plan line
+  pub below : (line rank : ℕ) → rank_at ranks line ≡ Some rank → rank + left_over ranks < line_count plan
+
+-- the element's inputs are watched, and where it is done each of its nominated outputs has a rank
+pub record IsWatched (plan : Topology) (ranks : Ranks) (element : ℕ) (watch : Watch) : Type 0 where
+  pub watched : IsWatch ranks (inputs_of plan element) watch
+  pub done : watch.done ≡ true → (line : ℕ) → IsNominated plan line → sender_of plan line ≡ element → rank_at ranks line ≢ None
+
+-- how things stand while lines are ranked
+pub record IsPeeling (plan : Topology) (ranking : Ranking) : Type 0 where
+  pub ranked : IsRanking plan ranking.ranks
+  pub watches : length ranking.watches.items ≡ length plan.elements
+  pub watched : (element : ℕ) (watch : Watch) → slice_get ranking.watches.items element ≡ Some watch → IsWatched plan ranking.ranks element watch
+  pub waiting : All (λ element. element < length plan.elements) ranking.waiting.items
+
+-- a line hops to the line that has no rank
+abbrev pub IsHeld : Topology → Ranks → ℕ → Type 0
+IsHeld plan ranks line = (from : ℕ) × Hops plan from line × (rank_at ranks from ≡ None)
+
+-- the line is held, or its sender waits to be looked at
+abbrev pub IsKept : Topology → Ranking → ℕ → Type 0
+IsKept plan ranking line = IsHeld plan ranking.ranks line ⊎ Contains ranking.waiting.items (sender_of plan line)
+
+-- a bound on the work that is left
+abbrev pub work : Ranking → ℕ
+work ranking = 2 * left_over ranking.ranks + length ranking.waiting.items
+
+-- more lines are ranked, none loses its rank, and what was kept is kept
+pub record IsMore (plan : Topology) (before after : Ranking) : Type 0 where
+  pub peeling : IsPeeling plan after
+  pub grows : (line rank : ℕ) → rank_at before.ranks line ≡ Some rank → rank_at after.ranks line ≡ Some rank
+  pub keeps : (line : ℕ) → IsKept plan before line → IsKept plan after line
+  pub work : work after ≤ work before
+
+-- each nominated line without a rank is kept
+abbrev pub AreKept : Topology → Ranking → Type 0
+AreKept plan ranking = (line : ℕ) → IsNominated plan line → rank_at ranking.ranks line ≡ None → IsKept plan ranking line
+
+-- no line out of the element waits for a rank that it could have
+abbrev pub IsSettled : Topology → Ranks → ℕ → Type 0
+IsSettled plan ranks element = (line : ℕ) → IsNominated plan line → sender_of plan line ≡ element → rank_at ranks line ≡ None → IsHeld plan ranks line
+
+-- the line comes next after all inputs of the element but the one that it goes back to
+abbrev pub AreNext : Topology → Ranks → ℕ → Top → Type 0
+AreNext plan ranks element top =
+    (line : ℕ) → IsNominated plan line → sender_of plan line ≡ element → IsNext (hops plan) (rank_at ranks) line (rank_after top (reverse_of line))
+
+-- the same, for a line to which no line without a rank hops
+abbrev pub IsTopOf : Topology → Ranks → ℕ → Top → Type 0
+IsTopOf plan ranks element top =
+    (line : ℕ) → IsNominated plan line → sender_of plan line ≡ element → ((from : ℕ) → Hops plan from line → rank_at ranks from ≢ None)
+    → IsNext (hops plan) (rank_at ranks) line (rank_after top (reverse_of line))
+
+-- each nominated line into the element has a rank
+abbrev pub AreRanked : Topology → Ranks → ℕ → Type 0
+AreRanked plan ranks element = (line : ℕ) → IsNominated plan line → receiver_of plan line ≡ element → rank_at ranks line ≢ None

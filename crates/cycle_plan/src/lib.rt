@@ -1,0 +1,22 @@
+//! Least ranks of a plan as a certificate or, where no ranks rise, the first cycle of lines.
+//!
+//! [`rank_plan`] is the planner. What a least rank and the first cycle are stands in sync_topo,
+//! `AreLeastRanks` and `IsFirstCycle`.
+//!
+//! Lines get their ranks one after another, each once all lines that hop to it have theirs; an
+//! element's inputs are looked at anew only from where they had ranks before. Where lines are left
+//! over, one goes back from line to line until a ring closes.
+//!
+//! The tests are worked plans.
+#![tactic(auto)]
+
+mod inputs;
+mod outputs;
+mod ranked;
+mod ranking;
+mod ring;
+#[cfg(test)]
+mod tests;
+mod top;
+
+pub use ranked::{Ranked, rank_plan};

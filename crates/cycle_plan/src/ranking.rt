@@ -1,0 +1,228 @@
+ghost use Rattle.std.specs.Prelude.{◌≡◌, ◌≢◌, ◌<◌, ◌&&◌, ℕ, length, is_none, Some, None, OnOk, IfOk};
+ghost use Rattle.std.specs.List.{All, Contains};
+ghost use Rattle.sync_topo.specs.Lines.{line_count, is_nominated, IsNominated, receiver_of, inputs_of, reverse_of};
+ghost use Rattle.sync_topo.specs.Hops.{hops, Hops};
+ghost use Rattle.rank_cert.specs.Ranks.{rank_at};
+ghost use Rattle.cycle_plan.specs.Inputs.{AreFirstOpen};
+ghost use Rattle.cycle_plan.specs.Outputs.{AreOutputs, IsOutput};
+ghost use Rattle.cycle_plan.specs.Tops.{rank_after};
+ghost use Rattle.cycle_plan.specs.Rings.{IsDone};
+ghost use Rattle.cycle_plan.specs.Peeling.{IsRanking, IsPeeling, IsPeeled, IsMore, IsNext, IsSettled, AreKept, IsWatched, AreRanked, AreNext, IsTopOf};
+
+use crate::inputs::{Watch, first_open, inputs_of, line_at};
+use crate::outputs::outputs;
+use crate::top::{Top, top_of};
+use rank_cert::Cert;
+use std::alloc::Global;
+use sync_edge::NoMemory;
+use sync_topo::{InputId, LineId, Plan};
+
+/// The ranks that are given so far.
+#[derive(Drop)]
+pub(crate) struct Ranking {
+    /// A rank for each line that has one.
+    pub(crate) ranks: Cert,
+    /// For each element how far its inputs have ranks.
+    pub(crate) watches: Vec<Watch>,
+    /// The elements to look at, since a line into them was ranked.
+    pub(crate) waiting: Vec<u32>,
+}
+
+impl Ranking {
+    /// All ranks that can be given.
+    pub(crate) fn of(alloc: Global, plan: &Plan) -> Result<Ranking, NoMemory>
+        ensures { IfOk result (IsDone plan.now) }
+    {
+        let outputs = outputs(alloc, plan)?;
+        let mut ranking = Ranking::new(alloc, plan)?;
+        ranking.peel(plan, outputs.as_slice())?;
+        Ok(ranking)
+    }
+
+    /// No line has a rank, and each element waits to be looked at.
+    fn new(alloc: Global, plan: &Plan) -> Result<Ranking, NoMemory>
+        ensures peeling { IfOk result (IsPeeling plan.now) }
+        ensures kept { IfOk result (AreKept plan.now) }
+    {
+        let ranks = Cert::new(alloc, plan)?;
+        let watch = Watch {
+            first: 0,
+            second: 0,
+            done: false,
+        };
+        let Ok(watches) = vec![in alloc; watch; plan.elements() as usize] else {
+            return Err(NoMemory);
+        };
+        let waiting = all_elements(alloc, plan)?;
+        Ok(Ranking {
+            ranks,
+            watches,
+            waiting,
+        })
+    }
+
+    /// Gives a line its rank.
+    fn give(&mut self, plan: &Plan, line: LineId, rank: u64) -> Result<(), NoMemory>
+        requires peeling { IsPeeling plan.now self.old }
+        requires nominated { IsNominated plan.now line.0 }
+        requires within { line.0 < line_count plan.now }
+        requires left { rank_at self.old.ranks line.0 ≡ None }
+        requires next { IsNext (hops plan.now) (rank_at self.old.ranks) line.0 rank }
+        ensures more { OnOk result (IsMore plan.now self.old self.new) }
+        ensures given { OnOk result (rank_at self.new.ranks line.0 ≡ Some rank) }
+        ensures others { OnOk result ((other : ℕ) → other ≢ line.0
+            → rank_at self.new.ranks other ≡ rank_at self.old.ranks other) }
+    {
+        let receiver = plan.to(line);
+        let Ok(()) = self.waiting.push(receiver) else {
+            return Err(NoMemory);
+        };
+        self.ranks.set(line, Some(rank));
+        Ok(())
+    }
+
+    /// The line is nominated and has no rank.
+    pub(crate) fn lacks_rank(&self, plan: &Plan, line: LineId) -> bool
+        requires counted { length self.now.ranks ≡ line_count plan.now }
+        requires within { line.0 < line_count plan.now }
+        ensures { result ≡ (is_nominated plan.now line.0
+            && is_none (rank_at self.now.ranks line.0)) }
+    {
+        plan.nominated(InputId::Line(line)) && self.ranks.rank(line).is_none()
+    }
+
+    /// Gives a line its rank, where it is nominated and has none yet.
+    fn give_next(&mut self, plan: &Plan, line: LineId, top: Top) -> Result<(), NoMemory>
+        requires peeling { IsPeeling plan.now self.old }
+        requires within { line.0 < line_count plan.now }
+        requires next { IsNominated plan.now line.0 → IsNext (hops plan.now)
+            (rank_at self.old.ranks) line.0 (rank_after top (reverse_of line.0)) }
+        ensures more { OnOk result (IsMore plan.now self.old self.new) }
+        ensures given { OnOk result (IsNominated plan.now line.0
+            → rank_at self.new.ranks line.0 ≢ None) }
+        ensures others { OnOk result ((other : ℕ) → other ≢ line.0
+            → rank_at self.new.ranks other ≡ rank_at self.old.ranks other) }
+    {
+        if !self.lacks_rank(plan, line) {
+            return Ok(());
+        }
+        self.give(plan, line, top.rank_of(plan.rev(line)))?;
+        Ok(())
+    }
+
+    /// What the ranks of all inputs of an element come to.
+    fn top(&self, plan: &Plan, element: u32) -> Top
+        requires ranking { IsRanking plan.now self.now.ranks }
+        requires within { element < length plan.now.elements }
+        ensures { IsTopOf plan.now self.now.ranks element result }
+    {
+        top_of(&self.ranks, inputs_of(plan, element))
+    }
+
+    /// Gives all lines out of an element their ranks, once each input of it has one.
+    fn give_all(&mut self, plan: &Plan, outputs: &[LineId], element: u32) -> Result<(), NoMemory>
+        requires peeling { IsPeeling plan.now self.old }
+        requires within { element < length plan.now.elements }
+        requires outputs { All (IsOutput plan.now element) outputs.now }
+        requires closed { AreRanked plan.now self.old.ranks element }
+        ensures more { OnOk result (IsMore plan.now self.old self.new) }
+        ensures given { OnOk result (All (λ line. rank_at self.new.ranks line.0 ≢ None)
+            outputs.now) }
+    {
+        let top = self.top(plan, element);
+        for line in outputs {
+            self.give_next(plan, *line, top)?;
+        }
+        Ok(())
+    }
+
+    /// Gives the way back of an element's only input without a rank its own.
+    fn give_back(&mut self, plan: &Plan, last: LineId, element: u32) -> Result<(), NoMemory>
+        requires peeling { IsPeeling plan.now self.old }
+        requires element { element < length plan.now.elements }
+        requires last { last.0 < line_count plan.now }
+        requires into { receiver_of plan.now last.0 ≡ element }
+        requires others { (from : ℕ) → Hops plan.now from (reverse_of last.0)
+            → rank_at self.old.ranks from ≢ None }
+        ensures more { OnOk result (IsMore plan.now self.old self.new) }
+        ensures given { OnOk result (IsNominated plan.now (reverse_of last.0)
+            → rank_at self.new.ranks (reverse_of last.0) ≢ None) }
+        ensures others { OnOk result ((other : ℕ) → other ≢ reverse_of last.0
+            → rank_at self.new.ranks other ≡ rank_at self.old.ranks other) }
+    {
+        let line = plan.rev(last);
+        if !self.lacks_rank(plan, line) {
+            return Ok(());
+        }
+        let top = self.top(plan, element);
+        self.give_next(plan, line, top)?;
+        Ok(())
+    }
+
+    /// Finds out how far the inputs of an element have ranks by now.
+    fn watch(&mut self, plan: &Plan, element: u32) -> Watch
+        requires peeling { IsPeeling plan.now self.old }
+        requires within { element < length plan.now.elements }
+        ensures more { IsMore plan.now self.old self.new }
+        ensures ranks { self.new.ranks ≡ self.old.ranks }
+        ensures places { AreFirstOpen self.new.ranks (inputs_of plan.now element) result }
+        ensures watched { IsWatched plan.now self.new.ranks element result }
+    {
+        let inputs = inputs_of(plan, element);
+        let watch = first_open(&self.ranks, inputs, self.watches[element as usize]);
+        self.watches[element as usize] = watch;
+        watch
+    }
+
+    /// Ranks the lines out of an element that no line without a rank holds back.
+    fn settle(&mut self, plan: &Plan, outputs: &[Vec<LineId>], element: u32) -> Result<(), NoMemory>
+        requires peeling { IsPeeling plan.now self.old }
+        requires outputs { AreOutputs plan.now (line_count plan.now) outputs.now }
+        requires within { element < length plan.now.elements }
+        ensures more { OnOk result (IsMore plan.now self.old self.new) }
+        ensures settled { OnOk result (IsSettled plan.now self.new.ranks element) }
+    {
+        let inputs = inputs_of(plan, element);
+        let watch = self.watch(plan, element);
+        if watch.done || watch.second < inputs.len() {
+            return Ok(());
+        }
+        if let Some(last) = line_at(inputs, watch.first) {
+            self.give_back(plan, last, element)?;
+            return Ok(());
+        }
+        self.give_all(plan, &outputs[element as usize], element)?;
+        self.watches[element as usize].done = true;
+        Ok(())
+    }
+
+    /// Ranks lines for as long as an element waits to be looked at.
+    fn peel(&mut self, plan: &Plan, outputs: &[Vec<LineId>]) -> Result<(), NoMemory>
+        requires peeling { IsPeeling plan.now self.old }
+        requires outputs { AreOutputs plan.now (line_count plan.now) outputs.now }
+        requires kept { AreKept plan.now self.old }
+        ensures peeling { OnOk result (IsPeeling plan.now self.new) }
+        ensures peeled { OnOk result
+            (IsPeeled (hops plan.now) (is_nominated plan.now) (rank_at self.new.ranks)) }
+    {
+        while let Some(element) = self.waiting.pop() {
+            self.settle(plan, outputs, element)?;
+        }
+        Ok(())
+    }
+}
+
+/// The numbers of all elements.
+fn all_elements(alloc: Global, plan: &Plan) -> Result<Vec<u32>, NoMemory>
+    ensures within { IfOk result (λ all. All (λ e. e < length plan.now.elements) all.items) }
+    ensures each { IfOk result (λ all. (e : ℕ) → e < length plan.now.elements
+        → Contains all.items e) }
+{
+    let mut all = Vec::new(alloc);
+    for element in 0..plan.elements() {
+        let Ok(()) = all.push(element) else {
+            return Err(NoMemory);
+        };
+    }
+    Ok(all)
+}

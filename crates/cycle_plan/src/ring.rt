@@ -1,0 +1,142 @@
+ghost use Rattle.std.specs.Prelude.{◌≡◌, ◌≢◌, ◌<◌, ◌≤◌, ◌⊎◌, ℕ, ◌∷◌, reverse, None, IfOk, IfSome, IsNone};
+ghost use Rattle.sync_topo.specs.Lines.{line_count, IsNominated};
+ghost use Rattle.sync_topo.specs.Hops.{hops};
+ghost use Rattle.sync_topo.specs.Ranks.{IsBefore, StepsBack, IsFirstCycle, IsLowestResidue};
+ghost use Rattle.rank_cert.specs.Ranks.{rank_at};
+ghost use Rattle.cycle_plan.specs.Rings.{IsLeft, IsDone, IsLowOn, HasRound, IsLowest, IsWalked, numbers};
+
+use crate::inputs::{first_open, inputs_of, line_at};
+use crate::ranking::Ranking;
+use std::alloc::Global;
+use sync_edge::{NoMemory, Rows};
+use sync_topo::{LineId, Plan};
+
+impl Ranking {
+    /// The lowest-numbered nominated line without a rank.
+    pub(crate) fn first_left(&self, plan: &Plan) -> Option<LineId>
+        requires { IsDone plan.now self.now }
+        ensures none { IsNone result → (line : ℕ) → IsNominated plan.now line
+            → rank_at self.now.ranks line ≢ None }
+        ensures left { IfSome result (λ line. IsLeft plan.now self.now.ranks line.0) }
+        ensures lowest { IfSome result (λ line. IsLowestResidue (hops plan.now) line.0) }
+    {
+        for number in 0..plan.lines() {
+            let line = LineId(number);
+            if self.lacks_rank(plan, line) {
+                return Some(line);
+            }
+        }
+        None
+    }
+
+    /// Of the lines without a rank that hop to one without a rank, the lowest-numbered.
+    fn before(&self, plan: &Plan, line: LineId) -> LineId
+        requires done { IsDone plan.now self.now }
+        requires left { IsLeft plan.now self.now.ranks line.0 }
+        ensures before { IsBefore (hops plan.now) result.0 line.0 }
+        ensures left { IsLeft plan.now self.now.ranks result.0 }
+    {
+        let sender = plan.from(line);
+        let inputs = inputs_of(plan, sender);
+        let watch = first_open(&self.ranks, inputs, self.watches[sender as usize]);
+        let Some(first) = line_at(inputs, watch.first) else {
+            unreachable!();
+        };
+        if first != plan.rev(line) {
+            return first;
+        }
+        let Some(second) = line_at(inputs, watch.second) else {
+            unreachable!();
+        };
+        second
+    }
+
+    /// A line on the ring to which one comes by going back from this one.
+    fn come_round(&self, plan: &Plan, start: LineId) -> LineId
+        requires done { IsDone plan.now self.now }
+        requires left { IsLeft plan.now self.now.ranks start.0 }
+        ensures back { StepsBack (hops plan.now) (line_count plan.now) start.0 result.0 }
+        ensures left { IsLeft plan.now self.now.ranks result.0 }
+    {
+        let mut at = start;
+        for _step in 0..plan.lines() {
+            at = self.before(plan, at);
+        }
+        at
+    }
+
+    /// The lowest-numbered line of the ring.
+    fn lowest_of_ring(&self, plan: &Plan, on: LineId) -> LineId
+        requires done { IsDone plan.now self.now }
+        requires left { IsLeft plan.now self.now.ranks on.0 }
+        ensures low { IsLowOn (hops plan.now) on.0 (line_count plan.now) result.0 }
+        ensures left { IsLeft plan.now self.now.ranks result.0 }
+    {
+        let mut low = on;
+        let mut at = on;
+        for _step in 0..plan.lines() {
+            at = self.before(plan, at);
+            low = lower(low, at);
+        }
+        low
+    }
+
+    /// The other lines of a ring, going back from its lowest-numbered line.
+    fn ring_behind(&self, alloc: Global, plan: &Plan, low: LineId) -> Result<Vec<LineId>, NoMemory>
+        requires done { IsDone plan.now self.now }
+        requires left { IsLeft plan.now self.now.ranks low.0 }
+        requires round { HasRound (hops plan.now) (line_count plan.now) low.0 }
+        requires lowest { IsLowest (hops plan.now) low.0 }
+        ensures { IfOk result (λ lines. IsWalked (hops plan.now) low.0 low.0 lines.items) }
+    {
+        let mut lines = Vec::new(alloc);
+        let mut at = self.before(plan, low);
+        while at != low {
+            let Ok(()) = lines.push(at) else {
+                return Err(NoMemory);
+            };
+            at = self.before(plan, at);
+        }
+        Ok(lines)
+    }
+
+    /// The first cycle, in hop order from its lowest-numbered line.
+    pub(crate) fn first_cycle(
+        &self,
+        alloc: Global,
+        plan: &Plan,
+        start: LineId,
+    ) -> Result<Rows<LineId>, NoMemory>
+        requires done { IsDone plan.now self.now }
+        requires left { IsLeft plan.now self.now.ranks start.0 }
+        requires lowest { IsLowestResidue (hops plan.now) start.0 }
+        ensures { IfOk result (λ lines. IsFirstCycle (hops plan.now) (numbers lines)) }
+    {
+        let on = self.come_round(plan, start);
+        let low = self.lowest_of_ring(plan, on);
+        let behind = self.ring_behind(alloc, plan, low)?;
+        in_hop_order(alloc, low, behind)
+    }
+}
+
+/// The lower-numbered of two lines.
+fn lower(one: LineId, other: LineId) -> LineId
+    ensures one { result.0 ≤ one.0 }
+    ensures other { result.0 ≤ other.0 }
+    ensures either { (result ≡ one) ⊎ (result ≡ other) }
+{
+    if other.0 < one.0 { other } else { one }
+}
+
+/// The line, and then the lines from the last to the first.
+fn in_hop_order(alloc: Global, low: LineId, behind: Vec<LineId>) -> Result<Rows<LineId>, NoMemory>
+    ensures { IfOk result (λ lines. lines ≡ low ∷ reverse behind.items) }
+{
+    let mut behind = behind;
+    let mut lines = Rows::new(alloc);
+    lines.push(low)?;
+    while let Some(line) = behind.pop() {
+        lines.push(line)?;
+    }
+    Ok(lines)
+}

@@ -1,0 +1,177 @@
+-- When a file is refused, and for what.
+use Rattle.std.proofs.Common.{◌≡◌, ℕ, Bool, true, false, List, Option, Some, None, option_and_then, Result, Ok, Err, refl, sym, subst, ◌∙◌, ap, inl, inr}
+use Rattle.std.specs.Prelude.{◌≢◌, ◌↔◌, IfOk, not, ◌&&◌, if◌then◌else◌}
+use Rattle.toml.specs.Data.{Data, string, integer, float, boolean, datetime, array, table, Members}
+use Rattle.sync_topo.specs.declared.place.Place.{Place}
+use Rattle.sync_topo.specs.declared.error.PlanErr.{PlanErr}
+use Rattle.sync_topo.specs.declared.error.PlanErr.TheVariants as rows
+use Rattle.sync_topo.specs.declared.rows.PlanRows.{PlanRows}
+use Rattle.sync_topo.specs.PlanRows.{plan_of_rows}
+use Rattle.sync_topo.specs.Topology.{Topology}
+use Rattle.plan_file.specs.declared.error.PlanFileErr.{PlanFileErr}
+use Rattle.plan_file.specs.declared.error.PlanFileErr.TheVariants.{Syntax, Key as WrongKey, Kind as WrongKind, Plan, NoMemory}
+use Rattle.plan_file.specs.Chain.{◌>>=◌, found, unless}
+use Rattle.plan_file.specs.Format.{keys_of}
+use Rattle.plan_file.specs.Rules.{has_only, has_needed, keeps_kinds, refusal_of, refusal_at, value_at, IsFirstBroken, KeepsRules}
+use Rattle.plan_file.specs.Rows.{said_rows, first_refusal, rows_of_document}
+use Rattle.plan_file.specs.PlanText.{document_of, of_rows, plan_of, OfDocument, GivesRows}
+use Rattle.plan_file.specs.Gives.{Gives, RefusesWhere}
+use Rattle.plan_file.proofs.FirstBroken.{keeps, some_at, is_first}
+
+-- the place of a refusal of a table
+abbrev pub place_in : PlanFileErr → Option Place
+place_in (WrongKey place) = Some place
+place_in (WrongKind place) = Some place
+place_in error = None
+
+own_place : (place : Place) (value : Data) (refusal : PlanFileErr) → refusal_of place value ≡ Some refusal → place_in refusal ≡ Some place
+unfolding refusal_of
+own_place place (table fields) refusal is =
+    by (has_only (keys_of place.section) fields && has_needed (keys_of place.section) fields) (keeps_kinds (keys_of place.section) fields) is
+  where
+    by : (named kinds : Bool) → (if not named then Some (WrongKey place) else if not kinds then Some (WrongKind place) else None) ≡ Some refusal → place_in refusal ≡ Some place
+    by false kinds is = let same : WrongKey place ≡ refusal = cc in rw (← same) refl
+    by true false is = let same : WrongKind place ≡ refusal = cc in rw (← same) refl
+    by true true is = absurd (cc)
+own_place place (string s) refusal is = let same : WrongKind place ≡ refusal = cc in rw (← same) refl
+own_place place (integer z) refusal is = let same : WrongKind place ≡ refusal = cc in rw (← same) refl
+own_place place (float x) refusal is = let same : WrongKind place ≡ refusal = cc in rw (← same) refl
+own_place place (boolean b) refusal is = let same : WrongKind place ≡ refusal = cc in rw (← same) refl
+own_place place (datetime d) refusal is = let same : WrongKind place ≡ refusal = cc in rw (← same) refl
+own_place place (array ds) refusal is = let same : WrongKind place ≡ refusal = cc in rw (← same) refl
+
+-- a refusal at a place names it
+names_place : (document : Members) (place : Place) (refusal : PlanFileErr) → refusal_at document place ≡ Some refusal → place_in refusal ≡ Some place
+names_place document place refusal is = by (value_at document place) is
+  where
+    by : (value : Option Data) → option_and_then (refusal_of place) value ≡ Some refusal → place_in refusal ≡ Some place
+    by None is = absurd (cc)
+    by (Some value) is = own_place place value refusal is
+
+-- a table is refused exactly where a rule is broken there first
+pub table_law : (bytes : List ℕ) (place : Place) (refusal : PlanFileErr) → place_in refusal ≡ Some place
+    → (plan_of bytes ≡ Err refusal) ↔ OfDocument bytes (λ document. IsFirstBroken document place refusal)
+unfolding plan_of rows_of_document
+table_law bytes place refusal named = by (document_of bytes)
+  where
+    no_rows : (answer : Result Topology PlanErr) → of_rows answer ≡ Err refusal → ⊥
+    no_rows (Ok plan) is = absurd (cc)
+    no_rows (Err error) is = let same : Plan error ≡ refusal = cc in let none : place_in (Plan error) ≡ Some place = subst (λ r. place_in r ≡ Some place) (sym same) named in absurd (cc)
+
+    by : (document : Option Members)
+        → ((found document Syntax >>= λ document. rows_of_document document >>= λ rows. of_rows (plan_of_rows rows)) ≡ Err refusal)
+        ↔ elim document as (λ _. Type 0) [ None ↦ ⊥ | Some document ↦ IsFirstBroken document place refusal ]
+    by None = (λ is. (let same : Syntax ≡ refusal = cc in let none : place_in Syntax ≡ Some place = subst (λ r. place_in r ≡ Some place) (sym same) named in absurd (cc)), λ never. absurd never)
+    by (Some document) = of (first_refusal document) refl
+      where
+        of : (first : Option PlanFileErr) → first_refusal document ≡ first
+            → ((unless first (said_rows document) >>= λ rows. of_rows (plan_of_rows rows)) ≡ Err refusal) ↔ IsFirstBroken document place refusal
+        of None is = (
+          λ refused. absurd (no_rows (plan_of_rows (said_rows document)) refused),
+          λ broken. absurd (let none = keeps document is place in let some = broken.broken in cc),
+        )
+        of (Some own) is = (
+          λ refused. let (at, broken) = some_at document own is in
+              let same : own ≡ refusal = cc in
+              let named_at = names_place document at own broken.broken in
+              let place_is : at ≡ place = (let there : place_in own ≡ Some place = subst (λ r. place_in r ≡ Some place) (sym same) named in cc) in
+              subst (λ p. IsFirstBroken document p refusal) place_is (subst (λ r. IsFirstBroken document at r) same broken),
+          λ broken. let first = is_first document place refusal broken in let same : own ≡ refusal = cc in rw same refl,
+        )
+
+-- the bytes are refused as such exactly where they are no document
+pub syntax_law : (bytes : List ℕ) → (plan_of bytes ≡ Err Syntax) ↔ (document_of bytes ≡ None)
+unfolding plan_of rows_of_document
+syntax_law bytes = by (document_of bytes)
+  where
+    no_rows : (answer : Result Topology PlanErr) → of_rows answer ≡ Err Syntax → ⊥
+    no_rows (Ok plan) is = absurd (cc)
+    no_rows (Err error) is = absurd (cc)
+
+    by : (document : Option Members)
+        → ((found document Syntax >>= λ document. rows_of_document document >>= λ rows. of_rows (plan_of_rows rows)) ≡ Err Syntax) ↔ (document ≡ None)
+    by None = (λ is. refl, λ none. refl)
+    by (Some document) = of (first_refusal document) refl
+      where
+        of : (first : Option PlanFileErr) → first_refusal document ≡ first
+            → ((unless first (said_rows document) >>= λ rows. of_rows (plan_of_rows rows)) ≡ Err Syntax) ↔ (Some document ≡ None)
+        of None is = (λ refused. absurd (no_rows (plan_of_rows (said_rows document)) refused), λ none. absurd (cc))
+        of (Some own) is = (
+          λ refused. let (at, broken) = some_at document own is in
+              let same : own ≡ Syntax = cc in
+              let named_at = names_place document at own broken.broken in
+              let none : place_in Syntax ≡ Some at = subst (λ r. place_in r ≡ Some at) same named_at in absurd (cc),
+          λ none. absurd (cc),
+        )
+
+-- the rows of a document that keeps the rules decide
+rows_law : (bytes : List ℕ) (answer : Result Topology PlanErr) → (plan_of bytes ≡ of_rows answer) ↔ GivesRows bytes answer
+unfolding plan_of rows_of_document
+rows_law bytes answer = by (document_of bytes)
+  where
+    same_rows : (rows other : Result Topology PlanErr) → of_rows rows ≡ of_rows other → rows ≡ other
+    same_rows (Ok plan) (Ok other) is = let same : plan ≡ other = cc in rw same refl
+    same_rows (Ok plan) (Err other) is = absurd (cc)
+    same_rows (Err error) (Ok other) is = absurd (cc)
+    same_rows (Err error) (Err other) is = let same : Plan error ≡ Plan other = cc in let one : error ≡ other = cc in rw one refl
+
+    no_table : (rows : Result Topology PlanErr) (refusal : PlanFileErr) (place : Place) → place_in refusal ≡ Some place → Err refusal ≡ of_rows rows → ⊥
+    no_table (Ok plan) refusal place named is = absurd (cc)
+    no_table (Err error) refusal place named is =
+        let same : refusal ≡ Plan error = cc in
+        let none : place_in (Plan error) ≡ Some place = subst (λ r. place_in r ≡ Some place) same named in absurd (cc)
+
+    no_document : (rows : Result Topology PlanErr) → Err Syntax ≡ of_rows rows → ⊥
+    no_document (Ok plan) is = absurd (cc)
+    no_document (Err error) is = absurd (cc)
+
+    by : (document : Option Members)
+        → ((found document Syntax >>= λ document. rows_of_document document >>= λ rows. of_rows (plan_of_rows rows)) ≡ of_rows answer)
+        ↔ elim document as (λ _. Type 0) [ None ↦ ⊥ | Some document ↦ KeepsRules document × (plan_of_rows (said_rows document) ≡ answer) ]
+    by None = (λ is. absurd (no_document answer is), λ never. absurd never)
+    by (Some document) = of (first_refusal document) refl
+      where
+        of : (first : Option PlanFileErr) → first_refusal document ≡ first
+            → ((unless first (said_rows document) >>= λ rows. of_rows (plan_of_rows rows)) ≡ of_rows answer)
+            ↔ (KeepsRules document × (plan_of_rows (said_rows document) ≡ answer))
+        of None is = (λ given. (keeps document is, same_rows (plan_of_rows (said_rows document)) answer given), λ both. ap of_rows both.1)
+        of (Some own) is = (
+          λ given. let (at, broken) = some_at document own is in
+              absurd (no_table answer own at (names_place document at own broken.broken) given),
+          λ both. let (at, broken) = some_at document own is in
+              absurd (let none = both.0 at in let some = broken.broken in cc),
+        )
+
+-- the plan, and the refusal of the rows
+pub plan_law : (bytes : List ℕ) (plan : Topology) → (plan_of bytes ≡ Ok plan) ↔ GivesRows bytes (Ok plan)
+plan_law bytes plan = rows_law bytes (Ok plan)
+
+pub refused_rows_law : (bytes : List ℕ) (error : PlanErr) → (plan_of bytes ≡ Err (Plan error)) ↔ GivesRows bytes (Err error)
+refused_rows_law bytes error = rows_law bytes (Err error)
+
+-- what the definition refuses is refused, unless memory ran out
+pub refuses_where : {A : Type 0} (result answer : Result A PlanFileErr) (refusal : PlanFileErr) (Fact : Type 0)
+    → Gives result answer → ((answer ≡ Err refusal) ↔ Fact) → RefusesWhere result refusal Fact
+refuses_where (Ok value) answer refusal Fact gives law =
+    inr (λ is. absurd (cc), λ fact. let is = law.1 fact in absurd (cc))
+refuses_where (Err NoMemory) answer refusal Fact gives law = inl refl
+refuses_where (Err error) answer refusal Fact gives law =
+    inr (λ is. law.0 (gives ∙ is), λ fact. sym gives ∙ law.1 fact)
+
+-- the rows of a document are never refused as a plan's
+pub rows_no_memory : (document : Members) (result : Result PlanRows PlanFileErr) → Gives result (rows_of_document document) → result ≢ Err (Plan rows.NoMemory)
+unfolding rows_of_document
+rows_no_memory document result gives is = by (first_refusal document) refl (subst (λ r. Gives r (rows_of_document document)) is gives)
+  where
+    by : (first : Option PlanFileErr) → first_refusal document ≡ first → unless first (said_rows document) ≡ Err (Plan rows.NoMemory) → ⊥
+    by None first refused = absurd (cc)
+    by (Some own) first refused =
+        let (at, broken) = some_at document own first in
+        let same : own ≡ Plan rows.NoMemory = cc in
+        let named_at = names_place document at own broken.broken in
+        let none : place_in (Plan rows.NoMemory) ≡ Some at = subst (λ r. place_in r ≡ Some at) same named_at in
+        absurd (cc)
+
+pub gives_plan : (bytes : List ℕ) (result : Result Topology PlanFileErr) → Gives result (plan_of bytes) → IfOk result (λ plan. GivesRows bytes (Ok plan))
+gives_plan bytes (Ok plan) gives = (plan_law bytes plan).0 gives
+gives_plan bytes (Err error) gives = tt

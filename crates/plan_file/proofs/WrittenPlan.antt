@@ -1,0 +1,172 @@
+-- What is written for a plan is read as that plan.
+use Rattle.std.proofs.Common.{◌≡◌, ℕ, ◌+◌, ◌≤◌, true, List, [], ◌∷◌, map, Option, Some, None, refl, sym, ap, ◌∙◌, arith}
+use Rattle.std.specs.Prelude.{◌↔◌, Bool, false, Err, Result, codes}
+use Rattle.std.proofs.lemmas.Bool.{true≢false}
+use Rattle.std.specs.Str.{IsUtf8}
+use Rattle.std.proofs.lemmas.Str.{is_utf8-from_IsUtf8}
+use Rattle.toml.specs.Data.{Data, string, array, table, Items, Members, no_members, member, depth, items_depth, members_depth, has_valid_dates, items_have_valid_dates, members_have_valid_dates}
+use Rattle.toml.specs.View.{items_of}
+use Rattle.toml.specs.Parse.{parse_document}
+use Rattle.toml.specs.declared.ser.error.Error.{Error}
+use Rattle.toml.specs.declared.ser.error.Error.TheVariants.{DateInvalid, OutOfMemory}
+use Rattle.sync_ql.specs.declared.levels.NetOption.{NetOption}
+use Rattle.sync_ql.specs.declared.levels.NetOption.TheVariants.{I, II}
+use Rattle.sync_ql.specs.declared.levels.Level.{Level}
+use Rattle.sync_topo.specs.declared.element.Element.{Element}
+use Rattle.sync_topo.specs.declared.link.Link.{Link}
+use Rattle.sync_topo.specs.declared.source.Source.{Source}
+use Rattle.sync_topo.specs.declared.place.Section.{Section}
+use Rattle.sync_topo.specs.declared.place.Section.TheVariants.{Head, Elements, Links, Sources}
+use Rattle.sync_topo.specs.Topology.{Topology}
+use Rattle.sync_topo.specs.WellFormed.{IsWellFormed}
+use Rattle.sync_topo.specs.RowsOfPlan.{row_of_element, row_of_link, row_of_source, rows_of_plan}
+use Rattle.sync_topo.proofs.RowsOfPlan.{map-map, plan_of_rows-rows_of_plan}
+use Rattle.plan_file.specs.Rules.{refusal_of, data_of}
+use Rattle.plan_file.specs.Rows.{element_row, link_row, source_row, network_option, said_rows, first_from, first_refusal, rows_of_document}
+use Rattle.plan_file.specs.PlanText.{plan_of}
+use Rattle.plan_file.specs.IsPlanText.{IsPlanText}
+use Rattle.plan_file.specs.Writing.{option_name, element_table, link_table, source_table, elements_data, links_data, sources_data, plan_document}
+
+-- ---- lists
+
+data_back : (entries : List Data) → data_of (items_of entries) ≡ entries
+data_back [] = refl
+data_back (entry ∷ entries) = ap (λ rest. entry ∷ rest) (data_back entries)
+
+map-pointwise : {A B : Type 0} (f g : A → B) (items : List A) → ((item : A) → f item ≡ g item) → map f items ≡ map g items
+map-pointwise f g [] same = refl
+map-pointwise f g (item ∷ items) same = rw (same item, map-pointwise f g items same) refl
+
+none_from : {A : Type 0} (f : A → Data) (section : Section) (items : List A) (n : ℕ)
+    → ((item : A) (row : ℕ) → refusal_of (record { section = section; row = row }) (f item) ≡ None) → first_from section n (map f items) ≡ None
+none_from f section [] n kept = refl
+none_from f section (item ∷ items) n kept = rw (kept item n, none_from f section items (n + 1) kept) refl
+
+flat_items : {A : Type 0} (f : A → Data) (items : List A) → ((item : A) → depth (f item) ≤ 1) → items_depth (items_of (map f items)) ≤ 1
+flat_items f [] flat = omega arith
+flat_items f (item ∷ items) flat = omega (arith, flat item, flat_items f items flat)
+
+dated_items : {A : Type 0} (f : A → Data) (items : List A) → ((item : A) → has_valid_dates (f item) ≡ true) → items_have_valid_dates (items_of (map f items)) ≡ true
+dated_items f [] dated = refl
+dated_items f (item ∷ items) dated = rw (dated item, dated_items f items dated) refl
+
+-- ---- tables
+
+element_kept : (element : Element) (row : ℕ) → refusal_of (record { section = Elements; row = row }) (table (element_table element)) ≡ None
+unfolding refusal_of
+element_kept element row = kept element.floor
+  where
+    kept : (floor : Option Level) → refusal_of (record { section = Elements; row = row }) (table (element_table (record element { floor = floor }))) ≡ None
+    kept None = refl
+    kept (Some floor) = refl
+
+element_said : (element : Element) → element_row (table (element_table element)) ≡ row_of_element element
+unfolding element_row
+element_said element = said element.floor
+  where
+    said : (floor : Option Level) → element_row (table (element_table (record element { floor = floor }))) ≡ row_of_element (record element { floor = floor })
+    said None = refl
+    said (Some floor) = refl
+
+element_flat : (element : Element) → depth (table (element_table element)) ≤ 1
+element_flat element = flat element.floor
+  where
+    flat : (floor : Option Level) → depth (table (element_table (record element { floor = floor }))) ≤ 1
+    flat None = omega arith
+    flat (Some floor) = omega arith
+
+element_dated : (element : Element) → has_valid_dates (table (element_table element)) ≡ true
+element_dated element = dated element.floor
+  where
+    dated : (floor : Option Level) → has_valid_dates (table (element_table (record element { floor = floor }))) ≡ true
+    dated None = refl
+    dated (Some floor) = refl
+
+link_kept : (plan : Topology) (link : Link) (row : ℕ) → refusal_of (record { section = Links; row = row }) (table (link_table plan link)) ≡ None
+unfolding refusal_of
+link_kept plan link row = refl
+
+link_said : (plan : Topology) (link : Link) → link_row (table (link_table plan link)) ≡ row_of_link plan link
+unfolding link_row
+link_said plan link = refl
+
+link_flat : (plan : Topology) (link : Link) → depth (table (link_table plan link)) ≤ 1
+link_flat plan link = omega arith
+
+source_kept : (plan : Topology) (source : Source) (row : ℕ) → refusal_of (record { section = Sources; row = row }) (table (source_table plan source)) ≡ None
+unfolding refusal_of
+source_kept plan source row = refl
+
+source_said : (plan : Topology) (source : Source) → source_row (table (source_table plan source)) ≡ row_of_source plan source
+unfolding source_row
+source_said plan source = refl
+
+source_flat : (plan : Topology) (source : Source) → depth (table (source_table plan source)) ≤ 1
+source_flat plan source = omega arith
+
+head_of : NetOption → Items → Items → Items → Members
+head_of option elements links sources =
+    member (codes "element") (array elements) (member (codes "link") (array links) (member (codes "option") (string (option_name option)) (member (codes "source") (array sources) no_members)))
+
+head_kept : (option : NetOption) (elements links sources : Items) → refusal_of (record { section = Head; row = 0 }) (table (head_of option elements links sources)) ≡ None
+unfolding refusal_of head_of
+head_kept I elements links sources = refl
+head_kept II elements links sources = refl
+
+option_said : (option : NetOption) (elements links sources : Items) → network_option (head_of option elements links sources) ≡ option
+unfolding head_of
+option_said I elements links sources = refl
+option_said II elements links sources = refl
+
+-- ---- the document
+
+-- the document is no deeper than tables in arrays
+pub document_depth : (plan : Topology) → members_depth (plan_document plan) ≤ 80
+document_depth plan =
+    omega (
+      arith,
+      flat_items (λ element. table (element_table element)) plan.elements element_flat,
+      flat_items (λ link. table (link_table plan link)) plan.links (link_flat plan),
+      flat_items (λ source. table (source_table plan source)) plan.sources (source_flat plan),
+    )
+
+-- the document has no date that no text can write
+pub document_dated : (plan : Topology) → members_have_valid_dates (plan_document plan) ≡ true
+document_dated plan =
+    rw (
+      dated_items (λ element. table (element_table element)) plan.elements element_dated,
+      dated_items (λ link. table (link_table plan link)) plan.links (λ link. refl),
+      dated_items (λ source. table (source_table plan source)) plan.sources (λ source. refl),
+    ) refl
+
+-- only want of memory can be answered in its place
+pub only_memory : {A : Type 0} (error : Error) (dates : Bool) → (◌≡◌ {A = Result A Error} (Err error) (Err DateInvalid) ↔ (dates ≡ false)) → dates ≡ true → error ≡ OutOfMemory
+only_memory DateInvalid dates told dated = absurd (true≢false (sym dated ∙ told.0 refl))
+only_memory OutOfMemory dates told dated = refl
+
+none_refused : (plan : Topology) → first_refusal (plan_document plan) ≡ None
+unfolding head_of
+none_refused plan =
+    let elements : first_from Elements 1 (elements_data plan) ≡ None = none_from (λ element. table (element_table element)) Elements plan.elements 1 element_kept in
+    let links : first_from Links 1 (links_data plan) ≡ None = none_from (λ link. table (link_table plan link)) Links plan.links 1 (link_kept plan) in
+    let sources : first_from Sources 1 (sources_data plan) ≡ None = none_from (λ source. table (source_table plan source)) Sources plan.sources 1 (source_kept plan) in
+    let head = head_kept plan.option (items_of (elements_data plan)) (items_of (links_data plan)) (items_of (sources_data plan)) in
+    rw (head, data_back (elements_data plan), elements, data_back (links_data plan), links, data_back (sources_data plan), sources) refl
+
+rows_said : (plan : Topology) → said_rows (plan_document plan) ≡ rows_of_plan plan
+unfolding head_of
+rows_said plan =
+    let elements : map element_row (elements_data plan) ≡ map row_of_element plan.elements
+    = map-map element_row (λ element. table (element_table element)) plan.elements ∙ map-pointwise _ row_of_element plan.elements element_said in
+    let links : map link_row (links_data plan) ≡ map (row_of_link plan) plan.links
+    = map-map link_row (λ link. table (link_table plan link)) plan.links ∙ map-pointwise _ (row_of_link plan) plan.links (link_said plan) in
+    let sources : map source_row (sources_data plan) ≡ map (row_of_source plan) plan.sources
+    = map-map source_row (λ source. table (source_table plan source)) plan.sources ∙ map-pointwise _ (row_of_source plan) plan.sources (source_said plan) in
+    let option = option_said plan.option (items_of (elements_data plan)) (items_of (links_data plan)) (items_of (sources_data plan)) in
+    rw (option, data_back (elements_data plan), elements, data_back (links_data plan), links, data_back (sources_data plan), sources) refl
+
+-- a text of the document is one of the plan
+pub IsPlanText-written : (plan : Topology) (text : List ℕ) → IsWellFormed plan → IsUtf8 text → parse_document text ≡ Some (plan_document plan) → IsPlanText plan text
+unfolding plan_of rows_of_document
+IsPlanText-written plan text well utf8 parsed =
+    rw (is_utf8-from_IsUtf8 text utf8, parsed, none_refused plan, rows_said plan, plan_of_rows-rows_of_plan plan well) refl

@@ -1,0 +1,74 @@
+-- Private: the document that is written for a plan, which only clauses of private functions cite.
+use Rattle.std.specs.Prelude.{ℕ, ◌/◌, pos, List, map, codes, Option, Some, None}
+use Rattle.std.specs.Ordering.{nat_cmp, match_ordering}
+use Rattle.std.specs.Cmp.Lexicographic.{slice_cmp}
+use Rattle.toml.specs.Data.{Data, string, integer, array, table, Members, no_members, member}
+use Rattle.toml.specs.View.{items_of}
+use Rattle.sync_ql.specs.declared.levels.NetOption.{NetOption}
+use Rattle.sync_ql.specs.declared.levels.NetOption.TheVariants.{I, II}
+use Rattle.sync_ql.specs.declared.levels.Level.{Level}
+use Rattle.sync_ql.specs.Level.{name_of}
+use Rattle.sync_topo.specs.declared.element.Element.{Element}
+use Rattle.sync_topo.specs.declared.link.Link.{Link}
+use Rattle.sync_topo.specs.declared.source.Source.{Source}
+use Rattle.sync_topo.specs.Topology.{Topology}
+use Rattle.sync_topo.specs.Lines.{element_name}
+
+-- the members of a table after a value is put at a key: before the first greater key, or in place of what stands there
+abbrev pub put_member : List ℕ → Data → Members → Members
+put_member key value no_members = member key value no_members
+put_member key value (member other there rest) =
+    match_ordering (slice_cmp nat_cmp key other) (member key value (member other there rest)) (member other value rest) (member other there (put_member key value rest))
+
+-- the name of a network option
+abbrev pub option_name : NetOption → List ℕ
+option_name I = codes "I"
+option_name II = codes "II"
+
+-- the floor, if the element has one, before the other keys of its table
+abbrev pub with_floor : Option Level → Members → Members
+with_floor None fields = fields
+with_floor (Some floor) fields = member (codes "floor") (string (name_of floor)) fields
+
+-- the table of an element: every key in the order of the alphabet
+abbrev pub element_table : Element → Members
+element_table element = with_floor element.floor
+    (member (codes "holdoff") (integer (pos element.holdoff))
+    (member (codes "name") (string element.name)
+    (member (codes "own") (string (name_of element.own))
+    (member (codes "wtr") (integer (pos (element.wtr / 60000))) no_members))))
+
+abbrev pub link_table : Topology → Link → Members
+link_table plan link =
+    member (codes "a") (string (element_name plan link.a))
+    (member (codes "b") (string (element_name plan link.b))
+    (member (codes "delay_a") (integer (pos link.delay_a))
+    (member (codes "delay_b") (integer (pos link.delay_b))
+    (member (codes "name") (string link.name)
+    (member (codes "priority_a") (integer (pos link.priority_a))
+    (member (codes "priority_b") (integer (pos link.priority_b)) no_members))))))
+
+abbrev pub source_table : Topology → Source → Members
+source_table plan source =
+    member (codes "at") (string (element_name plan source.at))
+    (member (codes "level") (string (name_of source.level))
+    (member (codes "name") (string source.name)
+    (member (codes "priority") (integer (pos source.priority)) no_members)))
+
+-- the tables of each section
+abbrev pub elements_data : Topology → List Data
+elements_data plan = map (λ element. table (element_table element)) plan.elements
+
+abbrev pub links_data : Topology → List Data
+links_data plan = map (λ link. table (link_table plan link)) plan.links
+
+abbrev pub sources_data : Topology → List Data
+sources_data plan = map (λ source. table (source_table plan source)) plan.sources
+
+-- the document
+abbrev pub plan_document : Topology → Members
+plan_document plan =
+    member (codes "element") (array (items_of (elements_data plan)))
+    (member (codes "link") (array (items_of (links_data plan)))
+    (member (codes "option") (string (option_name plan.option))
+    (member (codes "source") (array (items_of (sources_data plan))) no_members)))

@@ -1,0 +1,4 @@
+pub mod Ranges
+pub mod LadderLinks
+pub mod LadderPlan
+pub mod RowLaws

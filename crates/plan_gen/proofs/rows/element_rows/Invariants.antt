@@ -1,0 +1,7 @@
+use Rattle.std.proofs.Common.{◌≡◌, map}
+use Rattle.std.specs.List.{range_with_len}
+use Rattle.plan_gen.specs.LadderRows.{element_row}
+use Rattle.plan_gen.proofs.rows.element_rows.Given as goal
+
+abbrev pub invariant-loop-j : goal.invariant-loop-j
+invariant-loop-j l = l.rows ≡ map element_row (range_with_len 0 l.j)

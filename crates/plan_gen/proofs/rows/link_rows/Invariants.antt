@@ -1,0 +1,7 @@
+use Rattle.std.proofs.Common.{◌≡◌, flat_map}
+use Rattle.std.specs.List.{range_with_len}
+use Rattle.plan_gen.specs.LadderRows.{link_rows_up_to}
+use Rattle.plan_gen.proofs.rows.link_rows.Given as goal
+
+abbrev pub invariant-loop-j : goal.invariant-loop-j
+invariant-loop-j l = l.rows ≡ flat_map link_rows_up_to (range_with_len 0 l.j)

@@ -1,0 +1,3 @@
+pub mod Ladder
+pub mod Examples
+pub mod LadderRows

@@ -1,0 +1,35 @@
+ghost use Rattle.std.specs.Prelude.{◌≡◌, ◌≤◌, IfOk};
+ghost use Rattle.sync_topo.specs.declared.error.PlanErr.TheVariants as refusal;
+ghost use Rattle.plan_gen.specs.Ladder.{ladder};
+
+use crate::rows::ladder_rows;
+use std::alloc::Global;
+use sync_edge::NoMemory;
+use sync_topo::{Plan, PlanErr};
+
+/// The ladder of `n` elements, E0 at its foot.
+///
+/// Each element from E1 on takes its timing from the one below it, over a step, and each from E2 on
+/// also from the one below that, over a rail, which comes first in priority. P0 of QL-PRC feeds E0,
+/// and P1 of QL-SSU-A feeds E1. The option is I, and every delay is 10 milliseconds.
+///
+/// This project's own.
+pub fn generate(alloc: Global, n: u32) -> Result<Plan, NoMemory>
+    requires least { 2 ≤ n }
+    requires greatest { n ≤ 2000 }
+    ensures ladder { IfOk result (λ plan. plan ≡ ladder n) }
+{
+    let rows = ladder_rows(alloc, n)?;
+    match Plan::new(alloc, rows) {
+        Ok(plan) => Ok(plan),
+        Err(error) => Err(want_of_memory(error)),
+    }
+}
+
+/// Want of memory, as the one reason that is left: the ladder's rows break no rule for plans.
+fn want_of_memory(error: PlanErr) -> NoMemory
+    requires { error ≡ refusal.NoMemory }
+{
+    let _ = error;
+    NoMemory
+}

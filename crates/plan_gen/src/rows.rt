@@ -1,0 +1,138 @@
+//! What a plan file would say of the ladder.
+
+ghost use Rattle.std.specs.Prelude.{◌≡◌, ◌+◌, ◌++◌, ◌<◌, ◌≤◌, map, flat_map, IfOk, OnOk, codes, None, Some, pos};
+ghost use Rattle.std.specs.List.{range_with_len};
+ghost use Rattle.plan_gen.specs.Ladder.{numbered};
+ghost use Rattle.plan_gen.specs.LadderRows.{element_row, link_row, step_row, rail_row, link_rows_up_to, source_row, ladder_rows};
+
+use std::alloc::Global;
+use sync_edge::{NoMemory, Rows, Text};
+use sync_ql::NetOption;
+use sync_topo::{ElementRow, LinkRow, PlanRows, SourceRow};
+
+/// How many milliseconds a message takes on each line.
+const DELAY: i64 = 10;
+
+/// What is said of the ladder of `n` elements.
+pub(crate) fn ladder_rows(alloc: Global, n: u32) -> Result<PlanRows, NoMemory>
+    ensures { IfOk result (λ rows. rows ≡ ladder_rows n) }
+{
+    Ok(PlanRows {
+        option: NetOption::I,
+        elements: element_rows(alloc, n)?,
+        links: link_rows(alloc, n)?,
+        sources: source_rows(alloc)?,
+    })
+}
+
+/// The elements, by number.
+#[tactic(auto, using(crate::proofs::RowLaws::element_rows_more))]
+fn element_rows(alloc: Global, n: u32) -> Result<Rows<ElementRow>, NoMemory>
+    ensures { IfOk result (λ rows. rows ≡ map element_row (range_with_len 0 n)) }
+{
+    let mut rows = Rows::new(alloc);
+    for j in 0..n {
+        rows.push(element_row(alloc, j)?)?;
+    }
+    Ok(rows)
+}
+
+/// Element `j`: only its name is said.
+fn element_row(alloc: Global, j: u32) -> Result<ElementRow, NoMemory>
+    ensures { IfOk result (λ row. row ≡ element_row j) }
+{
+    Ok(ElementRow {
+        name: numbered(alloc, b"E", j)?,
+        own: None,
+        floor: None,
+        holdoff: None,
+        wtr: None,
+    })
+}
+
+/// The links up to each element in turn.
+#[tactic(auto, using(crate::proofs::RowLaws::link_rows_more))]
+fn link_rows(alloc: Global, n: u32) -> Result<Rows<LinkRow>, NoMemory>
+    ensures { IfOk result (λ rows. rows ≡ flat_map link_rows_up_to (range_with_len 0 n)) }
+{
+    let mut rows = Rows::new(alloc);
+    for j in 0..n {
+        put_links_up_to(alloc, &mut rows, j)?;
+    }
+    Ok(rows)
+}
+
+/// Puts the links up to element `j` at the end.
+fn put_links_up_to(alloc: Global, rows: &mut Rows<LinkRow>, j: u32) -> Result<(), NoMemory>
+    ensures { OnOk result (rows.new ≡ rows.old ++ link_rows_up_to j) }
+{
+    if j == 0 {
+        return Ok(());
+    }
+    rows.push(link_row(alloc, b"S", j - 1, j, 2)?)?;
+    if j == 1 {
+        return Ok(());
+    }
+    rows.push(link_row(alloc, b"R", j - 2, j, 1)?)
+}
+
+/// A link from an earlier element up to element `j`, which alone gives a priority to its line.
+fn link_row(
+    alloc: Global,
+    letter: &[u8],
+    from: u32,
+    j: u32,
+    priority: i64,
+) -> Result<LinkRow, NoMemory>
+    ensures { IfOk result (λ row. row ≡ link_row letter.now from j priority) }
+{
+    Ok(LinkRow {
+        name: numbered(alloc, letter, j)?,
+        a: numbered(alloc, b"E", from)?,
+        b: numbered(alloc, b"E", j)?,
+        priority_a: None,
+        priority_b: Some(priority),
+        delay_a: Some(DELAY),
+        delay_b: Some(DELAY),
+    })
+}
+
+/// The two sources at the foot.
+fn source_rows(alloc: Global) -> Result<Rows<SourceRow>, NoMemory>
+    ensures { IfOk result (λ rows. rows ≡ (ladder_rows 0).sources) }
+{
+    let mut rows = Rows::new(alloc);
+    rows.push(source_row(alloc, b"P0", b"E0", b"QL-PRC")?)?;
+    rows.push(source_row(alloc, b"P1", b"E1", b"QL-SSU-A")?)?;
+    Ok(rows)
+}
+
+/// A source of the priority that is the default.
+fn source_row(alloc: Global, name: &[u8], at: &[u8], level: &[u8]) -> Result<SourceRow, NoMemory>
+    ensures { IfOk result (λ row. row ≡ source_row name.now at.now level.now) }
+{
+    Ok(SourceRow {
+        name: text_of(alloc, name)?,
+        at: text_of(alloc, at)?,
+        level: text_of(alloc, level)?,
+        priority: None,
+    })
+}
+
+/// A text of these bytes.
+fn text_of(alloc: Global, bytes: &[u8]) -> Result<Text, NoMemory>
+    ensures { IfOk result (λ text. text ≡ bytes.now) }
+{
+    let mut text = Text::new(alloc);
+    text.put(bytes)?;
+    Ok(text)
+}
+
+/// A name of a letter and a number.
+fn numbered(alloc: Global, letter: &[u8], number: u32) -> Result<Text, NoMemory>
+    ensures { IfOk result (λ text. text ≡ numbered letter.now number) }
+{
+    let mut text = text_of(alloc, letter)?;
+    text.put_number(u64::from(number))?;
+    Ok(text)
+}

@@ -1,0 +1,9 @@
+pub mod Ranks
+pub mod Refusal
+pub mod Rows
+pub mod CertificateText
+pub mod FirstFall
+pub mod RowsTaken
+pub mod Written
+pub mod Rules
+pub mod Examples

@@ -1,0 +1,62 @@
+// Why a text gives no certificate.
+
+ghost use Rattle.std.specs.Prelude.{◌≡◌};
+ghost use Rattle.rank_cert.specs.Refusal.{refusal_number};
+
+use sync_edge::NoMemory;
+use sync_topo::LineId;
+use thiserror::Error;
+
+/// The first rule for certificates that a text breaks. Rows count from 1 after the header.
+///
+/// This project's own.
+#[derive(Clone, Copy, Debug, PartialEq, Eq, Error)]
+pub enum CertErr {
+    /// The first record isn't `line,rank`, or there is none.
+    #[error("the first record isn't line,rank")]
+    Header,
+    /// The row hasn't two fields, or the second is no number of at most 2^64 - 1.
+    #[error("row {0}: not LINE,RANK")]
+    Row(u64),
+    /// The first field is not the name of a nominated line.
+    #[error("row {0}: not a nominated line")]
+    Line(u64),
+    /// An earlier row has the line.
+    #[error("row {0}: the line stands in an earlier row")]
+    Twice(u64),
+    /// No row has this nominated line, and each one of lower number has a row.
+    #[error("a nominated line has no row")]
+    Missing(LineId),
+    /// Memory ran out.
+    #[error("out of memory")]
+    NoMemory,
+}
+
+impl CertErr {
+    /// The number by which the refusal is printed, from 34 to 38.
+    ///
+    /// `None` where memory ran out, which refuses no text.
+    /// This project's own.
+    pub fn number(self) -> Option<u8>
+        ensures { result ≡ refusal_number self }
+    {
+        match self {
+            CertErr::Header => Some(34),
+            CertErr::Row(_) => Some(35),
+            CertErr::Line(_) => Some(36),
+            CertErr::Twice(_) => Some(37),
+            CertErr::Missing(_) => Some(38),
+            CertErr::NoMemory => None,
+        }
+    }
+}
+
+impl From<NoMemory> for CertErr {
+    ghost use Rattle.rank_cert.specs.declared.error.CertErr.TheVariants as refusal;
+
+    ghost from_gives = { λ _ e. e ≡ refusal.NoMemory };
+
+    fn from(_: NoMemory) -> CertErr {
+        CertErr::NoMemory
+    }
+}

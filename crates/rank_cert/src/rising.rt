@@ -1,0 +1,96 @@
+// The test of ranks: whether they rise over every hop.
+
+ghost use Rattle.std.specs.Prelude.{◌≡◌, ◌<◌, ℕ, List, option_map};
+ghost use Rattle.sync_topo.specs.Lines.{line_count, IsInput};
+ghost use Rattle.sync_topo.specs.Hops.{IsCycle};
+ghost use Rattle.rank_cert.specs.Ranks.{IsRanked, Judges};
+ghost use Rattle.rank_cert.specs.FirstFall.{falls, fall_from, first_to, earlier};
+
+use crate::cert::Cert;
+use sync_topo::{InputId, LineId, Plan};
+
+/// What the test of ranks finds.
+///
+/// This project's own.
+#[derive(Clone, Copy, Debug, PartialEq, Eq, Drop)]
+pub enum Verdict {
+    /// The rank is greater after every hop.
+    Rising,
+    /// The first hop, by its first line and then by its second, over which the rank doesn't rise.
+    Falls(LineId, LineId),
+}
+
+/// Tests that the rank is greater after every hop.
+///
+/// It looks at each hop once, and takes no memory. This project's own.
+pub fn check(plan: &Plan, cert: &Cert) -> Verdict
+    requires ranked { IsRanked plan.now cert.now }
+    ensures verdict { Judges plan.now cert.now result }
+
+    // With rising ranks no lines hop round in a cycle.
+    ensures no_cycle { result ≡ Verdict.Rising → (lines : List ℕ) → IsCycle plan.now lines → ⊥ }
+{
+    let mut first: Option<(LineId, LineId)> = None;
+    for number in 0..plan.lines() {
+        let next = LineId(number);
+        first = earlier(first, first_to(plan, cert, next), next);
+    }
+    match first {
+        Some((line, next)) => Verdict::Falls(line, next),
+        None => Verdict::Rising,
+    }
+}
+
+/// The fall that comes first by its first line, of one to an earlier line and one to this line.
+fn earlier(
+    first: Option<(LineId, LineId)>,
+    line: Option<LineId>,
+    next: LineId,
+) -> Option<(LineId, LineId)>
+    ensures { result ≡ earlier first line next }
+{
+    match (first, line) {
+        (None, Some(line)) => Some((line, next)),
+        (Some(fall), Some(line)) if line.0 < fall.0.0 => Some((line, next)),
+        _ => first,
+    }
+}
+
+/// The first line whose hop to this one doesn't rise.
+fn first_to(plan: &Plan, cert: &Cert, next: LineId) -> Option<LineId>
+    requires ranked { IsRanked plan.now cert.now }
+    requires within { next.0 < line_count plan.now }
+    ensures { option_map (λ line. line.0) result ≡ first_to plan.now cert.now next.0 }
+{
+    let inputs = plan.inputs(plan.from(next));
+    for input in inputs {
+        if let Some(line) = fall_from(plan, cert, *input, next) {
+            return Some(line);
+        }
+    }
+    None
+}
+
+/// The line of an input, where the rank doesn't rise over its hop to this one. A source is none.
+fn fall_from(plan: &Plan, cert: &Cert, input: InputId, next: LineId) -> Option<LineId>
+    requires ranked { IsRanked plan.now cert.now }
+    requires from { IsInput plan.now input }
+    requires to { next.0 < line_count plan.now }
+    ensures { option_map (λ line. line.0) result ≡ fall_from plan.now cert.now next.0 input }
+{
+    match input {
+        InputId::Line(line) if falls(plan, cert, line, next) => Some(line),
+        _ => None,
+    }
+}
+
+/// The first line hops to the second, and the rank doesn't rise.
+fn falls(plan: &Plan, cert: &Cert, line: LineId, next: LineId) -> bool
+    requires ranked { IsRanked plan.now cert.now }
+    requires from { line.0 < line_count plan.now }
+    requires to { next.0 < line_count plan.now }
+    ensures { result ≡ falls plan.now cert.now line.0 next.0 }
+{
+    // The lines of a hop are nominated, so both have a rank.
+    plan.hop(line, next) && cert.rank(next) <= cert.rank(line)
+}

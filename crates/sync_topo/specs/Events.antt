@@ -1,0 +1,33 @@
+-- Which events a plan may have.
+use Rattle.std.specs.Prelude.{◌≡◌, ◌<◌, length}
+use Rattle.sync_topo.specs.declared.event.Part.{Part}
+use Rattle.sync_topo.specs.declared.event.Part.TheVariants as part
+use Rattle.sync_topo.specs.declared.event.What.{What}
+use Rattle.sync_topo.specs.declared.event.What.TheVariants.{Down, Up, EsmcOff, EsmcOn, SourceLevel, Lockout, Unlock, Forced, Manual, Clear, ClearWtr}
+use Rattle.sync_topo.specs.declared.event.Event.{Event}
+use Rattle.sync_topo.specs.Topology.{Topology}
+use Rattle.sync_topo.specs.Lines.{line_count, IsInput}
+
+-- the plan has the link, the line or the source
+abbrev pub IsPart : Topology → Part → Type 0
+IsPart plan (part.Link link) = link < length plan.links
+IsPart plan (part.Line line) = line.0 < line_count plan
+IsPart plan (part.Source source) = source < length plan.sources
+
+-- what happens is of something that the plan has, and a level is one of the plan's option
+abbrev pub MayHappen : Topology → What → Type 0
+MayHappen plan (Down part) = IsPart plan part
+MayHappen plan (Up part) = IsPart plan part
+MayHappen plan (EsmcOff line) = line.0 < line_count plan
+MayHappen plan (EsmcOn line) = line.0 < line_count plan
+MayHappen plan (SourceLevel source level) = (source < length plan.sources) × (level.option ≡ plan.option)
+MayHappen plan (Lockout input) = IsInput plan input
+MayHappen plan (Unlock input) = IsInput plan input
+MayHappen plan (Forced input) = IsInput plan input
+MayHappen plan (Manual input) = IsInput plan input
+MayHappen plan (Clear element) = element < length plan.elements
+MayHappen plan (ClearWtr input) = IsInput plan input
+
+-- the event fits the plan
+abbrev pub Fits : Topology → Event → Type 0
+Fits plan event = MayHappen plan event.what

@@ -1,0 +1,44 @@
+-- Private: the steps of the making of a plan, which only clauses of private functions cite.
+use Rattle.std.specs.Prelude.{◌≡◌, ⊤, List, [], map, Option, Some, None, Result, Ok, Err}
+use Rattle.sync_ql.specs.declared.levels.NetOption.{NetOption}
+use Rattle.sync_topo.specs.declared.element.Element.{Element}
+use Rattle.sync_topo.specs.declared.link.Link.{Link}
+use Rattle.sync_topo.specs.declared.rows.ElementRow.{ElementRow}
+use Rattle.sync_topo.specs.declared.rows.LinkRow.{LinkRow}
+use Rattle.sync_topo.specs.declared.rows.SourceRow.{SourceRow}
+use Rattle.sync_topo.specs.RowValues.{element_from, link_from, source_from}
+use Rattle.sync_topo.specs.declared.error.PlanErr.{PlanErr}
+use Rattle.sync_topo.specs.declared.error.PlanErr.TheVariants.{Limit, Name, Twice, NoElement, SelfLink, Range, LevelName, NoMemory}
+use Rattle.sync_topo.specs.Rules.{Rule, element_rules, link_rules, source_rules}
+use Rattle.sync_topo.specs.PlanRows.{first_broken}
+
+-- the refusal is this one; want of memory says nothing
+abbrev pub Tells : PlanErr → Option PlanErr → Type 0
+Tells (Limit place) refusal = refusal ≡ Some (Limit place)
+Tells (Name place) refusal = refusal ≡ Some (Name place)
+Tells (Twice place) refusal = refusal ≡ Some (Twice place)
+Tells (NoElement place) refusal = refusal ≡ Some (NoElement place)
+Tells (SelfLink place) refusal = refusal ≡ Some (SelfLink place)
+Tells (Range place) refusal = refusal ≡ Some (Range place)
+Tells (LevelName place) refusal = refusal ≡ Some (LevelName place)
+Tells NoMemory refusal = ⊤
+
+-- the step goes on where no rule is broken, and otherwise refuses with the first one that is
+abbrev pub Follows : {A : Type 0} → List Rule → Result A PlanErr → Type 0
+Follows rules (Ok value) = first_broken rules ≡ None
+Follows rules (Err error) = Tells error (first_broken rules)
+
+-- the rules for an element row, after the rows before it alone
+abbrev pub element_rules_after : NetOption → List ElementRow → ElementRow → List Rule
+element_rules_after option before row =
+    element_rules (record { option = option; elements = map (element_from option) before; links = []; sources = [] }) row
+
+-- the rules for a link row, after these elements and the link rows before it
+abbrev pub link_rules_after : NetOption → List Element → List LinkRow → LinkRow → List Rule
+link_rules_after option elements before row =
+    link_rules (record { option = option; elements = elements; links = map (link_from elements) before; sources = [] }) row
+
+-- the rules for a source row, after these elements and links and the source rows before it
+abbrev pub source_rules_after : NetOption → List Element → List Link → List SourceRow → SourceRow → List Rule
+source_rules_after option elements links before row =
+    source_rules (record { option = option; elements = elements; links = links; sources = map (source_from option elements) before }) row

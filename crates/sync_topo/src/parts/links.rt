@@ -1,0 +1,166 @@
+//! The links of a plan, row by row.
+
+ghost use Rattle.std.specs.Prelude.{◌≡◌, ◌≢◌, [], ◌∷◌, ◌++◌, ◌<◌, ◌≤◌, ◌&&◌, ◌||◌, length, map, is_none, IfSome, IfOk, OnOk};
+ghost use Rattle.sync_topo.specs.Limits.{link_limit, least_delay, greatest_delay, greatest_priority};
+ghost use Rattle.sync_topo.specs.PlanRows.{each_row};
+ghost use Rattle.sync_topo.specs.RowValues.{number_or, link_from};
+ghost use Rattle.sync_topo.specs.Rules.{is_outside, has_room, link_rules};
+ghost use Rattle.sync_topo.specs.Steps.{Follows, link_rules_after};
+
+use crate::error::PlanErr;
+use crate::input::{InputId, LineId};
+use crate::link::Link;
+use crate::names::is_name;
+use crate::parts::{Parts, row_after, take_input};
+use crate::place::Section;
+use crate::rows::LinkRow;
+use crate::values::{number_within, priority_within};
+use sync_edge::{NoMemory, Rows};
+
+impl Parts {
+    ghost use Rattle.sync_topo.specs.Indexed.{topology, IsIndexed, MayLink};
+
+    /// Puts the links of all rows, in order, into parts that hold no links and sources yet.
+    ///
+    /// After a refusal the parts are spent.
+    pub(crate) fn add_links(&mut self, rows: Rows<LinkRow>) -> Result<(), PlanErr>
+        requires indexed { IsIndexed self.old }
+        requires no_links { self.old.links.items ≡ [] }
+        requires no_sources { self.old.sources.items ≡ [] }
+        requires within { length rows ≤ link_limit }
+        ensures rules { Follows
+            (each_row (link_rules_after self.old.option self.old.elements.items) [] rows) result }
+        ensures indexed { OnOk result (IsIndexed self.new) }
+        ensures links { OnOk result
+            (self.new.links.items ≡ map (link_from self.old.elements.items) rows) }
+        ensures option { OnOk result (self.new.option ≡ self.old.option) }
+        ensures elements { OnOk result (self.new.elements.items ≡ self.old.elements.items) }
+        ensures sources { OnOk result (self.new.sources.items ≡ []) }
+    {
+        for row in rows.into_vec() {
+            let link = self.link_of(row)?;
+            self.add_link(link)?;
+        }
+        Ok(())
+    }
+
+    /// The link of a row, which may come next.
+    fn link_of(&self, row: LinkRow) -> Result<Link, PlanErr>
+        requires indexed { IsIndexed self.now }
+        requires no_sources { self.now.sources.items ≡ [] }
+        ensures rules { Follows (link_rules (topology self.now) row) result }
+        ensures link { IfOk result (λ link. link ≡ link_from self.now.elements.items row) }
+        ensures may_link { IfOk result (MayLink (topology self.now)) }
+    {
+        let place = row_after(Section::Links, self.links.len());
+        if !is_name(row.name.bytes()) {
+            return Err(PlanErr::Name(place));
+        }
+        if self.link_names.has(row.name.bytes()) {
+            return Err(PlanErr::Twice(place));
+        }
+        let Some(a) = self.element_named(&row.a) else {
+            return Err(PlanErr::NoElement(place));
+        };
+        let Some(b) = self.element_named(&row.b) else {
+            return Err(PlanErr::NoElement(place));
+        };
+        if row.a.bytes() == row.b.bytes() {
+            return Err(PlanErr::SelfLink(place));
+        }
+        let Some(numbers) = numbers_of(&row) else {
+            return Err(PlanErr::Range(place));
+        };
+        let link = Link {
+            name: row.name,
+            a,
+            b,
+            priority_a: numbers.priority_a,
+            priority_b: numbers.priority_b,
+            delay_a: numbers.delay_a,
+            delay_b: numbers.delay_b,
+        };
+        if !self.has_room_for(&link) {
+            return Err(PlanErr::Limit(place));
+        }
+        Ok(link)
+    }
+
+    /// Neither end of the link gets more inputs than an element may have.
+    fn has_room_for(&self, link: &Link) -> bool
+        requires indexed { IsIndexed self.now }
+        requires no_sources { self.now.sources.items ≡ [] }
+        requires a_within { link.now.a < length self.now.elements.items }
+        requires b_within { link.now.b < length self.now.elements.items }
+        requires apart { link.now.a ≢ link.now.b }
+        ensures { let longer = record (topology self.now)
+            { links = self.now.links.items ++ link.now ∷ [] } in
+            result ≡ (has_room longer link.now.a && has_room longer link.now.b) }
+    {
+        self.has_room(link.a, link.priority_a) && self.has_room(link.b, link.priority_b)
+    }
+
+    /// Puts a link at the end.
+    fn add_link(&mut self, link: Link) -> Result<(), NoMemory>
+        requires indexed { IsIndexed self.old }
+        requires no_sources { self.old.sources.items ≡ [] }
+        requires may_link { MayLink (topology self.old) link }
+        requires room { length self.old.links.items < link_limit }
+        ensures indexed { OnOk result (IsIndexed self.new) }
+        ensures option { OnOk result (self.new.option ≡ self.old.option) }
+        ensures elements { OnOk result (self.new.elements.items ≡ self.old.elements.items) }
+        ensures links { OnOk result (self.new.links.items ≡ self.old.links.items ++ link ∷ []) }
+        ensures sources { OnOk result (self.new.sources.items ≡ []) }
+    {
+        let line = 2 * self.links.len() as u32;
+        let to_b = InputId::Line(LineId(line));
+        let to_a = InputId::Line(LineId(line + 1));
+        self.link_names.add(link.name.bytes())?;
+        take_input(&mut self.inputs, link.b, link.priority_b, to_b)?;
+        take_input(&mut self.inputs, link.a, link.priority_a, to_a)?;
+        let Ok(()) = self.links.push(link) else {
+            return Err(NoMemory);
+        };
+        Ok(())
+    }
+}
+
+/// The priorities and the delays of a link.
+#[derive(Clone, Copy)]
+struct LinkNumbers {
+    priority_a: u8,
+    priority_b: u8,
+    delay_a: u32,
+    delay_b: u32,
+}
+
+/// The numbers of a link row; `None` where one is outside its limits.
+fn numbers_of(row: &LinkRow) -> Option<LinkNumbers>
+    ensures none { is_none result ≡ (is_outside 0 greatest_priority row.now.priority_a
+        || is_outside 0 greatest_priority row.now.priority_b
+        || is_outside least_delay greatest_delay row.now.delay_a
+        || is_outside least_delay greatest_delay row.now.delay_b) }
+    ensures numbers { IfSome result (λ numbers. numbers ≡ record {
+      priority_a = number_or 0 row.now.priority_a;
+      priority_b = number_or 0 row.now.priority_b;
+      delay_a = number_or 1 row.now.delay_a;
+      delay_b = number_or 1 row.now.delay_b;
+    }) }
+    ensures priority_a_fits { IfSome result (λ numbers. numbers.priority_a ≤ greatest_priority) }
+    ensures priority_b_fits { IfSome result (λ numbers. numbers.priority_b ≤ greatest_priority) }
+    ensures least_delay_a { IfSome result (λ numbers. least_delay ≤ numbers.delay_a) }
+    ensures greatest_delay_a { IfSome result (λ numbers. numbers.delay_a ≤ greatest_delay) }
+    ensures least_delay_b { IfSome result (λ numbers. least_delay ≤ numbers.delay_b) }
+    ensures greatest_delay_b { IfSome result (λ numbers. numbers.delay_b ≤ greatest_delay) }
+{
+    let priority_a = priority_within(row.priority_a, 0)?;
+    let priority_b = priority_within(row.priority_b, 0)?;
+    let delay_a = number_within(row.delay_a, 1, 1, 2000)?;
+    let delay_b = number_within(row.delay_b, 1, 1, 2000)?;
+    Some(LinkNumbers {
+        priority_a,
+        priority_b,
+        delay_a,
+        delay_b,
+    })
+}

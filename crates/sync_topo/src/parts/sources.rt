@@ -1,0 +1,118 @@
+//! The sources of a plan, row by row.
+
+ghost use Rattle.std.specs.Prelude.{◌≡◌, [], ◌∷◌, ◌++◌, ◌<◌, ◌≤◌, length, map, IfOk, OnOk};
+ghost use Rattle.sync_topo.specs.Limits.{source_limit};
+ghost use Rattle.sync_topo.specs.PlanRows.{each_row};
+ghost use Rattle.sync_topo.specs.RowValues.{source_from};
+ghost use Rattle.sync_topo.specs.Rules.{has_room, source_rules};
+ghost use Rattle.sync_topo.specs.Steps.{Follows, source_rules_after};
+
+use crate::error::PlanErr;
+use crate::input::InputId;
+use crate::names::is_name;
+use crate::parts::{Parts, row_after, take_input};
+use crate::place::Section;
+use crate::rows::SourceRow;
+use crate::source::Source;
+use crate::values::priority_within;
+use sync_edge::{NoMemory, Rows};
+use sync_ql::level_of_name;
+
+impl Parts {
+    ghost use Rattle.sync_topo.specs.Indexed.{topology, IsIndexed, MayFeed};
+
+    /// Puts the sources of all rows, in order, into parts that hold no sources yet.
+    ///
+    /// After a refusal the parts are spent.
+    pub(crate) fn add_sources(&mut self, rows: Rows<SourceRow>) -> Result<(), PlanErr>
+        requires indexed { IsIndexed self.old }
+        requires no_sources { self.old.sources.items ≡ [] }
+        requires within { length rows ≤ source_limit }
+        ensures rules { Follows (each_row (source_rules_after self.old.option
+            self.old.elements.items self.old.links.items) [] rows) result }
+        ensures indexed { OnOk result (IsIndexed self.new) }
+        ensures sources { OnOk result (self.new.sources.items
+            ≡ map (source_from self.old.option self.old.elements.items) rows) }
+        ensures option { OnOk result (self.new.option ≡ self.old.option) }
+        ensures elements { OnOk result (self.new.elements.items ≡ self.old.elements.items) }
+        ensures links { OnOk result (self.new.links.items ≡ self.old.links.items) }
+    {
+        for row in rows.into_vec() {
+            let source = self.source_of(row)?;
+            self.add_source(source)?;
+        }
+        Ok(())
+    }
+
+    /// The source of a row, which may come next.
+    fn source_of(&self, row: SourceRow) -> Result<Source, PlanErr>
+        requires { IsIndexed self.now }
+        ensures rules { Follows (source_rules (topology self.now) row) result }
+        ensures source { IfOk result
+            (λ source. source ≡ source_from self.now.option self.now.elements.items row) }
+        ensures may_feed { IfOk result (MayFeed (topology self.now)) }
+    {
+        let place = row_after(Section::Sources, self.sources.len());
+        let name = row.name.bytes();
+        if !is_name(name) {
+            return Err(PlanErr::Name(place));
+        }
+        if self.link_names.has(name) {
+            return Err(PlanErr::Twice(place));
+        }
+        if self.source_names.has(name) {
+            return Err(PlanErr::Twice(place));
+        }
+        let Some(at) = self.element_named(&row.at) else {
+            return Err(PlanErr::NoElement(place));
+        };
+        let Some(priority) = priority_within(row.priority, 1) else {
+            return Err(PlanErr::Range(place));
+        };
+        let Some(level) = level_of_name(self.option, row.level.bytes()) else {
+            return Err(PlanErr::LevelName(place));
+        };
+        let source = Source {
+            name: row.name,
+            at,
+            level,
+            priority,
+        };
+        if !self.has_room_at(&source) {
+            return Err(PlanErr::Limit(place));
+        }
+        Ok(source)
+    }
+
+    /// The source's element doesn't get more inputs than an element may have.
+    fn has_room_at(&self, source: &Source) -> bool
+        requires indexed { IsIndexed self.now }
+        requires at { source.now.at < length self.now.elements.items }
+        ensures { let longer = record (topology self.now)
+            { sources = self.now.sources.items ++ source.now ∷ [] } in
+            result ≡ has_room longer source.now.at }
+    {
+        self.has_room(source.at, source.priority)
+    }
+
+    /// Puts a source at the end.
+    fn add_source(&mut self, source: Source) -> Result<(), NoMemory>
+        requires indexed { IsIndexed self.old }
+        requires may_feed { MayFeed (topology self.old) source }
+        requires room { length self.old.sources.items < source_limit }
+        ensures indexed { OnOk result (IsIndexed self.new) }
+        ensures option { OnOk result (self.new.option ≡ self.old.option) }
+        ensures elements { OnOk result (self.new.elements.items ≡ self.old.elements.items) }
+        ensures links { OnOk result (self.new.links.items ≡ self.old.links.items) }
+        ensures sources { OnOk result
+            (self.new.sources.items ≡ self.old.sources.items ++ source ∷ []) }
+    {
+        let input = InputId::Source(self.sources.len() as u32);
+        self.source_names.add(source.name.bytes())?;
+        take_input(&mut self.inputs, source.at, source.priority, input)?;
+        let Ok(()) = self.sources.push(source) else {
+            return Err(NoMemory);
+        };
+        Ok(())
+    }
+}
