@@ -9,23 +9,10 @@ import sys
 import tempfile
 import tomllib
 
-
-def links_of(count):
-    """The links of the ladder: name, end a, end b, priority of the line into b."""
-    links = []
-    for j in range(1, count):
-        links.append((f"S{j}", j - 1, j, 2))
-        if j >= 2:
-            links.append((f"R{j}", j - 2, j, 1))
-    return links
+from ladder import certificate_text, links_of
 
 
-def certificate_text(count):
-    """A line into element j follows the longest chain to its sender, which has one hop an element."""
-    return "line,rank\n" + "".join(f"{name}>E{b},{a}\n" for name, a, b, _ in links_of(count))
-
-
-def ladder(count):
+def expected_ladder(count):
     """The plan as a document, with every key."""
     return {
         "option": "I",
@@ -45,7 +32,7 @@ def main():
     program, counts = sys.argv[1], [int(word) for word in sys.argv[2:]] or [2, 3, 4, 2000]
     for count in counts:
         made = subprocess.run([program, "gen", str(count)], stdout=subprocess.PIPE, check=True).stdout
-        assert tomllib.loads(made.decode()) == ladder(count), f"the ladder of {count} elements is another"
+        assert tomllib.loads(made.decode()) == expected_ladder(count), f"the ladder of {count} elements is another"
         with tempfile.TemporaryDirectory() as folder:
             for name, text in (("plan", made), ("certificate", certificate_text(count).encode())):
                 with open(f"{folder}/{name}", "wb") as file:

@@ -145,4 +145,5 @@ def main():
                 print(f"{os.path.basename(program):18} start {bare[program]:.2f} ms, grows as elements ^ {slope:.2f}")
 
 
-main()
+if __name__ == "__main__":
+    main()
