@@ -7,14 +7,15 @@ use Rattle.sync_ql.specs.declared.rules.Cond.{Cond}
 use Rattle.sync_ql.specs.declared.rules.Cond.TheVariants.{Good, HoldOff, Failed, Restoring}
 use Rattle.sync_ql.specs.Condition.{Signal, Timers, failed_at, condition_at, IsDue, IsFirstChange}
 use Rattle.sync_ql.specs.Moment.{Moment, signals_of}
+use Rattle.sync_ql.specs.Told.{moments_until}
 use Rattle.input_monitor.specs.Monitored.{Monitored, end_of}
 use Rattle.input_monitor.specs.StandsFor as Monitor
 use Rattle.input_monitor.proofs.Conditions.{IsDue-end_of, running}
 use Rattle.input_monitor.specs.Running.{IsRunning}
 use Rattle.sync_element.specs.ElementState.{ElementState, inputs_of, monitor_of, IsFirstDue, IsFirstDueAt, IsWhole}
 use Rattle.sync_element.specs.StandsFor.{StandsFor}
-use Rattle.sync_element.specs.Due.{left_of, left_in, IsLastStepPlusLeast, NoneEnds}
-use Rattle.sync_element.proofs.Waiting.{length-signals_of}
+use Rattle.sync_element.specs.Due.{left_of, left_in, IsLastStepPlusLeast, NoneEnds, IsFirstFailedChange, IsElementDue}
+use Rattle.sync_element.proofs.Waiting.{length-signals_of, signals_of-moments_until, until_first}
 
 not_itself : (b : Bool) → b ≡ not b → ⊥
 not_itself true e = cc
@@ -122,3 +123,33 @@ some_where_one_ends e (Some due) last = last
 pub due_is_least : (e : ElementState) (past : List Moment) → IsWhole e → StandsFor e past → (due : Option ℕ) → IsFirstDue e.monitors (inputs_of e) due → MatchOption due (NoneEnds e) (IsLastStepPlusLeast e)
 due_is_least e past whole stands None none = λ i within. none_left e.next (monitor_of e i).condition (sym (due_in e past whole stands i within) ∙ none i within)
 due_is_least e past whole stands (Some due) first = last_step_plus_least e past due whole stands first
+
+-- a monitor's due time in the element's words
+due_of : (e : ElementState) (past : List Moment) → IsWhole e → StandsFor e past → (i : ℕ) → i < inputs_of e → IsDue e.settings.timers (signals_of i past) (monitor_of e i).due
+due_of e past whole stands i within =
+    subst (λ timers. IsDue timers (signals_of i past) (monitor_of e i).due) (whole.timers i within) (stands.monitors i within).due
+
+-- until then an input stays failed, or not failed
+same_failed_until : (e : ElementState) (past : List Moment) (i n : ℕ) (due : Option ℕ) → i < inputs_of e → IsDue e.settings.timers (signals_of i past) due → IfSome due (λ d. n ≤ d) → length past ≤ n → failed_at e.settings.timers (signals_of i (moments_until e.settings n past)) ≡ failed_at e.settings.timers (signals_of i past)
+same_failed_until e past i n None within never in_time later =
+    ap (failed_at e.settings.timers) (signals_of-moments_until e.settings i n past within)
+    ∙ never n (omega (arith, length-signals_of i past, later))
+same_failed_until e past i n (Some due) within first in_time later =
+    ap (failed_at e.settings.timers) (signals_of-moments_until e.settings i n past within)
+    ∙ first.same_before n (omega (arith, length-signals_of i past, later)) in_time
+
+first_failed_change : (e : ElementState) (past : List Moment) (due : ℕ) → IsWhole e → StandsFor e past → IsFirstDueAt e.monitors (inputs_of e) due → IsFirstFailedChange e.settings past due
+first_failed_change e past due whole stands first =
+    let i = first.some.0 in
+    let change : IsFirstChange e.settings.timers (signals_of i past) due = subst (IsDue e.settings.timers (signals_of i past)) first.some.2 (due_of e past whole stands i first.some.1) in
+    record {
+      later = omega (arith, length-signals_of i past, change.later);
+      changed = (i, first.some.1, ap (failed_at e.settings.timers) (signals_of-moments_until e.settings i (due + 1) past first.some.1) ∙ change.changed);
+      same_before = λ n later in_time k inside. same_failed_until e past k n (monitor_of e k).due inside (due_of e past whole stands k inside) (until_first e.monitors (inputs_of e) n k (Some due) first in_time inside) later;
+    }
+
+-- the due time is that of the first input's "failed" that changes
+pub due_is_first_change : (e : ElementState) (past : List Moment) → IsWhole e → StandsFor e past → (due : Option ℕ) → IsFirstDue e.monitors (inputs_of e) due → IsElementDue e.settings past due
+due_is_first_change e past whole stands None none = λ n later i within.
+    same_failed_until e past i n None within (subst (IsDue e.settings.timers (signals_of i past)) (none i within) (due_of e past whole stands i within)) tt later
+due_is_first_change e past whole stands (Some due) first = first_failed_change e past due whole stands first

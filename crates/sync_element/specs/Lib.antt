@@ -1,8 +1,8 @@
 pub mod Configured
 pub mod ElementState
 pub mod StandsFor
-pub mod Due
 pub mod QuietLaw
+pub mod Due
 pub mod Starting
 pub mod Telling
 pub mod Plain

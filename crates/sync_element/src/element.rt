@@ -8,7 +8,7 @@ ghost use Rattle.sync_ql.specs.Output.{clock_level_at, sent_back_at, mode_at, st
 ghost use Rattle.sync_element.specs.Configured.{settings_of};
 ghost use Rattle.sync_element.specs.StandsFor.{StandsFor};
 ghost use Rattle.sync_element.specs.QuietLaw.{IsSameFailed, IsSameOutput};
-ghost use Rattle.sync_element.specs.Due.{IsLastStepPlusLeast, NoneEnds};
+ghost use Rattle.sync_element.specs.Due.{IsLastStepPlusLeast, NoneEnds, IsElementDue};
 ghost use Rattle.sync_element.specs.ElementState.{inputs_of, monitor_of, level_of, level_back_of, IsInTime};
 
 use crate::config::Config;
@@ -212,6 +212,8 @@ impl Element {
     /// The first later millisecond at which a step has to be made: that of the last step plus the
     /// least that was left of a condition.
     ///
+    /// It is the first in which an input is failed where it wasn't, or isn't where it was, if
+    /// nothing is told.
     /// `None` exactly where every condition is good or failed.
     /// After G.781, hold-off time and wait-to-restore time; the exact millisecond is this project's
     /// own.
@@ -221,6 +223,8 @@ impl Element {
             IsNone result ↔ NoneEnds self.now }
         ensures least { (past : List Moment) → StandsFor self.now past →
             IfSome result (IsLastStepPlusLeast self.now) }
+        ensures changes { (past : List Moment) → StandsFor self.now past →
+            IsElementDue self.now.settings past result }
     {
         self.due
     }
