@@ -1,5 +1,6 @@
 pub mod Monitored
 pub mod StandsFor
+pub mod Ending
 pub mod Running
 pub mod Signals
 pub use Rattle.sync_ql.specs.Condition

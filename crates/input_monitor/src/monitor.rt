@@ -1,6 +1,7 @@
 ghost use Rattle.std.specs.Prelude.{◌≡◌, ◌≤◌, ◌<◌, ◌+◌, ◌-◌, ◌*◌, ◌⊎◌, ◌↔◌, ◌∷◌, [], ℕ, List, IfSome, IsNone, None, length};
 ghost use Rattle.sync_ql.specs.Condition.{Signal, condition_at, failed_at, continued, IsSameKind, IsDue};
 ghost use Rattle.input_monitor.specs.StandsFor.{StandsFor};
+ghost use Rattle.input_monitor.specs.Ending.{IsEnd};
 ghost use Rattle.input_monitor.specs.Running.{IsRunning};
 
 use std::marker::Model;
@@ -111,6 +112,7 @@ impl Monitor {
         ensures value { result ≡ self.now.due }
         ensures none { IsNone result ↔
             ((self.now.condition ≡ Cond.Good) ⊎ (self.now.condition ≡ Cond.Failed)) }
+        ensures end { IsEnd self.now.next self.now.condition result }
         ensures due { (past : List Signal) → StandsFor self.now past →
             IsDue self.now.timers past result }
     {
