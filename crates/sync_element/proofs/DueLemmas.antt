@@ -1,109 +1,75 @@
--- The due time of an element is that of the last step plus the least that was left.
-use Rattle.std.proofs.Common.{◌≡◌, ◌≤◌, ◌<◌, ◌+◌, ◌-◌, ℕ, Bool, true, false, not, List, length, Option, None, Some, IfSome, refl, ap, sym, ◌∙◌, arith, subst}
+-- The due time of an element: the last step plus the least that was left, and the first at which an
+-- input's "failed" changes.
+use Rattle.std.proofs.Common.{◌≡◌, ◌≤◌, ◌<◌, ◌+◌, ◌-◌, ℕ, List, ◌∷◌, length, Option, None, Some, IfSome, refl, ap, sym, ◌∙◌, arith, subst}
 use Rattle.std.specs.Prelude.{MatchOption, IsNone, ◌↔◌}
-use Rattle.std.proofs.Math.Decide.{dec_lt}
 use Rattle.std.proofs.lemmas.Option.{same_Some}
 use Rattle.sync_ql.specs.declared.rules.Cond.{Cond}
 use Rattle.sync_ql.specs.declared.rules.Cond.TheVariants.{Good, HoldOff, Failed, Restoring}
-use Rattle.sync_ql.specs.Condition.{Signal, Timers, failed_at, condition_at, IsDue, IsFirstChange}
-use Rattle.sync_ql.specs.Moment.{Moment, signals_of}
+use Rattle.sync_ql.specs.Condition.{failed_at, condition_at, after_quiet, IsDue, IsFirstChange}
+use Rattle.sync_ql.specs.Moment.{Moment, Settings, signals_of}
 use Rattle.sync_ql.specs.Told.{moments_until}
-use Rattle.input_monitor.specs.Monitored.{Monitored, end_of}
-use Rattle.input_monitor.specs.StandsFor as Monitor
-use Rattle.input_monitor.proofs.Conditions.{IsDue-end_of, running}
-use Rattle.input_monitor.specs.Running.{IsRunning}
-use Rattle.sync_element.specs.ElementState.{ElementState, inputs_of, monitor_of, IsFirstDue, IsFirstDueAt, IsWhole}
+use Rattle.input_monitor.specs.Ending.{EndsWith, IsEnd}
+use Rattle.input_monitor.proofs.Stepping.{aged}
+use Rattle.input_monitor.proofs.Conditions.{Lasts, condition_at-after_quiet}
+use Rattle.sync_element.specs.ElementState.{ElementState, inputs_of, monitor_of, IsFirstDue, IsFirstDueAt, IsInTime, IsWhole}
 use Rattle.sync_element.specs.StandsFor.{StandsFor}
-use Rattle.sync_element.specs.Due.{left_of, left_in, IsLastStepPlusLeast, NoneEnds, IsFirstFailedChange, IsElementDue}
-use Rattle.sync_element.proofs.Waiting.{length-signals_of, signals_of-moments_until, until_first}
-
-not_itself : (b : Bool) → b ≡ not b → ⊥
-not_itself true e = cc
-not_itself false e = cc
-
--- there is one first change at most
-never_changes : (timers : Timers) (past : List Signal) (due : ℕ) → IsDue timers past None → IsFirstChange timers past due → ⊥
-never_changes timers past due never first =
-    not_itself (failed_at timers past) (sym (never (due + 1) (let later = first.later in omega arith)) ∙ first.changed)
-
-no_earlier : (timers : Timers) (past : List Signal) (a b : ℕ) → IsFirstChange timers past a → IsFirstChange timers past b → a < b → ⊥
-no_earlier timers past a b first second less =
-    not_itself (failed_at timers past) (sym (second.same_before (a + 1) (let later = first.later in omega arith) (omega arith)) ∙ first.changed)
-
-same_number : (a b : ℕ) → (a < b → ⊥) → (b < a → ⊥) → a ≡ b
-same_number a b first second =
-    elim (dec_lt a b) [
-      | yes less ↦ absurd (first less)
-      | no more ↦ elim (dec_lt b a) [
-        | yes less ↦ absurd (second less)
-        | no less ↦ omega arith
-      ]
-    ]
-
-same_due : (timers : Timers) (past : List Signal) (a b : Option ℕ) → IsDue timers past a → IsDue timers past b → a ≡ b
-same_due timers past None None never also = refl
-same_due timers past None (Some b) never first = absurd (never_changes timers past b never first)
-same_due timers past (Some a) None first never = absurd (never_changes timers past a never first)
-same_due timers past (Some a) (Some b) first second = ap Some (same_number a b (no_earlier timers past a b first second) (no_earlier timers past b a second first))
-
--- a monitor's due time by its condition
-monitor_due : (m : Monitored) (past : List Signal) → 0 < m.timers.holdoff → Monitor.StandsFor m past → m.due ≡ end_of m.next m.condition
-monitor_due m past some stands =
-    same_due m.timers past m.due (end_of (length past) (condition_at m.timers past)) stands.due (IsDue-end_of m.timers some past)
-    ∙ ap (λ n. end_of n (condition_at m.timers past)) (sym stands.next)
-    ∙ ap (end_of m.next) (sym stands.condition)
-
-runs : (m : Monitored) (past : List Signal) → Monitor.StandsFor m past → IsRunning m.condition
-runs m past stands = subst IsRunning (sym stands.condition) (running m.timers past)
+use Rattle.sync_element.specs.QuietLaw.{IsSameFailed, IsSameOutput}
+use Rattle.sync_element.specs.Due.{left_of, left_in, later_by, IsLastStepPlusLeast, NoneEnds, IsFirstFailedChange, IsElementDue}
+use Rattle.sync_element.proofs.Waiting.{length-signals_of, signals_of-moments_until, until_first, Lasting, stays-quiet_moments}
 
 -- what is left of a condition that ends at a millisecond
-ends_at : (next due : ℕ) (c : Cond) → IsRunning c → end_of next c ≡ Some due → (left : ℕ) × (left_of c ≡ Some left) × (due + 1 ≡ next + left) × (next ≤ due)
-ends_at next due Good some is = absurd (cc)
-ends_at next due Failed some is = absurd (cc)
-ends_at next due (HoldOff left) some is = (left, refl, let at : next + left - 1 ≡ due = same_Some (next + left - 1) due is in let more : 0 < left = some in omega arith, let at : next + left - 1 ≡ due = same_Some (next + left - 1) due is in let more : 0 < left = some in omega arith)
-ends_at next due (Restoring left) some is = (left, refl, let at : next + left - 1 ≡ due = same_Some (next + left - 1) due is in let more : 0 < left = some in omega arith, let at : next + left - 1 ≡ due = same_Some (next + left - 1) due is in let more : 0 < left = some in omega arith)
+abbrev LeftAt : ℕ → ℕ → Cond → Type 0
+LeftAt next due c = (left : ℕ) × (left_of c ≡ Some left) × (due + 1 ≡ next + left) × (next ≤ due)
+
+ends_with : (next due left : ℕ) (o : Option ℕ) → EndsWith next left o → o ≡ Some due → (due + 1 ≡ next + left) × (next ≤ due)
+ends_with next due left None ends is = absurd ends
+ends_with next due left (Some other) ends is = subst (λ d. (d + 1 ≡ next + left) × (next ≤ d)) (same_Some other due is) ends
+
+ends_at : (next due : ℕ) (c : Cond) (o : Option ℕ) → IsEnd next c o → o ≡ Some due → LeftAt next due c
+ends_at next due Good o ends is = absurd (cc)
+ends_at next due Failed o ends is = absurd (cc)
+ends_at next due (HoldOff left) o ends is = let at = ends_with next due left o ends is in (left, refl, at.0, at.1)
+ends_at next due (Restoring left) o ends is = let at = ends_with next due left o ends is in (left, refl, at.0, at.1)
 
 -- of a condition that doesn't end before a millisecond not less is left
-no_less : (next due left : ℕ) (c : Cond) → IsRunning c → due + 1 ≡ next + left → IfSome (end_of next c) (λ other. due ≤ other) → IfSome (left_of c) (λ other. left ≤ other)
-no_less next due left Good some at later = tt
-no_less next due left Failed some at later = tt
-no_less next due left (HoldOff other) some at later = let more : 0 < other = some in let after : due ≤ next + other - 1 = later in omega arith
-no_less next due left (Restoring other) some at later = let more : 0 < other = some in let after : due ≤ next + other - 1 = later in omega arith
+not_less : (next due left other : ℕ) (o : Option ℕ) → EndsWith next other o → due + 1 ≡ next + left → IfSome o (λ d. due ≤ d) → left ≤ other
+not_less next due left other None ends at later = absurd ends
+not_less next due left other (Some d) ends at later = let end : d + 1 ≡ next + other = ends.0 in let after : due ≤ d = later in omega arith
 
-none_left : (next : ℕ) (c : Cond) → end_of next c ≡ None → left_of c ≡ None
-none_left next Good is = refl
-none_left next Failed is = refl
-none_left next (HoldOff left) is = absurd (cc)
-none_left next (Restoring left) is = absurd (cc)
+no_less : (next due left : ℕ) (c : Cond) (o : Option ℕ) → IsEnd next c o → due + 1 ≡ next + left → IfSome o (λ d. due ≤ d) → IfSome (left_of c) (λ other. left ≤ other)
+no_less next due left Good o ends at later = tt
+no_less next due left Failed o ends at later = tt
+no_less next due left (HoldOff other) o ends at later = not_less next due left other o ends at later
+no_less next due left (Restoring other) o ends at later = not_less next due left other o ends at later
+
+never_ends : (next left : ℕ) (o : Option ℕ) → EndsWith next left o → o ≡ None → ⊥
+never_ends next left None ends is = ends
+never_ends next left (Some due) ends is = cc
+
+none_left : (next : ℕ) (c : Cond) (o : Option ℕ) → IsEnd next c o → o ≡ None → left_of c ≡ None
+none_left next Good o ends is = refl
+none_left next Failed o ends is = refl
+none_left next (HoldOff left) o ends is = absurd (never_ends next left o ends is)
+none_left next (Restoring left) o ends is = absurd (never_ends next left o ends is)
 
 -- the due time of the monitor at a place, by its condition and the element's next millisecond
-due_in : (e : ElementState) (past : List Moment) → IsWhole e → StandsFor e past → (i : ℕ) → i < inputs_of e → (monitor_of e i).due ≡ end_of e.next (monitor_of e i).condition
-due_in e past whole stands i within =
-    let m = monitor_of e i in
-    let monitor = stands.monitors i within in
-    let some : 0 < m.timers.holdoff = rw (whole.timers i within) whole.holdoff in
-    let same : m.next ≡ e.next = monitor.next ∙ length-signals_of i past ∙ sym stands.next in
-    monitor_due m (signals_of i past) some monitor ∙ ap (λ n. end_of n m.condition) same
+end_in : (e : ElementState) → IsWhole e → (i : ℕ) → i < inputs_of e → IsEnd e.next (monitor_of e i).condition (monitor_of e i).due
+end_in e whole i within = subst (λ n. IsEnd n (monitor_of e i).condition (monitor_of e i).due) (whole.same_next i within) (whole.ends i within)
 
-last_step_plus_least : (e : ElementState) (past : List Moment) (due : ℕ) → IsWhole e → StandsFor e past → IsFirstDueAt e.monitors (inputs_of e) due → IsLastStepPlusLeast e due
-last_step_plus_least e past due whole stands first =
-    of first.some.0 first.some.1 (sym (due_in e past whole stands first.some.0 first.some.1) ∙ first.some.2)
-  where
-    of : (i : ℕ) → i < inputs_of e → end_of e.next (monitor_of e i).condition ≡ Some due → IsLastStepPlusLeast e due
-    of i within is =
-        let ends = ends_at e.next due (monitor_of e i).condition (runs (monitor_of e i) (signals_of i past) (stands.monitors i within)) is in
-        record {
-          left = ends.0;
-          least = record {
-            some = (i, within, ends.1);
-            least = λ k inside. no_less e.next due ends.0 (monitor_of e k).condition (runs (monitor_of e k) (signals_of k past) (stands.monitors k inside)) ends.2
-                (subst (λ o. IfSome o (λ other. due ≤ other)) (due_in e past whole stands k inside) (first.first k inside));
-          };
-          due_is = ends.2;
-          later = ends.3;
-        }
+last_step_plus_least : (e : ElementState) (due : ℕ) → IsWhole e → IsFirstDueAt e.monitors (inputs_of e) due → IsLastStepPlusLeast e due
+last_step_plus_least e due whole first =
+    let i = first.some.0 in
+    let ends = ends_at e.next due (monitor_of e i).condition (monitor_of e i).due (end_in e whole i first.some.1) first.some.2 in
+    record {
+      left = ends.0;
+      least = record {
+        some = (i, first.some.1, ends.1);
+        least = λ k inside. no_less e.next due ends.0 (monitor_of e k).condition (monitor_of e k).due (end_in e whole k inside) ends.2 (first.first k inside);
+      };
+      due_is = ends.2;
+      later = ends.3;
+    }
 
--- where the element stands for a past, its due time is the last step plus the least that was left
 -- with a least that is left, there is a condition that ends
 some_ends : (e : ElementState) (due : ℕ) → IsLastStepPlusLeast e due → NoneEnds e → ⊥
 some_ends e due last none = none_is_some (left_in e last.least.some.0) last.left (none last.least.some.0 last.least.some.1) last.least.some.2
@@ -120,9 +86,10 @@ pub some_where_one_ends : (e : ElementState) (due : Option ℕ) → MatchOption 
 some_where_one_ends e None none = tt
 some_where_one_ends e (Some due) last = last
 
-pub due_is_least : (e : ElementState) (past : List Moment) → IsWhole e → StandsFor e past → (due : Option ℕ) → IsFirstDue e.monitors (inputs_of e) due → MatchOption due (NoneEnds e) (IsLastStepPlusLeast e)
-due_is_least e past whole stands None none = λ i within. none_left e.next (monitor_of e i).condition (sym (due_in e past whole stands i within) ∙ none i within)
-due_is_least e past whole stands (Some due) first = last_step_plus_least e past due whole stands first
+-- the due time is the last step plus the least that was left
+pub due_is_least : (e : ElementState) → IsWhole e → (due : Option ℕ) → IsFirstDue e.monitors (inputs_of e) due → MatchOption due (NoneEnds e) (IsLastStepPlusLeast e)
+due_is_least e whole None none = λ i within. none_left e.next (monitor_of e i).condition (monitor_of e i).due (end_in e whole i within) (none i within)
+due_is_least e whole (Some due) first = last_step_plus_least e due whole first
 
 -- a monitor's due time in the element's words
 due_of : (e : ElementState) (past : List Moment) → IsWhole e → StandsFor e past → (i : ℕ) → i < inputs_of e → IsDue e.settings.timers (signals_of i past) (monitor_of e i).due
@@ -153,3 +120,57 @@ pub due_is_first_change : (e : ElementState) (past : List Moment) → IsWhole e 
 due_is_first_change e past whole stands None none = λ n later i within.
     same_failed_until e past i n None within (subst (IsDue e.settings.timers (signals_of i past)) (none i within) (due_of e past whole stands i within)) tt later
 due_is_first_change e past whole stands (Some due) first = first_failed_change e past due whole stands first
+
+-- a running time that ends later lasts until then
+lasts_with : (next n left : ℕ) (o : Option ℕ) → EndsWith next left o → IfSome o (λ d. n ≤ d) → n - next < left
+lasts_with next n left None ends in_time = absurd ends
+lasts_with next n left (Some due) ends in_time = let end : due + 1 ≡ next + left = ends.0 in let later : next ≤ due = ends.1 in let until : n ≤ due = in_time in omega arith
+
+lasts : (next n : ℕ) (c : Cond) (o : Option ℕ) → IsEnd next c o → IfSome o (λ d. n ≤ d) → Lasts (n - next) c
+lasts next n Good o ends in_time = tt
+lasts next n (HoldOff left) o ends in_time = lasts_with next n left o ends in_time
+lasts next n Failed o ends in_time = tt
+lasts next n (Restoring left) o ends in_time = lasts_with next n left o ends in_time
+
+aged_is : (k : ℕ) (c : Cond) → aged k c ≡ later_by k c
+aged_is k Good = refl
+aged_is k (HoldOff left) = refl
+aged_is k Failed = refl
+aged_is k (Restoring left) = refl
+
+-- until the due time, of a running time that much less is left
+pub left_until : (e : ElementState) → IsWhole e → (i : ℕ) → i < inputs_of e → (past : List Moment) (n : ℕ) → StandsFor e past → IsInTime e n → condition_at e.settings.timers (signals_of i (moments_until e.settings n past)) ≡ later_by (n - e.next) (monitor_of e i).condition
+left_until e whole i within past n stands in_time =
+    let c = (monitor_of e i).condition in
+    let signals = signals_of i past in
+    let is : c ≡ condition_at e.settings.timers signals = subst (λ timers. c ≡ condition_at timers signals) (whole.timers i within) (stands.monitors i within).condition in
+    let passed : n - length signals ≡ n - e.next = ap (λ k. n - k) (length-signals_of i past ∙ sym stands.next) in
+    let still : Lasts (n - e.next) c = lasts e.next n c (monitor_of e i).due (end_in e whole i within) (until_first e.monitors (inputs_of e) n i e.due whole.first_due in_time.until_due within) in
+    let also : Lasts (n - length signals) (condition_at e.settings.timers signals) = subst (Lasts (n - length signals)) is (subst (λ k. Lasts k c) (sym passed) still) in
+    ap (condition_at e.settings.timers) (signals_of-moments_until e.settings i n past within)
+    ∙ condition_at-after_quiet e.settings.timers whole.holdoff (n - length signals) signals also
+    ∙ aged_is (n - length signals) (condition_at e.settings.timers signals)
+    ∙ ap (λ k. later_by k (condition_at e.settings.timers signals)) passed
+    ∙ ap (later_by (n - e.next)) (sym is)
+
+-- before its due time no input's "failed" changes
+same_until_due : (settings : Settings) (past : List Moment) (due : Option ℕ) (n : ℕ) → IsElementDue settings past due → length past ≤ n → IfSome due (λ d. n ≤ d) → IsSameFailed settings past (moments_until settings n past)
+same_until_due settings past None n never later in_time = never n later
+same_until_due settings past (Some due) n first later in_time = first.same_before n later in_time
+
+earlier_too : (due : Option ℕ) (m n : ℕ) → m ≤ n → IfSome due (λ d. n ≤ d) → IfSome due (λ d. m ≤ d)
+earlier_too None m n less in_time = tt
+earlier_too (Some due) m n less in_time = let until : n ≤ due = in_time in omega arith
+
+lasting_until_due : (settings : Settings) (past : List Moment) (due : Option ℕ) (n : ℕ) → IsElementDue settings past due → length past ≤ n → IfSome due (λ d. n ≤ d) → Lasting settings past (n - length past)
+lasting_until_due settings past due n first later in_time i within j few =
+    let signals = signals_of i past in
+    let some : length past + j - length signals ≡ j = omega (arith, length-signals_of i past) in
+    ap (λ k. failed_at settings.timers (after_quiet k signals)) (sym some)
+    ∙ sym (ap (failed_at settings.timers) (signals_of-moments_until settings i (length past + j) past within))
+    ∙ same_until_due settings past due (length past + j) first (omega arith) (earlier_too due (length past + j) n (omega arith) in_time) i within
+
+-- until the due time the element gives the same
+pub same_output_until : (settings : Settings) (now : Moment) (before : List Moment) (due : Option ℕ) (n : ℕ) → IsElementDue settings (now ∷ before) due → length (now ∷ before) ≤ n → IfSome due (λ d. n ≤ d) → IsSameOutput settings (now ∷ before) (moments_until settings n (now ∷ before))
+same_output_until settings now before due n first later in_time =
+    (stays-quiet_moments settings (now ∷ before) (n - length (now ∷ before)) (omega arith) (lasting_until_due settings (now ∷ before) due n first later in_time)).output

@@ -8,11 +8,13 @@ use Rattle.sync_ql.specs.Switches.{Switches, unswitched}
 use Rattle.sync_ql.specs.Selection.{candidate}
 use Rattle.sync_ql.specs.Moment.{Settings, switches_at, selection_at}
 use Rattle.sync_ql.specs.Told.{IsOfOption}
+use Rattle.sync_ql.specs.Condition.{Timers}
 use Rattle.input_monitor.specs.Monitored.{Monitored}
+use Rattle.input_monitor.specs.Ending.{IsEnd}
 use Rattle.sync_element.specs.declared.config.Config.{Config}
 use Rattle.sync_element.specs.declared.config.InputConfig.{InputConfig}
 use Rattle.sync_element.specs.Configured.{settings_of}
-use Rattle.sync_element.specs.ElementState.{ElementState, monitor_in, IsWhole}
+use Rattle.sync_element.specs.ElementState.{ElementState, monitor_in, HasEnd, IsWhole}
 use Rattle.sync_element.specs.StandsFor.{StandsFor}
 use Rattle.sync_element.specs.Starting.{IsNew, first_candidate}
 
@@ -64,6 +66,10 @@ first_option config first i =
 pub length-priorities : (config : Config) → length (settings_of config).priorities ≡ length config.inputs
 length-priorities config = length-map config.inputs (λ input. input.priority)
 
+-- a monitor that was told nothing has no condition that ends
+HasEnd-new : (timers : Timers) (m : Monitored) → IsNew timers m → HasEnd m
+HasEnd-new timers m new = subst (λ condition. IsEnd m.next condition m.due) (sym new.condition) new.due
+
 pub IsWhole-new : (config : Config) (monitors : List Monitored) (ups : List Bool) (candidates : List Candidate) (switches : Switches) → IsNewState config monitors ups candidates switches → IsWhole (new_state config monitors ups candidates switches)
 IsWhole-new config monitors ups candidates switches new =
     let count = length-priorities config in
@@ -76,6 +82,7 @@ IsWhole-new config monitors ups candidates switches new =
       locked_length = rw new.switches_are (length-replicate (length config.inputs) false ∙ sym count);
       timers = λ i within. (new.new i (omega (arith, within, count))).timers_are;
       same_next = λ i within. (new.new i (omega (arith, within, count))).next;
+      ends = λ i within. HasEnd-new (record { holdoff = config.holdoff; wtr = config.wtr }) (monitor_in monitors i) (new.new i (omega (arith, within, count)));
       floor = new.floor;
       option = λ i. rw (new.candidates_are, candidate_first config.inputs i) (first_option config new.first i);
       priorities = rw new.candidates_are (priorities_first config.inputs);

@@ -19,7 +19,7 @@ use Rattle.sync_ql.specs.Told.{last_said, says_up, says_level, clears, commands_
 use Rattle.input_monitor.specs.Monitored.{Monitored}
 use Rattle.input_monitor.specs.StandsFor as Monitor
 use Rattle.selector.proofs.Eligible.{nobody}
-use Rattle.sync_element.specs.ElementState.{ElementState, inputs_of, monitor_in, up_in, IsFirstDue, IsInTime, IsWhole}
+use Rattle.sync_element.specs.ElementState.{ElementState, inputs_of, monitor_in, up_in, HasEnd, IsFirstDue, IsInTime, IsWhole}
 use Rattle.sync_element.specs.StandsFor.{StandsFor}
 use Rattle.sync_element.specs.Telling.{clear_in, IsToldSoFar, IsSameInputs}
 use Rattle.sync_element.specs.Stepping.{IsStepped, AreStepped}
@@ -219,6 +219,7 @@ same_option option (Some a) (Some b) first second = first ∙ sym second
 pub record IsTakenWhole (e : ElementState) (now : ℕ) (t : Taken) : Type 0 where
   pub is_within : IfSome t.selection (λ i. i < length t.candidates)
   pub is_first : IsFirstDue t.monitors (length t.monitors) t.due
+  pub are_ended : (i : ℕ) → i < length t.monitors → HasEnd (monitor_in t.monitors i)
   pub steps_are : t.later_steps ≡ (if nat_eq e.next 0 then 0 else e.later_steps + 1)
 
 -- an element stays whole
@@ -235,6 +236,7 @@ IsWhole-after e now events t whole in_time in_range fits taken end =
       locked_length = ap (λ s. length s.locked) taken.ended ∙ taken.is_same.locked_length ∙ whole.locked_length;
       timers = λ i within. (stepped_at e now events t whole taken i within).timers ∙ whole.timers i within;
       same_next = λ i within. (stepped_at e now events t whole taken i within).next;
+      ends = λ i within. end.are_ended i (omega (arith, within, monitors_length));
       floor = whole.floor;
       option = stepped_option e.settings.own.option (length e.monitors) now t.ups t.clear t.commands e.settings.floor e.monitors t.monitors t.told t.candidates taken.are_stepped (told_option e events e.ups t.ups (replicate 64 false) t.clear t.told e.switches t.commands whole fits taken.is_told);
       priorities =

@@ -1,5 +1,5 @@
 -- When the condition of an input ends, if nothing happens.
-use Rattle.std.specs.Prelude.{◌≡◌, ◌≤◌, ◌<◌, ◌+◌, ℕ, not, List, length, Option, None, Some, IfSome}
+use Rattle.std.specs.Prelude.{◌≡◌, ◌≤◌, ◌<◌, ◌+◌, ◌-◌, ℕ, not, List, length, Option, None, Some, IfSome}
 use Rattle.sync_ql.specs.declared.rules.Cond.{Cond}
 use Rattle.sync_ql.specs.declared.rules.Cond.TheVariants.{Good, HoldOff, Failed, Restoring}
 use Rattle.sync_ql.specs.Condition.{failed_at}
@@ -14,6 +14,13 @@ left_of Good = None
 left_of (HoldOff left) = Some left
 left_of Failed = None
 left_of (Restoring left) = Some left
+
+-- a condition k milliseconds later, before it ends: that much less is left of it
+abbrev pub later_by : ℕ → Cond → Cond
+later_by k Good = Good
+later_by k (HoldOff left) = HoldOff (left - k)
+later_by k Failed = Failed
+later_by k (Restoring left) = Restoring (left - k)
 
 -- what was left at the last step of the condition of the input at a place
 abbrev pub left_in : ElementState → ℕ → Option ℕ

@@ -10,6 +10,7 @@ use Rattle.sync_ql.specs.Selection.{candidate}
 use Rattle.sync_ql.specs.Moment.{Settings}
 use Rattle.sync_ql.specs.Told.{IsOfOption}
 use Rattle.input_monitor.specs.Monitored.{Monitored}
+use Rattle.input_monitor.specs.Ending.{IsEnd}
 use Rattle.sync_element.specs.declared.element.Element.TheInside.{Inside}
 use Rattle.sync_element.specs.Configured.{settings_of}
 
@@ -73,6 +74,10 @@ pub record IsFirstDueAt (monitors : List Monitored) (n due : ℕ) : Type 0 where
   pub some : (i : ℕ) × (i < n) × ((monitor_in monitors i).due ≡ Some due)
   pub first : (i : ℕ) → i < n → IfSome (monitor_in monitors i).due (λ other. due ≤ other)
 
+-- a monitor's due time is that at which its condition ends
+abbrev pub HasEnd : Monitored → Type 0
+HasEnd m = IsEnd m.next m.condition m.due
+
 abbrev pub IsFirstDue : List Monitored → ℕ → Option ℕ → Type 0
 IsFirstDue monitors n None = (i : ℕ) → i < n → (monitor_in monitors i).due ≡ None
 IsFirstDue monitors n (Some due) = IsFirstDueAt monitors n due
@@ -101,6 +106,7 @@ pub record IsWhole (e : ElementState) : Type 0 where
   pub locked_length : length e.switches.locked ≡ inputs_of e
   pub timers : (i : ℕ) → i < inputs_of e → (monitor_of e i).timers ≡ e.settings.timers
   pub same_next : (i : ℕ) → i < inputs_of e → (monitor_of e i).next ≡ e.next
+  pub ends : (i : ℕ) → i < inputs_of e → HasEnd (monitor_of e i)
   pub floor : IsOfOption e.settings.own.option e.settings.floor
   pub option : (i : ℕ) → IsOfOption e.settings.own.option (candidate e.candidates i).level
   pub priorities : map (λ c. c.priority) e.candidates ≡ e.settings.priorities

@@ -1,5 +1,6 @@
 -- Private: inputs before the first step, which only clauses of private functions cite.
 use Rattle.std.specs.Prelude.{◌≡◌, false, [], None}
+use Rattle.sync_ql.specs.declared.rules.Cond.TheVariants.{Good}
 use Rattle.sync_ql.specs.declared.rules.Candidate.{Candidate}
 use Rattle.sync_ql.specs.Condition.{Timers}
 use Rattle.input_monitor.specs.Monitored.{Monitored}
@@ -10,6 +11,7 @@ use Rattle.sync_element.specs.declared.config.InputConfig.{InputConfig}
 pub record IsNew (timers : Timers) (m : Monitored) : Type 0 where
   pub timers_are : m.timers ≡ timers
   pub next : m.next ≡ 0
+  pub condition : m.condition ≡ Good
   pub due : m.due ≡ None
   pub stands : StandsFor m []
 

@@ -1,4 +1,4 @@
-ghost use Rattle.std.specs.Prelude.{◌≡◌, ◌≤◌, ◌<◌, ◌+◌, ◌*◌, ◌∷◌, [], ℕ, List, All, IfSome, IfOk, IsNone, MatchOption, None, length, unwrap_or, option_and_then, if◌then◌else◌, nat_eq, ◌↔◌};
+ghost use Rattle.std.specs.Prelude.{◌≡◌, ◌≤◌, ◌<◌, ◌+◌, ◌-◌, ◌*◌, ◌∷◌, [], ℕ, List, Option, All, IfSome, IfOk, IsNone, MatchOption, None, length, unwrap_or, option_and_then, if◌then◌else◌, nat_eq, ◌↔◌};
 ghost use Rattle.sync_ql.specs.Level.{do_not_use_of};
 ghost use Rattle.sync_ql.specs.Condition.{condition_at, IsSameKind};
 ghost use Rattle.sync_ql.specs.Selection.{candidate};
@@ -8,7 +8,7 @@ ghost use Rattle.sync_ql.specs.Output.{clock_level_at, sent_back_at, mode_at, st
 ghost use Rattle.sync_element.specs.Configured.{settings_of};
 ghost use Rattle.sync_element.specs.StandsFor.{StandsFor};
 ghost use Rattle.sync_element.specs.QuietLaw.{IsSameFailed, IsSameOutput};
-ghost use Rattle.sync_element.specs.Due.{IsLastStepPlusLeast, NoneEnds, IsElementDue};
+ghost use Rattle.sync_element.specs.Due.{IsLastStepPlusLeast, NoneEnds, IsElementDue, later_by};
 ghost use Rattle.sync_element.specs.ElementState.{inputs_of, monitor_of, level_of, level_back_of, IsInTime};
 
 use crate::config::Config;
@@ -194,7 +194,8 @@ impl Element {
 
     /// The condition of an input at the last step, and what was left then of a running time.
     ///
-    /// From there up to but not at `due` it stays in this kind of condition, if nothing is told.
+    /// From there up to but not at `due` it stays in this kind of condition, if nothing is told, and
+    /// of a running time that much less is left.
     /// After G.781, signal fail, hold-off and wait-to-restore.
     pub fn cond(&self, i: u32) -> Cond
         requires place { i < inputs_of self.now }
@@ -205,6 +206,11 @@ impl Element {
             IsInTime self.now n →
             IsSameKind result (condition_at self.now.settings.timers
             (signals_of i (moments_until self.now.settings n past))) }
+        ensures left { (past : List Moment) (n : ℕ) → StandsFor self.now past →
+            IsInTime self.now n →
+            condition_at self.now.settings.timers
+            (signals_of i (moments_until self.now.settings n past))
+            ≡ later_by (n - self.now.next) result }
     {
         self.monitors[i as usize].condition()
     }
@@ -219,10 +225,8 @@ impl Element {
     /// own.
     pub fn due(&self) -> Option<u64>
         ensures value { result ≡ self.now.due }
-        ensures none { (past : List Moment) → StandsFor self.now past →
-            IsNone result ↔ NoneEnds self.now }
-        ensures least { (past : List Moment) → StandsFor self.now past →
-            IfSome result (IsLastStepPlusLeast self.now) }
+        ensures none { IsNone result ↔ NoneEnds self.now }
+        ensures least { IfSome result (IsLastStepPlusLeast self.now) }
         ensures changes { (past : List Moment) → StandsFor self.now past →
             IsElementDue self.now.settings past result }
     {
@@ -282,11 +286,17 @@ impl Element {
 }
 
 /// The law of a quiet millisecond: where nothing is told in it, and each input is failed exactly as
-/// before, the selection, the level, the levels sent back, the mode and the state stay.
+/// before, the selection, the level, the levels sent back, the mode and the state stay. So they do
+/// while nothing is told, up to but not at the first millisecond at which an input's "failed"
+/// changes.
 ///
 /// It does nothing: its contract is the law. This project's own.
 pub fn quiet_law()
-    ensures { (settings : Settings) (now : Moment) (before : List Moment) →
+    ensures one { (settings : Settings) (now : Moment) (before : List Moment) →
         IsSameFailed settings (now ∷ before) (quiet_moment settings (now ∷ before) ∷ now ∷ before) →
         IsSameOutput settings (now ∷ before) (quiet_moment settings (now ∷ before) ∷ now ∷ before) }
+    ensures until { (settings : Settings) (now : Moment) (before : List Moment)
+        (due : Option ℕ) (n : ℕ) → IsElementDue settings (now ∷ before) due →
+        length (now ∷ before) ≤ n → IfSome due (λ due. n ≤ due) →
+        IsSameOutput settings (now ∷ before) (moments_until settings n (now ∷ before)) }
 {}

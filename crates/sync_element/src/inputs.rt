@@ -2,7 +2,7 @@
 
 ghost use Rattle.std.specs.Prelude.{◌≡◌, ◌≤◌, ◌<◌, ◌+◌, ◌*◌, ℕ, true, [], length, map, replicate, All, IfOk, if◌then◌else◌, nat_eq};
 ghost use Rattle.sync_ql.specs.Selection.{candidate, is_better, SameOption};
-ghost use Rattle.sync_element.specs.ElementState.{monitor_in, IsFirstDue};
+ghost use Rattle.sync_element.specs.ElementState.{monitor_in, HasEnd, IsFirstDue};
 ghost use Rattle.sync_element.specs.Telling.{IsTold, IsToldSoFar, IsSameInputs, Fits};
 ghost use Rattle.sync_element.specs.Stepping.{IsReady, IsStepped, AreStepped, earlier};
 ghost use Rattle.sync_element.specs.Starting.{IsNew, first_candidate};
@@ -189,7 +189,8 @@ pub fn is_below(floor: Option<Level>, level: Option<Level>) -> bool
 
 // The first millisecond at which a running time ends.
 pub fn first_due(monitors: &[Monitor]) -> Option<u64>
-    ensures { IsFirstDue monitors.now (length monitors.now) result }
+    ensures first { IsFirstDue monitors.now (length monitors.now) result }
+    ensures ends { (i : ℕ) → i < length monitors.now → HasEnd (monitor_in monitors.now i) }
 {
     let mut due = None;
     for i in 0..monitors.len() {

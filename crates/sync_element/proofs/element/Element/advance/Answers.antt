@@ -60,7 +60,8 @@ is_taken c = record {
 is_taken_whole : (c : goal.After-self-8-1) → IsTakenWhole (state c) c.args.now (taken c)
 is_taken_whole c = record {
   is_within = rw (c.as_slice-3.ensures.value, candidates_are c) at c.evaluate-self-inside.ensures.place;
-  is_first = rw (c.as_slice-2.ensures.value, monitors_are c) at c.first_due-self-inside.ensures;
+  is_first = rw (c.as_slice-2.ensures.value, monitors_are c) at c.first_due-self-inside.ensures.first;
+  are_ended = rw (c.as_slice-2.ensures.value, monitors_are c) at c.first_due-self-inside.ensures.ends;
   steps_are = c.steps_after-self-inside.ensures;
 }
 
