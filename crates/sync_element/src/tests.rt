@@ -7,9 +7,10 @@ ghost use Rattle.sync_element.specs.Plain.{IsPlainWhole, FitsOption};
 
 use crate::ClockState::{FreeRun, Holdover, Locked};
 use crate::Cmd::{Clear, Forced, Lockout, Manual, Unlock};
+use crate::Cond::{Failed, Good, HoldOff, Restoring};
 use crate::Mode::{Auto, Forced as ByForce, Manual as ByHand};
 use crate::plain::{Answer, Plain};
-use crate::{ClockState, Cmd, Config, Element, InputConfig, InputEvent, Mode};
+use crate::{ClockState, Cmd, Cond, Config, Element, InputConfig, InputEvent, Mode};
 use std::alloc::{AllocError, Global};
 use std::marker::Brand;
 use std::process::Abort;
@@ -40,6 +41,7 @@ type Row = (
     ClockState,
 );
 
+#[derive(Drop)]
 struct Case {
     shows: &'static str,
     wtr: u32,
@@ -174,6 +176,73 @@ const CASES: [Case; 7] = [
             (700, &[], Some(1), "QL-SSU-A", Auto, Locked),
         ],
     },
+];
+
+/// A millisecond and what is told in it; then of two inputs the conditions and what goes back, when
+/// a step is due, and the number of later steps.
+type ShownRow = (
+    u64,
+    &'static [Told],
+    (Cond, Cond),
+    (&'static str, &'static str),
+    Option<u64>,
+    u64,
+);
+
+const TWO_INPUTS: Case = Case {
+    shows: "conditions_and_what_goes_back",
+    wtr: 500,
+    floor: "",
+    inputs: &[(1, "QL-PRC"), (2, "QL-SSU-A")],
+    rows: &[],
+};
+
+const BEFORE: ShownRow = (0, &[], (Good, Good), ("QL-SEC", "QL-SEC"), None, 0);
+
+const SHOWN: [ShownRow; 8] = [
+    (0, &[], (Good, Good), ("QL-DNU", "QL-PRC"), None, 0),
+    (
+        100,
+        &[Down(0)],
+        (HoldOff(300), Good),
+        ("QL-DNU", "QL-PRC"),
+        Some(400),
+        1,
+    ),
+    (
+        150,
+        &[Down(1)],
+        (HoldOff(250), HoldOff(300)),
+        ("QL-DNU", "QL-PRC"),
+        Some(400),
+        2,
+    ),
+    (
+        300,
+        &[Up(1)],
+        (HoldOff(100), Good),
+        ("QL-DNU", "QL-PRC"),
+        Some(400),
+        3,
+    ),
+    (400, &[], (Failed, Good), ("QL-SSU-A", "QL-DNU"), None, 4),
+    (
+        450,
+        &[Up(0)],
+        (Restoring(500), Good),
+        ("QL-SSU-A", "QL-DNU"),
+        Some(950),
+        5,
+    ),
+    (
+        600,
+        &[],
+        (Restoring(350), Good),
+        ("QL-SSU-A", "QL-DNU"),
+        Some(950),
+        6,
+    ),
+    (950, &[], (Good, Good), ("QL-DNU", "QL-PRC"), None, 7),
 ];
 
 fn event_of(told: Told) -> InputEvent {
@@ -494,4 +563,77 @@ fn run_all<L: Ledger>(rt: &(impl Abort + AllocGlobal), blank: Blank) -> Result<(
 #[test]
 fn histories_are_answered_by_the_rules(rt: HostRuntime) -> Result<(), Fail> {
     run_all::<Brand>(&rt, Blank::new(1))
+}
+
+fn shows(rt: &impl Abort, element: &Element, row: &ShownRow)
+    requires two { length element.now.settings.priorities ≡ 2 }
+{
+    let at = row.0;
+    assert_eq!(rt; element.cond(0), row.2.0, "at {at}");
+    assert_eq!(rt; element.cond(1), row.2.1, "at {at}");
+    assert_eq!(rt; element.out_to(0), level(rt, row.3.0), "at {at}");
+    assert_eq!(rt; element.out_to(1), level(rt, row.3.1), "at {at}");
+    assert_eq!(rt; element.due(), row.4, "at {at}");
+    assert_eq!(rt; element.later_steps(), row.5, "at {at}");
+}
+
+fn tell_shown<L: Ledger>(
+    rt: &(impl Abort + AllocGlobal),
+    element: &mut Element,
+    row: &ShownRow,
+    steps: &mut Steps<L>,
+) -> Result<(), Fail>
+    requires started { element.old.next ≡ 0 → row.now.0 ≡ 0 }
+    requires later { element.old.next ≤ row.now.0 }
+    requires in_range { row.now.0 ≤ 86400000 }
+    requires option { element.old.settings.own.option ≡ NetOption.I }
+    requires inputs { length element.old.settings.priorities ≡ 2 }
+    ensures next { IfOk result (λ _. element.new.next ≡ row.now.0 + 1) }
+    ensures kept { IfOk result (λ _. element.new.settings ≡ element.old.settings) }
+{
+    let events = events_of(rt.alloc(), row.1)?;
+    let told = events.as_slice();
+    assert!(rt; all_fit(2, told));
+    assert!(rt; is_in_time(element, row.0));
+    element.step(row.0, told, steps);
+    Ok(())
+}
+
+fn shows_all<L: Ledger>(
+    rt: &(impl Abort + AllocGlobal),
+    element: &mut Element,
+    steps: &mut Steps<L>,
+) -> Result<(), Fail>
+    requires first { element.old.next ≡ 0 }
+    requires option { element.old.settings.own.option ≡ NetOption.I }
+    requires inputs { length element.old.settings.priorities ≡ 2 }
+{
+    let mut next = 0;
+    for row in &SHOWN {
+        let at = row.0;
+        assert!(rt; next <= at && at <= 86_400_000);
+        assert!(rt; 0 < next || at == 0);
+        tell_shown(rt, element, row, steps)?;
+        shows(rt, element, row);
+        next = at + 1;
+    }
+    Ok(())
+}
+
+fn show<L: Ledger>(rt: &(impl Abort + AllocGlobal), blank: Blank) -> Result<(), Fail>
+    requires name { blank.name ≡ L.name }
+    requires parts { blank.parts ≡ L.parts }
+    requires some { 0 < blank.parts }
+{
+    let mut steps = Steps::<L>::new(blank);
+    let mut element = element_of(rt, &TWO_INPUTS, 2)?;
+    let nothing = (None, level(rt, "QL-SEC"), Auto, FreeRun);
+    compare(rt, TWO_INPUTS.shows, 0, answer_of(&element), nothing);
+    shows(rt, &element, &BEFORE);
+    shows_all(rt, &mut element, &mut steps)
+}
+
+#[test]
+fn conditions_due_and_what_goes_back(rt: HostRuntime) -> Result<(), Fail> {
+    show::<Brand>(&rt, Blank::new(1))
 }
