@@ -167,11 +167,11 @@ plan_of_rows-kept rows well fit =
     let few_elements : nat_lt 2000 (length rows.elements) ≡ false = le-ltb 2000 (length rows.elements) (omega (arith, length-map rows.elements (element_from rows.option), well.few_elements)) in
     let few_links : nat_lt 4000 (length rows.links) ≡ false = le-ltb 4000 (length rows.links) (omega (arith, length-map rows.links (link_from (plan_from rows).elements), well.few_links)) in
     let few_sources : nat_lt 2000 (length rows.sources) ≡ false = le-ltb 2000 (length rows.sources) (omega (arith, length-map rows.sources (source_from rows.option (plan_from rows).elements), well.few_sources)) in
-    let elements = each_row-kept (element_row_rules rows) [] rows.elements (element_kept rows well fit) in
-    let links = each_row-kept (link_row_rules rows) [] rows.links (link_kept rows well fit) in
-    let sources = each_row-kept (source_row_rules rows) [] rows.sources (source_kept rows well fit) in
-    let front = first_broken-append (each_row (element_row_rules rows) [] rows.elements) (each_row (link_row_rules rows) [] rows.links) elements links in
-    let rest = first_broken-append (each_row (element_row_rules rows) [] rows.elements ++ each_row (link_row_rules rows) [] rows.links)
-    (each_row (source_row_rules rows) [] rows.sources) front sources in
+    let elements = each_row-kept (element_row_rules rows) rows.elements (element_kept rows well fit) in
+    let links = each_row-kept (link_row_rules rows) rows.links (link_kept rows well fit) in
+    let sources = each_row-kept (source_row_rules rows) rows.sources (source_kept rows well fit) in
+    let front = first_broken-append (each_row (element_row_rules rows) rows.elements) (each_row (link_row_rules rows) rows.links) elements links in
+    let rest = first_broken-append (each_row (element_row_rules rows) rows.elements ++ each_row (link_row_rules rows) rows.links)
+    (each_row (source_row_rules rows) rows.sources) front sources in
     let none : first_broken (rules_of rows) ≡ None = rw (few_elements, few_links, few_sources) rest in
     rw none refl

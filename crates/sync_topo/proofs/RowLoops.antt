@@ -6,8 +6,8 @@ use Rattle.std.proofs.lemmas.List.{map-append}
 use Rattle.sync_topo.specs.declared.error.PlanErr.{PlanErr}
 use Rattle.sync_topo.specs.declared.error.PlanErr.TheVariants.{Limit, Name, Twice, NoElement, SelfLink, Range, LevelName, NoMemory}
 use Rattle.sync_topo.specs.Rules.{Rule}
-use Rattle.sync_topo.specs.PlanRows.{each_row, first_broken}
-use Rattle.sync_topo.specs.Steps.{Tells}
+use Rattle.sync_topo.specs.PlanRows.{first_broken}
+use Rattle.sync_topo.specs.Steps.{Tells, rows_from}
 
 -- the first broken rule of two lists
 pub first_broken-append : (xs ys : List Rule) → first_broken (xs ++ ys) ≡ option_or (first_broken xs) (first_broken ys)
@@ -32,18 +32,18 @@ kept-front xs ys kept = first_broken-append xs ys ∙ (rw kept refl)
 
 -- a loop over rows has come to a row that breaks no rule: what is left is the same
 pub loop-kept : {A : Type 0} (rules : List A → A → List Rule) (own : List Rule) (before : List A) (row : A) (rest items : List A) (total : Option PlanErr)
-    → own ≡ rules before row → items ≡ row ∷ rest → first_broken (each_row rules before items) ≡ total → first_broken own ≡ None
-    → first_broken (each_row rules (before ++ row ∷ []) rest) ≡ total
+    → own ≡ rules before row → items ≡ row ∷ rest → first_broken (rows_from rules before items) ≡ total → first_broken own ≡ None
+    → first_broken (rows_from rules (before ++ row ∷ []) rest) ≡ total
 loop-kept rules own before row rest items total is next so_far kept =
-    sym (kept-front (rules before row) (each_row rules (before ++ row ∷ []) rest) (rw is at kept)) ∙ rw next at so_far
+    sym (kept-front (rules before row) (rows_from rules (before ++ row ∷ []) rest) (rw is at kept)) ∙ rw next at so_far
 
 -- or to one that does: its refusal is that of all rows
 pub loop-refused : {A : Type 0} (rules : List A → A → List Rule) (own : List Rule) (before : List A) (row : A) (rest items : List A) (total : Option PlanErr) (error : PlanErr)
-    → own ≡ rules before row → items ≡ row ∷ rest → first_broken (each_row rules before items) ≡ total → Tells error (first_broken own) → Tells error total
+    → own ≡ rules before row → items ≡ row ∷ rest → first_broken (rows_from rules before items) ≡ total → Tells error (first_broken own) → Tells error total
 loop-refused rules own before row rest items total error is next so_far tells =
     let here : Tells error (first_broken (rules before row)) = rw is at tells in
-    let there : first_broken (each_row rules before (row ∷ rest)) ≡ total = rw next at so_far in
-    rw (← there) (Tells-front error (rules before row) (each_row rules (before ++ row ∷ []) rest) here)
+    let there : first_broken (rows_from rules before (row ∷ rest)) ≡ total = rw next at so_far in
+    rw (← there) (Tells-front error (rules before row) (rows_from rules (before ++ row ∷ []) rest) here)
 
 -- one row more is behind
 pub whole-more : {A : Type 0} (before : List A) (row : A) (rest items all : List A) → items ≡ row ∷ rest → before ++ items ≡ all → (before ++ row ∷ []) ++ rest ≡ all

@@ -1,5 +1,5 @@
 -- Rows that say a plan which keeps every rule break none themselves.
-use Rattle.std.proofs.Common.{◌≡◌, ℕ, ◌+◌, ◌<◌, ◌≤◌, zero, suc, Bool, true, false, ◌&&◌, List, [], ◌∷◌, ◌++◌, length, filter, Some, None, slice_get, refl, sym, ap, ◌∙◌, inl, inr, arith, append_assoc, length-append}
+use Rattle.std.proofs.Common.{◌≡◌, ℕ, ◌+◌, ◌<◌, ◌≤◌, zero, suc, Bool, true, false, ◌&&◌, List, [], ◌∷◌, ◌++◌, length, filter, take, flat_map, Some, None, slice_get, refl, sym, ap, ◌∙◌, inl, inr, arith, append_assoc, length-append}
 use Rattle.std.specs.List.{list_all, range_with_len}
 use Rattle.std.specs.Str.{bytes_eq}
 use Rattle.std.proofs.Math.Bool.{or-true}
@@ -10,7 +10,8 @@ use Rattle.std.proofs.lemmas.Option.{none-some, same_Some}
 use Rattle.sync_topo.specs.Names.{is_name, is_named}
 use Rattle.sync_topo.specs.WellFormed.{AreDistinct}
 use Rattle.sync_topo.specs.Rules.{Rule}
-use Rattle.sync_topo.specs.PlanRows.{first_broken, each_row}
+use Rattle.sync_topo.specs.PlanRows.{first_broken, rules_at, each_row}
+use Rattle.sync_topo.specs.Steps.{rows_from}
 
 -- no rule of two lists is broken where none of either is
 pub first_broken-append : (rules more : List Rule) → first_broken rules ≡ None → first_broken more ≡ None → first_broken (rules ++ more) ≡ None
@@ -21,17 +22,6 @@ first_broken-append (rule ∷ rules) more kept others =
       | inr whole ↦ rw whole (first_broken-append rules more (rw whole at kept) others)
     ]
 
--- no row breaks a rule where none does after the rows before it
-pub each_row-kept : {A : Type 0} (rules : List A → A → List Rule) (before rows : List A)
-    → ((front : List A) (row : A) (rest : List A) → before ++ rows ≡ front ++ row ∷ rest → first_broken (rules front row) ≡ None)
-    → first_broken (each_row rules before rows) ≡ None
-each_row-kept rules before [] kept = refl
-each_row-kept rules before (row ∷ rows) kept =
-    let here : first_broken (rules before row) ≡ None = kept before row rows refl in
-    let rest : first_broken (each_row rules (before ++ row ∷ []) rows) ≡ None
-    = each_row-kept rules (before ++ row ∷ []) rows (λ front other others split. kept front other others (sym (append_assoc before (row ∷ []) rows) ∙ split)) in
-    first_broken-append (rules before row) (each_row rules (before ++ row ∷ []) rows) here rest
-
 -- what stands in the middle of a list
 pub slice_get-middle : {A : Type 0} (xs : List A) (x : A) (ys : List A) → slice_get (xs ++ x ∷ ys) (length xs) ≡ Some x
 slice_get-middle [] x ys = refl
@@ -41,6 +31,43 @@ pub slice_get-front : {A : Type 0} (xs ys : List A) (i : ℕ) → i < length xs 
 slice_get-front [] ys i h = absurd (omega arith)
 slice_get-front (x ∷ xs) ys zero h = refl
 slice_get-front (x ∷ xs) ys (suc i) h = slice_get-front xs ys i (omega arith)
+
+-- the rules of the rows one after the other are those of each place
+pub take-front : {A : Type 0} (front rest : List A) → take (length front) (front ++ rest) ≡ front
+take-front [] rest = refl
+take-front (first ∷ front) rest = ap (λ l. first ∷ l) (take-front front rest)
+
+pub rows_from-places : {A : Type 0} (rules : List A → A → List Rule) (behind rows : List A)
+    → rows_from rules behind rows ≡ flat_map (rules_at rules (behind ++ rows)) (range_with_len (length behind) (length rows))
+rows_from-places rules behind [] = refl
+rows_from-places rules behind (row ∷ rows) =
+    let here : rules_at rules (behind ++ row ∷ rows) (length behind) ≡ rules behind row
+    = rw (slice_get-middle behind row rows, take-front behind (row ∷ rows)) refl in
+    let rest : rows_from rules (behind ++ row ∷ []) rows
+    ≡ flat_map (rules_at rules ((behind ++ row ∷ []) ++ rows)) (range_with_len (length (behind ++ row ∷ [])) (length rows))
+    = rows_from-places rules (behind ++ row ∷ []) rows in
+    let whole : (behind ++ row ∷ []) ++ rows ≡ behind ++ row ∷ rows = append_assoc behind (row ∷ []) rows in
+    let size : length (behind ++ row ∷ []) ≡ length behind + 1 = length-append behind (row ∷ []) in
+    rw (here, rest, whole, size) refl
+
+pub rows_from-each : {A : Type 0} (rules : List A → A → List Rule) (rows : List A) → rows_from rules [] rows ≡ each_row rules rows
+rows_from-each rules rows = rows_from-places rules [] rows
+
+-- no row breaks a rule where none does after the rows before it
+rows_from-kept : {A : Type 0} (rules : List A → A → List Rule) (behind rows : List A)
+    → ((front : List A) (row : A) (rest : List A) → behind ++ rows ≡ front ++ row ∷ rest → first_broken (rules front row) ≡ None)
+    → first_broken (rows_from rules behind rows) ≡ None
+rows_from-kept rules behind [] kept = refl
+rows_from-kept rules behind (row ∷ rows) kept =
+    let here : first_broken (rules behind row) ≡ None = kept behind row rows refl in
+    let rest : first_broken (rows_from rules (behind ++ row ∷ []) rows) ≡ None
+    = rows_from-kept rules (behind ++ row ∷ []) rows (λ front other others split. kept front other others (sym (append_assoc behind (row ∷ []) rows) ∙ split)) in
+    first_broken-append (rules behind row) (rows_from rules (behind ++ row ∷ []) rows) here rest
+
+pub each_row-kept : {A : Type 0} (rules : List A → A → List Rule) (rows : List A)
+    → ((front : List A) (row : A) (rest : List A) → rows ≡ front ++ row ∷ rest → first_broken (rules front row) ≡ None)
+    → first_broken (each_row rules rows) ≡ None
+each_row-kept rules rows kept = ap first_broken (sym (rows_from-each rules rows)) ∙ rows_from-kept rules [] rows kept
 
 -- a name is among names where it stands at one of their places
 pub is_named-place : (names : List (List ℕ)) (name : List ℕ) → is_named names name ≡ true → (i : ℕ) × (i < length names) × (slice_get names i ≡ Some name)

@@ -15,7 +15,7 @@ use Rattle.sync_topo.specs.declared.rows.LinkRow.{LinkRow}
 use Rattle.sync_topo.specs.declared.rows.SourceRow.{SourceRow}
 use Rattle.sync_topo.specs.declared.rows.PlanRows.{PlanRows}
 use Rattle.sync_topo.specs.Topology.{Topology}
-use Rattle.sync_topo.specs.Lines.{line_name, line_of_name, line_input, input_number, input_of_name, inputs_of}
+use Rattle.sync_topo.specs.Lines.{priority_of, delay_of, line_name, line_of_name, line_input, input_number, input_of_name, inputs_of}
 use Rattle.sync_topo.specs.Hops.{hops}
 use Rattle.sync_topo.specs.RowValues.{default_own, element_from}
 use Rattle.sync_topo.specs.PlanRows.{plan_of_rows}
@@ -63,6 +63,22 @@ inputs_are_lines_and_then_sources = refl
 
 pub numbers_of_sources_come_after_all_lines : input_number twin (input.Source 0) ≡ 4
 numbers_of_sources_come_after_all_lines = refl
+
+-- a link whose two lines differ in priority and delay
+abbrev pub uneven : Topology
+uneven = record twin { links = record (link (codes "L1")) { priority_a = 1; priority_b = 2; delay_a = 7; delay_b = 9 } ∷ [] }
+
+pub line_into_b_has_priority_b : priority_of uneven 0 ≡ 2
+line_into_b_has_priority_b = refl
+
+pub line_into_a_has_priority_a : priority_of uneven 1 ≡ 1
+line_into_a_has_priority_a = refl
+
+pub line_into_b_has_delay_b : delay_of uneven 0 ≡ 9
+line_into_b_has_delay_b = refl
+
+pub line_into_a_has_delay_a : delay_of uneven 1 ≡ 7
+line_into_a_has_delay_a = refl
 
 pub own_clock_is_sec_in_option_I : name_of (default_own I) ≡ codes "QL-SEC"
 unfolding dec_lt

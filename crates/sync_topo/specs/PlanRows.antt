@@ -1,6 +1,7 @@
 -- The plan that rows give, or the first refusal in the order of the rules and the rows.
-use Rattle.std.specs.Prelude.{◌≡◌, IsTrue, true, not, if◌then◌else◌, List, [], ◌∷◌, ◌++◌, Option, Some, None, Result, Ok, Err}
-use Rattle.std.specs.List.{list_all}
+use Rattle.std.specs.Prelude.{◌≡◌, ℕ, IsTrue, true, not, if◌then◌else◌, List, [], ◌∷◌, ◌++◌, length, take, flat_map, slice_get, Option, Some, None, Result, Ok, Err}
+use Rattle.std.specs.List.{list_all, range_with_len}
+use Rattle.std.specs.Option.{option_map_or}
 use Rattle.sync_topo.specs.declared.place.Section.TheVariants.{Elements, Links, Sources}
 use Rattle.sync_topo.specs.declared.error.PlanErr.{PlanErr}
 use Rattle.sync_topo.specs.declared.rows.ElementRow.{ElementRow}
@@ -12,10 +13,13 @@ use Rattle.sync_topo.specs.Limits.{element_limit, link_limit, source_limit}
 use Rattle.sync_topo.specs.RowValues.{plan_from}
 use Rattle.sync_topo.specs.Rules.{Rule, rule, element_rules, link_rules, source_rules, row_limit}
 
--- what rules there are for each of the rows, in order, where `rules` says it of a row after the rows before it
-abbrev pub each_row : {A : Type 0} → (List A → A → List Rule) → List A → List A → List Rule
-each_row rules before [] = []
-each_row rules before (row ∷ rows) = rules before row ++ each_row rules (before ++ row ∷ []) rows
+-- what rules there are for the row at a place, where `rules` says it of a row after the rows before it
+abbrev pub rules_at : {A : Type 0} → (List A → A → List Rule) → List A → ℕ → List Rule
+rules_at rules rows place = option_map_or (λ row. rules (take place rows) row) (slice_get rows place) []
+
+-- the rules for each of the rows, one place after the other
+abbrev pub each_row : {A : Type 0} → (List A → A → List Rule) → List A → List Rule
+each_row rules rows = flat_map (rules_at rules rows) (range_with_len 0 (length rows))
 
 -- the rules for the element rows, then for the link rows, then for the source rows
 abbrev pub element_row_rules : PlanRows → List ElementRow → ElementRow → List Rule
@@ -39,9 +43,9 @@ limits_of rows =
 abbrev pub rules_of : PlanRows → List Rule
 rules_of rows =
     limits_of rows
-    ++ each_row (element_row_rules rows) [] rows.elements
-    ++ each_row (link_row_rules rows) [] rows.links
-    ++ each_row (source_row_rules rows) [] rows.sources
+    ++ each_row (element_row_rules rows) rows.elements
+    ++ each_row (link_row_rules rows) rows.links
+    ++ each_row (source_row_rules rows) rows.sources
 
 -- the refusal of the first rule that is broken
 abbrev pub first_broken : List Rule → Option PlanErr

@@ -1,5 +1,5 @@
 -- Private: the steps of the making of a plan, which only clauses of private functions cite.
-use Rattle.std.specs.Prelude.{◌≡◌, ⊤, List, [], map, Option, Some, None, Result, Ok, Err}
+use Rattle.std.specs.Prelude.{◌≡◌, ⊤, List, [], ◌∷◌, ◌++◌, map, Option, Some, None, Result, Ok, Err}
 use Rattle.sync_ql.specs.declared.levels.NetOption.{NetOption}
 use Rattle.sync_topo.specs.declared.element.Element.{Element}
 use Rattle.sync_topo.specs.declared.link.Link.{Link}
@@ -27,6 +27,11 @@ Tells NoMemory refusal = ⊤
 abbrev pub Follows : {A : Type 0} → List Rule → Result A PlanErr → Type 0
 Follows rules (Ok value) = first_broken rules ≡ None
 Follows rules (Err error) = Tells error (first_broken rules)
+
+-- what rules there are for the rows that are left, after those that are behind
+abbrev pub rows_from : {A : Type 0} → (List A → A → List Rule) → List A → List A → List Rule
+rows_from rules behind [] = []
+rows_from rules behind (row ∷ rows) = rules behind row ++ rows_from rules (behind ++ row ∷ []) rows
 
 -- the rules for an element row, after the rows before it alone
 abbrev pub element_rules_after : NetOption → List ElementRow → ElementRow → List Rule

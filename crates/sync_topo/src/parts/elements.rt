@@ -2,10 +2,9 @@
 
 ghost use Rattle.std.specs.Prelude.{◌≡◌, [], ◌∷◌, ◌++◌, ◌<◌, ◌≤◌, ◌*◌, ◌||◌, length, map, is_none, IfSome, IfOk, OnOk, option_and_then, unwrap_or};
 ghost use Rattle.sync_topo.specs.Limits.{element_limit, least_holdoff, greatest_holdoff, greatest_wtr};
-ghost use Rattle.sync_topo.specs.PlanRows.{each_row};
 ghost use Rattle.sync_topo.specs.RowValues.{number_or, clock_level, default_own, element_from};
 ghost use Rattle.sync_topo.specs.Rules.{is_outside, is_no_clock_level, element_rules};
-ghost use Rattle.sync_topo.specs.Steps.{Follows, element_rules_after};
+ghost use Rattle.sync_topo.specs.Steps.{Follows, rows_from, element_rules_after};
 ghost use Rattle.sync_topo.specs.WellFormed.{IsClockLevel};
 
 use crate::element::Element;
@@ -36,7 +35,7 @@ impl Parts {
         requires indexed { IsIndexed self.old }
         requires no_elements { self.old.elements.items ≡ [] }
         requires within { length rows ≤ element_limit }
-        ensures rules { Follows (each_row (element_rules_after self.old.option) [] rows) result }
+        ensures rules { Follows (rows_from (element_rules_after self.old.option) [] rows) result }
         ensures indexed { OnOk result (IsIndexed self.new) }
         ensures elements { OnOk result
             (self.new.elements.items ≡ map (element_from self.old.option) rows) }

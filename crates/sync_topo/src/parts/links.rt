@@ -2,10 +2,9 @@
 
 ghost use Rattle.std.specs.Prelude.{◌≡◌, ◌≢◌, [], ◌∷◌, ◌++◌, ◌<◌, ◌≤◌, ◌&&◌, ◌||◌, length, map, is_none, IfSome, IfOk, OnOk};
 ghost use Rattle.sync_topo.specs.Limits.{link_limit, least_delay, greatest_delay, greatest_priority};
-ghost use Rattle.sync_topo.specs.PlanRows.{each_row};
 ghost use Rattle.sync_topo.specs.RowValues.{number_or, link_from};
 ghost use Rattle.sync_topo.specs.Rules.{is_outside, has_room, link_rules};
-ghost use Rattle.sync_topo.specs.Steps.{Follows, link_rules_after};
+ghost use Rattle.sync_topo.specs.Steps.{Follows, rows_from, link_rules_after};
 
 use crate::error::PlanErr;
 use crate::input::{InputId, LineId};
@@ -29,7 +28,7 @@ impl Parts {
         requires no_sources { self.old.sources.items ≡ [] }
         requires within { length rows ≤ link_limit }
         ensures rules { Follows
-            (each_row (link_rules_after self.old.option self.old.elements.items) [] rows) result }
+            (rows_from (link_rules_after self.old.option self.old.elements.items) [] rows) result }
         ensures indexed { OnOk result (IsIndexed self.new) }
         ensures links { OnOk result
             (self.new.links.items ≡ map (link_from self.old.elements.items) rows) }

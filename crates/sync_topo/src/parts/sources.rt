@@ -2,10 +2,9 @@
 
 ghost use Rattle.std.specs.Prelude.{◌≡◌, [], ◌∷◌, ◌++◌, ◌<◌, ◌≤◌, length, map, IfOk, OnOk};
 ghost use Rattle.sync_topo.specs.Limits.{source_limit};
-ghost use Rattle.sync_topo.specs.PlanRows.{each_row};
 ghost use Rattle.sync_topo.specs.RowValues.{source_from};
 ghost use Rattle.sync_topo.specs.Rules.{has_room, source_rules};
-ghost use Rattle.sync_topo.specs.Steps.{Follows, source_rules_after};
+ghost use Rattle.sync_topo.specs.Steps.{Follows, rows_from, source_rules_after};
 
 use crate::error::PlanErr;
 use crate::input::InputId;
@@ -28,7 +27,7 @@ impl Parts {
         requires indexed { IsIndexed self.old }
         requires no_sources { self.old.sources.items ≡ [] }
         requires within { length rows ≤ source_limit }
-        ensures rules { Follows (each_row (source_rules_after self.old.option
+        ensures rules { Follows (rows_from (source_rules_after self.old.option
             self.old.elements.items self.old.links.items) [] rows) result }
         ensures indexed { OnOk result (IsIndexed self.new) }
         ensures sources { OnOk result (self.new.sources.items

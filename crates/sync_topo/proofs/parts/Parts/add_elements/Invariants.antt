@@ -1,9 +1,9 @@
 use Rattle.std.proofs.Common.{◌≡◌, [], ◌++◌, length, map}
 use Rattle.std.specs.Vec.Iter.{into_iter_items, into_iter_len}
 use Rattle.sync_topo.specs.Indexed.{IsIndexed}
-use Rattle.sync_topo.specs.PlanRows.{each_row, first_broken}
+use Rattle.sync_topo.specs.PlanRows.{first_broken}
 use Rattle.sync_topo.specs.RowValues.{element_from}
-use Rattle.sync_topo.specs.Steps.{element_rules_after}
+use Rattle.sync_topo.specs.Steps.{rows_from, element_rules_after}
 use Rattle.sync_topo.proofs.parts.Parts.add_elements.Given as goal
 
 abbrev pub invariant-loop-row : goal.invariant-loop-row
@@ -20,5 +20,5 @@ invariant-loop-row l =
       elements : l.self.elements.items ≡ map (element_from l.fn.self.option) l.yielded;
       links : l.self.links.items ≡ l.fn.self.links.items;
       sources : l.self.sources.items ≡ l.fn.self.sources.items;
-      so_far : first_broken (each_row rules l.yielded rest) ≡ first_broken (each_row rules [] l.fn.rows);
+      so_far : first_broken (rows_from rules l.yielded rest) ≡ first_broken (rows_from rules [] l.fn.rows);
     }
