@@ -8,3 +8,4 @@ pub mod Back
 pub mod Before
 pub mod Rounds
 pub mod CycleLaws
+pub mod OneCycle

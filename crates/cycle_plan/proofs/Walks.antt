@@ -93,3 +93,14 @@ pub none_rise : (hop : HopTest) (rank : ℕ → ℕ) (line : ℕ) → IsResidue 
 none_rise hop rank line residue rises =
     let more = below_rank hop rank rises (suc (rank line)) line (residue (suc (rank line))) in
     omega (arith, more)
+
+-- a line has one least rank
+pub one_least : (hop : HopTest) (line least other : ℕ) → IsLeastRank hop line least → IsLeastRank hop line other → least ≡ other
+one_least hop line least other first second =
+    let below = second.longest least first.walked in
+    let above = first.longest other second.walked in
+    omega (arith, below, above)
+
+-- no ranks that rise are lower
+pub lowest_rank : (hop : HopTest) (rank : ℕ → ℕ) → Rises hop rank → (line least : ℕ) → IsLeastRank hop line least → least ≤ rank line
+lowest_rank hop rank rises line least is = below_rank hop rank rises least line is.walked

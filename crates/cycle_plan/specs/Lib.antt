@@ -1,4 +1,5 @@
 pub mod Ranked
+pub mod Repeats
 pub mod Inputs
 pub mod Outputs
 pub mod Tops

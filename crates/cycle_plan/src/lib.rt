@@ -1,7 +1,8 @@
 //! Least ranks of a plan as a certificate or, where no ranks rise, the first cycle of lines.
 //!
 //! [`rank_plan`] is the planner. What a least rank and the first cycle are stands in sync_topo,
-//! `AreLeastRanks` and `IsFirstCycle`.
+//! `AreLeastRanks` and `IsFirstCycle`; [`first_cycle_law`] and [`least_rank_law`] say that there is
+//! one first cycle, which lines it has, and why the ranks are the least.
 //!
 //! Lines get their ranks one after another, each once all lines that hop to it have theirs; an
 //! element's inputs are looked at anew only from where they had ranks before. Where lines are left
@@ -11,6 +12,7 @@
 #![tactic(auto)]
 
 mod inputs;
+mod laws;
 mod outputs;
 mod ranked;
 mod ranking;
@@ -19,4 +21,5 @@ mod ring;
 mod tests;
 mod top;
 
+pub use laws::{first_cycle_law, least_rank_law};
 pub use ranked::{Ranked, rank_plan};
