@@ -5,13 +5,16 @@ usage: failing_allocations.py PROGRAM WORD..
 
 PROGRAM is run with the words once for N = 1, 2, .. until a run makes fewer than N allocations; in run N the
 N-th call of malloc, calloc, realloc or aligned_alloc gives no memory, and every later one does. Each run has to
-end with status 10 and nothing written, or with the status and the text of a run in which none fails. Needs a C
-compiler.
+end with status 10 and nothing written, or with the status and the text of a run in which none fails. After
+100,000 runs it gives up with an error. Needs a C compiler.
 """
 import os
 import subprocess
 import sys
 import tempfile
+
+# The greatest N.
+GREATEST = 100_000
 
 SHIM = r"""
 #define _GNU_SOURCE
@@ -61,6 +64,8 @@ def main():
         want_of_memory = same = wrong = at = 0
         while True:
             at += 1
+            if at > GREATEST:
+                sys.exit(f"more than {GREATEST} allocations")
             status, text, fewer = run(words, shim, at)
             if fewer:
                 break
