@@ -2,8 +2,8 @@
 //! gives the exit status.
 //!
 //! `IsAnswer` says which status and text the words have over which files; `Delivers` that it was
-//! written, and `IsCut` what a write fault leaves. Which words are a form is `form_of`. That memory
-//! is found is tested.
+//! written, and `IsCut` what a write fault leaves. Which words are a form is `form_of`. No clause
+//! says that memory is found; docs/promises.md tells what shows it.
 #![tactic(auto)]
 
 mod check;

@@ -60,10 +60,12 @@ fn reply_to<F: Folder>(alloc: Global, words: &[String], folder: &mut F) -> Resul
 /// Runs the program: does what the words ask for, writes the answer, and gives the exit status.
 ///
 /// The words are those after the program's name. `check PLAN CERT` tests the ranks of a certificate
-/// on a plan, and `rank PLAN` gives the least ranks as a certificate, or the first cycle; PLAN and
-/// CERT are nonempty names of files. `gen N` writes the ladder of N elements, 2 to 2,000. The whole
-/// text is made before its first
-/// byte is written, and it is written by one `write_all`.
+/// on a plan, and `rank PLAN` gives the least ranks as a certificate, or the first cycle.
+/// `decode OPTION FILE` gives the rows of captured frames, and `encode OPTION FILE` the frames of
+/// rows. `gen N` writes the ladder of N elements, 2 to 2,000. PLAN, CERT and FILE are nonempty names
+/// of files, and OPTION is `I` or `II`.
+///
+/// The whole text is made before its first byte is written, and it is written by one `write_all`.
 ///
 /// This project's own.
 pub fn run<F: Folder, K: Sink>(

@@ -5,9 +5,9 @@ ghost use Rattle.std.specs.Prelude.{◌≡◌};
 /// This project's own.
 #[derive(Clone, Copy, Debug, PartialEq, Eq, Drop)]
 pub enum Status {
-    /// The answer was written; for `check`, `accepted`.
+    /// The answer was written.
     Done,
-    /// `check`: some hop doesn't rise.
+    /// `check`: some hop doesn't rise; `rank`: no ranks rise.
     Refuted,
     /// The words are no form of the program.
     Usage,

@@ -1,4 +1,4 @@
-//! What a plan file says. Nothing of it is tested yet.
+//! What a plan file says. No rule has been looked at here.
 
 use sync_edge::{Rows, Text};
 use sync_ql::NetOption;
