@@ -1,5 +1,5 @@
 -- How contracts see the code's form: what only private clauses cite.
-use Rattle.std.specs.Prelude.{ℕ, ◌≤◌, ⊤, List}
+use Rattle.std.specs.Prelude.{◌≤◌, ⊤}
 use Rattle.sync_top.specs.declared.form.Form as declared
 use Rattle.sync_top.specs.declared.form.Form.TheVariants as word
 use Rattle.sync_top.specs.Form.{Form, check, rank, decode, encode, gen}

@@ -1,5 +1,5 @@
 -- What a step of the work did: what only private clauses cite.
-use Rattle.std.specs.Prelude.{◌≡◌, ◌≢◌, ◌↔◌, ℕ, ⊤, Bool, IsTrue, List, codes, Option, IfSome, Result, Ok, Err}
+use Rattle.std.specs.Prelude.{◌≡◌, ◌≢◌, ◌↔◌, ℕ, ⊤, IsTrue, List, IfSome, Result, Ok, Err}
 use Rattle.sync_edge.specs.Contents.{Contents}
 use Rattle.sync_edge.specs.Faults.{Rose}
 use Rattle.sync_top.specs.declared.status.Status.{Status}
