@@ -1,7 +1,10 @@
 //! Plans to try things on: the ladder of any number of elements.
 //!
 //! [`generate`] gives the ladder. Which plan that is, `ladder` says by its elements, its links and
-//! its sources. That memory is found is tested.
+//! its sources.
+//!
+//! This crate has no tests; sync_top tests that memory is found, and that a written ladder is read
+//! back.
 #![tactic(auto)]
 
 mod ladder;
