@@ -22,6 +22,13 @@ const ALONE: &[u8] = b"element = [{ name = 'A' }]\n";
 
 const RISING: &[u8] = b"line,rank\nL1>B,0\nL2>C,1\n";
 
+const LADDER_OF_TWO: &[u8] = b"option = \"I\"\n
+[[element]]\nholdoff = 300\nname = \"E0\"\nown = \"QL-SEC\"\nwtr = 5\n
+[[element]]\nholdoff = 300\nname = \"E1\"\nown = \"QL-SEC\"\nwtr = 5\n
+[[link]]\na = \"E0\"\nb = \"E1\"\ndelay_a = 10\ndelay_b = 10\nname = \"S1\"\npriority_a = 0\npriority_b = 2\n
+[[source]]\nat = \"E0\"\nlevel = \"QL-PRC\"\nname = \"P0\"\npriority = 1\n
+[[source]]\nat = \"E1\"\nlevel = \"QL-SSU-A\"\nname = \"P1\"\npriority = 1\n";
+
 /// Where the outside fails, and how much of it there is.
 #[derive(Clone, Copy)]
 struct Outside {
@@ -33,8 +40,8 @@ struct Outside {
 
 const CALM: Outside = Outside {
     folder_fails: &[],
-    room: 100,
-    piece: 100,
+    room: 400,
+    piece: 400,
     sink_fails: &[],
 };
 
@@ -91,7 +98,7 @@ fn memory_is_found_and_check_answers(rt: HostRuntime) -> Result<(), Fail> {
     let done: (Status, &[u8]) = (Status::Done, b"accepted\n");
     let usage: (Status, &[u8]) = (Status::Usage, b"usage\n");
     let unknown_key: (Status, &[u8]) = (Status::BadPlan, b"bad plan 23 head 0\n");
-    let rows: [(&[&str], &[u8], &[u8], (Status, &[u8])); 28] = [
+    let rows: [(&[&str], &[u8], &[u8], (Status, &[u8])); 29] = [
         (check, CHAIN, RISING, done),
         (
             check,
@@ -120,6 +127,7 @@ fn memory_is_found_and_check_answers(rt: HostRuntime) -> Result<(), Fail> {
             b"",
             (Status::Refuted, b"cycle L1>B L2>A\n"),
         ),
+        (&["gen", "2"], b"", b"", (Status::Done, LADDER_OF_TWO)),
         (&["rank", ""], CHAIN, RISING, usage),
         (&["rank", "plan", "cert"], CHAIN, RISING, usage),
         (&[], CHAIN, RISING, usage),
