@@ -1,4 +1,4 @@
--- When the condition of an input ends, if nothing happens.
+-- When a condition of an element's input ends, and when an input's "failed" changes, if nothing happens.
 use Rattle.std.specs.Prelude.{◌≡◌, ◌≤◌, ◌<◌, ◌+◌, ◌-◌, ℕ, not, List, length, Option, None, Some, IfSome}
 use Rattle.sync_ql.specs.declared.rules.Cond.{Cond}
 use Rattle.sync_ql.specs.declared.rules.Cond.TheVariants.{Good, HoldOff, Failed, Restoring}

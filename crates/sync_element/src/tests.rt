@@ -17,7 +17,7 @@ use std::process::Abort;
 use std::sync::ledger::{Blank, Ledger};
 use std::test::Fail;
 use sync_edge::{Rows, Steps};
-use sync_ql::{Level, NetOption, do_not_use, level_of_name};
+use sync_ql::{Level, NetOption, level_of_name};
 
 /// What is told, with levels by their names, and "" for none.
 #[derive(Clone, Copy)]
