@@ -3,4 +3,5 @@ pub mod Faults
 pub mod Contents
 pub mod Transfers
 pub mod Memory
+pub mod Real
 pub mod Examples

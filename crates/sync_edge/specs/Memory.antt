@@ -7,7 +7,8 @@ use Rattle.sync_edge.specs.Faults.{one_more}
 use Rattle.sync_edge.specs.Contents.{Contents}
 
 -- a folder in memory: its files, at most how many bytes one read gives, the numbers of the calls that fail,
--- the number of the next call, the bytes left of the started file, and how often a call has failed
+-- the number of the next call, the bytes left of the started file, how often a call has failed, and how often a
+-- start was tried
 pub record MemoryFolder : Type 0 where
   pub files : List MemFile
   pub piece : ℕ
@@ -15,6 +16,7 @@ pub record MemoryFolder : Type 0 where
   pub number : ℕ
   pub left : List ℕ
   pub faults : ℕ
+  pub tries : ℕ
 
 -- the next call is one of those that fail
 abbrev pub fails_at : List ℕ → ℕ → Bool
@@ -53,6 +55,10 @@ is_steady folder = none_from folder.fails folder.number
 -- how often a call has failed
 abbrev pub fault_count : MemoryFolder → ℕ
 fault_count folder = folder.faults
+
+-- how often a start was tried
+abbrev pub try_count : MemoryFolder → ℕ
+try_count folder = folder.tries
 
 -- a call was counted, and left the files and the calls that fail as they were
 pub record IsNextCall (old new : MemoryFolder) : Type 0 where

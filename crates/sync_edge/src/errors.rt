@@ -3,22 +3,22 @@ use thiserror::Error;
 /// Memory ran out.
 ///
 /// It is the one answer that comes freely: no clause ties it to a refused allocation.
-#[derive(Debug, Drop, Error)]
+#[derive(Clone, Copy, Debug, PartialEq, Eq, Error)]
 #[error("out of memory")]
 pub struct NoMemory;
 
 /// A call of a folder or of a sink failed; its count of faults rose in that call.
-#[derive(Debug, Drop, Error)]
+#[derive(Clone, Copy, Debug, PartialEq, Eq, Error)]
 #[error("the outside failed")]
 pub struct Failed;
 
 /// Not all bytes were written; what was written is a front of them.
-#[derive(Debug, Drop, Error)]
+#[derive(Clone, Copy, Debug, PartialEq, Eq, Error)]
 #[error("write fault")]
 pub struct WriteFailed;
 
 /// Why a file was not read.
-#[derive(Debug, Drop, Error)]
+#[derive(Clone, Copy, Debug, PartialEq, Eq, Error)]
 pub enum ReadErr {
     /// A call of the folder failed.
     #[error("read fault")]

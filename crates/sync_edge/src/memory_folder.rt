@@ -37,6 +37,7 @@ pub struct MemFolder {
     started: Option<usize>,
     at: usize,
     faults: u64,
+    tries: u64,
 }
 
 impl Model for MemFolder {
@@ -45,7 +46,7 @@ impl Model for MemFolder {
 
     ghost Value = { MemoryFolder };
 
-    ghost view = { λ s. record { files = s.files; piece = s.piece; fails = s.fails; number = s.number; left = left_of s.files s.started s.at; faults = s.faults } };
+    ghost view = { λ s. record { files = s.files; piece = s.piece; fails = s.fails; number = s.number; left = left_of s.files s.started s.at; faults = s.faults; tries = s.tries } };
 
     ghost invariant = { λ s. 1 ≤ s.piece };
 }
@@ -57,7 +58,7 @@ impl MemFolder {
     /// the listed numbers fail. It takes no memory.
     pub fn new(files: Rows<MemFile>, piece: usize, fails: Rows<u32>) -> MemFolder
         requires { 1 ≤ piece }
-        ensures { result ≡ record { files = files; piece = piece; fails = fails; number = 1; left = []; faults = 0 } }
+        ensures { result ≡ record { files = files; piece = piece; fails = fails; number = 1; left = []; faults = 0; tries = 0 } }
     {
         MemFolder {
             files,
@@ -67,6 +68,7 @@ impl MemFolder {
             started: None,
             at: 0,
             faults: 0,
+            tries: 0,
         }
     }
 
@@ -105,10 +107,11 @@ impl MemFolder {
         place_of(self.files.as_slice(), name)
     }
 
-    /// Begins the file at this place, or no file.
+    /// Begins the file at this place, or no file, and counts a start.
     fn begin(&mut self, place: Option<usize>)
-        ensures { self.new ≡ record self.old { left = left_of self.old.files place 0 } }
+        ensures { self.new ≡ record self.old { left = left_of self.old.files place 0; tries = one_more self.old.tries } }
     {
+        self.tries = self.tries.saturating_add(1);
         self.started = place;
         self.at = 0;
     }
@@ -131,7 +134,7 @@ impl MemFolder {
 }
 
 impl Folder for MemFolder {
-    ghost use Rattle.sync_edge.specs.Memory.{told_contents, told_left, is_steady, fault_count, IsNextCall};
+    ghost use Rattle.sync_edge.specs.Memory.{told_contents, told_left, is_steady, fault_count, try_count, IsNextCall};
 
     ghost contents = { told_contents };
 
@@ -141,11 +144,14 @@ impl Folder for MemFolder {
 
     ghost faults = { fault_count };
 
+    ghost tries = { try_count };
+
     fn start(&mut self, name: &str) -> Result<(), Failed>
         ensures keeps { KeepsFolder told_contents is_steady fault_count self.old self.new }
         ensures starts { OnOk result (Starts (told_contents self.old) name.now (told_left self.new)) }
         ensures spent { OnErr result (IsSpent (told_contents self.old) (told_left self.new)) }
         ensures cause { HasCause (fault_count self.old) (fault_count self.new) result }
+        ensures tried { try_count self.new ≡ one_more (try_count self.old) }
         ensures sure { IsTrue (is_steady self.old) → HasName (told_contents self.old) name.now → OnErr result ⊥ }
 
         // It fails exactly where its number is listed, or no file has the name.
@@ -167,6 +173,7 @@ impl Folder for MemFolder {
         ensures within { ReadsAtMost result buf.new }
         ensures bytes { ReadConsumes (told_left self.old) (told_left self.new) result buf.new }
         ensures cause { HasCause (fault_count self.old) (fault_count self.new) result }
+        ensures tried { try_count self.new ≡ try_count self.old }
         ensures sure { IsTrue (is_steady self.old) → OnErr result ⊥ }
 
         // It fails exactly where its number is listed, and gives as much as there is, as there is room for,

@@ -2,7 +2,7 @@ ghost use Rattle.std.specs.Prelude.{◌≡◌, ◌<◌, ℕ, List, length, Bool,
 ghost use Rattle.std.specs.Io.{ReadsAtMost, WritesAtMost};
 ghost use Rattle.std.specs.Io.KnownBytes.{ReadConsumes, WriteAppends};
 ghost use Rattle.sync_edge.specs.Contents.{Contents, HasName, Starts, IsSpent, KeepsFolder};
-ghost use Rattle.sync_edge.specs.Faults.{HasCause};
+ghost use Rattle.sync_edge.specs.Faults.{HasCause, one_more};
 
 use crate::errors::Failed;
 
@@ -14,7 +14,7 @@ pub trait Folder {
     /// The bytes under each name, where the folder tells them. No call changes them.
     ghost contents: { Self → Option Contents };
 
-    /// The bytes left of the started file, told where the contents are.
+    /// The bytes left of the started file, told at least where the contents are.
     ghost left: { Self → Option (List ℕ) };
 
     /// No call fails from now on, but for a `start` with a name that isn't there.
@@ -23,12 +23,16 @@ pub trait Folder {
     /// How often a call has failed, up to 2^64 - 1. A call that doesn't fail leaves it as it was.
     ghost faults: { Self → ℕ };
 
+    /// How often a start was tried, up to 2^64 - 1, whether it failed or not.
+    ghost tries: { Self → ℕ };
+
     /// Begins the file at its first byte. A name that isn't there is a fault.
     fn start(&mut self, name: &str) -> Result<(), Failed>
         ensures keeps { KeepsFolder contents steady faults self.old self.new }
         ensures starts { OnOk result (Starts (contents self.old) name.now (left self.new)) }
         ensures spent { OnErr result (IsSpent (contents self.old) (left self.new)) }
         ensures cause { HasCause (faults self.old) (faults self.new) result }
+        ensures tried { tries self.new ≡ one_more (tries self.old) }
         ensures sure { IsTrue (steady self.old) → HasName (contents self.old) name.now → OnErr result ⊥ };
 
     /// Reads the next bytes into the buffer, and gives how many.
@@ -39,6 +43,7 @@ pub trait Folder {
         ensures within { ReadsAtMost result buf.new }
         ensures bytes { ReadConsumes (left self.old) (left self.new) result buf.new }
         ensures cause { HasCause (faults self.old) (faults self.new) result }
+        ensures tried { tries self.new ≡ tries self.old }
         ensures sure { IsTrue (steady self.old) → OnErr result ⊥ };
 }
 

@@ -1,4 +1,4 @@
-ghost use Rattle.std.specs.Prelude.{◌≡◌, None, false};
+ghost use Rattle.std.specs.Prelude.{◌≡◌, [], Some, None, false};
 
 use crate::errors::Failed;
 use crate::outside::{Folder, Sink};
@@ -9,32 +9,35 @@ use std::{fs, io};
 
 /// The files of the system. It tells no content, and is never steady.
 ///
-/// A name is a path, and each error of the system is a fault. Contracts see the count of faults.
+/// A name is a path, and each error of the system is a fault. Contracts see what the system tells of
+/// the bytes left of the started file, the count of faults, and how often a start was tried.
 /// This project's own.
 #[derive(Drop)]
 pub struct RealFolder<'a, R: Files> {
     rt: &'a R,
     file: Option<R::File>,
     faults: u64,
+    tries: u64,
 }
 
 impl<'a, R: Files> Model for RealFolder<'a, R> {
-    ghost use Rattle.std.specs.Prelude.{ℕ};
+    ghost use Rattle.sync_edge.specs.Real.{SystemFolder, left_of_file};
 
-    ghost Value = { ℕ };
+    ghost Value = { SystemFolder };
 
-    ghost view = { λ folder. folder.faults };
+    ghost view = { λ folder. record { left = left_of_file R.File.remaining folder.file; faults = folder.faults; tries = folder.tries } };
 }
 
 impl<'a, R: Files> RealFolder<'a, R> {
     /// The files that `rt` gives. No file is started. It takes no memory.
     pub fn new(rt: &'a R) -> RealFolder<'a, R>
-        ensures { result ≡ 0 }
+        ensures { result ≡ record { left = Some []; faults = 0; tries = 0 } }
     {
         RealFolder {
             rt,
             file: None,
             faults: 0,
+            tries: 0,
         }
     }
 }
@@ -42,13 +45,16 @@ impl<'a, R: Files> RealFolder<'a, R> {
 impl<R: Files> Folder for RealFolder<'_, R> {
     ghost contents = { λ _. None };
 
-    ghost left = { λ _. None };
+    ghost left = { λ folder. folder.left };
 
     ghost steady = { λ _. false };
 
-    ghost faults = { λ faults. faults };
+    ghost faults = { λ folder. folder.faults };
+
+    ghost tries = { λ folder. folder.tries };
 
     fn start(&mut self, name: &str) -> Result<(), Failed> {
+        self.tries = self.tries.saturating_add(1);
         match fs::open(self.rt, name) {
             Ok(file) => {
                 self.file = Some(file);

@@ -1,11 +1,12 @@
 use crate::{
-    Folder, MemFile, MemFolder, MemSink, NoMemory, ReadErr, RealFolder, RealSink, Rows, Text,
-    read_all, write_all,
+    Failed, Folder, MemFile, MemFolder, MemSink, NoMemory, ReadErr, RealFolder, RealSink, Rows,
+    Sink, Text, WriteFailed, read_all, write_all,
 };
 use std::alloc::Global;
-use std::fs;
+use std::fmt::Display;
 use std::process::Abort;
 use std::test::Fail;
+use std::{fs, io};
 
 fn text(alloc: Global, bytes: &[u8]) -> Result<Text, NoMemory> {
     let mut text = Text::new(alloc);
@@ -215,7 +216,70 @@ fn a_real_file_is_read_and_an_absent_one_is_a_fault(rt: HostRuntime) -> Result<(
 }
 
 #[test]
+fn a_folder_in_place_of_a_file_is_a_fault(rt: HostRuntime) {
+    let mut folder = RealFolder::new(&rt);
+    let read = read_all(rt.alloc(), &mut folder, ".", 100);
+    assert_eq!(rt; answer(&read), b"failed".as_slice());
+}
+
+#[test]
 fn a_line_is_written(rt: HostRuntime) {
     let written = write_all(&mut RealSink::new(&rt), b"one line\n");
     assert!(rt; written.is_ok());
+}
+
+/// An output of which one write takes at most so many bytes, or fails.
+#[derive(Drop)]
+struct Narrow {
+    most: Option<usize>,
+}
+
+impl Print for Narrow {
+    fn print<D: Display + Drop>(&self, _value: D) -> io::Result<()> {
+        Err(io::Error::from(io::ErrorKind::Unsupported))
+    }
+
+    fn println<D: Display + Drop>(&self, _value: D) -> io::Result<()> {
+        Err(io::Error::from(io::ErrorKind::Unsupported))
+    }
+
+    fn write_all(&self, _bytes: &[u8]) -> io::Result<()> {
+        Err(io::Error::from(io::ErrorKind::Unsupported))
+    }
+
+    fn write_some(&self, bytes: &[u8]) -> io::Result<usize> {
+        match self.most {
+            Some(most) => Ok(most.min(bytes.len())),
+            None => Err(io::Error::from(io::ErrorKind::BrokenPipe)),
+        }
+    }
+}
+
+#[test]
+fn a_write_is_as_long_as_the_output_took(rt: HostRuntime) {
+    for (most, want) in [
+        (Some(4), Some(4)),
+        (Some(8), Some(8)),
+        (Some(20), Some(9)),
+        (Some(0), None),
+        (None, None),
+    ] {
+        let out = Narrow { most };
+        let written = RealSink::new(&out).write(b"accepted\n");
+        assert_eq!(rt; written.ok(), want, "at {most:?}");
+    }
+}
+
+#[test]
+fn errors_are_printed_in_words(rt: HostRuntime) -> Result<(), Fail> {
+    let alloc = rt.alloc();
+    let failed = format!(in alloc; "{Failed}, {}", ReadErr::Failed)?;
+    assert_eq!(rt; failed.as_str(), "the outside failed, read fault");
+    let written = format!(in alloc; "{WriteFailed}")?;
+    assert_eq!(rt; written.as_str(), "write fault");
+    let long = format!(in alloc; "{}", ReadErr::TooLong)?;
+    assert_eq!(rt; long.as_str(), "too long");
+    let memory = format!(in alloc; "{NoMemory}, {}", ReadErr::NoMemory)?;
+    assert_eq!(rt; memory.as_str(), "out of memory, out of memory");
+    Ok(())
 }

@@ -1,8 +1,8 @@
-ghost use Rattle.std.specs.Prelude.{◌≢◌, ◌<◌, ◌≤◌, length, IsTrue, IfOk, OnOk, OnErr, IsErrOf};
+ghost use Rattle.std.specs.Prelude.{◌≡◌, ◌≢◌, ◌+◌, ◌<◌, ◌≤◌, length, IsTrue, IfOk, OnOk, OnErr, IsErrOf};
 ghost use Rattle.std.specs.Io.KnownBytes.{Appends};
 ghost use Rattle.sync_edge.specs.Contents.{HasName, Holds, HoldsMoreThan, KeepsFolder};
 ghost use Rattle.sync_edge.specs.Faults.{HasCause};
-ghost use Rattle.sync_edge.specs.Transfers.{AppendsFront, IsLeft, IsMoreLeftThan, ReadHasCause};
+ghost use Rattle.sync_edge.specs.Transfers.{AppendsFront, AreRead, AreTaken, IsLeft, IsMoreLeftThan, IsTriedOnce, ReadHasCause, piece_size};
 
 use crate::errors::{ReadErr, WriteFailed};
 use crate::lists::Text;
@@ -14,7 +14,8 @@ const PIECE: usize = 65_536;
 
 /// The whole file of that name, if it has at most `limit` bytes.
 ///
-/// A longer file is refused as soon as more than `limit` bytes of it were read.
+/// A longer file is refused as soon as more than `limit` bytes of it were read. The file is started
+/// once, so that it may be one that can be read only once.
 /// This project's own.
 pub fn read_all<F: Folder>(
     alloc: Global,
@@ -27,6 +28,11 @@ pub fn read_all<F: Folder>(
     ensures ok { IfOk result (Holds (F.contents folder.old) name.now) }
     ensures within { IfOk result (λ text. length text ≤ limit) }
     ensures too_long { IsErrOf result ReadErr.TooLong → HoldsMoreThan limit (F.contents folder.old) name.now }
+
+    // Of a longer file at most one piece is read past the limit, and no file is started twice.
+    ensures stops { IsErrOf result ReadErr.TooLong
+        → AreRead (limit + piece_size) (F.contents folder.old) name.now (F.left folder.new) }
+    ensures once { IsTriedOnce (F.tries folder.old) (F.tries folder.new) result }
 
     // A fault has a cause, and a steady folder that has the name gives none.
     ensures cause { ReadHasCause (F.faults folder.old) (F.faults folder.new) result }
@@ -49,12 +55,15 @@ fn read_rest<F: Folder>(
     limit: usize,
     piece: &mut [u8],
 ) -> Result<Text, ReadErr>
-    requires { 0 < length piece.old }
+    requires { length piece.old ≡ piece_size }
     ensures keeps { KeepsFolder F.contents F.steady F.faults folder.old folder.new }
 
     ensures ok { IfOk result (IsLeft (F.left folder.old)) }
     ensures within { IfOk result (λ text. length text ≤ limit) }
     ensures too_long { IsErrOf result ReadErr.TooLong → IsMoreLeftThan limit (F.left folder.old) }
+    ensures stops { IsErrOf result ReadErr.TooLong
+        → AreTaken (limit + piece_size) (F.left folder.old) (F.left folder.new) }
+    ensures tried { F.tries folder.new ≡ F.tries folder.old }
 
     ensures cause { ReadHasCause (F.faults folder.old) (F.faults folder.new) result }
     ensures sure { IsTrue (F.steady folder.old) → result ≢ Err ReadErr.Failed }
