@@ -1,9 +1,11 @@
 -- A list that takes a text to its end is the list of its records.
 use Rattle.std.proofs.Common.{◌≡◌, ◌≤◌, ◌<◌, ◌+◌, ◌-◌, ℕ, zero, suc, Bool, true, false, List, [], ◌∷◌, ◌++◌, length, Option, Some, None, if◌then◌else◌, ◌==◌, ◌&&◌, refl, inl, arith, ◌∙◌}
 use Rattle.csv.specs.Machine.{Read, after_end, ends_at_end, ends_with, field_after, fields_after, in_field, is_byte, is_end, next_record, start_field, start_record, step}
-use Rattle.csv.specs.Reading.{AreRecords, Reached, Ready, ReadRecord, default_config, records, records_from, source_of}
+use Rattle.csv.specs.Reading.{AreRecords, ExplainsRead, Reached, Ready, ReadRecord, default_config, is_flexible, stops_reader, records, records_from, source_of}
 use Rattle.csv.proofs.ReadFacts.{rows-end, rows-more}
 use Rattle.csv.specs.declared.reader.Reader.{Reader}
+use Rattle.csv.specs.declared.error.ErrorKind.{ErrorKind}
+use Rattle.csv.specs.declared.error.ErrorKind.TheVariants as kind
 use Rattle.csv.specs.declared.reader.Trim.TheVariants as trim
 use Rattle.csv.specs.declared.parser.Config.{Config}
 use Rattle.csv.specs.declared.parser.State.{State}
@@ -111,6 +113,7 @@ records-are cfg xs rows (s2, ys, reached, ends) = reached-are cfg (length xs + 1
 pub record HasRead {R : Type 0} (rem : R → Option (List ℕ)) (reader : Reader R) (turns : ℕ) (text : List ℕ) (rows : List (List (List ℕ))) : Type 0 where
   pub trims : reader.trim ≡ trim.None
   pub ready : Ready reader
+  pub flexible : is_flexible reader ≡ true
   pub goes_on : 0 < turns
   pub config : reader.config ≡ default_config
   pub rest : List ℕ
@@ -119,13 +122,14 @@ pub record HasRead {R : Type 0} (rem : R → Option (List ℕ)) (reader : Reader
 
 -- a read that gave a record
 pub one_more : {R : Type 0} (rem : R → Option (List ℕ)) (a b : Reader R) (turns left : ℕ) (text : List ℕ) (rows : List (List (List ℕ))) (fields : List (List ℕ))
-    → HasRead rem a turns text rows → ReadRecord rem a b true fields → b.first ≡ true → 0 < left
+    → HasRead rem a turns text rows → ReadRecord rem a b true fields → b.first ≡ true → 0 < left → is_flexible b ≡ is_flexible a
     → HasRead rem b left text (rows ++ fields ∷ [])
-one_more rem a b turns left text rows fields so_far read first more =
+one_more rem a b turns left text rows fields so_far read first more same =
     let next = rows-more rem a b fields default_config st.StartRecord text so_far.rest rows so_far.config so_far.source so_far.reached read in
     record {
       trims = read.3 ∙ so_far.trims;
       ready = inl first;
+      flexible = same ∙ so_far.flexible;
       goes_on = more;
       config = read.2 ∙ so_far.config;
       rest = next.0;
@@ -139,3 +143,12 @@ pub no_more : {R : Type 0} (rem : R → Option (List ℕ)) (a b : Reader R) (tur
 no_more rem a b turns text rows so_far read =
     records-are default_config text rows
     (a.state, so_far.rest, so_far.reached, rows-end rem a b [] default_config so_far.rest so_far.config so_far.source read)
+
+-- a reader of bytes that takes records of any length fails only where it stops
+pub stops : {R : Type 0} (rem : R → Option (List ℕ)) (a b : Reader R) (why : ErrorKind) → is_flexible a ≡ true → ExplainsRead rem a b false why → stops_reader why ≡ true
+stops rem a b (kind.Io error) flexible read = refl
+stops rem a b kind.OutOfMemory flexible read = refl
+stops rem a b (kind.UnequalLengths pos expected len) flexible read = cc (flexible, read.0)
+stops rem a b (kind.Utf8 pos error) flexible read = cc read.0
+stops rem a b (kind.Serialize text) flexible read = absurd read
+stops rem a b (kind.Deserialize pos error) flexible read = absurd read

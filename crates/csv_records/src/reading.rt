@@ -1,10 +1,11 @@
 // All records of a text.
 
-ghost use Rattle.std.specs.Prelude.{◌≡◌, IfOk};
+ghost use Rattle.std.specs.Prelude.{◌≡◌, true, IfOk};
+ghost use Rattle.csv.specs.Reading.{error_kind, stops_reader};
 ghost use Rattle.csv_records.specs.Records.{records_of};
 
 use crate::record::Record;
-use csv::ReaderBuilder;
+use csv::{Error, ReaderBuilder};
 use std::alloc::Global;
 use sync_edge::{NoMemory, Rows};
 
@@ -23,11 +24,21 @@ pub fn read_records(alloc: Global, bytes: &[u8]) -> Result<Rows<Record>, NoMemor
         .from_reader(alloc, bytes);
     let mut records = Rows::new(alloc);
     for fields in reader.into_byte_records() {
-        // The bytes are in memory and records may differ in length, so only memory can run out.
-        let Ok(fields) = fields else {
-            return Err(NoMemory);
+        let fields = match fields {
+            Ok(fields) => fields,
+            Err(error) => return Err(want_of_memory(error)),
         };
         records.push(Record::of(fields))?;
     }
     Ok(records)
+}
+
+/// Want of memory, as the one reason that is left for a reader to stop: the bytes are in memory.
+///
+/// An error of the records themselves stops no reader.
+fn want_of_memory(error: Error) -> NoMemory
+    requires { stops_reader (error_kind error) ≡ true }
+{
+    let _ = error;
+    NoMemory
 }

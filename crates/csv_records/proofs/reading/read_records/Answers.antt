@@ -2,7 +2,7 @@ use Rattle.std.proofs.Common.{Bor, List, ℕ, ◌∙◌, sym, refl, inr, Some}
 use Rattle.csv.specs.Reading.{Reached, strip_bom}
 use Rattle.csv.specs.Records.{fields_of}
 use Rattle.csv_records.specs.Records.{records_of}
-use Rattle.csv_records.proofs.AllRecords.{no_more, one_more}
+use Rattle.csv_records.proofs.AllRecords.{no_more, one_more, stops}
 use Rattle.csv_records.proofs.reading.read_records.Goals as goal
 
 pub loop-fields-init : goal.loop-fields-init
@@ -14,6 +14,7 @@ loop-fields-init c =
     rw (same, rows.rdr, c.new-records.ensures) (record {
       trims = rw (c.flexible.ensures, c.has_headers.ensures) at reader.trim ∙ c.new.ensures.trim;
       ready = inr (inr (rw (c.flexible.ensures, c.has_headers.ensures) at reader.has_headers, reader.headers));
+      flexible = rw c.flexible.ensures at reader.flexible;
       goes_on = rows.left;
       config = rw (c.flexible.ensures, c.has_headers.ensures) at reader.config ∙ c.new.ensures.config;
       rest = strip_bom c.args.bytes.now;
@@ -27,7 +28,7 @@ loop-fields-preserved c =
     let step = rw (c.in-Some.is, c.in-Ok.is) at ((c.next.ensures.steps so_far.goes_on so_far.trims).0 so_far.ready) in
     rw (c.in_ok-push.ensures.ok, c.of.ensures)
     (one_more (λ (s : Bor (List ℕ)). Some s.now) c.loop-fields.fields-iterator.rdr c.next.new.self.rdr c.loop-fields.fields-iterator.left
-    c.next.new.self.left (strip_bom c.args.bytes.now) c.loop-fields.records (fields_of c.in-Ok.fields) so_far step.0 step.1 step.2)
+    c.next.new.self.left (strip_bom c.args.bytes.now) c.loop-fields.records (fields_of c.in-Ok.fields) so_far step.0 step.1 step.2 (rw (c.in-Some.is, c.in-Ok.is) at (c.next.ensures.steps so_far.goes_on so_far.trims).3))
 
 pub returns : goal.returns
 unfolding records_of
@@ -36,3 +37,9 @@ returns c =
     let step = rw c.in-None.is at ((c.next.ensures.steps so_far.goes_on so_far.trims).0 so_far.ready) in
     no_more (λ (s : Bor (List ℕ)). Some s.now) c.loop-fields.fields-iterator.rdr c.next.new.self.rdr c.loop-fields.fields-iterator.left
     (strip_bom c.args.bytes.now) c.loop-fields.records so_far step
+
+pub want_of_memory-requires : goal.want_of_memory-requires
+want_of_memory-requires c =
+    let so_far = c.loop-fields.invariant in
+    let step = rw (c.in-Some.is, c.in-Err.is) at ((c.next.ensures.steps so_far.goes_on so_far.trims).0 so_far.ready) in
+    stops (λ (s : Bor (List ℕ)). Some s.now) c.loop-fields.fields-iterator.rdr c.next.new.self.rdr _ so_far.flexible step
