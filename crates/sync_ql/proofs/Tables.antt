@@ -1,20 +1,23 @@
 -- What holds of the tables of both options.
-use Rattle.std.proofs.Common.{◌≡◌, ◌<◌, ℕ, Bool, true, false, List, length, refl, ap, Option, None, Some, position, arith, zero-add, sym, ◌∙◌, nat_eq, nat_lt, get_or}
-use Rattle.std.specs.Prelude.{option_and_then}
+use Rattle.std.proofs.Common.{◌≡◌, ◌<◌, ◌↔◌, ◌==◌, ◌&&◌, ℕ, Bool, true, false, List, [], length, refl, ap, subst, Option, None, Some, IsSome, Any, position, arith, zero-add, sym, ◌∙◌, nat_eq, nat_lt, get_or}
+use Rattle.std.specs.Prelude.{option_and_then, is_some}
+use Rattle.std.specs.Option.{option_or}
 use Rattle.std.specs.List.{list_all, range_with_len}
 use Rattle.std.proofs.Math.Decide.{dec_lt}
 use Rattle.std.proofs.Math.Bridge.{le_prop}
-use Rattle.std.proofs.lemmas.Bool.{eqb-true}
+use Rattle.std.proofs.lemmas.Bool.{and_parts, eqb-true}
+use Rattle.std.proofs.lemmas.List.{get_or_default}
 use Rattle.std.proofs.lemmas.Bool.Decides.{nat_tests}
 use Rattle.std.proofs.lemmas.List.FromFn.{length-range_with_len, get_or-range_with_len}
+use Rattle.std.proofs.lemmas.List.Quantifiers.{position-Some}
 use Rattle.std.proofs.lemmas.List.Recursion.{and_at}
 use Rattle.sync_ql.specs.declared.levels.NetOption.{NetOption}
 use Rattle.sync_ql.specs.declared.levels.NetOption.TheVariants.{I, II}
 use Rattle.sync_ql.specs.declared.levels.Level.{Level}
-use Rattle.sync_ql.specs.declared.table.Row as declared
-use Rattle.sync_ql.specs.Table.{Row, levels_of}
+use Rattle.sync_ql.specs.declared.rows.Row as declared
+use Rattle.sync_ql.specs.Table.{Row, row, not_enhanced, levels_of}
 use Rattle.sync_ql.specs.Rows.{seen, rows_seen}
-use Rattle.sync_ql.specs.Level.{row_at, level_at, place_of_code, place_of_name, level_of_code, level_of_name, code_of, name_of}
+use Rattle.sync_ql.specs.Level.{row_at, row_of, level_at, place_of_codes, place_of_name, level_with_both, level_of_code, level_of_codes, level_of_name, code_of, enhanced_of, name_of}
 use Rattle.sync_ql.proofs.Positions.{position-map}
 
 abbrev level_of_row : (option : NetOption) (place : ℕ) → place < length (levels_of option) → Level
@@ -51,11 +54,11 @@ at_each test n place all within =
     let here : test (get_or (range_with_len 0 n) place 0) ≡ true = and_at (list_all test) test refl (λ _ _. refl) (range_with_len 0 n) place 0 inside all in
     ap test (sym (get_or-range_with_len 0 n place 0 within ∙ zero-add place)) ∙ here
 
-finds_code : NetOption → ℕ → Bool
-finds_code option place = is_place (place_of_code option (row_at option place).code) place
+finds_codes : NetOption → ℕ → Bool
+finds_codes option place = is_place (place_of_codes option (row_at option place).code (row_at option place).enhanced) place
 
-codes_found : (option : NetOption) → list_all (finds_code option) (range_with_len 0 (length (levels_of option))) ≡ true
-unfolding finds_code
+codes_found : (option : NetOption) → list_all (finds_codes option) (range_with_len 0 (length (levels_of option))) ≡ true
+unfolding finds_codes
 codes_found I = refl
 codes_found II = refl
 
@@ -67,12 +70,51 @@ unfolding finds_name
 names_found I = refl
 names_found II = refl
 
--- no two levels of an option have one code
-pub level_of_code-code_of : (level : Level) → level_of_code level.option (code_of level) ≡ Some level
-unfolding finds_code
-level_of_code-code_of level =
-    let found = at_each (finds_code level.option) (length (levels_of level.option)) level.place (codes_found level.option) level.is_row in
-    ap (option_and_then (level_at level.option)) (is_place-true (place_of_code level.option (code_of level)) level.place found) ∙ level_at-place level
+-- no two levels of an option have the same codes
+pub both_name : (level : Level) → level_with_both level.option (code_of level) (enhanced_of level) ≡ Some level
+unfolding finds_codes
+both_name level =
+    let found = at_each (finds_codes level.option) (length (levels_of level.option)) level.place (codes_found level.option) level.is_row in
+    ap (option_and_then (level_at level.option)) (is_place-true (place_of_codes level.option (code_of level) (enhanced_of level)) level.place found) ∙ level_at-place level
+
+-- so both codes name the level
+pub codes_name : (level : Level) → level_of_codes level.option (code_of level) (Some (enhanced_of level)) ≡ Some level
+codes_name level = ap (λ found. option_or found (level_of_code level.option (code_of level))) (both_name level)
+
+-- the level at a place has the row there
+level_at-row : (option : NetOption) (place : ℕ) (level : Level) → level_at option place ≡ Some level → row_of level ≡ row_at option place
+level_at-row option place level at =
+    elim (dec_lt place (length (levels_of option))) as (λ d. level_if option place d ≡ Some level → row_of level ≡ row_at option place) [
+      | yes within ↦ λ same. let e : level ≡ level_of_row option place within = cc in ap row_of e
+      | no beyond ↦ λ same. cc
+    ] at
+
+-- what a place has that is found
+found_at : (option : NetOption) (code enhanced : ℕ) (place : ℕ) → place_of_codes option code enhanced ≡ Some place → (place < length (levels_of option)) × ((row_at option place).code ≡ code) × ((row_at option place).enhanced ≡ enhanced)
+found_at option code enhanced place found =
+    let at = position-Some (λ row. row.code == code && row.enhanced == enhanced) (levels_of option) place (row [] 0 0) found in
+    let both = and_parts _ _ at.1 in
+    (at.0, eqb-true _ _ both.0, eqb-true _ _ both.1)
+
+-- the level that is found has the enhanced code that was asked for
+enhanced_found : (option : NetOption) (code enhanced : ℕ) (found : Option ℕ) → place_of_codes option code enhanced ≡ found → (level : Level) → option_and_then (level_at option) found ≡ Some level → enhanced_of level ≡ enhanced
+enhanced_found option code enhanced None is level named = cc
+enhanced_found option code enhanced (Some place) is level named =
+    ap (λ (r : Row). r.enhanced) (level_at-row option place level named) ∙ (found_at option code enhanced place is).2
+
+-- the code alone names the level exactly where it has no enhanced code
+pub alone_names : (level : Level) → (level_of_code level.option (code_of level) ≡ Some level) ↔ (enhanced_of level ≡ not_enhanced)
+alone_names level = (
+  λ named. enhanced_found level.option (code_of level) not_enhanced (place_of_codes level.option (code_of level) not_enhanced) refl level named,
+  λ alone. subst (λ enhanced. level_with_both level.option (code_of level) enhanced ≡ Some level) alone (both_name level),
+)
+
+-- the level with both codes is named, if there is one
+pub both_named : (option : NetOption) (code : ℕ) (enhanced : Option ℕ) (level : Level) → level.option ≡ option → code_of level ≡ code → enhanced ≡ Some (enhanced_of level) → level_of_codes option code enhanced ≡ Some level
+both_named option code enhanced level a b c =
+    let here = codes_name level in
+    subst (λ o. level_of_codes o code enhanced ≡ Some level) a
+    (subst (λ n. level_of_codes level.option n enhanced ≡ Some level) b (subst (λ e. level_of_codes level.option (code_of level) e ≡ Some level) (sym c) here))
 
 -- no two levels of an option have one name
 pub level_of_name-name_of : (level : Level) → level_of_name level.option (name_of level) ≡ Some level

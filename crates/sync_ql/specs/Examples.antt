@@ -1,7 +1,9 @@
 -- The rules at values that can be counted by hand.
-use Rattle.std.specs.Prelude.{◌≡◌, ℕ, true, false, List, [], ◌∷◌, Option, None, Some, map, refl}
+use Rattle.std.specs.Prelude.{◌≡◌, ℕ, true, false, List, [], ◌∷◌, codes, Option, None, Some, map, option_map, unwrap_or, refl}
 use Rattle.std.proofs.Common.{lit<}
-use Rattle.sync_ql.specs.declared.levels.NetOption.TheVariants.{I}
+use Rattle.std.proofs.Math.Decide.{dec_lt}
+use Rattle.sync_ql.specs.declared.levels.NetOption.{NetOption}
+use Rattle.sync_ql.specs.declared.levels.NetOption.TheVariants.{I, II}
 use Rattle.sync_ql.specs.declared.levels.Level.{Level}
 use Rattle.sync_ql.specs.declared.rules.Cond.{Cond}
 use Rattle.sync_ql.specs.declared.rules.Cond.TheVariants.{Good, HoldOff, Failed, Restoring}
@@ -13,7 +15,7 @@ use Rattle.sync_ql.specs.declared.rules.Mode.{Mode}
 use Rattle.sync_ql.specs.declared.rules.Mode.TheVariants as mode
 use Rattle.sync_ql.specs.declared.rules.ClockState.{ClockState}
 use Rattle.sync_ql.specs.declared.rules.ClockState.TheVariants.{FreeRun, Locked, Holdover}
-use Rattle.sync_ql.specs.Level.{do_not_use_of}
+use Rattle.sync_ql.specs.Level.{row_at, name_of, place_of_name, level_of_code, level_of_codes, do_not_use_of}
 use Rattle.sync_ql.specs.Condition.{Signal, Timers, failed_at, left_at, condition_at}
 use Rattle.sync_ql.specs.Switches.{unswitched, after_commands}
 use Rattle.sync_ql.specs.Moment.{Moment, Settings, switches_at, selection_at}
@@ -57,15 +59,25 @@ restarts_and_clears :
 unfolding failed_at left_at condition_at
 restarts_and_clears = refl
 
--- the three best levels of option I, and the last
+-- where a level of option I stands that has this name
+abbrev place : List ℕ → ℕ
+place name = unwrap_or (place_of_name I name) 0
+
+abbrev prc_level : Level
+prc_level = record { option = I; place = place (codes "QL-PRC"); is_row = lit< tt }
+
+-- the level that clocks of elements have
+abbrev sec : Level
+sec = record { option = I; place = place (codes "QL-SEC"); is_row = lit< tt }
+
 abbrev prc : Option Level
-prc = Some (record { option = I; place = 0; is_row = lit< tt })
+prc = Some prc_level
 
 abbrev ssu_a : Option Level
-ssu_a = Some (record { option = I; place = 1; is_row = lit< tt })
+ssu_a = Some (record { option = I; place = place (codes "QL-SSU-A"); is_row = lit< tt })
 
 abbrev ssu_b : Option Level
-ssu_b = Some (record { option = I; place = 2; is_row = lit< tt })
+ssu_b = Some (record { option = I; place = place (codes "QL-SSU-B"); is_row = lit< tt })
 
 abbrev dnu : Option Level
 dnu = Some (do_not_use_of I)
@@ -86,10 +98,6 @@ clears :
     after_commands (unswitched 2) (Lockout 0 ∷ Forced 1 ∷ Clear ∷ Unlock 0 ∷ Manual 0 ∷ [])
     ≡ record { locked = false ∷ false ∷ []; forced = None; manual = Some 0 }
 clears = refl
-
--- the level that clocks of elements have
-abbrev sec : Level
-sec = record { option = I; place = 3; is_row = lit< tt }
 
 abbrev set_to : Timers → Option Level → List ℕ → List (Option Level) → Settings
 set_to timers floor priorities first_levels = record { own = sec; timers = timers; floor = floor; priorities = priorities; first_levels = first_levels }
@@ -163,10 +171,6 @@ answers settings (now ∷ before) =
     answer (selection_at settings (now ∷ before)) (clock_level_at settings (now ∷ before)) (mode_at settings (now ∷ before)) (state_at settings (now ∷ before))
     ∷ answers settings before
 
--- the levels of option I without "if there is one"
-abbrev prc_level : Level
-prc_level = record { option = I; place = 0; is_row = lit< tt }
-
 -- an element whose two inputs have these priority numbers and first levels
 abbrev starts_with : Timers → List ℕ → Option Level → Option Level → Settings
 starts_with timers priorities a b = set_to timers None priorities (a ∷ b ∷ [])
@@ -223,3 +227,26 @@ last_signal_counts :
     ≡ record { signal = cleared; level = prc } ∷ record { signal = down; level = ssu_a } ∷ []
 unfolding moment_after
 last_signal_counts = refl
+
+-- the name of the level that both codes name
+abbrev name_by_codes : NetOption → ℕ → Option ℕ → Option (List ℕ)
+name_by_codes option code enhanced = option_map name_of (level_of_codes option code enhanced)
+
+-- an enhanced code names a level beside its own code alone, and one that no level has changes nothing
+enhanced_names :
+    map (name_by_codes I 2) (Some 0x20 ∷ Some 0x30 ∷ Some 0x22 ∷ Some 0xff ∷ None ∷ [])
+    ≡ Some (codes "QL-PRTC") ∷ Some (codes "QL-PRC") ∷ Some (codes "QL-PRC") ∷ Some (codes "QL-PRC") ∷ Some (codes "QL-PRC") ∷ []
+unfolding dec_lt
+enhanced_names = refl
+
+-- a code that no level has names none, whatever the enhanced code
+no_level : map (name_by_codes I 1) (Some 0x20 ∷ None ∷ []) ≡ None ∷ None ∷ []
+unfolding dec_lt
+no_level = refl
+
+-- without an enhanced code a code names what it named before there were any
+names_alone :
+    map (λ code. option_map name_of (level_of_code II code)) (1 ∷ 10 ∷ 2 ∷ [])
+    ≡ Some (codes "QL-PRS") ∷ Some (codes "QL-ST3") ∷ None ∷ []
+unfolding dec_lt
+names_alone = refl

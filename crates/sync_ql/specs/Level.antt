@@ -1,12 +1,13 @@
--- What is said of a level by its row. After G.781, quality level and SSM code.
-use Rattle.std.specs.Prelude.{ℕ, ◌<◌, ◌-◌, ◌==◌, List, [], length, codes, Option, None, Some, position, option_and_then, slice_index_or}
+-- What is said of a level by its row. After G.781, quality level and SSM code; enhanced codes after G.8264.
+use Rattle.std.specs.Prelude.{ℕ, ◌<◌, ◌-◌, ◌==◌, ◌&&◌, List, [], length, codes, Option, None, Some, position, option_and_then, slice_index_or}
+use Rattle.std.specs.Option.{option_or}
 use Rattle.std.specs.Str.{bytes_eq}
 use Rattle.std.proofs.Common.{lit<}
 use Rattle.std.proofs.Math.Decide.{dec_lt}
 use Rattle.sync_ql.specs.declared.levels.NetOption.{NetOption}
 use Rattle.sync_ql.specs.declared.levels.NetOption.TheVariants.{I, II}
 use Rattle.sync_ql.specs.declared.levels.Level.{Level}
-use Rattle.sync_ql.specs.Table.{Row, row, levels_of}
+use Rattle.sync_ql.specs.Table.{Row, row, not_enhanced, levels_of}
 
 -- the place of a level among the rows of its option, from 0
 abbrev pub place_of : Level → ℕ
@@ -14,7 +15,7 @@ place_of level = level.place
 
 -- the row at a place of an option's table
 abbrev pub row_at : NetOption → ℕ → Row
-row_at option place = slice_index_or (levels_of option) place (row [] 0)
+row_at option place = slice_index_or (levels_of option) place (row [] 0 0)
 
 -- the row of a level
 abbrev pub row_of : Level → Row
@@ -23,6 +24,10 @@ row_of level = row_at level.option (place_of level)
 -- the four-bit SSM code of a level
 abbrev pub code_of : Level → ℕ
 code_of level = (row_of level).code
+
+-- the enhanced code of a level
+abbrev pub enhanced_of : Level → ℕ
+enhanced_of level = (row_of level).enhanced
 
 -- the name of a level
 abbrev pub name_of : Level → List ℕ
@@ -36,17 +41,31 @@ level_at option place =
       | no beyond ↦ None
     ]
 
--- the place of the row with a code, and that of the row with a name
-abbrev pub place_of_code : NetOption → ℕ → Option ℕ
-place_of_code option code = position (λ row. row.code == code) (levels_of option)
+-- the place of the row with both codes, and that of the row with a name
+abbrev pub place_of_codes : NetOption → ℕ → ℕ → Option ℕ
+place_of_codes option code enhanced =
+    position (λ row. row.code == code && row.enhanced == enhanced) (levels_of option)
 
 abbrev pub place_of_name : NetOption → List ℕ → Option ℕ
 place_of_name option name = position (λ row. bytes_eq row.name name) (levels_of option)
 
--- the level with a code, and the level with a name
-abbrev pub level_of_code : NetOption → ℕ → Option Level
-level_of_code option code = option_and_then (level_at option) (place_of_code option code)
+-- the level with both codes
+abbrev pub level_with_both : NetOption → ℕ → ℕ → Option Level
+level_with_both option code enhanced =
+    option_and_then (level_at option) (place_of_codes option code enhanced)
 
+-- the level that a code names alone
+abbrev pub level_of_code : NetOption → ℕ → Option Level
+level_of_code option code = level_with_both option code not_enhanced
+
+-- the level that a code names beside an enhanced one, or alone: that with both codes, and else
+-- that of the code alone
+abbrev pub level_of_codes : NetOption → ℕ → Option ℕ → Option Level
+level_of_codes option code None = level_of_code option code
+level_of_codes option code (Some enhanced) =
+    option_or (level_with_both option code enhanced) (level_of_code option code)
+
+-- the level with a name
 abbrev pub level_of_name : NetOption → List ℕ → Option Level
 level_of_name option name = option_and_then (level_at option) (place_of_name option name)
 

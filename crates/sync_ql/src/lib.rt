@@ -3,7 +3,7 @@
 //!
 //! A [`Level`] is always a row of its option's table, so no function here has to refuse one.
 //! Contracts see each option's table as a list of rows, best first (`levels_of`), and read what is
-//! said of a level off its row (`place_of`, `code_of`, `name_of`). Nothing takes memory.
+//! said of a level off its row (`place_of`, `code_of`, `enhanced_of`, `name_of`). Nothing takes memory.
 //!
 //! The rules of one element over time are definitions here too, for the crates that simulate it:
 //! what holds at a millisecond is read off the list of the milliseconds until then, the newest
@@ -12,15 +12,20 @@
 //! The module [`rules`] has the types in which they ask and answer.
 //!
 //! After ITU-T G.781, quality levels and SSM codes of network options I and II, hold-off and
-//! wait-to-restore times, external commands and selection. The place of QL-PROV is this project's
-//! own. That the table has the standard's values is tested.
+//! wait-to-restore times, external commands and selection; the idea of enhanced codes after ITU-T
+//! G.8264. The place of QL-PROV, the enhanced levels, their places and their codes are this project's
+//! own. That the table has these values is tested.
 #![tactic(auto)]
 
 mod levels;
+mod rows;
 pub mod rules;
 mod table;
 #[cfg(test)]
 mod tests;
 
 pub use levels::{Level, NetOption};
-pub use table::{better, code_of, do_not_use, is_dnu, level_of_code, level_of_name, name_of};
+pub use table::{
+    better, code_of, do_not_use, enhanced_of, is_dnu, level_of_code, level_of_codes, level_of_name,
+    name_of,
+};

@@ -1,92 +1,51 @@
-ghost use Rattle.std.specs.Prelude.{◌≡◌, ◌≢◌, ◌⊎◌, ◌<◌, ◌↔◌, ◌==◌, IsSome, IfSome, IsTrue, Any, Some, length, position};
+ghost use Rattle.std.specs.Prelude.{◌≡◌, ◌≢◌, ◌⊎◌, ◌<◌, ◌↔◌, ◌==◌, ◌&&◌, IsSome, IfSome, IsTrue, Any, Some, length, position};
 ghost use Rattle.std.specs.Str.{bytes_eq};
 ghost use Rattle.sync_ql.specs.declared.levels.Level.{Level};
-ghost use Rattle.sync_ql.specs.Table.{levels_of};
-ghost use Rattle.sync_ql.specs.Level.{row_at, row_of, code_of, name_of, level_at, place_of_code, place_of_name, level_of_code, level_of_name, do_not_use_of, do_not_use_name, IsBetter};
-ghost use Rattle.sync_ql.specs.Rows.{rows_seen};
+ghost use Rattle.sync_ql.specs.Table.{not_enhanced, levels_of};
+ghost use Rattle.sync_ql.specs.Level.{row_at, row_of, code_of, enhanced_of, name_of, level_at, place_of_codes, place_of_name, level_of_code, level_of_codes, level_of_name, do_not_use_of, do_not_use_name, IsBetter};
 
 use crate::levels::{Level, NetOption};
+use crate::rows::{NOT_ENHANCED, Row, rows};
 
-// The rows of both tables, best first.
-struct Row {
-    name: &'static str,
-    code: u8,
-}
-
-static OPTION_I: [Row; 5] = [
-    Row {
-        name: "QL-PRC",
-        code: 0b0010,
-    },
-    Row {
-        name: "QL-SSU-A",
-        code: 0b0100,
-    },
-    Row {
-        name: "QL-SSU-B",
-        code: 0b1000,
-    },
-    Row {
-        name: "QL-SEC",
-        code: 0b1011,
-    },
-    Row {
-        name: "QL-DNU",
-        code: 0b1111,
-    },
-];
-
-static OPTION_II: [Row; 9] = [
-    Row {
-        name: "QL-PRS",
-        code: 0b0001,
-    },
-    Row {
-        name: "QL-STU",
-        code: 0b0000,
-    },
-    Row {
-        name: "QL-ST2",
-        code: 0b0111,
-    },
-    Row {
-        name: "QL-TNC",
-        code: 0b0100,
-    },
-    Row {
-        name: "QL-ST3E",
-        code: 0b1101,
-    },
-    Row {
-        name: "QL-ST3",
-        code: 0b1010,
-    },
-    Row {
-        name: "QL-SMC",
-        code: 0b1100,
-    },
-    Row {
-        name: "QL-PROV",
-        code: 0b1110,
-    },
-    Row {
-        name: "QL-DUS",
-        code: 0b1111,
-    },
-];
-
-/// The level that a message's four-bit code stands for.
+/// The level that a message's four-bit code stands for where no enhanced code stands beside it.
 ///
-/// `None` where the option's table has no such code, as for every code from 16 on.
+/// `None` where the option's table has no such code, as for every code from 16 on. No enhanced
+/// level is answered.
 /// After G.781, the SSM codes of options I and II.
 pub fn level_of_code(option: NetOption, code: u8) -> Option<Level>
     ensures exact { result ≡ level_of_code option code }
     ensures known { IsSome result ↔ Any (λ row. row.code ≡ code) (levels_of option) }
     ensures option { IfSome result (λ level. level.option ≡ option) }
     ensures code { IfSome result (λ level. code_of level ≡ code) }
+    ensures alone { IfSome result (λ level. enhanced_of level ≡ not_enhanced) }
 {
-    let place = place_of_code(option, code)?;
+    let place = place_of_codes(option, code, NOT_ENHANCED)?;
     Some(level_at(option, place))
+}
+
+/// The level that a message's four-bit code stands for beside an enhanced code, which a message
+/// without one has as ff.
+///
+/// It is the level with both codes, and without such a level that of the four-bit code alone.
+/// `None` where the option's table has no such four-bit code, whatever the enhanced code.
+/// The idea of an enhanced code is after G.8264; the codes are this project's own.
+pub fn level_of_codes(option: NetOption, code: u8, enhanced: Option<u8>) -> Option<Level>
+    ensures exact { result ≡ level_of_codes option code enhanced }
+    ensures known { IsSome result ↔ Any (λ row. row.code ≡ code) (levels_of option) }
+    ensures option { IfSome result (λ level. level.option ≡ option) }
+    ensures code { IfSome result (λ level. code_of level ≡ code) }
+
+    // The level with both codes, if there is one, and else the level that the code names alone.
+    ensures both { (level : Level) → level.option ≡ option → code_of level ≡ code →
+        enhanced ≡ Some (enhanced_of level) → result ≡ Some level }
+    ensures alone { result ≡ level_of_code option code
+        ⊎ IfSome result (λ level. enhanced ≡ Some (enhanced_of level)) }
+{
+    let enhanced = enhanced.unwrap_or(NOT_ENHANCED);
+    match place_of_codes(option, code, enhanced) {
+        Some(place) => Some(level_at(option, place)),
+        None => level_of_code(option, code),
+    }
 }
 
 /// The four-bit code that messages carry for a level, from 0 to 15.
@@ -95,9 +54,24 @@ pub fn level_of_code(option: NetOption, code: u8) -> Option<Level>
 pub fn code_of(level: Level) -> u8
     ensures code { result ≡ code_of level }
     ensures four_bits { result < 16 }
-    ensures back { level_of_code level.option result ≡ Some level }
+
+    // Both codes name the level, and the four-bit code alone exactly where the other is ff.
+    ensures back { level_of_codes level.option result (Some (enhanced_of level)) ≡ Some level }
+    ensures alone { (level_of_code level.option result ≡ Some level)
+        ↔ (enhanced_of level ≡ not_enhanced) }
 {
     row_of(level).code
+}
+
+/// The enhanced code that messages carry for a level beside its four-bit code: ff for a level that
+/// the four-bit code alone names.
+///
+/// The idea of an enhanced code is after G.8264; the codes are this project's own.
+pub fn enhanced_of(level: Level) -> u8
+    ensures enhanced { result ≡ enhanced_of level }
+    ensures back { level_of_codes level.option (code_of level) (Some result) ≡ Some level }
+{
+    row_of(level).enhanced
 }
 
 /// The name of a level, as `QL-SSU-A`.
@@ -161,19 +135,9 @@ pub fn better(a: Level, b: Level) -> bool
     a.place < b.place
 }
 
-fn rows(option: NetOption) -> &'static [Row]
-    ensures table { rows_seen result.now ≡ levels_of option }
-    ensures len { length result.now ≡ length (levels_of option) }
-    ensures short { length result.now < 256 }
-{
-    match option {
-        NetOption::I => &OPTION_I,
-        NetOption::II => &OPTION_II,
-    }
-}
-
 fn row_of(level: Level) -> &'static Row
     ensures code { result.now.code ≡ code_of level }
+    ensures enhanced { result.now.enhanced ≡ enhanced_of level }
     ensures name { result.now.name.now ≡ name_of level }
 {
     &rows(level.option)[level.place as usize]
@@ -191,12 +155,13 @@ fn level_at(option: NetOption, place: usize) -> Level
     }
 }
 
-fn place_of_code(option: NetOption, code: u8) -> Option<usize>
-    ensures place { result ≡ place_of_code option code }
+fn place_of_codes(option: NetOption, code: u8, enhanced: u8) -> Option<usize>
+    ensures place { result ≡ place_of_codes option code enhanced }
     ensures within { IfSome result (λ place. place < length (levels_of option)) }
     ensures code { IfSome result (λ place. (row_at option place).code ≡ code) }
+    ensures enhanced { IfSome result (λ place. (row_at option place).enhanced ≡ enhanced) }
 {
-    row_with_code(rows(option), code)
+    row_with_codes(rows(option), code, enhanced)
 }
 
 fn place_of_name(option: NetOption, name: &[u8]) -> Option<usize>
@@ -207,10 +172,11 @@ fn place_of_name(option: NetOption, name: &[u8]) -> Option<usize>
     row_with_name(rows(option), name)
 }
 
-fn row_with_code(rows: &[Row], code: u8) -> Option<usize>
-    ensures { result ≡ position (λ r. r.code == code) rows.now }
+fn row_with_codes(rows: &[Row], code: u8, enhanced: u8) -> Option<usize>
+    ensures { result ≡ position (λ r. r.code == code && r.enhanced == enhanced) rows.now }
 {
-    rows.iter().position(|row| row.code == code)
+    rows.iter()
+        .position(|row| row.code == code && row.enhanced == enhanced)
 }
 
 fn row_with_name(rows: &[Row], name: &[u8]) -> Option<usize>

@@ -11,5 +11,5 @@ returns-clause-place c = c.row_with_name.ensures ∙ position-rows_seen (λ row.
 
 pub returns-clause-name : goal.returns-clause-name
 returns-clause-name c =
-    position-holds (λ (row : Row). bytes_eq row.name c.args.name.now) (λ r. r.name ≡ c.args.name.now) (λ r. (bytes_eq-Decides r.name c.args.name.now).0) (levels_of c.args.option) (row [] 0) c.row_with_name.result
+    position-holds (λ (row : Row). bytes_eq row.name c.args.name.now) (λ r. r.name ≡ c.args.name.now) (λ r. (bytes_eq-Decides r.name c.args.name.now).0) (levels_of c.args.option) (row [] 0 0) c.row_with_name.result
     (c.row_with_name.ensures ∙ position-rows_seen (λ row. bytes_eq row.name c.args.name.now) c.rows.result.now c.args.option c.rows.ensures.table)
