@@ -69,3 +69,28 @@ ql_tlv_head = 0x01 ∷ 0x00 ∷ 0x04 ∷ []
 -- SSM code, bits 3 to 0 of octet 27. After G.8264
 abbrev pub code_of : List ℕ → ℕ
 code_of frame = slice_index frame 27 % 2 ^ 4
+
+-- Type and Length of the extended QL TLV, octets 28 to 30: type 2, twenty octets in all. That there
+-- is such a TLV is after G.8264; its layout and the meaning of its fields are this project's own
+abbrev pub extended_tlv_of : List ℕ → List ℕ
+extended_tlv_of frame = slice_range frame 28 31
+
+abbrev pub extended_tlv_head : List ℕ
+extended_tlv_head = 0x02 ∷ 0x00 ∷ 0x14 ∷ []
+
+-- its fields: the enhanced code, octet 31; the identity of the clock, octets 32 to 39; flags, octet
+-- 40; and how many enhanced EECs and how many EECs are cascaded behind it, octets 41 and 42
+abbrev pub enhanced_code_of : List ℕ → ℕ
+enhanced_code_of frame = slice_index frame 31
+
+abbrev pub clock_of : List ℕ → List ℕ
+clock_of frame = slice_range frame 32 40
+
+abbrev pub flags_of : List ℕ → ℕ
+flags_of frame = slice_index frame 40
+
+abbrev pub eeecs_of : List ℕ → ℕ
+eeecs_of frame = slice_index frame 41
+
+abbrev pub eecs_of : List ℕ → ℕ
+eecs_of frame = slice_index frame 42

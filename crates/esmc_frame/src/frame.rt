@@ -1,15 +1,16 @@
 //! What a frame carries, read from octets and written to octets.
 
-ghost use Rattle.std.specs.Prelude.{◌≡◌, ◌<◌, ◌↔◌, Some, Ok, Err, IfOk};
+ghost use Rattle.std.specs.Prelude.{◌≡◌, ◌<◌, ◌≤◌, ◌↔◌, ◌++◌, length, take, Some, Ok, Err, IfOk, IfSome};
 ghost use Rattle.esmc_frame.specs.declared.error.FrameErr.{FrameErr};
 ghost use Rattle.esmc_frame.specs.declared.frame.Pdu.{Pdu};
-ghost use Rattle.esmc_frame.specs.Frame.{Spells, written_frame, version_and_flag};
-ghost use Rattle.esmc_frame.specs.Reading.{first_wrong, reading_of};
+ghost use Rattle.esmc_frame.specs.Frame.{Spells, written_frame, written_extended, version_and_flag};
+ghost use Rattle.esmc_frame.specs.Reading.{first_wrong, reading_of, extended_of};
 
 use crate::error::FrameErr;
 use crate::parts::{
-    CODE_AT, CODE_BITS, DESTINATION, ETHERTYPE, EVENT_FLAG, ITU_SUBTYPE, LONGEST, OUI, PADDING,
-    QL_TLV, RESERVED, SHORTEST, SOURCE_AT, SUBTYPE, VERSION, VERSION_AND_FLAG_AT, put_at,
+    CLOCK_AT, CODE_AT, CODE_BITS, DESTINATION, EECS_AT, EEECS_AT, ENHANCED_CODE_AT, ETHERTYPE,
+    EVENT_FLAG, EXTENDED_TLV, FLAGS_AT, ITU_SUBTYPE, LONGEST, OUI, PADDING, QL_TLV, RESERVED,
+    SHORT_PADDING, SHORTEST, SOURCE_AT, SUBTYPE, VERSION, VERSION_AND_FLAG_AT, put_at,
 };
 
 /// What an ESMC frame carries.
@@ -23,13 +24,34 @@ pub struct Pdu {
     pub event: bool,
     /// The SSM code, from 0 to 15; an option's table of levels need not have it.
     pub code: u8,
+    /// What the extended QL TLV says, if there is one.
+    pub extended: Option<Extended>,
+}
+
+/// What an extended QL TLV says. All values may stand in each field.
+///
+/// The idea of an extended TLV is after G.8264; its layout and the meaning of its fields are this
+/// project's own.
+#[derive(Clone, Copy, Debug, PartialEq, Eq)]
+pub struct Extended {
+    /// The enhanced code, which names a level beside the SSM code.
+    pub code: u8,
+    /// The identity of the clock that the level comes from.
+    pub clock: [u8; 8],
+    /// Flags.
+    pub flags: u8,
+    /// How many enhanced EECs are cascaded.
+    pub eeecs: u8,
+    /// How many EECs are cascaded.
+    pub eecs: u8,
 }
 
 /// What a frame carries, given without its frame check sequence.
 ///
-/// The error names the first part that is wrong. Source, event flag and SSM code may be anything;
-/// reserved bits and octets, the high bits of the code's octet and all that stands behind it aren't
-/// looked at.
+/// The error names the first part that is wrong. Source, event flag and SSM code may be anything.
+/// There is an extended QL TLV exactly where its type and length stand behind the QL TLV, and then its
+/// fields may be anything. Reserved bits and octets, the high bits of the code's octet, and all else
+/// that stands behind the QL TLV aren't looked at.
 /// After G.8264, ESMC PDU format.
 pub fn decode(frame: &[u8]) -> Result<Pdu, FrameErr>
     ensures spelled { (pdu : Pdu) → (result ≡ Ok pdu) ↔ Spells frame.now pdu }
@@ -71,13 +93,33 @@ pub fn decode(frame: &[u8]) -> Result<Pdu, FrameErr>
         source,
         event: frame[VERSION_AND_FLAG_AT] & EVENT_FLAG != 0,
         code: frame[CODE_AT] & CODE_BITS,
+        extended: extended_in(frame),
+    })
+}
+
+/// The extended QL TLV of a frame, if it has one.
+fn extended_in(frame: &[u8]) -> Option<Extended>
+    requires { 60 ≤ length frame.now }
+    ensures { result ≡ extended_of frame.now }
+{
+    if !EXTENDED_TLV.is_in(frame) {
+        return None;
+    }
+    let mut clock = [0; 8];
+    clock.copy_from_slice(&frame[CLOCK_AT..CLOCK_AT + 8]);
+    Some(Extended {
+        code: frame[ENHANCED_CODE_AT],
+        clock,
+        flags: frame[FLAGS_AT],
+        eeecs: frame[EEECS_AT],
+        eecs: frame[EECS_AT],
     })
 }
 
 /// Writes the one frame of 60 octets that carries a value, without a frame check sequence.
 ///
-/// Reserved bits and octets and the padding are zero.
-/// After G.8264, ESMC PDU format.
+/// Reserved bits and octets and the padding are zero. An extended QL TLV stands behind the QL TLV.
+/// After G.8264, ESMC PDU format; the layout of the extended QL TLV is this project's own.
 pub fn encode(pdu: &Pdu, out: &mut [u8; 60])
     requires { pdu.now.code < 16 }
     ensures written { out.new ≡ written_frame pdu.now }
@@ -96,7 +138,34 @@ pub fn encode(pdu: &Pdu, out: &mut [u8; 60])
     RESERVED.put(out);
     QL_TLV.put(out);
     put_at(out, CODE_AT, &[pdu.code]);
-    PADDING.put(out);
+    put_extended(out, &pdu.extended);
+}
+
+/// Writes the extended QL TLV, if there is one, and padding, behind the QL TLV.
+fn put_extended(out: &mut [u8; 60], extended: &Option<Extended>)
+    ensures put { take 60 out.new ≡ take 28 out.old ++ written_extended extended.now }
+    ensures clock { IfSome extended.now (λ extended. length extended.clock ≡ 8) }
+{
+    match extended {
+        Some(extended) => put_tlv(out, extended),
+        None => PADDING.put(out),
+    }
+}
+
+/// Writes the extended QL TLV and padding, behind the QL TLV.
+fn put_tlv(out: &mut [u8; 60], extended: &Extended)
+    ensures put { take 60 out.new ≡ take 28 out.old ++ written_extended (Some extended.now) }
+    ensures clock { length extended.now.clock ≡ 8 }
+{
+    EXTENDED_TLV.put(out);
+    put_at(out, ENHANCED_CODE_AT, &[extended.code]);
+    put_at(out, CLOCK_AT, &extended.clock);
+    put_at(
+        out,
+        FLAGS_AT,
+        &[extended.flags, extended.eeecs, extended.eecs],
+    );
+    SHORT_PADDING.put(out);
 }
 
 /// The octet of version and event flag.

@@ -56,10 +56,30 @@ pub const QL_TLV: Part<3> = Part {
 pub const CODE_AT: usize = 27;
 /// SSM code.
 pub const CODE_BITS: u8 = 0b0000_1111;
-/// Padding, as it is written.
+/// Padding, as it is written where no extended QL TLV stands.
 pub const PADDING: Part<32> = Part {
     first: 28,
     octets: [0; 32],
+};
+/// Type and Length of the extended QL TLV.
+pub const EXTENDED_TLV: Part<3> = Part {
+    first: 28,
+    octets: [0x02, 0x00, 0x14],
+};
+/// The enhanced code.
+pub const ENHANCED_CODE_AT: usize = 31;
+/// The identity of the clock, eight octets.
+pub const CLOCK_AT: usize = 32;
+/// Flags.
+pub const FLAGS_AT: usize = 40;
+/// The number of cascaded enhanced EECs.
+pub const EEECS_AT: usize = 41;
+/// The number of cascaded EECs.
+pub const EECS_AT: usize = 42;
+/// Padding, as it is written behind the extended QL TLV.
+pub const SHORT_PADDING: Part<17> = Part {
+    first: 43,
+    octets: [0; 17],
 };
 
 /// Octets that stand at one place in each frame.

@@ -3,6 +3,7 @@ use Rattle.std.proofs.Common.{◌≡◌, ◌<◌, ◌↔◌, ◌==◌, ◌&&◌,
 use Rattle.std.specs.Prelude.{option_and_then, is_some}
 use Rattle.std.specs.Option.{option_or}
 use Rattle.std.specs.List.{list_all, range_with_len}
+use Rattle.std.specs.Str.{bytes_eq}
 use Rattle.std.proofs.Math.Decide.{dec_lt}
 use Rattle.std.proofs.Math.Bridge.{le_prop}
 use Rattle.std.proofs.lemmas.Bool.{and_parts, eqb-true}
@@ -11,6 +12,7 @@ use Rattle.std.proofs.lemmas.Bool.Decides.{nat_tests}
 use Rattle.std.proofs.lemmas.List.FromFn.{length-range_with_len, get_or-range_with_len}
 use Rattle.std.proofs.lemmas.List.Quantifiers.{position-Some}
 use Rattle.std.proofs.lemmas.List.Recursion.{and_at}
+use Rattle.std.proofs.lemmas.Slice.Eq.{bytes_eq-Decides}
 use Rattle.sync_ql.specs.declared.levels.NetOption.{NetOption}
 use Rattle.sync_ql.specs.declared.levels.NetOption.TheVariants.{I, II}
 use Rattle.sync_ql.specs.declared.levels.Level.{Level}
@@ -81,11 +83,11 @@ both_name level =
 pub codes_name : (level : Level) → level_of_codes level.option (code_of level) (Some (enhanced_of level)) ≡ Some level
 codes_name level = ap (λ found. option_or found (level_of_code level.option (code_of level))) (both_name level)
 
--- the level at a place has the row there
-level_at-row : (option : NetOption) (place : ℕ) (level : Level) → level_at option place ≡ Some level → row_of level ≡ row_at option place
+-- the level at a place is of that table, and has the row there
+level_at-row : (option : NetOption) (place : ℕ) (level : Level) → level_at option place ≡ Some level → (level.option ≡ option) × (row_of level ≡ row_at option place)
 level_at-row option place level at =
-    elim (dec_lt place (length (levels_of option))) as (λ d. level_if option place d ≡ Some level → row_of level ≡ row_at option place) [
-      | yes within ↦ λ same. let e : level ≡ level_of_row option place within = cc in ap row_of e
+    elim (dec_lt place (length (levels_of option))) as (λ d. level_if option place d ≡ Some level → (level.option ≡ option) × (row_of level ≡ row_at option place)) [
+      | yes within ↦ λ same. let e : level ≡ level_of_row option place within = cc in (ap (λ (l : Level). l.option) e, ap row_of e)
       | no beyond ↦ λ same. cc
     ] at
 
@@ -96,18 +98,60 @@ found_at option code enhanced place found =
     let both = and_parts _ _ at.1 in
     (at.0, eqb-true _ _ both.0, eqb-true _ _ both.1)
 
--- the level that is found has the enhanced code that was asked for
-enhanced_found : (option : NetOption) (code enhanced : ℕ) (found : Option ℕ) → place_of_codes option code enhanced ≡ found → (level : Level) → option_and_then (level_at option) found ≡ Some level → enhanced_of level ≡ enhanced
-enhanced_found option code enhanced None is level named = cc
-enhanced_found option code enhanced (Some place) is level named =
-    ap (λ (r : Row). r.enhanced) (level_at-row option place level named) ∙ (found_at option code enhanced place is).2
+-- the level that is found has the codes that were asked for
+level_found : (option : NetOption) (code enhanced : ℕ) (found : Option ℕ) → place_of_codes option code enhanced ≡ found → (level : Level) → option_and_then (level_at option) found ≡ Some level → (level.option ≡ option) × (code_of level ≡ code) × (enhanced_of level ≡ enhanced)
+level_found option code enhanced None is level named = cc
+level_found option code enhanced (Some place) is level named =
+    let at = level_at-row option place level named in
+    let row_is = found_at option code enhanced place is in
+    (at.0, ap (λ (r : Row). r.code) at.1 ∙ row_is.1, ap (λ (r : Row). r.enhanced) at.1 ∙ row_is.2)
+
+pub found_with : (option : NetOption) (code enhanced : ℕ) (level : Level) → level_with_both option code enhanced ≡ Some level → (level.option ≡ option) × (code_of level ≡ code) × (enhanced_of level ≡ enhanced)
+found_with option code enhanced level named = level_found option code enhanced (place_of_codes option code enhanced) refl level named
+
+-- a level that codes name is of the option, and has the four-bit code
+found_or : (option : NetOption) (code enhanced : ℕ) (found : Option Level) → level_with_both option code enhanced ≡ found → (level : Level) → option_or found (level_of_code option code) ≡ Some level → (level.option ≡ option) × (code_of level ≡ code)
+found_or option code enhanced None is level named = let h = found_with option code not_enhanced level named in (h.0, h.1)
+found_or option code enhanced (Some first) is level named = let h = found_with option code enhanced level (is ∙ named) in (h.0, h.1)
+
+pub found_by_codes : (option : NetOption) (code : ℕ) (enhanced : Option ℕ) (level : Level) → level_of_codes option code enhanced ≡ Some level → (level.option ≡ option) × (code_of level ≡ code)
+found_by_codes option code None level named = let h = found_with option code not_enhanced level named in (h.0, h.1)
+found_by_codes option code (Some enhanced) level named = found_or option code enhanced (level_with_both option code enhanced) refl level named
+
+-- where codes name no level, the four-bit code alone names none
+none_or : (first second : Option Level) → option_or first second ≡ None → second ≡ None
+none_or None second is = is
+none_or (Some level) second is = cc
+
+pub none_alone : (option : NetOption) (code : ℕ) (enhanced : Option ℕ) → level_of_codes option code enhanced ≡ None → level_of_code option code ≡ None
+none_alone option code None is = is
+none_alone option code (Some enhanced) is = none_or (level_with_both option code enhanced) (level_of_code option code) is
+
+-- ff beside a code says nothing
+same_or : (found : Option Level) → option_or found found ≡ found
+same_or None = refl
+same_or (Some level) = refl
+
+pub ff_says_nothing : (option : NetOption) (code : ℕ) → level_of_codes option code (Some not_enhanced) ≡ level_of_code option code
+ff_says_nothing option code = same_or (level_of_code option code)
 
 -- the code alone names the level exactly where it has no enhanced code
 pub alone_names : (level : Level) → (level_of_code level.option (code_of level) ≡ Some level) ↔ (enhanced_of level ≡ not_enhanced)
 alone_names level = (
-  λ named. enhanced_found level.option (code_of level) not_enhanced (place_of_codes level.option (code_of level) not_enhanced) refl level named,
+  λ named. (found_with level.option (code_of level) not_enhanced level named).2,
   λ alone. subst (λ enhanced. level_with_both level.option (code_of level) enhanced ≡ Some level) alone (both_name level),
 )
+
+-- a level that a name names is of the option, and has the name
+name_at : (option : NetOption) (name : List ℕ) (found : Option ℕ) → place_of_name option name ≡ found → (level : Level) → option_and_then (level_at option) found ≡ Some level → (level.option ≡ option) × (name_of level ≡ name)
+name_at option name None is level named = cc
+name_at option name (Some place) is level named =
+    let at = level_at-row option place level named in
+    let same = (position-Some (λ (row : Row). bytes_eq row.name name) (levels_of option) place (row [] 0 0) is).1 in
+    (at.0, ap (λ (r : Row). r.name) at.1 ∙ (bytes_eq-Decides (row_at option place).name name).0 same)
+
+pub found_by_name : (option : NetOption) (name : List ℕ) (level : Level) → level_of_name option name ≡ Some level → (level.option ≡ option) × (name_of level ≡ name)
+found_by_name option name level named = name_at option name (place_of_name option name) refl level named
 
 -- the level with both codes is named, if there is one
 pub both_named : (option : NetOption) (code : ℕ) (enhanced : Option ℕ) (level : Level) → level.option ≡ option → code_of level ≡ code → enhanced ≡ Some (enhanced_of level) → level_of_codes option code enhanced ≡ Some level
@@ -136,4 +180,19 @@ pub code_of-bound : (level : Level) → code_of level < 16
 unfolding has_four_bits
 code_of-bound level =
     let small = at_each (has_four_bits level.option) (length (levels_of level.option)) level.place (codes_have_four_bits level.option) level.is_row in
+    grind (arith, nat_tests)
+
+is_octet : NetOption → ℕ → Bool
+is_octet option place = nat_lt (row_at option place).enhanced 256
+
+enhanced_are_octets : (option : NetOption) → list_all (is_octet option) (range_with_len 0 (length (levels_of option))) ≡ true
+unfolding is_octet
+enhanced_are_octets I = refl
+enhanced_are_octets II = refl
+
+-- every enhanced code is an octet
+pub enhanced_of-bound : (level : Level) → enhanced_of level < 256
+unfolding is_octet
+enhanced_of-bound level =
+    let small = at_each (is_octet level.option) (length (levels_of level.option)) level.place (enhanced_are_octets level.option) level.is_row in
     grind (arith, nat_tests)

@@ -16,6 +16,20 @@ const WORKED: [u8; 60] = [
     0, 0, 0, 0, 0, 0, 0, 0, 0, 0, 0, 0, 0, 0, 0, 0, 0, 0, 0, 0, 0, 0, 0, 0, 0, 0, 0, 0, 0, 0, 0, 0,
 ];
 
+/// The same with an extended QL TLV, whose fields are octets 31, 32 to 39, 40, 41 and 42.
+const ENHANCED: [u8; 60] = [
+    0x01, 0x80, 0xc2, 0x00, 0x00, 0x02, // Destination Address
+    0x02, 0x00, 0x00, 0x00, 0x00, 0x01, // Source Address
+    0x88, 0x09, 0x0a, // Slow Protocol Ethertype, Slow Protocol Subtype
+    0x00, 0x19, 0xa7, 0x00, 0x01, // ITU-OUI, ITU Subtype
+    0x10, 0x00, 0x00, 0x00, // Version and Event flag, Reserved
+    0x01, 0x00, 0x04, 0x02, // QL TLV: Type, Length, SSM code
+    0x02, 0x00, 0x14, 0x20, // extended QL TLV: Type, Length, enhanced code
+    0x00, 0x11, 0x22, 0x33, 0x44, 0x55, 0x66, 0x77, // clock
+    0x80, 0x01, 0x02, // flags, cascaded enhanced EECs, cascaded EECs
+    0, 0, 0, 0, 0, 0, 0, 0, 0, 0, 0, 0, 0, 0, 0, 0, 0,
+];
+
 fn sent(event: bool, code: u8) -> Pdu
     ensures { result.code ≡ code }
 {
@@ -23,6 +37,23 @@ fn sent(event: bool, code: u8) -> Pdu
         source: [0x02, 0x00, 0x00, 0x00, 0x00, 0x01],
         event,
         code,
+        extended: None,
+    }
+}
+
+/// What the frame with the extended QL TLV carries.
+fn enhanced() -> Pdu
+    ensures { result.code ≡ 2 }
+{
+    Pdu {
+        extended: Some(Extended {
+            code: 0x20,
+            clock: [0x00, 0x11, 0x22, 0x33, 0x44, 0x55, 0x66, 0x77],
+            flags: 0x80,
+            eeecs: 1,
+            eecs: 2,
+        }),
+        ..sent(false, 2)
     }
 }
 
@@ -150,4 +181,26 @@ fn frames_by_hand(rt: HostRuntime) {
         let frame = long.get(..len).unwrap_or(&WORKED);
         assert_eq!(rt; decode(frame), expected, "{len} octets, padding of ff");
     }
+}
+
+#[test]
+fn extended_tlv_by_hand(rt: HostRuntime) {
+    assert_eq!(rt; decode(&ENHANCED), Ok(enhanced()), "as it is written");
+    let mut out = [0xff; 60];
+    encode(&enhanced(), &mut out);
+    assert_eq!(rt; out, ENHANCED);
+
+    // Another type or length is that of padding or of another TLV.
+    for (at, octet) in [(28, 0x01), (29, 0x01), (30, 0x13), (30, 0x15)] {
+        let mut other = ENHANCED;
+        if let Some(place) = other.get_mut(at) {
+            *place = octet;
+        }
+        assert_eq!(rt; decode(&other), Ok(sent(false, 2)), "octet {at} is {octet}");
+    }
+
+    // What stands behind it isn't looked at.
+    let mut long = [0xff; 1514];
+    long[..43].copy_from_slice(&ENHANCED[..43]);
+    assert_eq!(rt; decode(&long), Ok(enhanced()), "1514 octets");
 }

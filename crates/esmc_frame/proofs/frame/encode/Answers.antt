@@ -6,9 +6,9 @@ use Rattle.esmc_frame.proofs.frame.encode.Goals as goal
 -- part by part, from the padding back to the destination
 pub returns-clause-written : goal.returns-clause-written
 returns-clause-written c =
-    sym (take_all 60 c.put-8.new.out (omega (arith, c.put-8.array_long)))
+    sym (take_all 60 c.put_extended.new.out (omega (arith, c.put_extended.array_long)))
     ∙ rw (
-      c.put-8.ensures,
+      c.put_extended.ensures.put,
       c.put_at-3.ensures,
       c.put-7.ensures,
       c.put-6.ensures,
@@ -37,7 +37,7 @@ returns-clause-read_back c =
       c.put_at.array_long,
       c.put.array_long,
     ) in
-    rw (returns-clause-written c) (reading_of-written_frame _ six c.requires)
+    rw (returns-clause-written c) (reading_of-written_frame _ six c.requires c.put_extended.ensures.clock)
 
 pub returns-clause-spelled : goal.returns-clause-spelled
 returns-clause-spelled c = (spelled_by _ _ (sym (returns-clause-read_back c)) c.args.pdu.now).0 refl
