@@ -5,7 +5,7 @@ use Rattle.std.specs.List.{list_all}
 use Rattle.std.proofs.lemmas.Bool.{and_parts, true≢false}
 use Rattle.std.proofs.lemmas.Option.{none-some, same_Some}
 use Rattle.sync_topo.specs.declared.error.PlanErr.{PlanErr}
-use Rattle.sync_topo.specs.declared.error.PlanErr.TheVariants.{Limit, Name, Twice, NoElement, SelfLink, Range, LevelName, NoMemory}
+use Rattle.sync_topo.specs.declared.error.PlanErr.TheVariants.{Limit, Name, Twice, NoElement, SelfLink, Range, Bundle, LevelName, NoMemory}
 use Rattle.sync_topo.specs.declared.rows.PlanRows.{PlanRows}
 use Rattle.sync_topo.specs.Topology.{Topology}
 use Rattle.sync_topo.specs.Rules.{Rule, rule}
@@ -85,6 +85,7 @@ Tells-all rows (Twice place) t = rw t refl
 Tells-all rows (NoElement place) t = rw t refl
 Tells-all rows (SelfLink place) t = rw t refl
 Tells-all rows (Range place) t = rw t refl
+Tells-all rows (Bundle place) t = rw t refl
 Tells-all rows (LevelName place) t = rw t refl
 Tells-all rows NoMemory t = tt
 

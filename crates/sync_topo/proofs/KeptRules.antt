@@ -21,9 +21,11 @@ use Rattle.sync_topo.specs.Lines.{link_of, is_nominated, receiver_of, source_pri
 use Rattle.sync_topo.specs.Limits.{input_limit, least_holdoff, greatest_holdoff, greatest_wtr, least_delay, greatest_delay, greatest_priority}
 use Rattle.sync_topo.specs.Names.{is_name, is_named, element_names, link_names, source_names}
 use Rattle.sync_topo.specs.RowValues.{element_of_name, element_from, link_from, source_from, plan_from}
-use Rattle.sync_topo.specs.Rules.{is_outside, is_no_clock_level, has_room}
+use Rattle.sync_topo.specs.Rules.{is_outside, is_no_clock_level, is_bad_bundle, has_room}
 use Rattle.sync_topo.specs.PlanRows.{element_row_rules, link_row_rules, source_row_rules, each_row, rules_of, first_broken, plan_of_rows}
+use Rattle.sync_topo.specs.Bundles.{BundlesJoin}
 use Rattle.sync_topo.specs.WellFormed.{AreDistinct, JoinsTwo, IsWellFormed}
+use Rattle.sync_topo.proofs.BundleRules.{fits-before}
 use Rattle.sync_topo.proofs.RuleLemmas.{first_broken-append, each_row-kept, slice_get-middle, slice_get-front, AreDistinct-fresh, list_all-middle, filter_range-fewer}
 
 -- the numbers of an element row are within their limits, and its level names are names of levels that clocks have
@@ -135,7 +137,9 @@ link_kept rows well fit front row rest split =
     = few_inputs longer plan (make row).a (map make rest) plan.sources more refl (well.few_inputs (make row).a) in
     let room_b : has_room longer (make row).b ≡ true
     = few_inputs longer plan (make row).b (map make rest) plan.sources more refl (well.few_inputs (make row).b) in
-    rw (named, fresh, fits.end_a, fits.end_b, differ, fits.numbers, room_a, room_b) refl
+    let bundle : is_bad_bundle (map make front) (make row) ≡ false
+    = fits-before (map make front) (make row) (map make rest) (subst BundlesJoin links well.bundles_join) (well.bundles_named (length (map make front)) (make row) at) in
+    rw (named, fresh, fits.end_a, fits.end_b, differ, fits.numbers, bundle, room_a, room_b) refl
 
 -- ---- source rows
 

@@ -12,3 +12,5 @@ pub mod KeptRules
 pub mod RowsOfPlan
 pub mod PlaceLaws
 pub mod NameLaws
+pub mod BundleLemmas
+pub mod BundleRules

@@ -19,7 +19,7 @@ use Rattle.std.proofs.Math.Bool.{or-true}
 use Rattle.sync_topo.proofs.Lists.{is_named-at}
 
 -- two lists of bytes that differ
-not_same : (xs ys : List ℕ) → (xs ≡ ys → ⊥) → bytes_eq xs ys ≡ false
+pub not_same : (xs ys : List ℕ) → (xs ≡ ys → ⊥) → bytes_eq xs ys ≡ false
 not_same xs ys apart = false_unless (bytes_eq xs ys) (λ e. apart ((bytes_eq-Decides xs ys).0 e))
   where
     false_unless : (b : Bool) → (b ≡ true → ⊥) → b ≡ false
@@ -58,12 +58,12 @@ cut_once (x ∷ front) (y ∷ other) back rest f g e =
     or_false false c e = e
 
 -- the search over a range
-find_range_none : (p : ℕ → Bool) (a n : ℕ) → ((i : ℕ) → a ≤ i → i < a + n → p i ≡ false) → find p (range_with_len a n) ≡ None
+pub find_range_none : (p : ℕ → Bool) (a n : ℕ) → ((i : ℕ) → a ≤ i → i < a + n → p i ≡ false) → find p (range_with_len a n) ≡ None
 find_range_none p a zero never = refl
 find_range_none p a (suc n) never =
     rw (never a (omega arith) (omega arith)) (find_range_none p (a + 1) n (λ i low high. never i (omega arith) (omega arith)))
 
-find_range_first : (p : ℕ → Bool) (a n k : ℕ) → a ≤ k → k < a + n → p k ≡ true → ((i : ℕ) → a ≤ i → i < k → p i ≡ false) → find p (range_with_len a n) ≡ Some k
+pub find_range_first : (p : ℕ → Bool) (a n k : ℕ) → a ≤ k → k < a + n → p k ≡ true → ((i : ℕ) → a ≤ i → i < k → p i ≡ false) → find p (range_with_len a n) ≡ Some k
 find_range_first p a zero k low high here before = absurd (omega arith)
 find_range_first p a (suc n) k low high here before =
     elim (eqb_tells a k) [

@@ -1,10 +1,14 @@
 -- Laws on lists that std does not have.
-use Rattle.std.proofs.Common.{◌≡◌, ℕ, ◌+◌, ◌<◌, Bool, true, false, not, cond, List, [], ◌∷◌, ◌++◌, length, map, filter, get_or, Some, None, position, refl, ap, sym, subst, ◌∙◌, arith, slice_get, slice_set}
-use Rattle.std.specs.List.{list_any, range_with_len, prefix_len}
+use Rattle.std.proofs.Common.{◌≡◌, ℕ, ◌+◌, ◌<◌, ◌≤◌, inl, inr, nat_lt, ◌==◌, length-append, Bool, true, false, not, cond, List, [], ◌∷◌, ◌++◌, length, map, filter, get_or, Some, None, position, refl, ap, sym, subst, ◌∙◌, arith, slice_get, slice_set}
+use Rattle.std.specs.List.{list_any, range_with_len, prefix_len, position_or_len}
+use Rattle.std.specs.Option.{option_or}
 use Rattle.std.proofs.Common.{zero, suc}
 use Rattle.std.specs.Prelude.{◌≢◌, IfSome, Option}
 use Rattle.std.proofs.Math.Bool.{or-true}
-use Rattle.std.proofs.lemmas.Bool.{true≢false}
+use Rattle.std.proofs.lemmas.Bool.{true≢false, le-ltb, lt-ltb}
+use Rattle.std.proofs.lemmas.Bool.Decides.{eqb_tells}
+use Rattle.std.proofs.lemmas.List.Folds.{position_or_len_push}
+use Rattle.std.proofs.lemmas.List.Sums.{prefix_len-le-length}
 use Rattle.std.proofs.lemmas.List.Quantifiers.{position-Some}
 use Rattle.std.proofs.lemmas.Option.{none-some, same_Some, slice_get-get_or}
 use Rattle.std.proofs.lemmas.Slice.Eq.{bytes_eq-Decides}
@@ -101,3 +105,32 @@ pub places-apart : (names : List (List ℕ)) (a b : ℕ) (x y : List ℕ) → sl
 places-apart names a b x y at_a at_b differ same =
     let one : x ≡ y = same_Some x y (sym at_a ∙ ap (slice_get names) same ∙ at_b) in
     true≢false (sym ((bytes_eq-Decides x y).1 one) ∙ differ)
+
+-- a search in a list with one more item
+found_more : (place n : ℕ) (passes : Bool) → place ≤ n
+    → cond (nat_lt (cond (place == n) (n + cond passes 0 1) place) (n + 1)) (Some (cond (place == n) (n + cond passes 0 1) place)) None
+    ≡ option_or (cond (nat_lt place n) (Some place) None) (if passes then Some n else None)
+found_more place n true up_to = elim (eqb_tells place n) [
+  | inl end ↦ rw (end.0, le-ltb place n (omega (arith, end.1)), lt-ltb (n + 0) (n + 1) (omega arith)) (ap Some (omega arith))
+  | inr other ↦ rw (other.0, lt-ltb place n (omega (arith, other.1)), lt-ltb place (n + 1) (omega arith)) refl
+]
+found_more place n false up_to = elim (eqb_tells place n) [
+  | inl end ↦ rw (end.0, le-ltb place n (omega (arith, end.1)), le-ltb (n + 1) (n + 1) (omega arith)) refl
+  | inr other ↦ rw (other.0, lt-ltb place n (omega (arith, other.1)), lt-ltb place (n + 1) (omega arith)) refl
+]
+
+pub position-push : {A : Type 0} (p : A → Bool) (xs : List A) (x : A) → position p (xs ++ x ∷ []) ≡ option_or (position p xs) (if p x then Some (length xs) else None)
+position-push p xs x =
+    let place : ℕ = position_or_len p xs in
+    let more : ℕ = cond (place == length xs) (length xs + cond (p x) 0 1) place in
+    ap (λ (found : ℕ). cond (nat_lt found (length (xs ++ x ∷ []))) (Some found) None) (position_or_len_push p xs x)
+    ∙ ap (λ (size : ℕ). cond (nat_lt more size) (Some more) None) (length-append xs (x ∷ []))
+    ∙ found_more place (length xs) (p x) (prefix_len-le-length (λ y. not (p y)) xs)
+
+-- a name that is none of them stands at no place
+pub place_of-fresh : (names : List (List ℕ)) (name : List ℕ) → list_any (bytes_eq name) names ≡ false → position (bytes_eq name) names ≡ None
+place_of-fresh names name fresh = cases (position (bytes_eq name) names) refl
+  where
+    cases : (place : Option ℕ) → position (bytes_eq name) names ≡ place → position (bytes_eq name) names ≡ None
+    cases None e = e
+    cases (Some k) e = absurd (true≢false (sym (is_named-at names name k (place_of-names names name (Some k) (sym e))) ∙ fresh))

@@ -4,7 +4,7 @@ use Rattle.std.specs.Prelude.{if◌then◌else◌}
 use Rattle.std.specs.Option.{option_or}
 use Rattle.std.proofs.lemmas.List.{map-append}
 use Rattle.sync_topo.specs.declared.error.PlanErr.{PlanErr}
-use Rattle.sync_topo.specs.declared.error.PlanErr.TheVariants.{Limit, Name, Twice, NoElement, SelfLink, Range, LevelName, NoMemory}
+use Rattle.sync_topo.specs.declared.error.PlanErr.TheVariants.{Limit, Name, Twice, NoElement, SelfLink, Range, Bundle, LevelName, NoMemory}
 use Rattle.sync_topo.specs.Rules.{Rule}
 use Rattle.sync_topo.specs.PlanRows.{first_broken}
 use Rattle.sync_topo.specs.Steps.{Tells, rows_from}
@@ -23,6 +23,7 @@ Tells-front (Twice place) xs ys t = first_broken-append xs ys ∙ (rw t refl)
 Tells-front (NoElement place) xs ys t = first_broken-append xs ys ∙ (rw t refl)
 Tells-front (SelfLink place) xs ys t = first_broken-append xs ys ∙ (rw t refl)
 Tells-front (Range place) xs ys t = first_broken-append xs ys ∙ (rw t refl)
+Tells-front (Bundle place) xs ys t = first_broken-append xs ys ∙ (rw t refl)
 Tells-front (LevelName place) xs ys t = first_broken-append xs ys ∙ (rw t refl)
 Tells-front NoMemory xs ys t = tt
 

@@ -5,7 +5,7 @@ use Rattle.std.proofs.lemmas.Bool.{cases_lt, leb-true, true≢false}
 use Rattle.std.proofs.lemmas.Bool.Decides.{eqb_tells}
 use Rattle.std.proofs.lemmas.List.{append-nil, map-append}
 use Rattle.std.proofs.lemmas.List.Folds.{list_all-append}
-use Rattle.std.proofs.lemmas.Option.{slice_get_within, same_Some}
+use Rattle.std.proofs.lemmas.Option.{slice_get_within, same_Some, none-some}
 use Rattle.sync_ql.specs.declared.levels.NetOption.{NetOption}
 use Rattle.sync_topo.specs.declared.element.Element.{Element}
 use Rattle.sync_topo.specs.declared.link.Link.{Link}
@@ -17,8 +17,11 @@ use Rattle.sync_topo.specs.Names.{is_name, is_named, element_names, link_names, 
 use Rattle.sync_topo.specs.Limits.{element_limit, link_limit, source_limit, input_limit}
 use Rattle.sync_topo.specs.Held.{taken}
 use Rattle.sync_topo.specs.WellFormed.{AreDistinct, JoinsTwo, IsSourceOf, IsWellFormed}
-use Rattle.sync_topo.specs.Indexed.{MayJoin, MayLink, MayFeed}
+use Rattle.sync_topo.specs.declared.parts.Parts.{Parts}
+use Rattle.sync_topo.specs.Kept.{AreBundlesOf}
+use Rattle.sync_topo.specs.Indexed.{IsIndexed, MayJoin, MayLink, MayFeed}
 use Rattle.sync_topo.proofs.Lists.{slice_get-push_before, slice_get-push_last, is_named-at}
+use Rattle.sync_topo.proofs.BundleRules.{good-name, BundlesJoin-push}
 use Rattle.sync_topo.proofs.Inputs.{with_link, with_source, inputs_of-link, inputs_of-source, taken-other}
 
 -- a name that none of them is may come last
@@ -70,6 +73,40 @@ IsSourceOf-more option n source fits = record {
   priority_fits = fits.priority_fits;
 }
 
+-- a plan of nothing keeps every rule
+pub IsWellFormed-empty : (option : NetOption) → IsWellFormed (record { option = option; elements = []; links = []; sources = [] })
+IsWellFormed-empty option = record {
+  few_elements = omega arith;
+  few_links = omega arith;
+  few_sources = omega arith;
+  elements_named = refl;
+  elements_distinct = λ i j before within same. omega arith;
+  elements_fit = λ e element at. absurd (none-some element at);
+  links_named = refl;
+  links_distinct = λ i j before within same. omega arith;
+  links_join = λ k link at. absurd (none-some link at);
+  bundles_named = λ k link at. absurd (none-some link at);
+  bundles_join = λ i j one other at_i at_j same. absurd (none-some one at_i);
+  sources_named = refl;
+  sources_distinct = λ i j before within same. omega arith;
+  sources_are_no_links = λ j source at. absurd (none-some source at);
+  sources_fit = λ j source at. absurd (none-some source at);
+  few_inputs = λ element. omega arith;
+}
+
+pub IsIndexed-empty : (parts : Parts) → parts.elements.items ≡ [] → parts.links.items ≡ [] → parts.sources.items ≡ [] → parts.element_names ≡ [] → parts.link_names ≡ []
+    → parts.source_names ≡ [] → parts.inputs.items ≡ [] → AreBundlesOf parts.bundles.names parts.bundles.firsts.items parts.bundles.numbers.items []
+    → IsIndexed parts
+IsIndexed-empty parts elements links sources element_names link_names source_names inputs bundles = record {
+  well_formed = rw (elements, links, sources) (IsWellFormed-empty parts.option);
+  element_names_kept = rw (element_names, elements) refl;
+  link_names_kept = rw (link_names, links) refl;
+  source_names_kept = rw (source_names, sources) refl;
+  bundles_kept = rw links bundles;
+  inputs_counted = rw (inputs, elements) refl;
+  inputs_kept = λ element. rw (inputs, links, sources) refl;
+}
+
 pub IsWellFormed-element : (plan : Topology) (element : Element) → IsWellFormed plan → length plan.elements < element_limit → MayJoin plan element
     → IsWellFormed (record plan { elements = plan.elements ++ element ∷ [] })
 IsWellFormed-element plan element well room may =
@@ -85,6 +122,8 @@ IsWellFormed-element plan element well room may =
       links_named = well.links_named;
       links_distinct = well.links_distinct;
       links_join = λ k link at. rw size (JoinsTwo-more (length plan.elements) link (well.links_join k link at));
+      bundles_named = well.bundles_named;
+      bundles_join = well.bundles_join;
       sources_named = well.sources_named;
       sources_distinct = well.sources_distinct;
       sources_are_no_links = well.sources_are_no_links;
@@ -122,6 +161,8 @@ IsWellFormed-link plan link well empty room may =
       links_named = rw names (list_all-push (link_names plan.links) link.name well.links_named may.named);
       links_distinct = rw names (AreDistinct-push (link_names plan.links) link.name well.links_distinct may.fresh);
       links_join = each-push _ plan.links link well.links_join may.joins;
+      bundles_named = each-push _ plan.links link well.bundles_named (good-name plan.links link may.bundle_fits);
+      bundles_join = BundlesJoin-push plan.links link well.bundles_join may.bundle_fits;
       sources_named = well.sources_named;
       sources_distinct = well.sources_distinct;
       sources_are_no_links = λ j source at. absurd (none j source (rw empty at at));
@@ -157,6 +198,8 @@ IsWellFormed-source plan source well room may =
       links_named = well.links_named;
       links_distinct = well.links_distinct;
       links_join = well.links_join;
+      bundles_named = well.bundles_named;
+      bundles_join = well.bundles_join;
       sources_named = rw names (list_all-push (source_names plan.sources) source.name well.sources_named may.named);
       sources_distinct = rw names (AreDistinct-push (source_names plan.sources) source.name well.sources_distinct may.fresh);
       sources_are_no_links = each-push (λ s. is_named (link_names plan.links) s.name ≡ false) plan.sources source well.sources_are_no_links may.no_link;

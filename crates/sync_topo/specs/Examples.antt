@@ -16,6 +16,7 @@ use Rattle.sync_topo.specs.declared.rows.SourceRow.{SourceRow}
 use Rattle.sync_topo.specs.declared.rows.PlanRows.{PlanRows}
 use Rattle.sync_topo.specs.Topology.{Topology}
 use Rattle.sync_topo.specs.Lines.{priority_of, delay_of, line_name, line_of_name, line_input, input_number, input_of_name, inputs_of}
+use Rattle.sync_topo.specs.Bundles.{lowest_of_bundle}
 use Rattle.sync_topo.specs.Hops.{hops}
 use Rattle.sync_topo.specs.RowValues.{default_own, element_from}
 use Rattle.sync_topo.specs.PlanRows.{plan_of_rows}
@@ -26,7 +27,7 @@ element name = element_from I (record { name = name; own = None; floor = None; h
 
 -- a link from A to B that is nominated at both ends
 abbrev pub link : List ℕ → Link
-link name = record { name = name; a = 0; b = 1; priority_a = 1; priority_b = 1; delay_a = 10; delay_b = 10 }
+link name = record { name = name; a = 0; b = 1; priority_a = 1; priority_b = 1; delay_a = 10; delay_b = 10; bundle = None }
 
 -- two elements with two links between them, and a source at B
 abbrev pub twin : Topology
@@ -44,9 +45,11 @@ pub odd_line_ends_at_a : line_name twin 1 ≡ codes "L1>A"
 odd_line_ends_at_a = refl
 
 pub return_over_its_own_link_is_no_hop : hops twin 0 1 ≡ false
+unfolding lowest_of_bundle
 return_over_its_own_link_is_no_hop = refl
 
 pub return_over_a_parallel_link_is_a_hop : hops twin 0 3 ≡ true
+unfolding lowest_of_bundle
 return_over_a_parallel_link_is_a_hop = refl
 
 pub line_is_found_by_its_name : line_of_name twin (codes "L2>A") ≡ Some 3
@@ -96,7 +99,7 @@ abbrev pub element_row : List ℕ → ElementRow
 element_row name = record { name = name; own = None; floor = None; holdoff = None; wtr = None }
 
 abbrev pub link_row : List ℕ → List ℕ → List ℕ → LinkRow
-link_row name a b = record { name = name; a = a; b = b; priority_a = None; priority_b = Some (pos 1); delay_a = None; delay_b = None }
+link_row name a b = record { name = name; a = a; b = b; priority_a = None; priority_b = Some (pos 1); delay_a = None; delay_b = None; bundle = None }
 
 abbrev pub source_row : List ℕ → List ℕ → List ℕ → SourceRow
 source_row name at level = record { name = name; at = at; level = level; priority = None }

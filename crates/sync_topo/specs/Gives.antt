@@ -1,7 +1,7 @@
 -- What a call answers that may refuse rows, or want memory.
 use Rattle.std.specs.Prelude.{◌≡◌, ⊤, Result, Ok, Err}
 use Rattle.sync_topo.specs.declared.error.PlanErr.{PlanErr}
-use Rattle.sync_topo.specs.declared.error.PlanErr.TheVariants.{Limit, Name, Twice, NoElement, SelfLink, Range, LevelName, NoMemory}
+use Rattle.sync_topo.specs.declared.error.PlanErr.TheVariants.{Limit, Name, Twice, NoElement, SelfLink, Range, Bundle, LevelName, NoMemory}
 
 -- the refusal is the definition's; want of memory says nothing
 abbrev pub Refuses : {A : Type 0} → PlanErr → Result A PlanErr → Type 0
@@ -11,6 +11,7 @@ Refuses (Twice place) answer = answer ≡ Err (Twice place)
 Refuses (NoElement place) answer = answer ≡ Err (NoElement place)
 Refuses (SelfLink place) answer = answer ≡ Err (SelfLink place)
 Refuses (Range place) answer = answer ≡ Err (Range place)
+Refuses (Bundle place) answer = answer ≡ Err (Bundle place)
 Refuses (LevelName place) answer = answer ≡ Err (LevelName place)
 Refuses NoMemory answer = ⊤
 

@@ -1,17 +1,18 @@
 -- Hops from line to line, ranks that rise over them, and cycles.
 use Rattle.std.specs.Prelude.{ℕ, ◌<◌, Bool, not, ◌&&◌, ◌==◌, IsTrue, ⊤, List, [], ◌∷◌, ◌++◌}
 use Rattle.sync_topo.specs.Topology.{Topology}
-use Rattle.sync_topo.specs.Lines.{sender_of, receiver_of, reverse_of, is_nominated}
+use Rattle.sync_topo.specs.Lines.{sender_of, receiver_of, is_nominated}
+use Rattle.sync_topo.specs.Bundles.{are_bundled}
 
--- the second line leads back over the link of the first: what a line brings is not offered there again.
--- After G.781, do-not-use towards the selected reference.
+-- the second line begins where the first ends, and leads back over the first one's bundle: what a line brings is not
+-- offered there again. After G.781, do-not-use towards the selected reference.
 abbrev pub goes_back : Topology → ℕ → ℕ → Bool
-goes_back plan line back = back == reverse_of line
+goes_back plan line back = receiver_of plan line == sender_of plan back && are_bundled plan line back
 
 -- what the first line brings to an element may go on over the second
 abbrev pub hops : Topology → ℕ → ℕ → Bool
 hops plan line next =
-    is_nominated plan line && is_nominated plan next && receiver_of plan line == sender_of plan next && not (goes_back plan line next)
+    is_nominated plan line && is_nominated plan next && receiver_of plan line == sender_of plan next && not (are_bundled plan line next)
 
 -- the first line hops to the second
 abbrev pub Hops : Topology → ℕ → ℕ → Type 0

@@ -7,8 +7,9 @@ use Rattle.sync_topo.specs.declared.parts.Parts.{Parts}
 use Rattle.sync_topo.specs.Topology.{Topology}
 use Rattle.sync_topo.specs.Lines.{inputs_of}
 use Rattle.sync_topo.specs.Names.{is_name, is_named, element_names, link_names, source_names}
-use Rattle.sync_topo.specs.Rules.{has_room}
+use Rattle.sync_topo.specs.Rules.{has_room, is_bad_bundle}
 use Rattle.sync_topo.specs.Held.{held}
+use Rattle.sync_topo.specs.Kept.{AreBundlesOf}
 use Rattle.sync_topo.specs.WellFormed.{IsWellFormed, IsElementOf, JoinsTwo, IsSourceOf}
 
 abbrev pub topology : Parts → Topology
@@ -25,6 +26,7 @@ pub record IsIndexed (parts : Parts) : Type 0 where
   pub element_names_kept : parts.element_names ≡ element_names parts.elements.items
   pub link_names_kept : parts.link_names ≡ link_names parts.links.items
   pub source_names_kept : parts.source_names ≡ source_names parts.sources.items
+  pub bundles_kept : AreBundlesOf parts.bundles.names parts.bundles.firsts.items parts.bundles.numbers.items parts.links.items
   pub inputs_counted : length parts.inputs.items ≡ length parts.elements.items
   pub inputs_kept : (element : ℕ) → held parts.inputs.items element ≡ inputs_of (topology parts) element
 
@@ -39,6 +41,7 @@ pub record MayLink (plan : Topology) (link : Link) : Type 0 where
   pub named : IsTrue (is_name link.name)
   pub fresh : is_named (link_names plan.links) link.name ≡ false
   pub joins : JoinsTwo (length plan.elements) link
+  pub bundle_fits : is_bad_bundle plan.links link ≡ false
   pub room_at_a : IsTrue (has_room (record plan { links = plan.links ++ link ∷ [] }) link.a)
   pub room_at_b : IsTrue (has_room (record plan { links = plan.links ++ link ∷ [] }) link.b)
 

@@ -1,6 +1,7 @@
 pub mod Topology
 pub mod Names
 pub mod Lines
+pub mod Bundles
 pub mod Hops
 pub mod Ranks
 pub mod Events
@@ -15,6 +16,7 @@ pub mod Gives
 pub mod Examples
 pub mod RanksExamples
 pub mod Held
+pub mod Kept
 pub mod Naming
 pub mod Indexed
 pub mod Steps

@@ -2,7 +2,7 @@
 use Rattle.std.specs.Prelude.{ℕ, Option, Some, None}
 use Rattle.sync_topo.specs.declared.place.Place.{Place}
 use Rattle.sync_topo.specs.declared.error.PlanErr.{PlanErr}
-use Rattle.sync_topo.specs.declared.error.PlanErr.TheVariants.{Limit, Name, Twice, NoElement, SelfLink, Range, LevelName, NoMemory}
+use Rattle.sync_topo.specs.declared.error.PlanErr.TheVariants.{Limit, Name, Twice, NoElement, SelfLink, Range, Bundle, LevelName, NoMemory}
 
 -- the number by which a refusal is printed; want of memory has none. This project's own
 abbrev pub refusal_number : PlanErr → Option ℕ
@@ -13,6 +13,7 @@ refusal_number (NoElement place) = Some 18
 refusal_number (SelfLink place) = Some 19
 refusal_number (Range place) = Some 20
 refusal_number (LevelName place) = Some 21
+refusal_number (Bundle place) = Some 39
 refusal_number NoMemory = None
 
 -- the row that breaks the rule
@@ -24,4 +25,5 @@ refused_place (NoElement place) = Some place
 refused_place (SelfLink place) = Some place
 refused_place (Range place) = Some place
 refused_place (LevelName place) = Some place
+refused_place (Bundle place) = Some place
 refused_place NoMemory = None

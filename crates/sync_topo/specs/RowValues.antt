@@ -61,6 +61,7 @@ link_from elements row = record {
   priority_b = number_or 0 row.priority_b;
   delay_a = number_or 1 row.delay_a;
   delay_b = number_or 1 row.delay_b;
+  bundle = row.bundle;
 }
 
 -- the source of a row at one of these elements: of priority 1 where it says nothing

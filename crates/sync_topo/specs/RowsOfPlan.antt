@@ -31,6 +31,7 @@ row_of_link plan link = record {
   priority_b = Some (pos link.priority_b);
   delay_a = Some (pos link.delay_a);
   delay_b = Some (pos link.delay_b);
+  bundle = link.bundle;
 }
 
 -- the row of a source

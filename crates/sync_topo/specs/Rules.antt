@@ -1,5 +1,6 @@
 -- The rules for plans: what each says of one row after the rows before it.
 use Rattle.std.specs.Prelude.{ℕ, ◌+◌, Bool, true, false, not, ◌&&◌, ◌||◌, nat_le, nat_lt, List, [], ◌∷◌, ◌++◌, length, Option, Some, None, is_some, is_none, option_and_then, ℤ, pos, negsuc}
+use Rattle.std.specs.List.{list_any}
 use Rattle.std.specs.Str.{bytes_eq}
 use Rattle.sync_ql.specs.declared.levels.NetOption.{NetOption}
 use Rattle.sync_ql.specs.Level.{level_of_name}
@@ -7,12 +8,14 @@ use Rattle.sync_topo.specs.declared.place.Section.{Section}
 use Rattle.sync_topo.specs.declared.place.Section.TheVariants.{Elements, Links, Sources}
 use Rattle.sync_topo.specs.declared.place.Place.{Place}
 use Rattle.sync_topo.specs.declared.error.PlanErr.{PlanErr}
-use Rattle.sync_topo.specs.declared.error.PlanErr.TheVariants.{Limit, Name, Twice, NoElement, SelfLink, Range, LevelName}
+use Rattle.sync_topo.specs.declared.error.PlanErr.TheVariants.{Limit, Name, Twice, NoElement, SelfLink, Range, Bundle, LevelName}
 use Rattle.sync_topo.specs.declared.rows.ElementRow.{ElementRow}
 use Rattle.sync_topo.specs.declared.rows.LinkRow.{LinkRow}
 use Rattle.sync_topo.specs.declared.rows.SourceRow.{SourceRow}
+use Rattle.sync_topo.specs.declared.link.Link.{Link}
 use Rattle.sync_topo.specs.Topology.{Topology}
 use Rattle.sync_topo.specs.Lines.{inputs_of}
+use Rattle.sync_topo.specs.Bundles.{is_same_bundle, join_same}
 use Rattle.sync_topo.specs.Names.{is_name, is_named, element_names, link_names, source_names}
 use Rattle.sync_topo.specs.Limits.{input_limit, least_holdoff, greatest_holdoff, greatest_wtr, least_delay, greatest_delay, greatest_priority}
 use Rattle.sync_topo.specs.RowValues.{clock_level, element_of_name, link_from, source_from}
@@ -43,6 +46,16 @@ is_no_clock_level option name = is_some name && is_none (option_and_then (clock_
 abbrev pub has_room : Topology → ℕ → Bool
 has_room plan element = nat_le (length (inputs_of plan element)) input_limit
 
+-- the link names a bundle, and this breaks the rule for names
+abbrev pub is_bad_bundle_name : Option (List ℕ) → Bool
+is_bad_bundle_name None = false
+is_bad_bundle_name (Some name) = not (is_name name)
+
+-- the name of the link's bundle is bad, or an earlier link that names it does not join the same two elements
+abbrev pub is_bad_bundle : List Link → Link → Bool
+is_bad_bundle links link =
+    is_bad_bundle_name link.bundle || list_any (λ earlier. is_same_bundle earlier.bundle link.bundle && not (join_same earlier link)) links
+
 -- the rules for an element row, first to last, after the rows that give this plan
 abbrev pub element_rules : Topology → ElementRow → List Rule
 element_rules plan row =
@@ -64,6 +77,7 @@ link_rules plan row =
     ∷ rule (SelfLink place) (bytes_eq row.a row.b)
     ∷ rule (Range place) (is_outside 0 greatest_priority row.priority_a || is_outside 0 greatest_priority row.priority_b
     || is_outside least_delay greatest_delay row.delay_a || is_outside least_delay greatest_delay row.delay_b)
+    ∷ rule (Bundle place) (is_bad_bundle plan.links (link_from plan.elements row))
     ∷ rule (Limit place) (not (has_room longer (element_of_name plan.elements row.a) && has_room longer (element_of_name plan.elements row.b)))
     ∷ []
 

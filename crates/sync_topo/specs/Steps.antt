@@ -8,7 +8,7 @@ use Rattle.sync_topo.specs.declared.rows.LinkRow.{LinkRow}
 use Rattle.sync_topo.specs.declared.rows.SourceRow.{SourceRow}
 use Rattle.sync_topo.specs.RowValues.{element_from, link_from, source_from}
 use Rattle.sync_topo.specs.declared.error.PlanErr.{PlanErr}
-use Rattle.sync_topo.specs.declared.error.PlanErr.TheVariants.{Limit, Name, Twice, NoElement, SelfLink, Range, LevelName, NoMemory}
+use Rattle.sync_topo.specs.declared.error.PlanErr.TheVariants.{Limit, Name, Twice, NoElement, SelfLink, Range, Bundle, LevelName, NoMemory}
 use Rattle.sync_topo.specs.Rules.{Rule, element_rules, link_rules, source_rules}
 use Rattle.sync_topo.specs.PlanRows.{first_broken}
 
@@ -20,6 +20,7 @@ Tells (Twice place) refusal = refusal ≡ Some (Twice place)
 Tells (NoElement place) refusal = refusal ≡ Some (NoElement place)
 Tells (SelfLink place) refusal = refusal ≡ Some (SelfLink place)
 Tells (Range place) refusal = refusal ≡ Some (Range place)
+Tells (Bundle place) refusal = refusal ≡ Some (Bundle place)
 Tells (LevelName place) refusal = refusal ≡ Some (LevelName place)
 Tells NoMemory refusal = ⊤
 

@@ -8,7 +8,9 @@ use Rattle.sync_topo.specs.declared.element.Element.{Element}
 use Rattle.sync_topo.specs.declared.link.Link.{Link}
 use Rattle.sync_topo.specs.declared.source.Source.{Source}
 use Rattle.sync_topo.specs.Topology.{Topology}
+use Rattle.sync_topo.specs.Bundles.{BundlesJoin}
 use Rattle.sync_topo.specs.Lines.{inputs_of}
+use Rattle.sync_topo.specs.Rules.{is_bad_bundle_name}
 use Rattle.sync_topo.specs.Names.{is_name, is_named, element_names, link_names, source_names}
 use Rattle.sync_topo.specs.Limits.{element_limit, link_limit, source_limit, input_limit, least_holdoff, greatest_holdoff, greatest_wtr, least_delay, greatest_delay, greatest_priority}
 
@@ -58,6 +60,9 @@ pub record IsWellFormed (plan : Topology) : Type 0 where
   pub links_named : IsTrue (list_all is_name (link_names plan.links))
   pub links_distinct : AreDistinct (link_names plan.links)
   pub links_join : (k : ℕ) (link : Link) → slice_get plan.links k ≡ Some link → JoinsTwo (length plan.elements) link
+  -- a bundle's name keeps the rule for names, and links that name the same bundle join the same two elements
+  pub bundles_named : (k : ℕ) (link : Link) → slice_get plan.links k ≡ Some link → is_bad_bundle_name link.bundle ≡ false
+  pub bundles_join : BundlesJoin plan.links
   pub sources_named : IsTrue (list_all is_name (source_names plan.sources))
   pub sources_distinct : AreDistinct (source_names plan.sources)
   -- links and sources share one space of names

@@ -32,6 +32,10 @@ pub enum PlanErr {
     /// A time, a delay or a priority is outside its limits.
     #[error("a number is outside its limits")]
     Range(Place),
+    /// The name of a link's bundle isn't 1 to 32 of `A-Z a-z 0-9 _ -`, or an earlier link of the
+    /// bundle joins other elements.
+    #[error("a bundle has a bad name, or joins other elements")]
+    Bundle(Place),
     /// A name is no level of the plan's option, or it is do-not-use as the level of a clock or as the
     /// lowest level that an element accepts.
     #[error("a name is no level that may stand here")]
@@ -42,7 +46,7 @@ pub enum PlanErr {
 }
 
 impl PlanErr {
-    /// The number by which the refusal is printed, from 15 to 21.
+    /// The number by which the refusal is printed: 15 to 21, and 39.
     ///
     /// `None` where memory ran out, which refuses no row. This project's own.
     pub fn number(self) -> Option<u8>
@@ -56,6 +60,7 @@ impl PlanErr {
             PlanErr::SelfLink(_) => Some(19),
             PlanErr::Range(_) => Some(20),
             PlanErr::LevelName(_) => Some(21),
+            PlanErr::Bundle(_) => Some(39),
             PlanErr::NoMemory => None,
         }
     }
@@ -73,6 +78,7 @@ impl PlanErr {
             | PlanErr::NoElement(place)
             | PlanErr::SelfLink(place)
             | PlanErr::Range(place)
+            | PlanErr::Bundle(place)
             | PlanErr::LevelName(place) => Some(place),
             PlanErr::NoMemory => None,
         }

@@ -13,6 +13,7 @@
 //! This crate has no tests; whole plans are tested in plan_file.
 #![tactic(auto)]
 
+mod bundles;
 mod element;
 mod error;
 mod event;

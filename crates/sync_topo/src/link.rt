@@ -20,4 +20,8 @@ pub struct Link {
     pub delay_a: u32,
     /// How long a message takes on the line into end b, 1 to 2,000 milliseconds.
     pub delay_b: u32,
+    /// The name of its bundle, if it has one: 1 to 32 of `A-Z a-z 0-9 _ -`.
+    ///
+    /// Links of one name join the same two elements, and a link without a name is a bundle of its own.
+    pub bundle: Option<Text>,
 }

@@ -13,6 +13,7 @@ mod elements;
 mod links;
 mod sources;
 
+use crate::bundles::Bundles;
 use crate::element::Element;
 use crate::error::PlanErr;
 use crate::input::InputId;
@@ -47,6 +48,7 @@ pub(crate) struct Parts {
     pub(crate) element_names: Names,
     pub(crate) link_names: Names,
     pub(crate) source_names: Names,
+    pub(crate) bundles: Bundles,
     /// For each element its inputs, in order of number.
     pub(crate) inputs: Vec<Vec<InputId>>,
 }
@@ -70,6 +72,7 @@ impl Parts {
             element_names: Names::new(alloc),
             link_names: Names::new(alloc),
             source_names: Names::new(alloc),
+            bundles: Bundles::new(alloc),
             inputs: Vec::new(alloc),
         }
     }

@@ -1,7 +1,8 @@
 ghost use Rattle.std.specs.Prelude.{◌≡◌, ℕ, ◌+◌, ◌*◌, ◌<◌, ◌≤◌, ◌↔◌, IsTrue, IfOk, Ok, Err, length, slice_get, Some};
 ghost use Rattle.std.specs.List.{All};
 ghost use Rattle.sync_topo.specs.Lines.{line_count, sender_of, receiver_of, reverse_of, delay_of, priority_of, is_nominated, inputs_of, input_number, input_priority, is_nominated_input, IsInput};
-ghost use Rattle.sync_topo.specs.Hops.{hops, Hops};
+ghost use Rattle.sync_topo.specs.Bundles.{bundle_of};
+ghost use Rattle.sync_topo.specs.Hops.{hops, goes_back, Hops};
 ghost use Rattle.sync_topo.specs.Gives.{Gives};
 ghost use Rattle.sync_topo.specs.Limits.{input_limit, least_delay, greatest_delay};
 ghost use Rattle.sync_topo.specs.RowValues.{plan_from};
@@ -51,8 +52,8 @@ impl Plan {
     /// A refusal tells the first rule that is broken, with its place. First come the numbers of rows:
     /// `Limit` at the first element, link or source past 2,000, 4,000 or 2,000. Then each element row
     /// in order: `Name`, `Twice`, `Range` for its times, `LevelName`. Then each link row: `Name`,
-    /// `Twice`, `NoElement`, `SelfLink`, `Range`, and `Limit` where an end has a 65th nominated input
-    /// by this row. Then each source row: `Name`, `Twice`, `NoElement`, `Range`, `LevelName`, and
+    /// `Twice`, `NoElement`, `SelfLink`, `Range`, `Bundle`, and `Limit` where an end has a 65th
+    /// nominated input by this row. Then each source row: `Name`, `Twice`, `NoElement`, `Range`, `LevelName`, and
     /// `Limit` as for links. This project's own.
     pub fn new(alloc: Global, rows: PlanRows) -> Result<Plan, PlanErr>
         ensures exact { Gives result (plan_of_rows rows) }
@@ -133,6 +134,17 @@ impl Plan {
         &self.parts.links[k as usize]
     }
 
+    /// The lowest-numbered link of a link's bundle, by its number: the link itself where it names no
+    /// bundle. This project's own.
+    pub fn bundle(&self, k: u32) -> u32
+        requires { k < length self.now.links }
+        ensures well_formed { IsWellFormed self.now }
+        ensures bundle { result ≡ bundle_of self.now k }
+        ensures lowest { result ≤ k }
+    {
+        self.parts.bundles.lowest(k)
+    }
+
     /// A source, by its number.
     pub fn source(&self, j: u32) -> &Source
         requires { j < length self.now.sources }
@@ -170,6 +182,7 @@ impl Plan {
         requires { l.0 < line_count self.now }
         ensures well_formed { IsWellFormed self.now }
         ensures reverse { result.0 ≡ reverse_of l.0 }
+        ensures goes_back { IsTrue (goes_back self.now l.0 result.0) }
         ensures within { result.0 < line_count self.now }
     {
         // A plan has at most 4,000 links, so the sum fits.
@@ -256,8 +269,8 @@ impl Plan {
     }
 
     /// What line `l` brings to an element may go on over line `m`: both are nominated, `m` begins
-    /// where `l` ends, and it isn't the other direction of the same link. After G.781, do-not-use
-    /// towards the selected reference.
+    /// where `l` ends, and their links are not of one bundle. After G.781, do-not-use towards the
+    /// selected reference.
     pub fn hop(&self, l: LineId, m: LineId) -> bool
         requires from { l.0 < line_count self.now }
         requires to { m.0 < line_count self.now }
@@ -265,6 +278,6 @@ impl Plan {
         ensures hops { IsTrue result ↔ Hops self.now l.0 m.0 }
     {
         let both = self.line_priority(l) > 0 && self.line_priority(m) > 0;
-        both && self.to(l) == self.from(m) && self.rev(l) != m
+        both && self.to(l) == self.from(m) && self.bundle(l.0 / 2) != self.bundle(m.0 / 2)
     }
 }

@@ -35,6 +35,8 @@ pub struct LinkRow {
     pub delay_a: Option<i64>,
     /// The delay of the line into end b in milliseconds; 1 where it is left out.
     pub delay_b: Option<i64>,
+    /// The name of the bundle that the link is of; a bundle of its own where it is left out.
+    pub bundle: Option<Text>,
 }
 
 /// What a plan file says of one source.

@@ -1,9 +1,10 @@
 //! The links of a plan, row by row.
 
-ghost use Rattle.std.specs.Prelude.{◌≡◌, ◌≢◌, [], ◌∷◌, ◌++◌, ◌<◌, ◌≤◌, ◌&&◌, ◌||◌, length, map, is_none, IfSome, IfOk, OnOk};
+ghost use Rattle.std.specs.Prelude.{◌≡◌, ◌≢◌, [], ◌∷◌, ◌++◌, ◌<◌, ◌≤◌, ◌&&◌, ◌||◌, not, length, map, is_none, IfSome, IfOk, OnOk};
 ghost use Rattle.sync_topo.specs.Limits.{link_limit, least_delay, greatest_delay, greatest_priority};
 ghost use Rattle.sync_topo.specs.RowValues.{number_or, link_from};
-ghost use Rattle.sync_topo.specs.Rules.{is_outside, has_room, link_rules};
+ghost use Rattle.sync_topo.specs.Bundles.{join_same};
+ghost use Rattle.sync_topo.specs.Rules.{is_outside, is_bad_bundle, has_room, link_rules};
 ghost use Rattle.sync_topo.specs.Steps.{Follows, rows_from, link_rules_after};
 
 use crate::error::PlanErr;
@@ -78,11 +79,34 @@ impl Parts {
             priority_b: numbers.priority_b,
             delay_a: numbers.delay_a,
             delay_b: numbers.delay_b,
+            bundle: row.bundle,
         };
+        if !self.may_bundle(&link) {
+            return Err(PlanErr::Bundle(place));
+        }
         if !self.has_room_for(&link) {
             return Err(PlanErr::Limit(place));
         }
         Ok(link)
+    }
+
+    /// The link names no bundle; or the bundle's name keeps the rule for names, and its earlier links
+    /// join the same two elements.
+    fn may_bundle(&self, link: &Link) -> bool
+        requires { IsIndexed self.now }
+        ensures { result ≡ not (is_bad_bundle self.now.links.items link.now) }
+    {
+        let Some(name) = &link.bundle else {
+            return true;
+        };
+        if !is_name(name.bytes()) {
+            return false;
+        }
+        // The earlier links of a bundle join the same two elements, so its first link tells.
+        match self.bundles.first(name.bytes()) {
+            Some(first) => join_same(&self.links[first as usize], link),
+            None => true,
+        }
     }
 
     /// Neither end of the link gets more inputs than an element may have.
@@ -115,6 +139,7 @@ impl Parts {
         let to_b = InputId::Line(LineId(line));
         let to_a = InputId::Line(LineId(line + 1));
         self.link_names.add(link.name.bytes())?;
+        self.bundles.add(&link.bundle)?;
         take_input(&mut self.inputs, link.b, link.priority_b, to_b)?;
         take_input(&mut self.inputs, link.a, link.priority_a, to_a)?;
         let Ok(()) = self.links.push(link) else {
@@ -122,6 +147,13 @@ impl Parts {
         };
         Ok(())
     }
+}
+
+/// The two links join the same two elements, whichever end is a.
+fn join_same(one: &Link, other: &Link) -> bool
+    ensures { result ≡ join_same one.now other.now }
+{
+    (one.a == other.a && one.b == other.b) || (one.a == other.b && one.b == other.a)
 }
 
 /// The priorities and the delays of a link.

@@ -13,6 +13,7 @@ returns-clause-indexed c =
       element_names_kept = names-push (λ (e : Element). e.name) parts.elements.items _ c.args.element _ _ _ old.element_names_kept c.in-Ok.ensures.items c.in_ok-add.ensures c.bytes.ensures;
       link_names_kept = old.link_names_kept;
       source_names_kept = old.source_names_kept;
+      bundles_kept = old.bundles_kept;
       inputs_counted = omega (arith, c.in-Ok.ensures.len, c.in-Ok-push.ensures.len, old.inputs_counted);
       inputs_kept = λ element. rw (c.in-Ok-push.ensures.items) (held-new parts.inputs.items c.new.result element c.new.ensures.items ∙ old.inputs_kept element);
     }

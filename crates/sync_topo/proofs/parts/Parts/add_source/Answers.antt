@@ -14,6 +14,7 @@ returns-clause-indexed c =
       element_names_kept = old.element_names_kept;
       link_names_kept = old.link_names_kept;
       source_names_kept = names-push (λ (s : Source). s.name) parts.sources.items _ c.args.source _ _ _ old.source_names_kept c.in-Ok.ensures.items c.in_ok-add.ensures c.bytes.ensures;
+      bundles_kept = old.bundles_kept;
       inputs_counted = c.in_ok-take_input.ensures.counted ∙ old.inputs_counted;
       inputs_kept = λ element.
           rw (c.in_ok-take_input.ensures.held element, old.inputs_kept element, c.in-Ok.ensures.items, count)

@@ -24,6 +24,7 @@ returns-clause-may_link c =
         least_delay_b = numbers.least_delay_b;
         greatest_delay_b = numbers.greatest_delay_b;
       };
+      bundle_fits = search rules;
       room_at_a = search rules;
       room_at_b = search rules;
     }

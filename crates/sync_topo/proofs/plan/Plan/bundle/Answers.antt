@@ -1,0 +1,14 @@
+use Rattle.std.proofs.Common.{◌≡◌, ◌<◌, length, ap, sym, ◌∙◌, arith}
+use Rattle.std.proofs.lemmas.Option.{same_Some}
+use Rattle.sync_topo.specs.Topology.{Topology}
+use Rattle.sync_topo.specs.Bundles.{lowest_of_bundle}
+use Rattle.sync_topo.proofs.BundleLemmas.{lowest-there}
+use Rattle.sync_topo.proofs.plan.Plan.bundle.Goals as goal
+
+pub returns-clause-lowest : goal.returns-clause-lowest
+returns-clause-lowest c =
+    let links = c.self.inside.parts.links.items in
+    let count = ap (λ (plan : Topology). length plan.links) c.self.view_is in
+    let within : c.args.k < length links = omega (arith, c.requires, count) in
+    let is : c.lowest.result ≡ lowest_of_bundle links c.args.k = same_Some _ _ (sym c.lowest.ensures ∙ c.self.invariant.bundles_kept.kept c.args.k within) in
+    omega (arith, is, (lowest-there links c.args.k within).at_most)
