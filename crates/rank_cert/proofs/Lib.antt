@@ -6,3 +6,4 @@ pub mod Certificates
 pub mod RuleLaws
 pub mod OwnNames
 pub mod WrittenText
+pub mod WrittenLength

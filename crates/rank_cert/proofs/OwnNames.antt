@@ -54,17 +54,17 @@ same_place names i j distinct within inside same = elim (cases_lt i j) [
 ]
 
 -- a line of a plan with its link
-record HasLink (plan : Topology) (line : ℕ) : Type 0 where
-  link : Link
-  at : slice_get plan.links (line / 2) ≡ Some link
-  named_at : slice_get (map (λ link. link.name) plan.links) (line / 2) ≡ Some link.name
-  named : list_all is_name_byte link.name ≡ true
-  whole : line_name plan line ≡ link.name ++ 62 ∷ element_name plan (receiver_of plan line)
-  apart : link.a ≢ link.b
-  to : receiver_of plan line ≡ (if ends_at_b line then link.b else link.a)
-  is_element : receiver_of plan line < length plan.elements
+pub record HasLink (plan : Topology) (line : ℕ) : Type 0 where
+  pub link : Link
+  pub at : slice_get plan.links (line / 2) ≡ Some link
+  pub named_at : slice_get (map (λ link. link.name) plan.links) (line / 2) ≡ Some link.name
+  pub named : list_all is_name_byte link.name ≡ true
+  pub whole : line_name plan line ≡ link.name ++ 62 ∷ element_name plan (receiver_of plan line)
+  pub apart : link.a ≢ link.b
+  pub to : receiver_of plan line ≡ (if ends_at_b line then link.b else link.a)
+  pub is_element : receiver_of plan line < length plan.elements
 
-has-link : (plan : Topology) (line : ℕ) → IsWellFormed plan → line < line_count plan → HasLink plan line
+pub has-link : (plan : Topology) (line : ℕ) → IsWellFormed plan → line < line_count plan → HasLink plan line
 has-link plan line well within =
     let there = item_at plan.links (line / 2) (omega arith) in
     let joins = well.links_join (line / 2) there.0 there.1 in
@@ -87,7 +87,7 @@ has-link plan line well within =
     inside false x y first second = first
 
 -- an element's name stands at its place
-element_named : (plan : Topology) (element : ℕ) → element < length plan.elements → slice_get (map (λ e. e.name) plan.elements) element ≡ Some (element_name plan element)
+pub element_named : (plan : Topology) (element : ℕ) → element < length plan.elements → slice_get (map (λ e. e.name) plan.elements) element ≡ Some (element_name plan element)
 element_named plan element within =
     let there = item_at plan.elements element within in
     slice_get-map (λ e. e.name) plan.elements element ∙ rw there.1 refl

@@ -1,5 +1,5 @@
 -- The certificate that a text gives, or the first rule that it breaks; and the text of a certificate. This project's own.
-use Rattle.std.specs.Prelude.{ℕ, ◌+◌, Bool, false, ◌&&◌, List, [], ◌∷◌, ◌++◌, length, take, codes, find, map, filter, slice_get, Option, Some, None, option_map, is_some, is_none, Result, Ok, Err, if◌then◌else◌}
+use Rattle.std.specs.Prelude.{ℕ, ◌+◌, ◌*◌, Bool, false, ◌&&◌, List, [], ◌∷◌, ◌++◌, length, take, codes, find, map, filter, slice_get, Option, Some, None, option_map, is_some, is_none, Result, Ok, Err, if◌then◌else◌}
 use Rattle.std.specs.Option.{option_and_then}
 use Rattle.std.specs.List.{range_with_len, concat}
 use Rattle.std.specs.Str.{bytes_eq}
@@ -7,6 +7,7 @@ use Rattle.std.specs.Fmt.{decimal}
 use Rattle.csv_records.specs.Records.{records_of}
 use Rattle.sync_topo.specs.Topology.{Topology}
 use Rattle.sync_topo.specs.Lines.{line_count, line_name, is_nominated}
+use Rattle.sync_topo.specs.Limits.{link_limit}
 use Rattle.rank_cert.specs.declared.error.CertErr.{CertErr}
 use Rattle.rank_cert.specs.declared.error.CertErr.TheVariants.{Header, Row, Line, Twice, Missing}
 use Rattle.rank_cert.specs.Ranks.{Ranks, rank_at, rank_of}
@@ -78,3 +79,11 @@ nominated_lines plan = filter (is_nominated plan) (range_with_len 0 (line_count 
 -- the written form: the header, and a row for each nominated line in order of number
 abbrev pub certificate_text : Topology → Ranks → List ℕ
 certificate_text plan ranks = codes "line,rank\n" ++ concat (map (λ line. row_text plan line (rank_of ranks line)) (nominated_lines plan))
+
+-- the most bytes of a written row: a name has at most 32, so a line's has 65; a comma, 20 digits and the end of the line
+abbrev pub row_size : ℕ
+row_size = 87
+
+-- the most bytes of a written certificate: the header has 10, and a plan has two lines for each link
+abbrev pub certificate_size : ℕ
+certificate_size = 10 + 2 * link_limit * row_size

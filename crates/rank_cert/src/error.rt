@@ -25,7 +25,7 @@ pub enum CertErr {
     #[error("row {0}: the line stands in an earlier row")]
     Twice(u64),
     /// No row has this nominated line, and each one of lower number has a row.
-    #[error("a nominated line has no row")]
+    #[error("line {} has no row", .0.0)]
     Missing(LineId),
     /// Memory ran out.
     #[error("out of memory")]

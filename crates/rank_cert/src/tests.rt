@@ -109,11 +109,7 @@ fn errors_are_printed(rt: HostRuntime) -> Result<(), Fail> {
             Some(37),
             "row 20: the line stands in an earlier row",
         ),
-        (
-            CertErr::Missing(LineId(2)),
-            Some(38),
-            "a nominated line has no row",
-        ),
+        (CertErr::Missing(LineId(2)), Some(38), "line 2 has no row"),
         (CertErr::NoMemory, None, "out of memory"),
     ] {
         assert_eq!(&rt; error.number(), number, "{error}");

@@ -1,9 +1,9 @@
 // The text of a certificate.
 
-ghost use Rattle.std.specs.Prelude.{◌≡◌, ◌++◌, ◌<◌, ◌^◌, length, Ok, IfOk, OnOk, IfSome};
+ghost use Rattle.std.specs.Prelude.{◌≡◌, ◌++◌, ◌<◌, ◌≤◌, ◌^◌, length, Ok, IfOk, OnOk, IfSome};
 ghost use Rattle.sync_topo.specs.Lines.{line_count};
 ghost use Rattle.rank_cert.specs.Ranks.{IsRanked, RanksNoOther, rank_at};
-ghost use Rattle.rank_cert.specs.CertificateText.{certificate_text, certificate_of, row_text};
+ghost use Rattle.rank_cert.specs.CertificateText.{certificate_text, certificate_of, certificate_size, row_text};
 ghost use Rattle.rank_cert.specs.Written.{line_text};
 
 use crate::cert::Cert;
@@ -14,12 +14,13 @@ use sync_topo::{InputId, LineId, Plan};
 /// The text of a certificate: the header `line,rank`, and a row for each nominated line, in order
 /// of line number.
 ///
-/// It is read back as the same certificate. This project's own.
+/// It is read back as the same certificate, and has at most 696,010 bytes. This project's own.
 pub fn write_cert(alloc: Global, plan: &Plan, cert: &Cert) -> Result<Text, NoMemory>
     requires ranked { IsRanked plan.now cert.now }
     requires no_other { RanksNoOther plan.now cert.now }
     ensures text { IfOk result (λ text. text ≡ certificate_text plan.now cert.now) }
     ensures read_back { IfOk result (λ text. certificate_of plan.now text ≡ Ok cert.now) }
+    ensures short { IfOk result (λ text. length text ≤ certificate_size) }
 {
     let mut text = Text::new(alloc);
     text.put(b"line,rank\n")?;
