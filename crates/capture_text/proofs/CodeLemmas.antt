@@ -1,18 +1,27 @@
--- The code that the text of a level stands for.
-use Rattle.std.proofs.Common.{◌≡◌, ◌<◌, ℕ, ◌+◌, zero, suc, Bool, true, false, List, ◌++◌, codes, refl, nat_eq, Option, None, Some, is_some, inl, inr, sym, ap, ◌∙◌, arith}
+-- The codes that the text of a level stands for.
+use Rattle.std.proofs.Common.{◌≡◌, ◌<◌, ◌==◌, ◌&&◌, ℕ, ◌+◌, zero, suc, Bool, true, false, List, ◌++◌, codes, refl, nat_eq, nat_lt, Option, None, Some, inl, inr, sym, ap, subst, ◌∙◌, arith}
+use Rattle.std.specs.Prelude.{is_none, option_map}
 use native.Mathlib.Decide.{dec_lt}
 use Rattle.std.specs.Fmt.{decimal, digits}
 use Rattle.std.specs.List.{find, list_all, range_with_len}
+use Rattle.std.specs.Option.{option_or}
 use Rattle.std.specs.Str.{bytes_eq}
-use Rattle.std.proofs.lemmas.Bool.{cases_Bool, cond-true, cond-false, eqb-true}
+use Rattle.std.proofs.lemmas.Bool.{cases_Bool, cond-true, cond-false, eqb-true, and_parts, ltb-true}
 use Rattle.std.proofs.lemmas.Slice.Eq.{bytes_eq-Decides}
 use Rattle.sync_ql.specs.declared.levels.NetOption.{NetOption}
 use Rattle.sync_ql.specs.declared.levels.NetOption.TheVariants.{I, II}
 use Rattle.sync_ql.specs.declared.levels.Level.{Level}
-use Rattle.sync_ql.specs.Level.{level_of_code, level_of_name, name_of}
+use Rattle.sync_ql.specs.Table.{levels_of, not_enhanced}
+use Rattle.sync_ql.specs.Level.{row_at, code_of, enhanced_of, name_of, level_of_code, level_of_codes, level_of_name, level_with_both}
+use Rattle.sync_ql.proofs.Tables.{level_of_name-name_of, codes_name, found_by_codes, found_by_name, found_with, none_alone, ff_says_nothing, code_of-bound}
+use Rattle.capture_text.specs.declared.reading.Codes.{Codes}
 use Rattle.capture_text.specs.Row.{level_text, name_or_number}
-use Rattle.capture_text.specs.Reading.{code_of_text}
+use Rattle.capture_text.specs.Reading.{enhanced_or_none, enhanced_named, codes_of_level, codes_of_code, code_of_number, codes_of_text}
 use Rattle.capture_text.proofs.RowLemmas.{at_each}
+
+nothing : {A : Type 0} (found : Option A) → is_none found ≡ true → found ≡ None
+nothing None is = refl
+nothing (Some x) is = cc
 
 -- what a search over numbers finds
 pub found_number : (test : ℕ → Bool) (first n number : ℕ) → find test (range_with_len first n) ≡ Some number → (test number ≡ true) × (number < first + n)
@@ -30,71 +39,104 @@ found_number test first (suc n) number is =
           (rest.0, omega (arith, below))
     ]
 
--- a text that is found is that of its code
-pub code_has_text : (option : NetOption) (text : List ℕ) (code : ℕ) → code_of_text option text ≡ Some code → (level_text option code ≡ text) × (code < 16)
-unfolding code_of_text
-code_has_text option text code is =
-    let found = found_number (λ c. bytes_eq (level_text option c) text) 0 16 code is in
+-- a text that is found is the number of its code, which no level has
+pub number_is : (option : NetOption) (text : List ℕ) (code : ℕ) → code_of_number option text ≡ Some code → (level_of_code option code ≡ None) × (codes "code-" ++ decimal code ≡ text) × (code < 16)
+unfolding code_of_number
+number_is option text code is =
+    let found = found_number (λ c. is_none (level_of_code option c) && bytes_eq (codes "code-" ++ decimal c) text) 0 16 code is in
+    let both = and_parts _ _ found.0 in
     let small = found.1 in
-    ((bytes_eq-Decides (level_text option code) text).0 found.0, omega (arith, small))
+    (nothing (level_of_code option code) both.0, (bytes_eq-Decides (codes "code-" ++ decimal code) text).0 both.1, omega (arith, small))
 
-abbrev is_code : Option ℕ → ℕ → Bool
-is_code None code = false
-is_code (Some found) code = nat_eq found code
+-- the number of each code is found, where no level has it, and is no name
+abbrev is_number : Option ℕ → Option Level → ℕ → Bool
+is_number (Some found) None code = nat_eq found code
+is_number None (Some level) code = true
+is_number found level code = false
 
-is_code-true : (found : Option ℕ) (code : ℕ) → is_code found code ≡ true → found ≡ Some code
-is_code-true None code is = cc
-is_code-true (Some found) code is = ap Some (eqb-true found code is)
+number_found : NetOption → ℕ → Bool
+number_found option code = is_number (code_of_number option (codes "code-" ++ decimal code)) (level_of_code option code) code && is_none (level_of_name option (codes "code-" ++ decimal code))
 
-finds_code : NetOption → ℕ → Bool
-finds_code option code = is_code (code_of_text option (level_text option code)) code
+numbers_found : (option : NetOption) → list_all (number_found option) (range_with_len 0 16) ≡ true
+unfolding number_found code_of_number digits dec_lt
+numbers_found I = refl
+numbers_found II = refl
 
-codes_found : (option : NetOption) → list_all (finds_code option) (range_with_len 0 16) ≡ true
-unfolding finds_code code_of_text digits dec_lt
-codes_found I = refl
-codes_found II = refl
+number_at : (found : Option ℕ) (level : Option Level) (code : ℕ) → is_number found level code ≡ true → level ≡ None → found ≡ Some code
+number_at (Some found) None code is none = ap Some (eqb-true found code is)
+number_at None None code is none = cc
+number_at found (Some level) code is none = cc
 
--- no two codes have one text
-pub code_of_text-level_text : (option : NetOption) (code : ℕ) → code < 16 → code_of_text option (level_text option code) ≡ Some code
-unfolding finds_code
-code_of_text-level_text option code small = is_code-true _ _ (at_each (finds_code option) 16 code (codes_found option) small)
+-- the number of a code that no level has stands for it
+pub code_of_its_number : (option : NetOption) (code : ℕ) → code < 16 → level_of_code option code ≡ None → code_of_number option (codes "code-" ++ decimal code) ≡ Some code
+unfolding number_found
+code_of_its_number option code small unknown =
+    let here = and_parts _ _ (at_each (number_found option) 16 code (numbers_found option) small) in
+    number_at _ _ code here.0 unknown
 
--- the name of a level is the text of its code
-pub code_of_name : (option : NetOption) (text : List ℕ) (level : Level) (code : ℕ) → level.option ≡ option → name_of level ≡ text → level_of_code level.option code ≡ Some level → code < 16 → code_of_text option text ≡ Some code
-code_of_name option text level code same name back small =
-    let known : level_of_code option code ≡ Some level = rw (← same) back in
-    let has : level_text option code ≡ text = ap (λ found. name_or_number found code) known ∙ name in
-    ap (code_of_text option) (sym has) ∙ code_of_text-level_text option code small
+number_no_name : (option : NetOption) (code : ℕ) → code < 16 → level_of_name option (codes "code-" ++ decimal code) ≡ None
+unfolding number_found
+number_no_name option code small =
+    nothing _ (and_parts _ _ (at_each (number_found option) 16 code (numbers_found option) small)).1
 
--- a number is the text of a code that no level has
-pub code_of_its_number : (option : NetOption) (text : List ℕ) (code : ℕ) → code < 16 → text ≡ codes "code-" ++ decimal code → level_of_code option code ≡ None → code_of_text option text ≡ Some code
-code_of_its_number option text code small number unknown =
-    let has : level_text option code ≡ text = ap (λ found. name_or_number found code) unknown ∙ sym number in
-    ap (code_of_text option) (sym has) ∙ code_of_text-level_text option code small
+-- the text of codes stands for them, with the enhanced code of the level that they name, or ff
+text_stands : (option : NetOption) (code : ℕ) (enhanced : Option ℕ) → code < 16 → (found : Option Level) → level_of_codes option code enhanced ≡ found → codes_of_text option (name_or_number found code) ≡ Some (record { code = code; enhanced = enhanced_or_none found })
+text_stands option code enhanced small None is =
+    rw (number_no_name option code small, code_of_its_number option code small (none_alone option code enhanced is)) refl
+text_stands option code enhanced small (Some level) is =
+    let parts = found_by_codes option code enhanced level is in
+    let named : level_of_name option (name_of level) ≡ Some level = subst (λ o. level_of_name o (name_of level) ≡ Some level) parts.0 (level_of_name-name_of level) in
+    rw (named, parts.1) refl
 
--- a level's name is a name of the option
-abbrev has_known_name : NetOption → Option Level → Bool
-has_known_name option None = true
-has_known_name option (Some level) = is_some (level_of_name option (name_of level))
+pub codes_of_level_text : (option : NetOption) (code : ℕ) (enhanced : Option ℕ) → code < 16 → codes_of_text option (level_text option code enhanced) ≡ Some (record { code = code; enhanced = enhanced_named option code enhanced })
+codes_of_level_text option code enhanced small = text_stands option code enhanced small (level_of_codes option code enhanced) refl
 
-abbrev code_has_known_name : NetOption → ℕ → Bool
-code_has_known_name option code = has_known_name option (level_of_code option code)
+-- what a text stands for: it is that of the codes, of which the enhanced one is that of the level
+-- which they name, or ff
+pub record StandsFor (option : NetOption) (text : List ℕ) (both : Codes) : Type 0 where
+  pub written : text ≡ level_text option both.code (Some both.enhanced)
+  pub named : both.enhanced ≡ enhanced_named option both.code (Some both.enhanced)
+  pub small : both.code < 16
 
-names_are_known : (option : NetOption) → list_all (code_has_known_name option) (range_with_len 0 16) ≡ true
-unfolding dec_lt
-names_are_known I = refl
-names_are_known II = refl
+stands_by : (option : NetOption) (text : List ℕ) (both : Codes) (name : Option Level) (number : Option ℕ) → level_of_name option text ≡ name → code_of_number option text ≡ number → option_or (option_map codes_of_level name) (option_map codes_of_code number) ≡ Some both → StandsFor option text both
+stands_by option text both (Some level) number is number_found found =
+    let e : codes_of_level level ≡ both = cc in
+    let parts = found_by_name option text level is in
+    let names : level_of_codes option (code_of level) (Some (enhanced_of level)) ≡ Some level = subst (λ o. level_of_codes o (code_of level) (Some (enhanced_of level)) ≡ Some level) parts.0 (codes_name level) in
+    subst (StandsFor option text) e (record {
+      written = sym parts.1 ∙ ap (λ found. name_or_number found (code_of level)) (sym names);
+      named = ap enhanced_or_none (sym names);
+      small = code_of-bound level;
+    })
+stands_by option text both None (Some code) is number_found found =
+    let e : codes_of_code code ≡ both = cc in
+    let parts = number_is option text code number_found in
+    let names : level_of_codes option code (Some not_enhanced) ≡ None = ff_says_nothing option code ∙ parts.0 in
+    subst (StandsFor option text) e (record {
+      written = sym parts.1 ∙ ap (λ found. name_or_number found code) (sym names);
+      named = ap enhanced_or_none (sym names);
+      small = parts.2;
+    })
+stands_by option text both None None is number_found found = cc
 
--- a text that is no name is the number of a code that no level has
-text_is_number : (option : NetOption) (code : ℕ) (found : Option Level) → has_known_name option found ≡ true → level_of_name option (name_or_number found code) ≡ None → (found ≡ None) × (name_or_number found code ≡ codes "code-" ++ decimal code)
-text_is_number option code None known nameless = (refl, refl)
-text_is_number option code (Some level) known nameless = cc (rw nameless at known)
+pub text_stands_for : (option : NetOption) (text : List ℕ) (both : Codes) → codes_of_text option text ≡ Some both → StandsFor option text both
+text_stands_for option text both found = stands_by option text both (level_of_name option text) (code_of_number option text) refl refl found
 
--- a text that is neither a name nor such a number is that of no code
-pub no_code : (option : NetOption) (text : List ℕ) → level_of_name option text ≡ None → ((n : ℕ) → n < 16 → level_of_code option n ≡ None → text ≡ codes "code-" ++ decimal n → ⊥) → (found : Option ℕ) → code_of_text option text ≡ found → found ≡ None
-no_code option text nameless never None is = refl
-no_code option text nameless never (Some code) is =
-    let has = code_has_text option text code is in
-    let known = at_each (code_has_known_name option) 16 code (names_are_known option) has.1 in
-    let parts = text_is_number option code (level_of_code option code) known (ap (level_of_name option) has.0 ∙ nameless) in
-    absurd (never code has.1 parts.0 (sym has.0 ∙ parts.1))
+-- a code alone is read with ff
+alone_named : (option : NetOption) (code : ℕ) (found : Option Level) → level_of_code option code ≡ found → enhanced_or_none found ≡ not_enhanced
+alone_named option code None is = refl
+alone_named option code (Some level) is = (found_with option code not_enhanced level is).2
+
+pub alone_has_none : (option : NetOption) (code : ℕ) → enhanced_named option code None ≡ not_enhanced
+alone_has_none option code = alone_named option code (level_of_code option code) refl
+
+-- with ff the text is that of the code alone
+pub text_alone : (option : NetOption) (code : ℕ) → level_text option code (Some not_enhanced) ≡ level_text option code None
+text_alone option code = ap (λ found. name_or_number found code) (ff_says_nothing option code)
+
+-- a text that is the number of no such code stands for none
+pub no_number : (option : NetOption) (text : List ℕ) → ((n : ℕ) → n < 16 → level_of_code option n ≡ None → text ≡ codes "code-" ++ decimal n → ⊥) → (found : Option ℕ) → code_of_number option text ≡ found → found ≡ None
+no_number option text never None is = refl
+no_number option text never (Some code) is =
+    let parts = number_is option text code is in
+    absurd (never code parts.2 parts.0 (sym parts.1))

@@ -1,17 +1,22 @@
 -- The digits of a written frame: they are decoded to what it carries, and no line ends in them.
-use Rattle.std.proofs.Common.{◌≡◌, ◌<◌, ◌-◌, ℕ, zero, suc, Bool, true, false, ◌==◌, List, [], ◌∷◌, ◌++◌, length, take, replicate, get_or, nat_lt, Ok, refl, sym, ◌∙◌, inl, inr, arith, lit<}
+use Rattle.std.proofs.Common.{◌≡◌, ◌<◌, ◌-◌, ℕ, zero, suc, Bool, true, false, ◌==◌, List, [], ◌∷◌, ◌++◌, length, replicate, get_or, nat_lt, Option, Some, None, IfSome, Ok, refl, sym, ◌∙◌, inl, inr, arith, lit<}
 use Rattle.std.specs.List.{All, list_all}
 use Rattle.std.proofs.lemmas.Bool.{cases_Bool, and_parts, ltb-true, eqb-true}
 use Rattle.std.proofs.lemmas.List.Elements.{All-get_or, All-weaker}
-use Rattle.hex.specs.Hex.{IsBytes, decode_of, encode_lower, encode_with, is_hex_digit}
+use Rattle.hex.specs.Hex.{IsBytes, decode_of, decode_sized, encode_lower, encode_with, is_hex_digit}
 use Rattle.hex.proofs.HexLemmas.{decode_of-encode_lower, decode_of-ok, decode_sized-ok, decode_sized-twice}
+use Rattle.sync_ql.specs.declared.levels.NetOption.{NetOption}
+use Rattle.sync_ql.specs.declared.levels.Level.{Level}
+use Rattle.sync_ql.specs.Level.{level_of_codes}
+use Rattle.sync_ql.proofs.Tables.{enhanced_of-bound}
 use Rattle.esmc_frame.specs.declared.frame.Pdu.{Pdu}
-use Rattle.esmc_frame.specs.Parts.{slow_protocols_address, slow_protocols_ethertype, ossp_subtype, itu_oui, esmc_subtype, ql_tlv_head}
-use Rattle.esmc_frame.specs.Frame.{version_and_flag, written_frame}
+use Rattle.esmc_frame.specs.declared.frame.Extended.{Extended}
+use Rattle.esmc_frame.specs.Parts.{slow_protocols_address, slow_protocols_ethertype, ossp_subtype, itu_oui, esmc_subtype, ql_tlv_head, extended_tlv_head}
+use Rattle.esmc_frame.specs.Frame.{version_and_flag, written_extended, written_frame}
 use Rattle.esmc_frame.specs.Reading.{reading_of}
 use Rattle.esmc_frame.proofs.Laws.{reading_of-written_frame}
-use Rattle.capture_text.specs.Reading.{IsRow}
-use Rattle.sync_ql.specs.declared.levels.NetOption.{NetOption}
+use Rattle.capture_text.specs.Reading.{IsRow, SayRow, SaysBehind, fields_of, enhanced_or_none, enhanced_named}
+use Rattle.capture_text.specs.Steps.{AreOctets}
 
 IsBytes-append : (xs ys : List ℕ) → IsBytes xs → IsBytes ys → IsBytes (xs ++ ys)
 IsBytes-append [] ys front back i = back i
@@ -36,14 +41,54 @@ pub record IsSendable (pdu : Pdu) : Type 0 where
   pub six : length pdu.source ≡ 6
   pub octets : IsBytes pdu.source
   pub small : pdu.code < 16
+  pub behind : IfSome pdu.extended AreOctets
+  pub enhanced : IfSome pdu.extended (λ extended. extended.code < 256)
 
 -- a row says what can be sent
-pub sendable : (option : NetOption) (line : List ℕ) (pdu : Pdu) → IsRow option line pdu → IsSendable pdu
-sendable option line pdu row =
-    let twelve = decode_sized-ok (take 12 line) 6 pdu.source row.source in
-    let ok = decode_of-ok (take 12 line) pdu.source (sym (decode_sized-twice (take 12 line) 6 twelve) ∙ row.source) in
+sized : (text : List ℕ) (n : ℕ) (octets : List ℕ) → decode_sized text n ≡ Ok octets → (length octets ≡ n) × IsBytes octets
+sized text n octets is =
+    let twice = decode_sized-ok text n octets is in
+    let ok = decode_of-ok text octets (sym (decode_sized-twice text n twice) ∙ is) in
     let len = ok.2 in
-    record { six = omega (arith, len, twelve); octets = ok.3; small = row.code }
+    (omega (arith, len, twice), ok.3)
+
+enhanced_bound : (found : Option Level) → enhanced_or_none found < 256
+enhanced_bound (Some level) = enhanced_of-bound level
+enhanced_bound None = lit< tt
+
+behind_sendable : (option : NetOption) (code : ℕ) (behind : List (List ℕ)) (extended : Option Extended) → SaysBehind option code behind extended → IfSome extended AreOctets × IfSome extended (λ e. e.code < 256)
+behind_sendable option code [] None says = (tt, tt)
+behind_sendable option code (clock ∷ flags ∷ eeecs ∷ eecs ∷ []) (Some extended) says =
+    let identity = sized clock 8 extended.clock says.identity in
+    let octet = (sized flags 1 (extended.flags ∷ []) says.flag_octet).1 0 in (
+      record { eight = identity.0; clock = identity.1; flags = octet; eeecs = says.eeecs_octet; eecs = says.eecs_octet },
+      let below : enhanced_named option code (Some extended.code) < 256 = enhanced_bound (level_of_codes option code (Some extended.code)) in
+          rw says.named below,
+    )
+behind_sendable option code behind extended says = absurd says
+
+fields_sendable : (option : NetOption) (fields : List (List ℕ)) (pdu : Pdu) → SayRow option fields pdu → IsSendable pdu
+fields_sendable option (source ∷ kind ∷ level ∷ behind) pdu says =
+    let sends = sized source 6 pdu.source says.0.sends in
+    let rest = behind_sendable option pdu.code behind pdu.extended says.1 in
+    record { six = sends.0; octets = sends.1; small = says.0.four_bits; behind = rest.0; enhanced = rest.1 }
+fields_sendable option fields pdu says = absurd says
+
+pub sendable : (option : NetOption) (line : List ℕ) (pdu : Pdu) → IsRow option line pdu → IsSendable pdu
+sendable option line pdu row = fields_sendable option (fields_of line) pdu row
+
+IsBytes-extended : (extended : Option Extended) → IfSome extended AreOctets → IfSome extended (λ e. e.code < 256) → IsBytes (written_extended extended)
+IsBytes-extended None octets code = IsBytes-tested (replicate 32 0) refl
+IsBytes-extended (Some extended) octets code =
+    let head = extended_tlv_head ++ extended.code ∷ [] in
+    let clock = head ++ extended.clock in
+    let counts = extended.flags ∷ extended.eeecs ∷ extended.eecs ∷ [] in
+    let h_head = IsBytes-append extended_tlv_head (extended.code ∷ []) (IsBytes-tested extended_tlv_head refl) (IsBytes-one extended.code code) in
+    let h_clock = IsBytes-append head extended.clock h_head octets.clock in
+    let h_pair = IsBytes-append (extended.eeecs ∷ []) (extended.eecs ∷ []) (IsBytes-one extended.eeecs octets.eeecs) (IsBytes-one extended.eecs octets.eecs) in
+    let h_counts = IsBytes-append (extended.flags ∷ []) (extended.eeecs ∷ extended.eecs ∷ []) (IsBytes-one extended.flags octets.flags) h_pair in
+    let h_fields = IsBytes-append clock counts h_clock h_counts in
+    IsBytes-append (clock ++ counts) (replicate 17 0) h_fields (IsBytes-tested (replicate 17 0) refl)
 
 IsBytes-written : (pdu : Pdu) → IsSendable pdu → IsBytes (written_frame pdu)
 IsBytes-written pdu can =
@@ -67,14 +112,18 @@ IsBytes-written pdu can =
     let h_reserved = IsBytes-append flag (replicate 3 0) h_flag (IsBytes-tested (replicate 3 0) refl) in
     let h_tlv = IsBytes-append reserved ql_tlv_head h_reserved (IsBytes-tested ql_tlv_head refl) in
     let h_level = IsBytes-append tlv (pdu.code ∷ []) h_tlv (IsBytes-one pdu.code code) in
-    IsBytes-append level (replicate 32 0) h_level (IsBytes-tested (replicate 32 0) refl)
+    IsBytes-append level (written_extended pdu.extended) h_level (IsBytes-extended pdu.extended can.behind can.enhanced)
 
 -- the digits are decoded to the frame, and the frame is read as what it carries
 pub decode_of-digits : (pdu : Pdu) → IsSendable pdu → decode_of (encode_lower (written_frame pdu)) ≡ Ok (written_frame pdu)
 decode_of-digits pdu can = decode_of-encode_lower (written_frame pdu) (IsBytes-written pdu can)
 
+eight_octets : (extended : Option Extended) → IfSome extended AreOctets → IfSome extended (λ e. length e.clock ≡ 8)
+eight_octets None octets = tt
+eight_octets (Some extended) octets = octets.eight
+
 pub reading_of-written : (pdu : Pdu) → IsSendable pdu → reading_of (written_frame pdu) ≡ Ok pdu
-reading_of-written pdu can = reading_of-written_frame pdu can.six can.small
+reading_of-written pdu can = reading_of-written_frame pdu can.six can.small (eight_octets pdu.extended can.behind)
 
 pub some_digits : (pdu : Pdu) → 0 < length (encode_lower (written_frame pdu))
 unfolding encode_with

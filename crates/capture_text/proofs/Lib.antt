@@ -1,4 +1,5 @@
 pub mod LineLemmas
+pub mod LongLines
 pub mod RowLemmas
 pub mod TextLemmas
 pub mod CodeLemmas

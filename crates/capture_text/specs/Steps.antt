@@ -1,17 +1,15 @@
 -- Private: the steps of a text, which only clauses of private functions cite.
-use Rattle.std.specs.Prelude.{◌≡◌, ℕ, ◌+◌, ◌==◌, List, [], ◌++◌, length, Option, None, Some, Result, Ok, Err}
+use Rattle.std.specs.Prelude.{◌≡◌, ℕ, ◌+◌, ◌<◌, ◌==◌, List, [], ◌∷◌, ◌++◌, length, Option, None, Some, Result, Ok, Err}
 use Rattle.std.specs.Borrow.{Bor}
 use Rattle.std.specs.List.{slice_split}
 use Rattle.capture_text.specs.declared.error.CaptureErr.{CaptureErr}
 use Rattle.capture_text.specs.Lines.{lines_of}
 use Rattle.capture_text.specs.Gives.{Refuses}
+use Rattle.capture_text.specs.Row.{fields_behind}
+use Rattle.esmc_frame.specs.declared.frame.Extended.{Extended}
+use Rattle.hex.specs.Hex.{IsBytes}
 
--- the answer is the definition's, of a value that is seen as another
-abbrev pub GivesBy : {A B : Type 0} → (A → B) → Result A CaptureErr → Result B CaptureErr → Type 0
-GivesBy see (Ok value) answer = answer ≡ Ok (see value)
-GivesBy see (Err error) answer = Refuses error answer
-
--- the same of a step that has made the value
+-- the answer of a step that has made the value is the definition's
 abbrev pub GivesThat : {A : Type 0} → Result (Unit {0}) CaptureErr → A → Result A CaptureErr → Type 0
 GivesThat (Ok done) value answer = answer ≡ Ok value
 GivesThat (Err error) value answer = Refuses error answer
@@ -31,7 +29,24 @@ abbrev pub size_left : Option (Bor (List ℕ)) → ℕ
 size_left None = 0
 size_left (Some rest) = length rest.now + 1
 
--- the parts between line feeds of what is left
-abbrev pub parts_left : Option (Bor (List ℕ)) → List (List ℕ)
-parts_left None = []
-parts_left (Some rest) = slice_split (λ byte. byte == 10) rest.now
+-- the parts of what is left, between bytes of this value
+abbrev pub parts_left : ℕ → Option (Bor (List ℕ)) → List (List ℕ)
+parts_left at None = []
+parts_left at (Some rest) = slice_split (λ byte. byte == at) rest.now
+
+-- texts, each with a comma before it
+abbrev pub with_commas : List (List ℕ) → List ℕ
+with_commas [] = []
+with_commas (text ∷ texts) = 44 ∷ text ++ with_commas texts
+
+-- what stands behind the level in a row
+abbrev pub behind_text : Option Extended → List ℕ
+behind_text extended = with_commas (fields_behind extended)
+
+-- the fields of an extended QL TLV are octets, eight of them the clock's
+pub record AreOctets (extended : Extended) : Type 0 where
+  pub eight : length extended.clock ≡ 8
+  pub clock : IsBytes extended.clock
+  pub flags : extended.flags < 256
+  pub eeecs : extended.eeecs < 256
+  pub eecs : extended.eecs < 256

@@ -1,21 +1,24 @@
 //! Whole texts: frames to rows, and rows to frames.
 
-ghost use Rattle.std.specs.Prelude.{◌≡◌, ◌<◌, ◌++◌, IfOk, OnOk};
-ghost use Rattle.hex.specs.Hex.{encode_lower, decode_of};
-ghost use Rattle.capture_text.specs.Capture.{row_of_line, frame_of_line, decoded_text, encoded_text, rows_in_form, carried_at, octets_at, as_line};
+ghost use Rattle.std.specs.Prelude.{◌≡◌, ◌<◌, ◌*◌, ◌/◌, ◌%◌, ◌==◌, ◌&&◌, ◌++◌, length, Err, IfOk, OnOk};
+ghost use Rattle.std.specs.List.{list_all};
+ghost use Rattle.hex.specs.Hex.{encode_lower, is_hex_digit};
+ghost use Rattle.capture_text.specs.Capture.{row_of_line, frame_of_line, decoded_text, encoded_text, rows_in_form, carried_at, as_line};
 ghost use Rattle.capture_text.specs.Row.{row_of};
 ghost use Rattle.capture_text.specs.Gives.{Gives};
-ghost use Rattle.capture_text.specs.Steps.{GivesBy, GivesThat, with_front};
+ghost use Rattle.capture_text.specs.Steps.{GivesThat, with_front};
 
 use crate::error::CaptureErr;
 use crate::lines::Lines;
 use crate::reading::read_row;
-use crate::row::put_row;
-use esmc_frame::{Pdu, decode, encode};
-use hex::FromHexError;
+use crate::row::row_for;
+use esmc_frame::{FrameErr, Pdu, decode, encode};
 use std::alloc::Global;
 use sync_edge::{NoMemory, Text};
 use sync_ql::NetOption;
+
+/// The most octets of a frame.
+const LONGEST_FRAME: usize = 1514;
 
 /// The rows of captured frames, each with a line feed.
 ///
@@ -28,9 +31,10 @@ pub fn decode_lines(alloc: Global, bytes: &[u8], option: NetOption) -> Result<Te
     ensures exact { Gives result (decoded_text option bytes.now) }
 {
     let mut text = Text::new(alloc);
+    let mut room = [0; LONGEST_FRAME];
     let mut lines = Lines::of(bytes);
     while let Some((number, line)) = lines.next_line() {
-        put_row_of(alloc, &mut text, number, line, option)?;
+        put_row_of(&mut text, &mut room, number, line, option)?;
     }
     Ok(text)
 }
@@ -54,10 +58,10 @@ pub fn encode_rows(alloc: Global, bytes: &[u8], option: NetOption) -> Result<Tex
     Ok(text)
 }
 
-/// Puts the row of the frame on a line, with a line feed.
+/// Puts the row of the frame on a line, with a line feed. The octets of the frame go into the room.
 fn put_row_of(
-    alloc: Global,
     text: &mut Text,
+    room: &mut [u8; LONGEST_FRAME],
     number: u64,
     line: &[u8],
     option: NetOption,
@@ -67,32 +71,66 @@ fn put_row_of(
     if line.is_empty() {
         return Ok(());
     }
-    let pdu = value_of(alloc, number, line)?;
+    let pdu = value_of(room, number, line)?;
     put_row_line(text, &pdu, option)?;
     Ok(())
 }
 
-/// What the frame on a line carries.
-#[tactic(auto, unfolding(crate::specs::Capture::carried_at))]
-fn value_of(alloc: Global, number: u64, line: &[u8]) -> Result<Pdu, CaptureErr>
-    ensures value { Gives result (carried_at number line.now) }
+/// What the frame on a line carries, whose octets go into the room.
+fn value_of(room: &mut [u8; LONGEST_FRAME], number: u64, line: &[u8]) -> Result<Pdu, CaptureErr>
+    ensures value { carried_at number line.now ≡ result }
     ensures code { IfOk result (λ pdu. pdu.code < 16) }
 {
-    let octets = octets_of(alloc, number, line)?;
-    match decode(octets.as_slice()) {
+    if line.len() > 2 * LONGEST_FRAME {
+        return Err(refusal_of_long(number, line));
+    }
+    value_in(&mut room[..line.len() / 2], number, line)
+}
+
+/// What the frame on a line carries, whose octets go into room for as many.
+fn value_in(octets: &mut [u8], number: u64, line: &[u8]) -> Result<Pdu, CaptureErr>
+    requires { length octets.old ≡ length line.now / 2 }
+    ensures value { carried_at number line.now ≡ result }
+    ensures code { IfOk result (λ pdu. pdu.code < 16) }
+{
+    if hex::decode_to_slice(line, octets).is_err() {
+        return Err(CaptureErr::Hex(number));
+    }
+    match decode(octets) {
         Ok(pdu) => Ok(pdu),
         Err(error) => Err(CaptureErr::Frame(number, error)),
     }
 }
 
-fn octets_of(alloc: Global, number: u64, line: &[u8]) -> Result<Vec<u8>, CaptureErr>
-    ensures { GivesBy (λ octets. octets.items) result (octets_at number (decode_of line.now)) }
+/// Why a line is refused that is longer than any frame: for its digits, and else for its length.
+fn refusal_of_long(number: u64, line: &[u8]) -> CaptureErr
+    requires { 2 * LONGEST_FRAME < length line.now }
+    ensures { carried_at number line.now ≡ Err result }
 {
-    match hex::decode(alloc, line) {
-        Ok(octets) => Ok(octets),
-        Err(FromHexError::OutOfMemory) => Err(CaptureErr::NoMemory),
-        Err(_) => Err(CaptureErr::Hex(number)),
+    if gives_octets(line) {
+        CaptureErr::Frame(number, FrameErr::Length)
+    } else {
+        CaptureErr::Hex(number)
     }
+}
+
+/// Whether a line is an even number of digits.
+fn gives_octets(line: &[u8]) -> bool
+    ensures { result ≡ (length line.now % 2 == 0 && list_all is_hex_digit line.now) }
+{
+    line.len() % 2 == 0 && are_digits(line)
+}
+
+fn are_digits(line: &[u8]) -> bool
+    ensures { result ≡ list_all is_hex_digit line.now }
+{
+    line.iter().all(|byte| is_digit(*byte))
+}
+
+fn is_digit(byte: u8) -> bool
+    ensures { result ≡ is_hex_digit byte }
+{
+    matches!(byte, b'0'..=b'9' | b'A'..=b'F' | b'a'..=b'f')
 }
 
 /// Puts a row, with a line feed.
@@ -100,8 +138,9 @@ fn put_row_line(text: &mut Text, pdu: &Pdu, option: NetOption) -> Result<(), NoM
     requires { pdu.now.code < 16 }
     ensures { OnOk result (text.new ≡ text.old ++ as_line (row_of option pdu.now)) }
 {
-    put_row(text, pdu, option)?;
-    text.put(b"\n")
+    let mut row = row_for(pdu, option);
+    row.put(b"\n");
+    text.put(row.bytes())
 }
 
 /// Puts the frame of the row on a line, with a line feed.

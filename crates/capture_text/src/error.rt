@@ -19,7 +19,7 @@ pub enum CaptureErr {
     #[error("line {0}: {1}")]
     Frame(u64, FrameErr),
     /// The line is no row.
-    #[error("line {0}: not SOURCE,KIND,LEVEL")]
+    #[error("line {0}: no row of three or seven fields")]
     Row(u64),
     /// Memory ran out.
     #[error("out of memory")]
@@ -74,7 +74,7 @@ mod tests {
             (
                 CaptureErr::Row(20),
                 Some(14),
-                "line 20: not SOURCE,KIND,LEVEL",
+                "line 20: no row of three or seven fields",
             ),
             (CaptureErr::NoMemory, None, "out of memory"),
         ] {

@@ -4,14 +4,16 @@
 //! [`encode_rows`] the frames of rows. Both answer the whole text or the first line that is wrong, a
 //! [`CaptureErr`]. [`put_row`] and [`read_row`] are the same for one row.
 //!
-//! Contracts see texts as lists of bytes: `lines_of` (the lines of some bytes), `row_of` (the row of
-//! what a frame carries), `IsRow` (a line is a row of this value), `decoded_text` and `encoded_text`
+//! Contracts see texts as lists of bytes: `lines_of` (the lines of some bytes), `fields_of` (the
+//! fields of a line), `row_of` (the row of what a frame carries), `as_named` (what such a row is read
+//! as), `IsRow` (a line is a row of this value), `decoded_text` and `encoded_text`
 //! (the whole text, or the first refusal).
 //!
 //! Only tested: the texts by which an error is printed, and that memory is found.
 #![tactic(auto)]
 
 mod capture;
+mod cutting;
 mod error;
 mod lines;
 mod reading;

@@ -1,38 +1,55 @@
 //! One row, as it is written.
 
-ghost use Rattle.std.specs.Prelude.{◌≡◌, ◌<◌, ◌≤◌, ◌+◌, [], ◌∷◌, ◌++◌, codes, length, Some, OnOk, OnErr};
+ghost use Rattle.std.specs.Prelude.{◌≡◌, ◌<◌, ◌≤◌, ◌+◌, ◌↔◌, [], ◌∷◌, ◌++◌, codes, length, Some, OnOk, OnErr, IfSome};
 ghost use Rattle.std.specs.Fmt.{decimal};
 ghost use Rattle.hex.specs.Hex.{IsBytes, encode_lower};
-ghost use Rattle.capture_text.specs.Row.{kind_text, level_text, row_of};
-ghost use Rattle.capture_text.specs.Reading.{pdu_of};
+ghost use Rattle.capture_text.specs.Row.{kind_text, level_text, enhanced_in, row_of};
+ghost use Rattle.capture_text.specs.Reading.{pdu_of, as_named, HasNamedCode};
+ghost use Rattle.capture_text.specs.Steps.{AreOctets, behind_text};
 
-use esmc_frame::Pdu;
+use esmc_frame::{Extended, Pdu};
 use std::marker::Model;
 use sync_edge::{NoMemory, Text};
-use sync_ql::{NetOption, level_of_code, name_of};
+use sync_ql::{NetOption, level_of_codes, name_of};
 
-/// The most octets that a row has: twelve digits, `,event,` and a name of eight letters.
-const LONGEST_ROW: usize = 27;
+/// The most octets that a row has, with its line feed: twelve digits, `,event,`, a name of eight
+/// letters, and behind it three commas with sixteen and two digits and two counts of three digits.
+const LONGEST_ROW: usize = 56;
 
-/// Puts the row of what a frame carries at the end, without a line feed: `SOURCE,KIND,LEVEL`.
+/// Puts the row of what a frame carries at the end, without a line feed: `SOURCE,KIND,LEVEL`, and
+/// `SOURCE,KIND,LEVEL,CLOCK,FLAGS,EEECS,EECS` where it has an extended QL TLV.
 ///
-/// SOURCE is twelve lower case digits, KIND `info` or `event`, LEVEL the level's name, and `code-N`
-/// where the option's table has no such code. A refused put leaves the text as it was.
+/// SOURCE is twelve lower case digits, KIND `info` or `event`, LEVEL the name of the level that the
+/// codes name, and `code-N` where they name none; CLOCK is sixteen and FLAGS two lower case digits,
+/// and the counts are numbers. A refused put leaves the text as it was.
 /// This project's own; the level's name after G.781.
-#[tactic(auto, using(crate::proofs::ReadingLemmas::row_is_read))]
 pub fn put_row(out: &mut Text, pdu: &Pdu, option: NetOption) -> Result<(), NoMemory>
     requires { pdu.now.code < 16 }
     ensures ok { OnOk result (out.new ≡ out.old ++ row_of option pdu.now) }
     ensures err { OnErr result (out.new ≡ out.old) }
 
-    // What `read_row` answers of the row is the value.
-    ensures read_back { pdu_of option (row_of option pdu.now) ≡ Some pdu.now }
+    // What `read_row` answers of the row is the value, but for an enhanced code that isn't the one of
+    // the level which is named, or ff where none is.
+    ensures read_back { pdu_of option (row_of option pdu.now) ≡ Some (as_named option pdu.now) }
+    ensures same { (as_named option pdu.now ≡ pdu.now) ↔ HasNamedCode option pdu.now }
+{
+    let row = row_for(pdu, option);
+    out.put(row.bytes())
+}
+
+/// The row of what a frame carries.
+pub(crate) fn row_for(pdu: &Pdu, option: NetOption) -> Row
+    requires { pdu.now.code < 16 }
+    ensures row { result ≡ row_of option pdu.now }
+    ensures short { length result < LONGEST_ROW }
+    ensures read_back { pdu_of option (row_of option pdu.now) ≡ Some (as_named option pdu.now) }
 {
     let mut row = Row::new();
     row.put_source(&pdu.source);
     row.put(kind_part(pdu.event));
-    row.put_level(pdu.code, option);
-    out.put(row.bytes())
+    row.put_level(pdu.code, enhanced_in(&pdu.extended), option);
+    row.put_behind(&pdu.extended);
+    row
 }
 
 /// The kind between its commas.
@@ -43,9 +60,19 @@ fn kind_part(event: bool) -> &'static [u8]
     if event { b",event," } else { b",info," }
 }
 
+/// The enhanced code of an extended QL TLV, if there is one.
+fn enhanced_in(extended: &Option<Extended>) -> Option<u8>
+    ensures { result ≡ enhanced_in extended.now }
+{
+    match extended {
+        Some(extended) => Some(extended.code),
+        None => None,
+    }
+}
+
 /// A row that is being put together.
 #[derive(Drop)]
-struct Row {
+pub(crate) struct Row {
     octets: [u8; LONGEST_ROW],
     len: usize,
 }
@@ -71,13 +98,15 @@ impl Row {
         }
     }
 
-    fn bytes(&self) -> &[u8]
+    /// What was put so far.
+    pub(crate) fn bytes(&self) -> &[u8]
         ensures { result.now ≡ self.now }
     {
         &self.octets[..self.len]
     }
 
-    fn put(&mut self, part: &[u8])
+    /// Puts a part at the end.
+    pub(crate) fn put(&mut self, part: &[u8])
         requires { length self.old + length part.now ≤ LONGEST_ROW }
         ensures put { self.new ≡ self.old ++ part.now }
         ensures len { length self.new ≡ length self.old + length part.now }
@@ -100,28 +129,95 @@ impl Row {
     }
 
     #[tactic(auto, using(crate::proofs::RowLemmas::length_name))]
-    fn put_level(&mut self, code: u8, option: NetOption)
+    fn put_level(&mut self, code: u8, enhanced: Option<u8>, option: NetOption)
         requires room { length self.old + 8 ≤ LONGEST_ROW }
         requires code { code < 16 }
-        ensures { self.new ≡ self.old ++ level_text option code }
+        ensures put { self.new ≡ self.old ++ level_text option code enhanced }
+        ensures len { length self.new ≤ length self.old + 8 }
     {
-        match level_of_code(option, code) {
+        match level_of_codes(option, code, enhanced) {
             Some(level) => self.put(name_of(level).as_bytes()),
-            None => self.put_number(code),
+            None => self.put_code(code),
         }
     }
 
-    #[tactic(auto, using(crate::proofs::RowLemmas::one_digit, crate::proofs::RowLemmas::two_digits, std::proofs::Common::append_assoc))]
-    fn put_number(&mut self, code: u8)
+    #[tactic(auto, using(std::proofs::Common::append_assoc))]
+    fn put_code(&mut self, code: u8)
         requires room { length self.old + 8 ≤ LONGEST_ROW }
         requires code { code < 16 }
-        ensures { self.new ≡ self.old ++ (codes "code-" ++ decimal code) }
+        ensures put { self.new ≡ self.old ++ (codes "code-" ++ decimal code) }
+        ensures len { length self.new ≤ length self.old + 8 }
     {
         self.put(b"code-");
-        if code < 10 {
-            self.put(&[b'0' + code]);
+        self.put_number(code);
+    }
+
+    #[tactic(auto, using(crate::proofs::RowLemmas::one_digit, crate::proofs::RowLemmas::two_digits, crate::proofs::RowLemmas::three_digits))]
+    fn put_number(&mut self, number: u8)
+        requires { length self.old + 3 ≤ LONGEST_ROW }
+        ensures put { self.new ≡ self.old ++ decimal number }
+        ensures len { length self.new ≤ length self.old + 3 }
+    {
+        if number < 10 {
+            self.put(&[b'0' + number]);
+        } else if number < 100 {
+            self.put(&[b'0' + number / 10, b'0' + number % 10]);
         } else {
-            self.put(&[b'1', b'0' + (code - 10)]);
+            self.put(&[
+                b'0' + number / 100,
+                b'0' + number / 10 % 10,
+                b'0' + number % 10,
+            ]);
         }
+    }
+
+    /// Puts the fields behind the level, if there are any, each with a comma before it.
+    fn put_behind(&mut self, extended: &Option<Extended>)
+        requires { length self.old + 28 ≤ LONGEST_ROW }
+        ensures put { self.new ≡ self.old ++ behind_text extended.now }
+        ensures len { length self.new ≤ length self.old + 28 }
+        ensures octets { IfSome extended.now AreOctets }
+    {
+        if let Some(extended) = extended {
+            self.put_tlv(extended);
+        }
+    }
+
+    fn put_tlv(&mut self, extended: &Extended)
+        requires { length self.old + 28 ≤ LONGEST_ROW }
+        ensures put { self.new ≡ self.old ++ behind_text (Some extended.now) }
+        ensures len { length self.new ≤ length self.old + 28 }
+        ensures octets { AreOctets extended.now }
+    {
+        self.put(b",");
+        self.put_clock(&extended.clock);
+        self.put(b",");
+        self.put_flags(extended.flags);
+        self.put(b",");
+        self.put_number(extended.eeecs);
+        self.put(b",");
+        self.put_number(extended.eecs);
+    }
+
+    fn put_clock(&mut self, clock: &[u8; 8])
+        requires { length self.old + 16 ≤ LONGEST_ROW }
+        ensures put { self.new ≡ self.old ++ encode_lower clock.now }
+        ensures len { length self.new ≡ length self.old + 16 }
+        ensures eight { length clock.now ≡ 8 }
+        ensures octets { IsBytes clock.now }
+    {
+        let mut digits = [0; 16];
+        hex::encode_to_slice(clock.as_slice(), &mut digits).unwrap();
+        self.put(&digits);
+    }
+
+    fn put_flags(&mut self, flags: u8)
+        requires { length self.old + 2 ≤ LONGEST_ROW }
+        ensures put { self.new ≡ self.old ++ encode_lower (flags ∷ []) }
+        ensures len { length self.new ≡ length self.old + 2 }
+    {
+        let mut digits = [0; 2];
+        hex::encode_to_slice([flags].as_slice(), &mut digits).unwrap();
+        self.put(&digits);
     }
 }

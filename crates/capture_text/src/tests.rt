@@ -69,6 +69,31 @@ fn frames_are_decoded(rt: HostRuntime) {
             "0180c200000202000000000188090a0019a70001100000000100040e0000000000000000000000000000000000000000000000000000000000000000",
             Ok("020000000001,info,code-14\n"),
         ),
+        Case(
+            NetOption::I,
+            "0180c200000202000000000188090a0019a7000110000000010004020200142000112233445566770001000000000000000000000000000000000000",
+            Ok("020000000001,info,QL-PRTC,0011223344556677,00,1,0\n"),
+        ),
+        Case(
+            NetOption::II,
+            "0180c200000202000000000188090a0019a7000110000000010004020200142000112233445566770001000000000000000000000000000000000000",
+            Ok("020000000001,info,code-2,0011223344556677,00,1,0\n"),
+        ),
+        Case(
+            NetOption::I,
+            "0180c200000202000000000188090a0019a7000110000000010004020200143000112233445566770001000000000000000000000000000000000000",
+            Ok("020000000001,info,QL-PRC,0011223344556677,00,1,0\n"),
+        ),
+        Case(
+            NetOption::I,
+            "0180c200000202000000000188090a0019a7000110000000010004020200132000112233445566770001000000000000000000000000000000000000",
+            Ok("020000000001,info,QL-PRC\n"),
+        ),
+        Case(
+            NetOption::I,
+            "0180c200000202000000000188090a0019a70001100000000100040e02001421ffeeddccbbaa9988a0ff0affffffffffffffffffffffffffffffffff",
+            Ok("020000000001,info,code-14,ffeeddccbbaa9988,a0,255,10\n"),
+        ),
         Case(NetOption::I, "", Ok("")),
         Case(NetOption::I, "\n\r\n", Ok("")),
         Case(
@@ -137,6 +162,75 @@ fn rows_are_encoded(rt: HostRuntime) {
             Ok(
                 "0180c200000202000000000188090a0019a70001100000000100040a0000000000000000000000000000000000000000000000000000000000000000\n",
             ),
+        ),
+        Case(
+            NetOption::I,
+            "020000000001,info,QL-PRTC,0011223344556677,00,1,0",
+            Ok(
+                "0180c200000202000000000188090a0019a7000110000000010004020200142000112233445566770001000000000000000000000000000000000000\n",
+            ),
+        ),
+        Case(
+            NetOption::I,
+            "020000000001,info,code-3,0011223344556677,0F,255,10",
+            Ok(
+                "0180c200000202000000000188090a0019a700011000000001000403020014ff00112233445566770fff0a0000000000000000000000000000000000\n",
+            ),
+        ),
+        Case(
+            NetOption::I,
+            "020000000001,info,QL-PRTC",
+            Err(CaptureErr::Row(1)),
+        ),
+        Case(
+            NetOption::I,
+            "020000000001,info,QL-PRC,0011223344556677",
+            Err(CaptureErr::Row(1)),
+        ),
+        Case(
+            NetOption::I,
+            "020000000001,info,QL-PRC,0011223344556677,00,1",
+            Err(CaptureErr::Row(1)),
+        ),
+        Case(
+            NetOption::I,
+            "020000000001,info,QL-PRC,0011223344556677,00,1,0,",
+            Err(CaptureErr::Row(1)),
+        ),
+        Case(
+            NetOption::I,
+            "020000000001,info,QL-PRC,001122334455667,00,1,0",
+            Err(CaptureErr::Row(1)),
+        ),
+        Case(
+            NetOption::I,
+            "020000000001,info,QL-PRC,0011223344556677,0g,1,0",
+            Err(CaptureErr::Row(1)),
+        ),
+        Case(
+            NetOption::I,
+            "020000000001,info,QL-PRC,0011223344556677,0,1,0",
+            Err(CaptureErr::Row(1)),
+        ),
+        Case(
+            NetOption::I,
+            "020000000001,info,QL-PRC,0011223344556677,00,256,0",
+            Err(CaptureErr::Row(1)),
+        ),
+        Case(
+            NetOption::I,
+            "020000000001,info,QL-PRC,0011223344556677,00,1,01",
+            Err(CaptureErr::Row(1)),
+        ),
+        Case(
+            NetOption::I,
+            "020000000001,info,QL-PRC,0011223344556677,00,,0",
+            Err(CaptureErr::Row(1)),
+        ),
+        Case(
+            NetOption::I,
+            "020000000001,info,code-2,0011223344556677,00,1,0",
+            Err(CaptureErr::Row(1)),
         ),
         Case(NetOption::I, "", Ok("")),
         Case(
@@ -217,6 +311,12 @@ fn longest_frame_is_decoded(rt: HostRuntime) -> Result<(), Fail> {
         row,
         Err(CaptureErr::Frame(1, FrameErr::Length)),
     );
+    line.put(b"f")?;
+    let row = decode_lines(rt.alloc(), line.bytes(), NetOption::I);
+    gives(&rt, "3031 digits", row, Err(CaptureErr::Hex(1)));
+    line.put(b"g")?;
+    let row = decode_lines(rt.alloc(), line.bytes(), NetOption::I);
+    gives(&rt, "3032 letters", row, Err(CaptureErr::Hex(1)));
     Ok(())
 }
 
@@ -226,6 +326,7 @@ fn one_row_goes_both_ways(rt: HostRuntime) -> Result<(), Fail> {
         source: [0x0a, 0, 0, 0, 0, 0xff],
         event: true,
         code: 3,
+        extended: None,
     };
     let mut text = Text::new(rt.alloc());
     put_row(&mut text, &pdu, NetOption::I)?;

@@ -1,16 +1,17 @@
 -- A text without such a number, or with that of a level's code, is that of no code.
-use Rattle.std.proofs.Common.{refl, sym, ◌∙◌}
-use Rattle.capture_text.proofs.CodeLemmas.{no_code, code_of_its_number}
+use Rattle.std.proofs.Common.{◌≡◌, Some, ap, refl, sym, ◌∙◌}
+use Rattle.capture_text.specs.Reading.{code_of_number}
+use Rattle.capture_text.proofs.CodeLemmas.{no_number, code_of_its_number}
 use Rattle.capture_text.proofs.reading.code_of_number.Goals as goal
 
 pub returns-in_err-code-clause-code : goal.returns-in_err-code-clause-code
 returns-in_err-code-clause-code c =
     c.from_residual.ensures
-    ∙ sym (no_code c.args.option c.args.text.now c.requires (λ n small unknown number. cc (c.in_err-code.ensures.found n small number)) _ refl)
+    ∙ sym (no_number c.args.option c.args.text.now (λ n small unknown number. cc (c.in_err-code.ensures.found n small number)) _ refl)
 
 pub returns-in-Some-clause-code : goal.returns-in-Some-clause-code
 returns-in-Some-clause-code c =
-    sym (no_code c.args.option c.args.text.now c.requires (λ n small unknown number.
+    sym (no_number c.args.option c.args.text.now (λ n small unknown number.
     let same = c.in_ok-code.ensures.found n small number in
     let known = c.in-Some.ensures.exact in
     cc) _ refl)
@@ -18,4 +19,5 @@ returns-in-Some-clause-code c =
 pub returns-in-None-clause-code : goal.returns-in-None-clause-code
 returns-in-None-clause-code c =
     let text = c.in_ok-code.ensures.text in
-    sym (code_of_its_number c.args.option c.args.text.now c.in_ok-code.code text.0 text.1 (sym c.in-None.ensures.exact))
+    let number = code_of_its_number c.args.option c.in_ok-code.code text.0 (sym c.in-None.ensures.exact) in
+    sym (ap (code_of_number c.args.option) text.1 ∙ number)
