@@ -1,13 +1,11 @@
 -- The bundles of some links when one more comes.
-use Rattle.std.proofs.Common.{◌≡◌, ℕ, ◌+◌, ◌<◌, ◌≤◌, zero, suc, Bool, true, false, ◌==◌, ◌||◌, List, [], ◌∷◌, ◌++◌, length, get_or, Option, Some, None, slice_get, find, refl, ap, sym, ◌∙◌, inl, inr, arith, length-append}
-use Rattle.std.specs.Prelude.{is_some, option_and_then, unwrap_or, Result, Ok, Err, OnOk}
+use Rattle.std.proofs.Common.{◌≡◌, ℕ, ◌+◌, ◌<◌, ◌≤◌, Bool, true, false, List, [], ◌∷◌, ◌++◌, length, Option, Some, None, slice_get, find, refl, ap, sym, ◌∙◌, inl, inr, arith, length-append}
+use Rattle.std.specs.Prelude.{option_and_then, unwrap_or, Result, Ok, Err, OnOk}
 use Rattle.std.specs.List.{range_with_len}
 use Rattle.std.specs.Option.{option_or}
 use Rattle.std.specs.Str.{bytes_eq}
-use Rattle.std.proofs.Math.Bool.{or-true}
 use Rattle.std.proofs.lemmas.Bool.{cases_Bool, cases_lt, eq-eqb, ne_eqb, true≢false}
-use Rattle.std.proofs.lemmas.List.Quantifiers.{position-Some}
-use Rattle.std.proofs.lemmas.Option.{none-some, same_Some, slice_get_within}
+use Rattle.std.proofs.lemmas.Option.{slice_get_within}
 use Rattle.std.proofs.lemmas.Slice.Eq.{bytes_eq-Decides}
 use Rattle.sync_topo.specs.declared.link.Link.{Link}
 use Rattle.sync_topo.specs.Bundles.{is_same_bundle, bundle_name, are_of_one_bundle, lowest_of_bundle}
@@ -75,7 +73,7 @@ first-other links link name other = cases (first_of_bundle links name) refl
 
 -- ---- the number of a link's bundle
 
-lowest-is : (links : List Link) (link k : ℕ) → k < length links → are_of_one_bundle links k link ≡ true
+pub lowest-is : (links : List Link) (link k : ℕ) → k < length links → are_of_one_bundle links k link ≡ true
     → ((i : ℕ) → i < k → are_of_one_bundle links i link ≡ false) → lowest_of_bundle links link ≡ k
 unfolding lowest_of_bundle
 lowest-is links link k within here before =

@@ -16,7 +16,7 @@ use Rattle.sync_topo.specs.Steps.{Tells}
 use Rattle.sync_topo.proofs.RowLoops.{kept-front}
 
 -- no rule is broken where none is the first
-all-kept : (rules : List Rule) → first_broken rules ≡ None → AreKept rules
+pub all-kept : (rules : List Rule) → first_broken rules ≡ None → AreKept rules
 all-kept [] none = refl
 all-kept (first ∷ rules) none = cases first.broken refl none (all-kept rules)
   where

@@ -14,3 +14,5 @@ pub mod PlaceLaws
 pub mod NameLaws
 pub mod BundleLemmas
 pub mod BundleRules
+pub mod Accepted
+pub mod BundleLaws

@@ -44,3 +44,7 @@ abbrev pub BundlesJoin : List Link → Type 0
 BundlesJoin links =
     (i j : ℕ) (one other : Link) → slice_get links i ≡ Some one → slice_get links j ≡ Some other
     → IsTrue (is_same_bundle one.bundle other.bundle) → IsTrue (join_same one other)
+
+-- no link names a bundle: as in every plan of version 1
+abbrev pub NamesNoBundle : Topology → Type 0
+NamesNoBundle plan = (k : ℕ) (link : Link) → slice_get plan.links k ≡ Some link → link.bundle ≡ None

@@ -6,7 +6,7 @@ use Rattle.sync_ql.specs.Level.{name_of, level_of_name, do_not_use_of}
 use Rattle.sync_topo.specs.declared.place.Section.{Section}
 use Rattle.sync_topo.specs.declared.place.Section.TheVariants.{Elements, Links, Sources}
 use Rattle.sync_topo.specs.declared.place.Place.{Place}
-use Rattle.sync_topo.specs.declared.error.PlanErr.TheVariants.{Name, Twice, SelfLink, LevelName}
+use Rattle.sync_topo.specs.declared.error.PlanErr.TheVariants.{Name, Twice, SelfLink, Range, Bundle, LevelName}
 use Rattle.sync_topo.specs.declared.element.Element.{Element}
 use Rattle.sync_topo.specs.declared.link.Link.{Link}
 use Rattle.sync_topo.specs.declared.input.InputId.TheVariants as input
@@ -16,7 +16,7 @@ use Rattle.sync_topo.specs.declared.rows.SourceRow.{SourceRow}
 use Rattle.sync_topo.specs.declared.rows.PlanRows.{PlanRows}
 use Rattle.sync_topo.specs.Topology.{Topology}
 use Rattle.sync_topo.specs.Lines.{priority_of, delay_of, line_name, line_of_name, line_input, input_number, input_of_name, inputs_of}
-use Rattle.sync_topo.specs.Bundles.{lowest_of_bundle}
+use Rattle.sync_topo.specs.Bundles.{lowest_of_bundle, bundle_of}
 use Rattle.sync_topo.specs.Hops.{hops}
 use Rattle.sync_topo.specs.RowValues.{default_own, element_from}
 use Rattle.sync_topo.specs.PlanRows.{plan_of_rows}
@@ -51,6 +51,28 @@ return_over_its_own_link_is_no_hop = refl
 pub return_over_a_parallel_link_is_a_hop : hops twin 0 3 ≡ true
 unfolding lowest_of_bundle
 return_over_a_parallel_link_is_a_hop = refl
+
+-- the two links in one bundle, the second with its ends swapped, and a third beside them
+abbrev pub bundled : Topology
+bundled = record twin {
+  links = record (link (codes "L1")) { bundle = Some (codes "T") } ∷ record (link (codes "L2")) { a = 1; b = 0; bundle = Some (codes "T") } ∷ link (codes "L3") ∷ [];
+}
+
+pub bundle_goes_by_its_lowest_link : bundle_of bundled 1 ≡ 0
+unfolding lowest_of_bundle
+bundle_goes_by_its_lowest_link = refl
+
+pub link_beside_a_bundle_is_one_of_its_own : bundle_of bundled 2 ≡ 2
+unfolding lowest_of_bundle
+link_beside_a_bundle_is_one_of_its_own = refl
+
+pub return_over_a_link_of_the_bundle_is_no_hop : hops bundled 0 2 ≡ false
+unfolding lowest_of_bundle
+return_over_a_link_of_the_bundle_is_no_hop = refl
+
+pub return_over_a_link_beside_the_bundle_is_a_hop : hops bundled 0 5 ≡ true
+unfolding lowest_of_bundle
+return_over_a_link_beside_the_bundle_is_a_hop = refl
 
 pub line_is_found_by_its_name : line_of_name twin (codes "L2>A") ≡ Some 3
 line_is_found_by_its_name = refl
@@ -127,6 +149,26 @@ pub self_link_comes_before_a_delay_out_of_range
     ≡ Err (SelfLink (at Links 1))
 unfolding plan_of_rows
 self_link_comes_before_a_delay_out_of_range = refl
+
+-- a row of a link in a bundle
+abbrev pub row_in : List ℕ → List ℕ → List ℕ → List ℕ → LinkRow
+row_in name a b bundle = record (link_row name a b) { bundle = Some bundle }
+
+pub bundle_joins_the_same_two_elements
+    : plan_of_rows (record (two_elements (row_in (codes "L1") (codes "A") (codes "B") (codes "T") ∷ row_in (codes "L2") (codes "B") (codes "A") (codes "T") ∷ row_in (codes "L3") (codes "A") (codes "C") (codes "T") ∷ []) [])
+    { elements = element_row (codes "A") ∷ element_row (codes "B") ∷ element_row (codes "C") ∷ [] })
+    ≡ Err (Bundle (at Links 3))
+unfolding plan_of_rows
+bundle_joins_the_same_two_elements = refl
+
+pub number_out_of_range_comes_before_a_bad_name_of_a_bundle
+    : plan_of_rows (two_elements (record (row_in (codes "L1") (codes "A") (codes "B") (codes "T>")) { delay_b = Some (pos 2001) } ∷ []) []) ≡ Err (Range (at Links 1))
+unfolding plan_of_rows
+number_out_of_range_comes_before_a_bad_name_of_a_bundle = refl
+
+pub bad_name_of_a_bundle_is_refused : plan_of_rows (two_elements (row_in (codes "L1") (codes "A") (codes "B") (codes "T>") ∷ []) []) ≡ Err (Bundle (at Links 1))
+unfolding plan_of_rows
+bad_name_of_a_bundle_is_refused = refl
 
 pub bad_name_of_an_element_comes_before_any_link_row : plan_of_rows (record {
   option = I;

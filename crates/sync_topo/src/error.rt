@@ -14,31 +14,31 @@ use thiserror::Error;
 pub enum PlanErr {
     /// The section has more rows than its limit, and this is the first one past it; or by this row
     /// an element has more nominated inputs than its limit.
-    #[error("a limit of the plan is passed")]
+    #[error("{0}: a limit of the plan is passed")]
     Limit(Place),
     /// The row's name isn't 1 to 32 of `A-Z a-z 0-9 _ -`.
-    #[error("a name breaks the rule for names")]
+    #[error("{0}: a name breaks the rule for names")]
     Name(Place),
     /// An earlier row has the name: for an element an earlier element, for a link an earlier link,
     /// and for a source a link or an earlier source.
-    #[error("a name stands twice")]
+    #[error("{0}: a name stands twice")]
     Twice(Place),
     /// An end of the link, or the element of the source, is no element of the plan.
-    #[error("a name is no element's")]
+    #[error("{0}: a name is no element's")]
     NoElement(Place),
     /// Both ends of the link are one element.
-    #[error("a link joins an element to itself")]
+    #[error("{0}: a link joins an element to itself")]
     SelfLink(Place),
     /// A time, a delay or a priority is outside its limits.
-    #[error("a number is outside its limits")]
+    #[error("{0}: a number is outside its limits")]
     Range(Place),
     /// The name of a link's bundle isn't 1 to 32 of `A-Z a-z 0-9 _ -`, or an earlier link of the
     /// bundle joins other elements.
-    #[error("a bundle has a bad name, or joins other elements")]
+    #[error("{0}: a bundle has a bad name, or joins other elements")]
     Bundle(Place),
     /// A name is no level of the plan's option, or it is do-not-use as the level of a clock or as the
     /// lowest level that an element accepts.
-    #[error("a name is no level that may stand here")]
+    #[error("{0}: a name is no level that may stand here")]
     LevelName(Place),
     /// Memory ran out.
     #[error("out of memory")]

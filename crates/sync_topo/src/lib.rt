@@ -5,12 +5,12 @@
 //! first rule that the rows break and where. Contracts see a plan as a `Topology`: its option, its
 //! elements, its links and its sources.
 //!
-//! Each link is two lines. Which lines and inputs there are and their names is `Lines`, which line
-//! goes on over which is `Hops`, and which events a plan may have is `Events`. The rules for one row
+//! Each link is two lines. Which lines and inputs there are and their names is `Lines`, which links go
+//! back together is `Bundles`, which line goes on over which is `Hops`, and which events a plan may have is `Events`. The rules for one row
 //! are `Rules`, the plan of rows or the first refusal is `plan_of_rows`, and what holds of every plan
 //! is `IsWellFormed`.
 //!
-//! This crate has no tests; whole plans are tested in plan_file.
+//! Tested here are look-ups, events, hops and printed texts; whole plans are tested in plan_file.
 #![tactic(auto)]
 
 mod bundles;
@@ -18,6 +18,7 @@ mod element;
 mod error;
 mod event;
 mod input;
+mod laws;
 mod link;
 mod names;
 mod parts;
@@ -25,12 +26,15 @@ mod place;
 mod plan;
 mod rows;
 mod source;
+#[cfg(test)]
+mod tests;
 mod values;
 
 pub use element::Element;
 pub use error::PlanErr;
 pub use event::{Event, Part, What};
 pub use input::{InputId, LineId};
+pub use laws::{bundle_law, goes_back_law};
 pub use link::Link;
 pub use place::{Place, Section};
 pub use plan::Plan;

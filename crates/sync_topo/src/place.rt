@@ -1,5 +1,7 @@
 //! Where in a plan file something stands.
 
+use std::fmt;
+
 /// A part of a plan file.
 ///
 /// This project's own.
@@ -24,4 +26,15 @@ pub struct Place {
     pub section: Section,
     /// The row in it.
     pub row: u64,
+}
+
+impl fmt::Display for Place {
+    fn fmt<W: fmt::Write>(&self, f: &mut fmt::Formatter<W>) -> fmt::Result {
+        match self.section {
+            Section::Head => f.write_str("head"),
+            Section::Elements => write!(f, "element {}", self.row),
+            Section::Links => write!(f, "link {}", self.row),
+            Section::Sources => write!(f, "source {}", self.row),
+        }
+    }
 }

@@ -11,6 +11,7 @@ ghost use Rattle.sync_topo.specs.RowsOfPlan.{rows_of_plan};
 ghost use Rattle.sync_topo.specs.Topology.{Topology};
 ghost use Rattle.sync_topo.specs.WellFormed.{IsWellFormed, IsElementOf, JoinsTwo, IsSourceOf};
 ghost use Rattle.sync_topo.specs.declared.error.PlanErr.{PlanErr};
+ghost use Rattle.sync_topo.specs.declared.rows.PlanRows.{PlanRows};
 
 mod fitting;
 mod naming;
@@ -23,6 +24,7 @@ use crate::parts::Parts;
 use crate::rows::PlanRows;
 use crate::source::Source;
 use std::alloc::Global;
+use std::fmt;
 use std::marker::Model;
 use sync_ql::NetOption;
 
@@ -46,6 +48,18 @@ impl Model for Plan {
     ghost invariant = { λ plan. IsIndexed plan.parts };
 }
 
+impl fmt::Debug for Plan {
+    fn fmt<W: fmt::Write>(&self, f: &mut fmt::Formatter<W>) -> fmt::Result {
+        let parts = &self.parts;
+        f.debug_struct("Plan")
+            .field("option", &parts.option)
+            .field("elements", &parts.elements)
+            .field("links", &parts.links)
+            .field("sources", &parts.sources)
+            .finish()
+    }
+}
+
 impl Plan {
     /// The plan that rows give.
     ///
@@ -65,6 +79,10 @@ impl Plan {
         ensures kept { (plan_of_rows rows ≡ Ok (plan_from rows)) ↔ AreKept (rules_of rows) }
         ensures refused { (refusal : PlanErr) →
             (plan_of_rows rows ≡ Err refusal) ↔ IsFirstBroken (rules_of rows) refusal }
+
+        // Every plan that any rows give keeps the rules.
+        ensures accepted { (given : PlanRows) (plan : Topology) →
+            plan_of_rows given ≡ Ok plan → IsWellFormed plan }
 
         // What keeps the rules is the plan of some rows: of those that say it in full.
         ensures again { (plan : Topology) → IsWellFormed plan →

@@ -1,6 +1,7 @@
 use Rattle.std.proofs.lemmas.Result.{err_from_is_err_and}
 use Rattle.sync_topo.proofs.FirstBroken.{kept-plan, plan-kept, refused-first, Tells-all}
 use Rattle.sync_topo.proofs.RowsOfPlan.{plan_of_rows-rows_of_plan}
+use Rattle.sync_topo.proofs.Accepted.{accepted-well_formed}
 use Rattle.sync_topo.proofs.plan.Plan.new.Goals as goal
 
 pub returns-in_err-parts-clause-exact : goal.returns-in_err-parts-clause-exact
@@ -28,3 +29,9 @@ returns-clause-kept c = plan-kept c.args.rows
 
 pub returns-clause-refused : goal.returns-clause-refused
 returns-clause-refused c = refused-first c.args.rows
+
+pub returns-in_err-parts-clause-accepted : goal.returns-in_err-parts-clause-accepted
+returns-in_err-parts-clause-accepted c = accepted-well_formed
+
+pub returns-clause-accepted : goal.returns-clause-accepted
+returns-clause-accepted c = accepted-well_formed
