@@ -11,7 +11,8 @@ use Rattle.std.proofs.lemmas.List.{drop_all}
 use Rattle.sync_topo.specs.declared.input.InputId.{InputId}
 use Rattle.sync_topo.specs.declared.input.InputId.TheVariants.{Source}
 use Rattle.sync_topo.specs.Lines.{line_count, is_nominated, receiver_of, sender_of, lines_into, sources_at, line_input, inputs_of}
-use Rattle.sync_topo.specs.Hops.{hops, goes_back}
+use Rattle.sync_topo.specs.Bundles.{are_bundled}
+use Rattle.sync_topo.specs.Hops.{hops}
 use Rattle.rank_cert.specs.Ranks.{Ranks}
 use Rattle.rank_cert.specs.FirstFall.{falls, fall_from, first_among, first_to}
 
@@ -32,7 +33,7 @@ first_to-inputs plan ranks next =
     find-filter (λ line. is_nominated plan line && receiver_of plan line == sender_of plan next) (λ line. falls plan ranks line next) (range_with_len 0 (line_count plan)) (λ line e.
     let to_here = receiver_of plan line == sender_of plan next in
     let hop = (and_parts (hops plan line next) _ e).0 in
-    let ends = (and_parts (is_nominated plan line && is_nominated plan next && to_here) (not (goes_back plan line next)) hop).0 in
+    let ends = (and_parts (is_nominated plan line && is_nominated plan next && to_here) (not (are_bundled plan line next)) hop).0 in
     let both = (and_parts (is_nominated plan line && is_nominated plan next) to_here ends).0 in
     both_true {s = is_nominated plan line} {t = to_here} (and_parts (is_nominated plan line) (is_nominated plan next) both).0
     (and_parts (is_nominated plan line && is_nominated plan next) to_here ends).1)

@@ -7,7 +7,8 @@ use Rattle.std.proofs.lemmas.Bool.{and_parts, true≢false, cases_lt, leb-true, 
 use Rattle.sync_topo.specs.Topology.{Topology}
 use Rattle.sync_topo.specs.declared.input.LineId.{LineId}
 use Rattle.sync_topo.specs.Lines.{line_count, is_nominated, receiver_of, sender_of}
-use Rattle.sync_topo.specs.Hops.{hops, Hops, goes_back, IsRising, IsWalk, IsCycle}
+use Rattle.sync_topo.specs.Bundles.{are_bundled}
+use Rattle.sync_topo.specs.Hops.{hops, Hops, IsRising, IsWalk, IsCycle}
 use Rattle.sync_topo.proofs.LineLaws.{IsNominated-within, find_range-Some, find_range-None}
 use Rattle.rank_cert.specs.Ranks.{Ranks, rank_of, IsFirstFall}
 use Rattle.rank_cert.specs.FirstFall.{falls, first_to, earlier, IsFirstBelow}
@@ -15,7 +16,7 @@ use Rattle.rank_cert.specs.FirstFall.{falls, first_to, earlier, IsFirstBelow}
 -- the lines of a hop are lines of the plan
 pub lines_of_hop : (plan : Topology) (line next : ℕ) → Hops plan line next → (line < line_count plan) × (next < line_count plan)
 lines_of_hop plan line next hop =
-    let ends = (and_parts (is_nominated plan line && is_nominated plan next && nat_eq (receiver_of plan line) (sender_of plan next)) (not (goes_back plan line next)) hop).0 in
+    let ends = (and_parts (is_nominated plan line && is_nominated plan next && nat_eq (receiver_of plan line) (sender_of plan next)) (not (are_bundled plan line next)) hop).0 in
     let both = (and_parts (is_nominated plan line && is_nominated plan next) (nat_eq (receiver_of plan line) (sender_of plan next)) ends).0 in
     let each = and_parts (is_nominated plan line) (is_nominated plan next) both in
     (IsNominated-within plan line each.0, IsNominated-within plan next each.1)

@@ -19,8 +19,8 @@ chain = record {
   option = I;
   elements = element (codes "A") ∷ element (codes "B") ∷ element (codes "C") ∷ [];
   links =
-      record { name = codes "L1"; a = 0; b = 1; priority_a = 0; priority_b = 1; delay_a = 1; delay_b = 1 }
-      ∷ record { name = codes "L2"; a = 1; b = 2; priority_a = 0; priority_b = 1; delay_a = 1; delay_b = 1 }
+      record { name = codes "L1"; a = 0; b = 1; priority_a = 0; priority_b = 1; delay_a = 1; delay_b = 1; bundle = None }
+      ∷ record { name = codes "L2"; a = 1; b = 2; priority_a = 0; priority_b = 1; delay_a = 1; delay_b = 1; bundle = None }
       ∷ [];
   sources = [];
 }

@@ -42,6 +42,7 @@ fn chain(alloc: Global) -> Result<Plan, PlanErr> {
             priority_b: Some(1),
             delay_a: None,
             delay_b: None,
+            bundle: None,
         })?;
     }
     Plan::new(alloc, rows)
