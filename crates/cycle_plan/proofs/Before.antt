@@ -1,23 +1,25 @@
 -- The line before a line, in a plan in which all that can be ranked is ranked.
-use Rattle.std.proofs.Common.{◌≡◌, ℕ, ◌<◌, ◌≤◌, zero, suc, Bool, true, false, List, length, Option, Some, None, refl, sym, ap, ◌∙◌, inl, inr, arith}
-use Rattle.std.specs.Prelude.{◌≢◌, ◌⊎◌, ◌&&◌, is_none, find}
+use Rattle.std.proofs.Common.{◌≡◌, ℕ, ◌≤◌, zero, suc, Bool, true, List, Option, Some, None, refl, sym, ap, ◌∙◌, inl, inr, arith}
+use Rattle.std.specs.Prelude.{◌≢◌, ◌&&◌, is_none, find}
 use Rattle.std.specs.List.{range_with_len}
 use Rattle.std.proofs.lemmas.Bool.{true≢false, cases_lt, cases_eq, and_from, and_parts}
 use Rattle.std.proofs.lemmas.Option.{same_Some}
 use Rattle.sync_topo.specs.Topology.{Topology}
 use Rattle.sync_topo.specs.Ranks.{IsResidue, IsBefore, IsLowestResidue, StepsBack}
-use Rattle.sync_topo.specs.Lines.{line_count, is_nominated, IsNominated, sender_of, reverse_of, inputs_of}
+use Rattle.sync_topo.specs.Bundles.{line_bundle}
+use Rattle.sync_topo.specs.Lines.{line_count, is_nominated, IsNominated, sender_of, inputs_of}
 use Rattle.sync_topo.specs.Hops.{hops, Hops}
 use Rattle.sync_topo.proofs.LineLaws.{IsNominated-within, find_range-Some, find_range-None}
 use Rattle.rank_cert.specs.Ranks.{Ranks, rank_at}
 use Rattle.sync_topo.specs.declared.input.InputId.{InputId}
-use Rattle.cycle_plan.specs.Inputs.{line_at, is_open, AreFirstOpen}
+use Rattle.cycle_plan.specs.Inputs.{line_at, IsOpenLine, AreFirstOpen}
 use Rattle.cycle_plan.specs.Peeling.{IsPeeled}
 use Rattle.cycle_plan.specs.Rings.{IsLeft, HasRound}
 use Rattle.cycle_plan.proofs.Back.{comes_round}
 use Rattle.cycle_plan.specs.declared.inputs.Watch.{Watch}
-use Rattle.cycle_plan.proofs.HopFacts.{line_at_within, hop_parts, hop_from, input_place, input_is, inputs_rise, reverse_twice}
-use Rattle.cycle_plan.proofs.Settling.{closed_line, unranked_at}
+use Rattle.cycle_plan.proofs.HopFacts.{line_at_within, hop_parts, hop_from, input_is, inputs_rise}
+use Rattle.cycle_plan.proofs.Settling.{open_place}
+use Rattle.cycle_plan.proofs.WatchLemmas.{closed_line, line_at_open, past_end}
 use Rattle.cycle_plan.proofs.Walks.{endless, residue_unranked, residue_nominated}
 
 -- a plan in which all that can be ranked is ranked
@@ -38,25 +40,33 @@ residue_left plan ranks line peeled residue =
       unranked = residue_unranked (hops plan) (rank_at ranks) peeled.exact line residue;
     }
 
--- a line without a rank that hops to the line is among the inputs of its sender, at or behind the first open place
+-- a line without a rank that hops to the line is an open input of its sender, at or behind the first open place
 place_of_hop : (plan : Topology) (ranks : Ranks) (watch : Watch) (line from : ℕ)
-    → AreFirstOpen ranks (inputs_of plan (sender_of plan line)) watch → Hops plan from line → rank_at ranks from ≡ None
-    → (place : ℕ) × (line_at (inputs_of plan (sender_of plan line)) place ≡ Some from) × (watch.first ≤ place) × ((place ≡ watch.first) ⊎ (watch.second ≤ place))
+    → AreFirstOpen plan ranks (inputs_of plan (sender_of plan line)) watch → Hops plan from line → rank_at ranks from ≡ None
+    → (place : ℕ) × IsOpenLine ranks (inputs_of plan (sender_of plan line)) place from × (watch.first ≤ place)
 place_of_hop plan ranks watch line from places hop none =
     let inputs : List InputId = inputs_of plan (sender_of plan line) in
     let parts = hop_parts plan from line hop in
-    let at = input_place plan (sender_of plan line) from parts.0 parts.2 in
-    let closed : is_open ranks inputs at.0 ≡ false → ⊥ = λ is_closed. closed_line ranks inputs at.0 from is_closed at.1 none in
+    let at = open_place plan ranks (sender_of plan line) from (record { nominated = parts.0; into = parts.2; unranked = none }) in
     elim (cases_lt at.0 watch.first) [
-      | inl before ↦ absurd (closed (places.watched.before at.0 before))
-      | inr not_before ↦ elim (cases_eq at.0 watch.first) [
-        | inl same ↦ (at.0, at.1, not_before, inl same)
-        | inr differs ↦ elim (cases_lt at.0 watch.second) [
-          | inl between ↦ absurd (closed (places.watched.between at.0 (omega (arith, not_before, differs)) between))
-          | inr behind ↦ (at.0, at.1, not_before, inr behind)
-        ]
-      ]
+      | inl before ↦ absurd (closed_line ranks inputs at.0 from (places.watched.before at.0 before) at.1)
+      | inr not_before ↦ (at.0, at.1, not_before)
     ]
+
+-- where the first open input is of the line's bundle, it is at or behind the second
+place_behind : (plan : Topology) (ranks : Ranks) (watch : Watch) (line first from place : ℕ)
+    → AreFirstOpen plan ranks (inputs_of plan (sender_of plan line)) watch → line_at (inputs_of plan (sender_of plan line)) watch.first ≡ Some first
+    → line_bundle plan first ≡ line_bundle plan line → Hops plan from line → IsOpenLine ranks (inputs_of plan (sender_of plan line)) place from
+    → watch.first ≤ place → watch.second ≤ place
+place_behind plan ranks watch line first from place places here back hop stands low = elim (cases_lt place watch.second) [
+  | inl between ↦
+      let inputs : List InputId = inputs_of plan (sender_of plan line) in
+      let first_inside = line_at_within inputs watch.first first here in
+      let stands_first = line_at_open ranks inputs watch.first first here (places.first first_inside) in
+      let bundles = places.watched.between place watch.first from first low between (omega arith) (omega (arith, low, between)) stands stands_first in
+      absurd ((hop_parts plan from line hop).3 (bundles ∙ back))
+  | inr behind ↦ behind
+]
 
 -- the lines at two places, of which one is not behind the other
 in_order : (plan : Topology) (element place later one other : ℕ) → place ≤ later → line_at (inputs_of plan element) place ≡ Some one
@@ -67,98 +77,78 @@ in_order plan element place later one other order here there = elim (cases_eq pl
   | inr differs ↦ let less = inputs_rise plan element place later one other (omega (arith, order, differs)) here there in omega (arith, less)
 ]
 
--- where no line stands, though an open one would stand there inside the list, the list has ended
-past_end : (ranks : Ranks) (inputs : List InputId) (place : ℕ) → (place < length inputs → is_open ranks inputs place ≡ true) → line_at inputs place ≡ None
-    → length inputs ≤ place
-past_end ranks inputs place holds none = elim (cases_lt place (length inputs)) [
-  | inl inside ↦
-      let closed : is_open ranks inputs place ≡ false = rw none refl in
-      absurd (true≢false (sym (holds inside) ∙ closed))
-  | inr past ↦ past
-]
-
 -- the first open input is there
 pub first_there : (plan : Topology) (ranks : Ranks) (watch : Watch) (line : ℕ) → IsPeeledPlan plan ranks
-    → AreFirstOpen ranks (inputs_of plan (sender_of plan line)) watch → IsLeft plan ranks line → line_at (inputs_of plan (sender_of plan line)) watch.first ≡ None → ⊥
+    → AreFirstOpen plan ranks (inputs_of plan (sender_of plan line)) watch → IsLeft plan ranks line → line_at (inputs_of plan (sender_of plan line)) watch.first ≡ None → ⊥
 first_there plan ranks watch line peeled places left none =
     let held = peeled.stuck line left.nominated left.unranked in
     let at = place_of_hop plan ranks watch line held.0 places held.1 held.2 in
-    let inside = line_at_within (inputs_of plan (sender_of plan line)) at.0 held.0 at.1 in
+    let inside = line_at_within (inputs_of plan (sender_of plan line)) at.0 held.0 at.1.here in
     let end = past_end ranks (inputs_of plan (sender_of plan line)) watch.first places.first none in
     omega (arith, inside, end, at.2)
 
--- the second is there where the first goes back to the line
+-- one of another bundle is there where the first is of the line's own
 pub second_there : (plan : Topology) (ranks : Ranks) (watch : Watch) (line first : ℕ) → IsPeeledPlan plan ranks
-    → AreFirstOpen ranks (inputs_of plan (sender_of plan line)) watch → IsLeft plan ranks line
-    → line_at (inputs_of plan (sender_of plan line)) watch.first ≡ Some first → first ≡ reverse_of line
+    → AreFirstOpen plan ranks (inputs_of plan (sender_of plan line)) watch → IsLeft plan ranks line
+    → line_at (inputs_of plan (sender_of plan line)) watch.first ≡ Some first → line_bundle plan first ≡ line_bundle plan line
     → line_at (inputs_of plan (sender_of plan line)) watch.second ≡ None → ⊥
 second_there plan ranks watch line first peeled places left here back none =
     let held = peeled.stuck line left.nominated left.unranked in
     let at = place_of_hop plan ranks watch line held.0 places held.1 held.2 in
-    let inside = line_at_within (inputs_of plan (sender_of plan line)) at.0 held.0 at.1 in
+    let behind = place_behind plan ranks watch line first held.0 at.0 places here back held.1 at.1 at.2 in
+    let inside = line_at_within (inputs_of plan (sender_of plan line)) at.0 held.0 at.1.here in
     let end = past_end ranks (inputs_of plan (sender_of plan line)) watch.second places.second none in
-    let parts = hop_parts plan held.0 line held.1 in
-    elim at.3 [
-      | inl same ↦
-          let is : held.0 ≡ first = same_Some held.0 first (sym at.1 ∙ ap (λ p. line_at (inputs_of plan (sender_of plan line)) p) same ∙ here) in
-          parts.3 (reverse_twice line held.0 (is ∙ back))
-      | inr behind ↦ omega (arith, inside, end, behind)
-    ]
+    omega (arith, inside, end, behind)
 
--- the line at an open place, which doesn't go back to the line, is before it where no open place in front leads there
-pub left_at : (plan : Topology) (ranks : Ranks) (line from place : ℕ) → line_at (inputs_of plan (sender_of plan line)) place ≡ Some from
-    → rank_at ranks from ≡ None → IsLeft plan ranks from
-left_at plan ranks line from place here none =
-    let is = input_is plan (sender_of plan line) place from here in
-    record { nominated = is.0; within = IsNominated-within plan from is.0; unranked = none }
+left_at : (plan : Topology) (ranks : Ranks) (line from place : ℕ) → IsOpenLine ranks (inputs_of plan (sender_of plan line)) place from → IsLeft plan ranks from
+left_at plan ranks line from place stands =
+    let is = input_is plan (sender_of plan line) place from stands.here in
+    record { nominated = is.0; within = IsNominated-within plan from is.0; unranked = stands.unranked }
 
 hops_at : (plan : Topology) (line from place : ℕ) → IsNominated plan line → line_at (inputs_of plan (sender_of plan line)) place ≡ Some from
-    → from ≢ reverse_of line → Hops plan from line
+    → line_bundle plan from ≢ line_bundle plan line → Hops plan from line
 hops_at plan line from place nominated here apart =
     let is = input_is plan (sender_of plan line) place from here in
-    hop_from plan from line is.0 nominated is.1 (λ same. apart (reverse_twice from line same))
+    hop_from plan from line is.0 nominated is.1 apart
 
+-- the first open input is before the line where it is of another bundle
 pub before_first : (plan : Topology) (ranks : Ranks) (watch : Watch) (line first : ℕ) → IsPeeledPlan plan ranks
-    → AreFirstOpen ranks (inputs_of plan (sender_of plan line)) watch → IsLeft plan ranks line
-    → line_at (inputs_of plan (sender_of plan line)) watch.first ≡ Some first → first ≢ reverse_of line
+    → AreFirstOpen plan ranks (inputs_of plan (sender_of plan line)) watch → IsLeft plan ranks line
+    → line_at (inputs_of plan (sender_of plan line)) watch.first ≡ Some first → line_bundle plan first ≢ line_bundle plan line
     → IsLeft plan ranks first × IsBefore (hops plan) first line
 before_first plan ranks watch line first peeled places left here apart =
+    let inputs : List InputId = inputs_of plan (sender_of plan line) in
     let first_left : IsLeft plan ranks first =
-    left_at plan ranks line first watch.first here
-    (unranked_at ranks (inputs_of plan (sender_of plan line)) watch.first first (places.first (line_at_within (inputs_of plan (sender_of plan line)) watch.first first here)) here) in (
+    left_at plan ranks line first watch.first (line_at_open ranks inputs watch.first first here (places.first (line_at_within inputs watch.first first here))) in (
       first_left,
       record {
         residue = left_residue plan ranks first peeled first_left;
         hops = hops_at plan line first watch.first left.nominated here apart;
         lowest = λ other residue hop.
             let at = place_of_hop plan ranks watch line other places hop (residue_left plan ranks other peeled residue).unranked in
-            in_order plan (sender_of plan line) watch.first at.0 first other at.2 here at.1;
+            in_order plan (sender_of plan line) watch.first at.0 first other at.2 here at.1.here;
       },
     )
 
+-- and else the first open one of another bundle
 pub before_second : (plan : Topology) (ranks : Ranks) (watch : Watch) (line first second : ℕ) → IsPeeledPlan plan ranks
-    → AreFirstOpen ranks (inputs_of plan (sender_of plan line)) watch → IsLeft plan ranks line
-    → line_at (inputs_of plan (sender_of plan line)) watch.first ≡ Some first → first ≡ reverse_of line
+    → AreFirstOpen plan ranks (inputs_of plan (sender_of plan line)) watch → IsLeft plan ranks line
+    → line_at (inputs_of plan (sender_of plan line)) watch.first ≡ Some first → line_bundle plan first ≡ line_bundle plan line
     → line_at (inputs_of plan (sender_of plan line)) watch.second ≡ Some second
     → IsLeft plan ranks second × IsBefore (hops plan) second line
 before_second plan ranks watch line first second peeled places left here back there =
-    let second_inside = line_at_within (inputs_of plan (sender_of plan line)) watch.second second there in
+    let inputs : List InputId = inputs_of plan (sender_of plan line) in
     let second_left : IsLeft plan ranks second =
-    left_at plan ranks line second watch.second there
-    (unranked_at ranks (inputs_of plan (sender_of plan line)) watch.second second (places.second second_inside) there) in
-    let order = inputs_rise plan (sender_of plan line) watch.first watch.second first second (places.apart second_inside) here there in (
+    left_at plan ranks line second watch.second
+    (line_at_open ranks inputs watch.second second there (places.second (line_at_within inputs watch.second second there))) in (
       second_left,
       record {
         residue = left_residue plan ranks second peeled second_left;
-        hops = hops_at plan line second watch.second left.nominated there (λ same. omega (arith, same, back, order));
+        hops = hops_at plan line second watch.second left.nominated there (λ same. places.differ first second here there (back ∙ sym same));
         lowest = λ other residue hop.
             let at = place_of_hop plan ranks watch line other places hop (residue_left plan ranks other peeled residue).unranked in
-            elim at.3 [
-              | inl same ↦
-                  let is : other ≡ first = same_Some other first (sym at.1 ∙ ap (λ p. line_at (inputs_of plan (sender_of plan line)) p) same ∙ here) in
-                  absurd ((hop_parts plan other line hop).3 (reverse_twice line other (is ∙ back)))
-              | inr behind ↦ in_order plan (sender_of plan line) watch.second at.0 second other behind there at.1
-            ];
+            let behind = place_behind plan ranks watch line first other at.0 places here back hop at.1 at.2 in
+            in_order plan (sender_of plan line) watch.second at.0 second other behind there at.1.here;
       },
     )
 

@@ -1,19 +1,21 @@
--- Inputs, ways back, and hops.
-use Rattle.std.proofs.Common.{◌≡◌, ℕ, ◌+◌, ◌-◌, ◌/◌, ◌%◌, ◌<◌, ◌≤◌, zero, suc, Bool, true, false, not, ◌&&◌, nat_eq, List, [], ◌∷◌, ◌++◌, length, map, filter, Some, None, refl, sym, ap, ◌∙◌, inl, inr, arith, zero-add}
+-- Inputs and hops.
+use Rattle.std.proofs.Common.{◌≡◌, ℕ, ◌+◌, ◌/◌, ◌<◌, ◌≤◌, zero, suc, Bool, true, false, not, ◌&&◌, nat_eq, List, [], ◌∷◌, ◌++◌, length, map, filter, Some, None, refl, sym, ap, ◌∙◌, inl, inr, arith, zero-add}
 use Rattle.std.specs.Prelude.{◌≢◌, slice_get, if◌then◌else◌}
 use Rattle.std.specs.List.{range_with_len}
 use Rattle.std.specs.Cmp.Derive.{both_true}
 use Rattle.std.specs.Option.{option_and_then}
 use Rattle.std.proofs.lemmas.Bool.{and_parts, true≢false, cases_lt, cases_eq, eqb-true, eqb-false, eq-eqb, ne_eqb, not-true, not_from_false}
-use Rattle.std.proofs.lemmas.Option.{none-some, same_Some, slice_get_past}
+use Rattle.std.proofs.lemmas.Option.{none-some, same_Some, slice_get_cases, slice_get_past}
 use Rattle.sync_topo.specs.Topology.{Topology}
-use Rattle.sync_topo.specs.Lines.{line_count, is_nominated, IsNominated, receiver_of, sender_of, reverse_of, ends_at_b, lines_into, sources_at, line_input, inputs_of}
-use Rattle.sync_topo.specs.Hops.{Hops, goes_back}
+use Rattle.sync_topo.specs.declared.link.Link.{Link}
+use Rattle.sync_topo.specs.Bundles.{line_bundle, are_bundled}
+use Rattle.sync_topo.specs.WellFormed.{IsWellFormed}
+use Rattle.sync_topo.specs.Lines.{line_count, is_nominated, IsNominated, receiver_of, sender_of, ends_at_b, lines_into, sources_at, line_input, inputs_of}
+use Rattle.sync_topo.specs.Hops.{Hops}
 use Rattle.sync_topo.proofs.LineLaws.{IsNominated-within}
 use Rattle.sync_topo.specs.declared.input.InputId.{InputId}
 use Rattle.sync_topo.specs.declared.input.InputId.TheVariants.{Source}
 use Rattle.cycle_plan.specs.Inputs.{line_of, line_at, AreWithin}
-use Rattle.cycle_plan.specs.Tops.{AreRising}
 
 -- what a filter over a range keeps
 kept_in_range : (p : ℕ → Bool) (a n k : ℕ) → p k ≡ true → a ≤ k → k < a + n → (place : ℕ) × (slice_get (filter p (range_with_len a n)) place ≡ Some k)
@@ -74,7 +76,11 @@ lines_in_front (line ∷ lines) sources (suc place) = lines_in_front lines sourc
 line_of_input : (plan : Topology) (element place : ℕ) → line_at (inputs_of plan element) place ≡ slice_get (lines_into plan element) place
 line_of_input plan element place = lines_in_front (lines_into plan element) (sources_at plan element) place
 
--- the inputs of an element stand in order of number
+-- inputs stand in order of number
+abbrev pub AreRising : List InputId → Type 0
+AreRising inputs = (i j k l : ℕ) → i < j → line_at inputs i ≡ Some k → line_at inputs j ≡ Some l → k < l
+
+-- those of an element do
 pub inputs_rise : (plan : Topology) (element : ℕ) → AreRising (inputs_of plan element)
 inputs_rise plan element i j k l less here there =
     kept_rises (λ line. is_nominated plan line && nat_eq (receiver_of plan line) element) 0 (line_count plan) i j k l less
@@ -110,58 +116,30 @@ line_at_within inputs place line here = elim (cases_lt place (length inputs)) [
       absurd (none-some line (sym none ∙ here))
 ]
 
--- the way back of the way back
-pub reverse_twice : (line back : ℕ) → back ≡ reverse_of line → line ≡ reverse_of back
-reverse_twice line back e = cases (ends_at_b line) refl e
-  where
-    cases : (b : Bool) → ends_at_b line ≡ b → back ≡ (if b then line + 1 else line - 1) → line ≡ reverse_of back
-    cases true even is =
-        let half : line % 2 ≡ 0 = eqb-true _ _ even in
-        let odd : ends_at_b back ≡ false = ne_eqb (back % 2) 0 (λ zero_rest. omega (arith, half, is, zero_rest)) in
-        rw odd (omega (arith, is))
-    cases false odd is =
-        let half : line % 2 ≡ 0 → ⊥ = eqb-false _ _ odd in
-        let even : ends_at_b back ≡ true = eq-eqb (back % 2) 0 (omega (arith, half, is)) in
-        rw even (omega (arith, is, half))
-
 -- what a hop says
 pub hop_parts : (plan : Topology) (line next : ℕ) → Hops plan line next
-    → IsNominated plan line × IsNominated plan next × (receiver_of plan line ≡ sender_of plan next) × (next ≢ reverse_of line)
+    → IsNominated plan line × IsNominated plan next × (receiver_of plan line ≡ sender_of plan next) × (line_bundle plan line ≢ line_bundle plan next)
 hop_parts plan line next hop =
-    let ends = and_parts (is_nominated plan line && is_nominated plan next && nat_eq (receiver_of plan line) (sender_of plan next)) (not (goes_back plan line next)) hop in
+    let ends = and_parts (is_nominated plan line && is_nominated plan next && nat_eq (receiver_of plan line) (sender_of plan next)) (not (are_bundled plan line next)) hop in
     let both = and_parts (is_nominated plan line && is_nominated plan next) (nat_eq (receiver_of plan line) (sender_of plan next)) ends.0 in
     let each = and_parts (is_nominated plan line) (is_nominated plan next) both.0 in
-    (each.0, each.1, eqb-true _ _ both.1, eqb-false _ _ (not-true (goes_back plan line next) ends.1))
+    (each.0, each.1, eqb-true _ _ both.1, eqb-false _ _ (not-true (are_bundled plan line next) ends.1))
 
 pub hop_from : (plan : Topology) (line next : ℕ) → IsNominated plan line → IsNominated plan next → receiver_of plan line ≡ sender_of plan next
-    → next ≢ reverse_of line → Hops plan line next
+    → line_bundle plan line ≢ line_bundle plan next → Hops plan line next
 hop_from plan line next nominated next_nominated meets apart =
-    both_true {s = is_nominated plan line && is_nominated plan next && nat_eq (receiver_of plan line) (sender_of plan next)} {t = not (goes_back plan line next)}
+    both_true {s = is_nominated plan line && is_nominated plan next && nat_eq (receiver_of plan line) (sender_of plan next)} {t = not (are_bundled plan line next)}
     (both_true {s = is_nominated plan line && is_nominated plan next} {t = nat_eq (receiver_of plan line) (sender_of plan next)}
     (both_true {s = is_nominated plan line} {t = is_nominated plan next} nominated next_nominated) (eq-eqb _ _ meets))
-    (not_from_false (goes_back plan line next) (ne_eqb _ _ apart))
+    (not_from_false (are_bundled plan line next) (ne_eqb _ _ apart))
 
--- the way back begins where the line ends
-pub sender_of_reverse : (plan : Topology) (line : ℕ) → sender_of plan (reverse_of line) ≡ receiver_of plan line
-sender_of_reverse plan line = cases (ends_at_b line) refl
+-- a line doesn't begin where it ends
+pub ends_apart : (plan : Topology) (line : ℕ) → IsWellFormed plan → line < line_count plan → sender_of plan line ≢ receiver_of plan line
+ends_apart plan line well within = elim (slice_get_cases plan.links (line / 2)).1 [
+  | inl found ↦ rw found.2 (two found.0 (well.links_join (line / 2) found.0 found.2).apart (ends_at_b line))
+  | inr past ↦ absurd (omega (arith, past.0, within))
+]
   where
-    cases : (b : Bool) → ends_at_b line ≡ b → sender_of plan (if b then line + 1 else line - 1) ≡ receiver_of plan line
-    cases true even =
-        let half : line % 2 ≡ 0 = eqb-true _ _ even in
-        let odd : ends_at_b (line + 1) ≡ false = ne_eqb ((line + 1) % 2) 0 (λ zero_rest. omega (arith, half, zero_rest)) in
-        let link : (line + 1) / 2 ≡ line / 2 = omega (arith, half) in
-        rw (odd, even, link) refl
-    cases false odd =
-        let half : line % 2 ≡ 0 → ⊥ = eqb-false _ _ odd in
-        let even : ends_at_b (line - 1) ≡ true = eq-eqb ((line - 1) % 2) 0 (omega (arith, half)) in
-        let link : (line - 1) / 2 ≡ line / 2 = omega (arith, half) in
-        rw (odd, even, link) refl
-
--- a line isn't its own way back
-pub reverse_differs : (line : ℕ) → line ≢ reverse_of line
-reverse_differs line = cases (ends_at_b line) refl
-  where
-    cases : (b : Bool) → ends_at_b line ≡ b → line ≢ (if b then line + 1 else line - 1)
-    cases true even same = omega (arith, same)
-    cases false odd same =
-        let half : line % 2 ≡ 0 → ⊥ = eqb-false _ _ odd in omega (arith, half, same)
+    two : (link : Link) → link.a ≢ link.b → (b : Bool) → (if b then link.a else link.b) ≢ (if b then link.b else link.a)
+    two link apart true same = apart same
+    two link apart false same = apart (sym same)

@@ -9,3 +9,4 @@ pub mod Before
 pub mod Rounds
 pub mod CycleLaws
 pub mod OneCycle
+pub mod WatchLemmas

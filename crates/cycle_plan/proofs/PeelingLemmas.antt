@@ -13,8 +13,8 @@ use Rattle.sync_topo.specs.Lines.{line_count, IsNominated, receiver_of, sender_o
 use Rattle.sync_topo.specs.Hops.{hops, Hops}
 use Rattle.rank_cert.specs.Ranks.{Ranks, rank_at}
 use Rattle.sync_topo.specs.declared.input.InputId.{InputId}
-use Rattle.cycle_plan.specs.Inputs.{line_at, is_open, IsWatch}
-use Rattle.cycle_plan.specs.Peeling.{IsNext, left_over, IsRanking, IsPeeling, IsMore}
+use Rattle.cycle_plan.specs.Inputs.{line_at, is_open, IsOpenLine, IsWatch}
+use Rattle.cycle_plan.specs.Peeling.{IsOpenInto, IsNext, left_over, IsRanking, IsPeeling, IsMore}
 use Rattle.cycle_plan.specs.declared.inputs.Watch.{Watch}
 use Rattle.cycle_plan.specs.declared.ranking.Ranking.{Ranking}
 use Rattle.cycle_plan.proofs.HopFacts.{hop_parts}
@@ -70,13 +70,26 @@ closed-grows before after inputs place grows closed = cases (line_at inputs plac
     cases (Some line) e =
         let some = rank_from (rank_at before line) e in rw (grows line some.0 some.1) refl
 
-IsWatch-grows : (before after : Ranks) (inputs : List InputId) (watch : Watch) → Grows (rank_at before) (rank_at after)
-    → IsWatch before inputs watch → IsWatch after inputs watch
-IsWatch-grows before after inputs watch grows watched = record {
+-- a line without a rank had none
+open-grows : (before after : Ranks) (inputs : List InputId) (place line : ℕ) → Grows (rank_at before) (rank_at after) → IsOpenLine after inputs place line
+    → IsOpenLine before inputs place line
+open-grows before after inputs place line grows stands =
+    record { here = stands.here; unranked = fewer (rank_at before) (rank_at after) grows line stands.unranked }
+
+pub IsOpenInto-grows : (plan : Topology) (before after : Ranks) (element line : ℕ) → Grows (rank_at before) (rank_at after) → IsOpenInto plan after element line
+    → IsOpenInto plan before element line
+IsOpenInto-grows plan before after element line grows stands =
+    record { nominated = stands.nominated; into = stands.into; unranked = fewer (rank_at before) (rank_at after) grows line stands.unranked }
+
+IsWatch-grows : (plan : Topology) (before after : Ranks) (inputs : List InputId) (watch : Watch) → Grows (rank_at before) (rank_at after)
+    → IsWatch plan before inputs watch → IsWatch plan after inputs watch
+IsWatch-grows plan before after inputs watch grows watched = record {
   first_within = watched.first_within;
   second_within = watched.second_within;
   before = λ place low. closed-grows before after inputs place grows (watched.before place low);
-  between = λ place low high. closed-grows before after inputs place grows (watched.between place low high);
+  between = λ place other line next from_first low other_from other_low here there.
+      watched.between place other line next from_first low other_from other_low
+      (open-grows before after inputs place line grows here) (open-grows before after inputs other next grows there);
 }
 
 -- a line of this number gets this rank
@@ -148,7 +161,10 @@ IsMore-given plan before after line rank peeling nominated within none next give
         watched = λ element watch there.
             let was = peeling.watched element watch (subst (λ w. slice_get w.items element ≡ Some watch) watches there) in
             record {
-              watched = IsWatch-grows before.ranks after.ranks (inputs_of plan element) watch grows was.watched;
+              watched = IsWatch-grows plan before.ranks after.ranks (inputs_of plan element) watch grows was.watched;
+              back = λ is_back other from other_nominated sent stands bundles left.
+                  was.back is_back other from other_nominated sent (IsOpenInto-grows plan before.ranks after.ranks element from grows stands) bundles
+                  (fewer (rank_at before.ranks) (rank_at after.ranks) grows other left);
               done = λ is_done other other_nominated sent left. was.done is_done other other_nominated sent (fewer (rank_at before.ranks) (rank_at after.ranks) grows other left);
             };
         waiting = rw waiting (All-push (λ e. e < length plan.elements) before.waiting.items (receiver_of plan line) peeling.waiting receiver);

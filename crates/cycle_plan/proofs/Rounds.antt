@@ -64,6 +64,15 @@ round_low hop on n low round lows = (round.0, round.1, round.2, round_kept hop r
 numbers-push : (lines : List LineId) (line : LineId) → reverse (numbers (lines ++ line ∷ [])) ≡ line.0 ∷ reverse (numbers lines)
 numbers-push lines line = ap (λ ns. reverse ns) (map-append (λ (l : LineId). l.0) lines (line ∷ [])) ∙ reverse-append (numbers lines) (line.0 ∷ [])
 
+-- the first line behind
+pub walked_first : (hop : HopTest) (low at : ℕ) → IsBefore hop at low → IsWalked hop low at []
+walked_first hop low at before = record {
+  back = (low, refl, before);
+  above = λ steps other positive within taken. absurd (omega (arith, positive, within));
+  chain = before;
+  higher = λ place line inside. absurd (omega (arith, inside));
+}
+
 -- one more line behind
 pub walked_more : (hop : HopTest) (low next : ℕ) (at : LineId) (lines : List LineId) → IsLowest hop low → at.0 ≢ low → IsWalked hop low at.0 lines → IsBefore hop next at.0
     → IsWalked hop low next (lines ++ at ∷ [])

@@ -1,30 +1,32 @@
 -- When the lines out of an element can be ranked, and when they are held.
-use Rattle.std.proofs.Common.{◌≡◌, ℕ, zero, suc, ◌<◌, ◌≤◌, Bool, true, false, nat_eq, List, [], ◌∷◌, ◌++◌, length, Option, Some, None, refl, sym, ap, subst, ◌∙◌, inl, inr, arith, eq-eqb}
-use Rattle.std.specs.Prelude.{◌≢◌, ◌⊎◌, slice_get, slice_set, is_none, if◌then◌else◌, Vec}
-use Rattle.std.specs.Option.{option_map_or}
+use Rattle.std.proofs.Common.{◌≡◌, ℕ, zero, suc, ◌<◌, ◌≤◌, Bool, true, false, List, [], ◌∷◌, ◌++◌, length, Option, Some, None, refl, sym, ap, subst, ◌∙◌, inl, inr, arith, eq-eqb}
+use Rattle.std.specs.Prelude.{◌≢◌, slice_get, slice_set, if◌then◌else◌, Vec}
 use Rattle.std.specs.List.{All, Contains}
 use Rattle.std.proofs.lemmas.List.Elements.{Contains-append_cases, All-contains}
 use Rattle.sync_topo.specs.declared.input.LineId.{LineId}
 use Rattle.cycle_plan.specs.Outputs.{kept, AreOutputs}
 use Rattle.std.specs.declared.alloc.Global.{Global}
-use Rattle.std.proofs.lemmas.Bool.{true≢false, cases_lt, cases_eq, eqb-true}
+use Rattle.std.proofs.lemmas.Bool.{cases_lt, cases_eq, eqb-true}
 use Rattle.std.proofs.lemmas.List.{get_or-set_same, get_or-set_other, length-set}
-use Rattle.std.proofs.lemmas.Option.{none-some, same_Some, slice_get-get_or, slice_get_within}
+use Rattle.std.proofs.lemmas.Option.{same_Some, slice_get-get_or, slice_get_within}
 use Rattle.sync_topo.specs.Topology.{Topology}
 use Rattle.sync_topo.specs.WellFormed.{IsWellFormed}
-use Rattle.sync_topo.specs.Lines.{line_count, is_nominated, IsNominated, receiver_of, sender_of, reverse_of, inputs_of}
+use Rattle.sync_topo.specs.Bundles.{line_bundle}
+use Rattle.sync_topo.specs.Lines.{line_count, is_nominated, IsNominated, sender_of, inputs_of}
 use Rattle.sync_topo.specs.Hops.{hops, Hops}
 use Rattle.sync_topo.proofs.LineLaws.{IsNominated-within}
 use Rattle.rank_cert.specs.Ranks.{Ranks, rank_at}
 use Rattle.sync_topo.specs.declared.input.InputId.{InputId}
-use Rattle.cycle_plan.specs.Inputs.{line_at, is_open, AreFirstOpen}
-use Rattle.cycle_plan.specs.Tops.{AreSmall, IsTop, top_line, rank_after, is_top}
-use Rattle.cycle_plan.specs.Peeling.{IsNext, IsRanking, IsWatched, IsPeeling, IsHeld, AreKept, IsMore, IsSettled, AreNext, IsTopOf, AreRanked, IsPeeled}
+use Rattle.cycle_plan.specs.Inputs.{line_at, IsOpenLine, AreFirstOpen}
+use Rattle.cycle_plan.specs.Tops.{AreSmall, IsRankedAt, IsTop, rank_after, is_top}
+use Rattle.cycle_plan.specs.Peeling.{IsNext, IsRanking, IsOpenInto, IsWatched, IsPeeling, IsHeld, AreKept, IsMore, IsSettled, IsAmong, AreFree, AreNext, IsTopOf, IsPeeled}
 use Rattle.cycle_plan.specs.declared.inputs.Watch.{Watch}
 use Rattle.cycle_plan.specs.declared.ranking.Ranking.{Ranking}
 use Rattle.cycle_plan.specs.declared.top.Top.{Top}
-use Rattle.cycle_plan.proofs.HopFacts.{line_at_within, hop_parts, hop_from, input_place, input_is, inputs_rise, reverse_twice, sender_of_reverse}
-use Rattle.cycle_plan.proofs.PeelingLemmas.{Grows, fewer, IsNext-grows}
+use Rattle.cycle_plan.proofs.HopFacts.{line_at_within, hop_parts, hop_from, input_place, input_is, ends_apart}
+use Rattle.cycle_plan.proofs.PeelingLemmas.{Grows, fewer, IsNext-grows, IsOpenInto-grows}
+use Rattle.cycle_plan.proofs.TopLemmas.{is_top-Some, is_top-other}
+use Rattle.cycle_plan.proofs.WatchLemmas.{open_line, closed_line, line_at_open, past_end}
 
 -- ranks are below the number of lines
 pub small : (plan : Topology) (ranks : Ranks) → IsWellFormed plan → IsRanking plan ranks → AreSmall ranks
@@ -32,195 +34,170 @@ small plan ranks well_formed ranking line rank ranked =
     let below = ranking.below line rank ranked in
     omega (arith, below, well_formed.few_links)
 
--- an open input is a line without a rank
-open_line : (ranks : Ranks) (inputs : List InputId) (place : ℕ) → is_open ranks inputs place ≡ true
-    → (line : ℕ) × (line_at inputs place ≡ Some line) × (rank_at ranks line ≡ None)
-open_line ranks inputs place is_it = cases (line_at inputs place) refl is_it
-  where
-    none_from : (o : Option ℕ) → is_none o ≡ true → o ≡ None
-    none_from None e = refl
-    none_from (Some rank) e = absurd (true≢false (sym e))
+-- a line without a rank into an element holds each line out of it, but those of its own bundle
+held_by : (plan : Topology) (ranks : Ranks) (element line from : ℕ) → IsNominated plan line → sender_of plan line ≡ element
+    → IsOpenInto plan ranks element from → line_bundle plan from ≢ line_bundle plan line → IsHeld plan ranks line
+held_by plan ranks element line from nominated sent stands apart =
+    (from, hop_from plan from line stands.nominated nominated (stands.into ∙ sym sent) apart, stands.unranked)
 
-    cases : (o : Option ℕ) → line_at inputs place ≡ o → option_map_or (λ line. is_none (rank_at ranks line)) o false ≡ true
-        → (line : ℕ) × (o ≡ Some line) × (rank_at ranks line ≡ None)
-    cases None at e = absurd (true≢false (sym e))
-    cases (Some line) at e = (line, refl, none_from (rank_at ranks line) e)
+-- an open input is a nominated line into the element that has no rank
+pub open_into : (plan : Topology) (ranks : Ranks) (element place line : ℕ) → IsOpenLine ranks (inputs_of plan element) place line → IsOpenInto plan ranks element line
+open_into plan ranks element place line stands =
+    let is = input_is plan element place line stands.here in
+    record { nominated = is.0; into = is.1; unranked = stands.unranked }
 
--- a line that is no open input has a rank
-pub closed_line : (ranks : Ranks) (inputs : List InputId) (place line : ℕ) → is_open ranks inputs place ≡ false → line_at inputs place ≡ Some line
-    → rank_at ranks line ≢ None
-closed_line ranks inputs place line closed here none =
-    let last : is_open ranks inputs place ≡ true = rw (here, none) refl in
-    true≢false (sym last ∙ closed)
+-- and each such line is an open input
+pub open_place : (plan : Topology) (ranks : Ranks) (element line : ℕ) → IsOpenInto plan ranks element line
+    → (place : ℕ) × IsOpenLine ranks (inputs_of plan element) place line
+open_place plan ranks element line stands =
+    let at = input_place plan element line stands.nominated stands.into in
+    (at.0, record { here = at.1; unranked = stands.unranked })
 
--- a line without a rank into an element holds each line out of it but its own way back
-held_by : (plan : Topology) (ranks : Ranks) (element line from : ℕ) → IsNominated plan line → sender_of plan line ≡ element → IsNominated plan from
-    → receiver_of plan from ≡ element → rank_at ranks from ≡ None → line ≢ reverse_of from → IsHeld plan ranks line
-held_by plan ranks element line from nominated sent from_nominated into none apart =
-    (from, hop_from plan from line from_nominated nominated (into ∙ sym sent) apart, none)
-
--- two open inputs hold every line out of the element
-pub settled_by_two : (plan : Topology) (ranks : Ranks) (element : ℕ) (watch : Watch) → IsRanking plan ranks → AreFirstOpen ranks (inputs_of plan element) watch
+-- two open inputs of two bundles hold every line out of the element
+pub settled_by_two : (plan : Topology) (ranks : Ranks) (element : ℕ) (watch : Watch) → AreFirstOpen plan ranks (inputs_of plan element) watch
     → watch.second < length (inputs_of plan element) → IsSettled plan ranks element
-settled_by_two plan ranks element watch ranking places two line nominated sent none =
+settled_by_two plan ranks element watch places two line nominated sent none =
     let inputs : List InputId = inputs_of plan element in
     let apart = places.apart two in
-    let one = open_line ranks inputs watch.first (places.first (omega arith)) in
+    let one = open_line ranks inputs watch.first (places.first (omega (arith, apart, two))) in
     let other = open_line ranks inputs watch.second (places.second two) in
-    let one_is = input_is plan element watch.first one.0 one.1 in
-    let other_is = input_is plan element watch.second other.0 other.1 in
-    let order = inputs_rise plan element watch.first watch.second one.0 other.0 apart one.1 other.1 in
-    elim (cases_eq line (reverse_of one.0)) [
-      | inl back ↦
-          held_by plan ranks element line other.0 nominated sent other_is.0 other_is.1 other.2
-          (λ other_back.
-          let first : one.0 ≡ reverse_of line = reverse_twice one.0 line back in
-          let second : other.0 ≡ reverse_of line = reverse_twice other.0 line other_back in
-          omega (arith, first, second, order))
-      | inr differs ↦ held_by plan ranks element line one.0 nominated sent one_is.0 one_is.1 one.2 differs
+    let differ = places.differ one.0 other.0 one.1.here other.1.here in
+    elim (cases_eq (line_bundle plan one.0) (line_bundle plan line)) [
+      | inl same ↦
+          held_by plan ranks element line other.0 nominated sent (open_into plan ranks element watch.second other.0 other.1)
+          (λ also. differ (same ∙ sym also))
+      | inr differs ↦ held_by plan ranks element line one.0 nominated sent (open_into plan ranks element watch.first one.0 one.1) differs
     ]
 
 -- an element that is done holds nothing
 pub settled_if_done : (plan : Topology) (ranks : Ranks) (element : ℕ) (watch : Watch) → IsWatched plan ranks element watch → watch.done ≡ true → IsSettled plan ranks element
 settled_if_done plan ranks element watch watched done line nominated sent none = absurd (watched.done done line nominated sent none)
 
--- with at most one open input, each line into the element has a rank or is that input
-pub ranked_but_one : (plan : Topology) (ranks : Ranks) (element : ℕ) (watch : Watch) (line : ℕ) → IsRanking plan ranks → AreFirstOpen ranks (inputs_of plan element) watch
-    → length (inputs_of plan element) ≤ watch.second → IsNominated plan line → receiver_of plan line ≡ element
-    → (rank_at ranks line ≢ None) ⊎ (line_at (inputs_of plan element) watch.first ≡ Some line)
-ranked_but_one plan ranks element watch line ranking places one nominated into =
+-- where all open inputs are of one bundle, each line into the element without a rank is of it
+pub open_of_bundle : (plan : Topology) (ranks : Ranks) (element : ℕ) (watch : Watch) (last line : ℕ) → AreFirstOpen plan ranks (inputs_of plan element) watch
+    → length (inputs_of plan element) ≤ watch.second → line_at (inputs_of plan element) watch.first ≡ Some last → IsOpenInto plan ranks element line
+    → line_bundle plan line ≡ line_bundle plan last
+open_of_bundle plan ranks element watch last line places one here stands =
     let inputs : List InputId = inputs_of plan element in
-    let at = input_place plan element line nominated into in
+    let at = open_place plan ranks element line stands in
+    let inside = line_at_within inputs at.0 line at.1.here in
+    let first_inside = line_at_within inputs watch.first last here in
+    let first = line_at_open ranks inputs watch.first last here (places.first first_inside) in
     elim (cases_lt at.0 watch.first) [
-      | inl before ↦ inl (closed_line ranks inputs at.0 line (places.watched.before at.0 before) at.1)
-      | inr not_before ↦ elim (cases_lt watch.first at.0) [
-        | inl after ↦
-            let inside = line_at_within inputs at.0 line at.1 in
-            inl (closed_line ranks inputs at.0 line (places.watched.between at.0 after (omega (arith, inside, one))) at.1)
-        | inr not_after ↦
-            let same : at.0 ≡ watch.first = omega arith in
-            inr (subst (λ place. line_at inputs place ≡ Some line) same at.1)
-      ]
+      | inl before ↦ absurd (closed_line ranks inputs at.0 line (places.watched.before at.0 before) at.1)
+      | inr not_before ↦
+          places.watched.between at.0 watch.first line last not_before (omega (arith, inside, one)) (omega arith) (omega (arith, first_inside, one)) at.1 first
     ]
 
--- with no open input, each line into the element has a rank
-pub ranked_all : (plan : Topology) (ranks : Ranks) (element : ℕ) (watch : Watch) → IsRanking plan ranks → AreFirstOpen ranks (inputs_of plan element) watch
-    → length (inputs_of plan element) ≤ watch.second → line_at (inputs_of plan element) watch.first ≡ None → AreRanked plan ranks element
-ranked_all plan ranks element watch ranking places one none line nominated into = elim (ranked_but_one plan ranks element watch line ranking places one nominated into) [
-  | inl ranked ↦ ranked
-  | inr here ↦ absurd (none-some line (sym none ∙ here))
-]
+-- with no open input, no line into the element is without a rank
+pub none_open : (plan : Topology) (ranks : Ranks) (element : ℕ) (watch : Watch) (line : ℕ) → AreFirstOpen plan ranks (inputs_of plan element) watch
+    → line_at (inputs_of plan element) watch.first ≡ None → IsOpenInto plan ranks element line → ⊥
+none_open plan ranks element watch line places none stands =
+    let inputs : List InputId = inputs_of plan element in
+    let at = open_place plan ranks element line stands in
+    let inside = line_at_within inputs at.0 line at.1.here in
+    let end = past_end ranks inputs watch.first places.first none in
+    closed_line ranks inputs at.0 line (places.watched.before at.0 (omega (arith, inside, end))) at.1
 
--- the way back of the only open input can be ranked: all that hop to it have ranks
-pub ranked_into_back : (plan : Topology) (ranks : Ranks) (element : ℕ) (watch : Watch) (last from : ℕ) → IsRanking plan ranks → AreFirstOpen ranks (inputs_of plan element) watch
-    → length (inputs_of plan element) ≤ watch.second → line_at (inputs_of plan element) watch.first ≡ Some last → receiver_of plan last ≡ element
-    → Hops plan from (reverse_of last) → rank_at ranks from ≢ None
-ranked_into_back plan ranks element watch last from ranking places one here into hop =
-    let parts = hop_parts plan from (reverse_of last) hop in
-    let meets : receiver_of plan from ≡ element = parts.2 ∙ sender_of_reverse plan last ∙ into in
-    elim (ranked_but_one plan ranks element watch from ranking places one parts.0 meets) [
-      | inl ranked ↦ ranked
-      | inr first ↦
-          let same : from ≡ last = same_Some from last (sym first ∙ here) in
-          absurd (parts.3 (ap (λ l. reverse_of l) (sym same)))
-    ]
+-- then each line out of the element is free
+pub free_all : (plan : Topology) (ranks : Ranks) (element : ℕ) (watch : Watch) → AreFirstOpen plan ranks (inputs_of plan element) watch
+    → line_at (inputs_of plan element) watch.first ≡ None → AreFree plan ranks element None
+free_all plan ranks element watch places none line from nominated sent among hop left =
+    let parts = hop_parts plan from line hop in
+    none_open plan ranks element watch from places none (record { nominated = parts.0; into = parts.2 ∙ sent; unranked = left })
 
--- all that hop to a line out of the element have ranks
-pub ranked_into : (plan : Topology) (ranks : Ranks) (element line from : ℕ) → AreRanked plan ranks element → sender_of plan line ≡ element → Hops plan from line
-    → rank_at ranks from ≢ None
-ranked_into plan ranks element line from ranked sent hop =
-    let parts = hop_parts plan from line hop in ranked from parts.0 (parts.2 ∙ sent)
+-- and where all open inputs are of one bundle, those of this bundle are
+pub free_of_bundle : (plan : Topology) (ranks : Ranks) (element : ℕ) (watch : Watch) (last : ℕ) → AreFirstOpen plan ranks (inputs_of plan element) watch
+    → length (inputs_of plan element) ≤ watch.second → line_at (inputs_of plan element) watch.first ≡ Some last
+    → AreFree plan ranks element (Some (line_bundle plan last))
+free_of_bundle plan ranks element watch last places one here line from nominated sent among hop left =
+    let parts = hop_parts plan from line hop in
+    let bundles = open_of_bundle plan ranks element watch last from places one here (record { nominated = parts.0; into = parts.2 ∙ sent; unranked = left }) in
+    parts.3 (bundles ∙ sym (eqb-true _ _ among))
 
--- once the way back of the only open input is ranked, the open input holds all other lines
-pub settled_by_one : (plan : Topology) (ranks : Ranks) (element last : ℕ) → IsNominated plan last → receiver_of plan last ≡ element → rank_at ranks last ≡ None
-    → (IsNominated plan (reverse_of last) → rank_at ranks (reverse_of last) ≢ None) → IsSettled plan ranks element
-settled_by_one plan ranks element last open_nominated into none given line nominated sent left = elim (cases_eq line (reverse_of last)) [
-  | inl back ↦ absurd (given (subst (λ l. IsNominated plan l) back nominated) (ap (λ l. rank_at ranks l) (sym back) ∙ left))
-  | inr differs ↦ held_by plan ranks element line last nominated sent open_nominated into none differs
+-- once the lines out over the bundle of an open input have ranks, this input holds all others
+pub settled_by_one : (plan : Topology) (ranks : Ranks) (element last : ℕ) → IsOpenInto plan ranks element last
+    → ((line : ℕ) → IsNominated plan line → sender_of plan line ≡ element → line_bundle plan last ≡ line_bundle plan line → rank_at ranks line ≢ None)
+    → IsSettled plan ranks element
+settled_by_one plan ranks element last stands given line nominated sent left = elim (cases_eq (line_bundle plan last) (line_bundle plan line)) [
+  | inl same ↦ absurd (given line nominated sent same left)
+  | inr differs ↦ held_by plan ranks element line last nominated sent stands differs
 ]
 
 -- the rank after the top is the next
 pub IsTopOf-from : (plan : Topology) (ranks : Ranks) (element : ℕ) (top : Top) → IsRanking plan ranks
-    → IsTop ranks (inputs_of plan element) (length (inputs_of plan element)) top → IsTopOf plan ranks element top
+    → IsTop plan ranks (inputs_of plan element) (length (inputs_of plan element)) top → IsTopOf plan ranks element top
 IsTopOf-from plan ranks element top ranking is_top_of line nominated sent ranked =
-    cases (is_top top (reverse_of line)) refl
+    cases (is_top top (line_bundle plan line)) refl
   where
     inputs : List InputId
     inputs = inputs_of plan element
 
-    -- a rank that isn't none
-    some : (from : ℕ) → Hops plan from line → (rank : ℕ) × (rank_at ranks from ≡ Some rank)
+    -- a line that hops there stands among the inputs with its rank
+    some : (from : ℕ) → Hops plan from line → (rank : ℕ) × IsRankedAt ranks inputs (length inputs) from rank
     some from hop = by_rank (rank_at ranks from) refl
       where
-        by_rank : (o : Option ℕ) → rank_at ranks from ≡ o → (rank : ℕ) × (rank_at ranks from ≡ Some rank)
+        by_rank : (o : Option ℕ) → rank_at ranks from ≡ o → (rank : ℕ) × IsRankedAt ranks inputs (length inputs) from rank
         by_rank None e = absurd (ranked from hop e)
-        by_rank (Some rank) e = (rank, e)
+        by_rank (Some rank) e =
+            let parts = hop_parts plan from line hop in
+            let at = input_place plan element from parts.0 (parts.2 ∙ sent) in
+            (rank, record { place = at.0; low = line_at_within inputs at.0 from at.1; here = at.1; ranked = e })
 
-    place_of : (from : ℕ) → Hops plan from line → (place : ℕ) × (line_at inputs place ≡ Some from)
-    place_of from hop = let parts = hop_parts plan from line hop in input_place plan element from parts.0 (parts.2 ∙ sent)
-
-    -- a line among the inputs that has a rank hops to the line, unless it goes back
-    hop_of : (place from rank : ℕ) → line_at inputs place ≡ Some from → rank_at ranks from ≡ Some rank → line ≢ reverse_of from → Hops plan from line
-    hop_of place from rank here has_rank apart =
-        let from_nominated = ranking.only from rank has_rank in
-        let is = input_is plan element place from here in
+    -- a line among the inputs that has a rank hops to the line, unless it is of its bundle
+    hop_of : (from rank : ℕ) → IsRankedAt ranks inputs (length inputs) from rank → line_bundle plan from ≢ line_bundle plan line → Hops plan from line
+    hop_of from rank stands apart =
+        let from_nominated = ranking.only from rank stands.ranked in
+        let is = input_is plan element stands.place from stands.here in
         hop_from plan from line from_nominated nominated (is.1 ∙ sym sent) apart
 
-    is_top_from : (o : Option ℕ) (back : ℕ) → o ≡ Some back → option_map_or (λ number. nat_eq number back) o false ≡ true
-    is_top_from None back e = absurd (none-some back e)
-    is_top_from (Some number) back e = eq-eqb number back (same_Some number back e)
-
-    top_from : (o : Option ℕ) (back : ℕ) → option_map_or (λ number. nat_eq number back) o false ≡ true → o ≡ Some back
-    top_from None back e = absurd (true≢false (sym e))
-    top_from (Some number) back e = ap (λ n. Some n) (eqb-true number back e)
-
-    cases : (b : Bool) → is_top top (reverse_of line) ≡ b → IsNext (hops plan) (rank_at ranks) line (if b then top.next_without else top.next)
-    cases true is_back =
-        let back : top_line top ≡ Some (reverse_of line) = top_from (top_line top) (reverse_of line) is_back in
+    cases : (b : Bool) → is_top top (line_bundle plan line) ≡ b → IsNext (hops plan) (rank_at ranks) line (if b then top.next_without else top.next)
+    cases true is_own =
+        let own : top.bundle ≡ Some (line_bundle plan line) = is_top-Some top (line_bundle plan line) is_own in
         record {
           above = λ from hop.
               let rank = some from hop in
-              let at = place_of from hop in
               let parts = hop_parts plan from line hop in (
                 rank.0,
-                rank.1,
-                is_top_of.above_others at.0 from rank.0 (line_at_within inputs at.0 from at.1) at.1 rank.1
-                    (λ same. parts.3 (reverse_twice line from (same_Some from (reverse_of line) (sym same ∙ back)))),
+                rank.1.ranked,
+                is_top_of.above_others from rank.0 rank.1 (λ same. parts.3 (same_Some _ _ (sym same ∙ own))),
               );
           reached = elim is_top_of.reached_by_others [
             | inl none ↦ inl none
             | inr found ↦ inr (
+              found.0,
               found.1,
-              found.2,
-              hop_of found.0 found.1 found.2 found.4 found.5
-                  (λ same. found.7 (back ∙ ap (λ l. Some l) (sym (reverse_twice found.1 line same)))),
-              found.5,
-              found.6,
+              hop_of found.0 found.1 found.2 (λ same. found.4 (own ∙ ap (λ b. Some b) (sym same))),
+              found.2.ranked,
+              found.3,
             )
           ];
         }
-    cases false not_back = record {
-      above = λ from hop.
-          let rank = some from hop in
-          let at = place_of from hop in
-          (rank.0, rank.1, is_top_of.above at.0 from rank.0 (line_at_within inputs at.0 from at.1) at.1 rank.1);
+    cases false not_own = record {
+      above = λ from hop. let rank = some from hop in (rank.0, rank.1.ranked, is_top_of.above from rank.0 rank.1);
       reached = elim is_top_of.reached [
         | inl none ↦ inl none
         | inr found ↦ inr (
+          found.0,
           found.1,
-          found.2,
-          hop_of found.0 found.1 found.2 found.4 found.5
-              (λ same. true≢false (sym (is_top_from (top_line top) (reverse_of line) (found.7 ∙ ap (λ l. Some l) (reverse_twice found.1 line same))) ∙ not_back)),
-          found.5,
-          found.6,
+          hop_of found.0 found.1 found.2 (λ same. is_top-other top (line_bundle plan line) not_own (found.4 ∙ ap (λ b. Some b) same)),
+          found.2.ranked,
+          found.3,
         )
       ];
     }
 
+-- the lines that are meant come next after the top
+pub AreNext-top : (plan : Topology) (ranks : Ranks) (element : ℕ) (only : Option ℕ) (top : Top) → IsTopOf plan ranks element top → AreFree plan ranks element only
+    → AreNext plan ranks element only top
+AreNext-top plan ranks element only top is_top free line nominated sent among =
+    is_top line nominated sent (λ from hop. free line from nominated sent among hop)
+
 -- what is said of the next ranks stays so
-pub AreNext-grows : (plan : Topology) (before after : Ranks) (element : ℕ) (top : Top) → Grows (rank_at before) (rank_at after) → AreNext plan before element top → AreNext plan after element top
-AreNext-grows plan before after element top grows next line nominated sent =
-    IsNext-grows (hops plan) (rank_at before) (rank_at after) line (rank_after top (reverse_of line)) grows (next line nominated sent)
+pub AreNext-grows : (plan : Topology) (before after : Ranks) (element : ℕ) (only : Option ℕ) (top : Top) → Grows (rank_at before) (rank_at after)
+    → AreNext plan before element only top → AreNext plan after element only top
+AreNext-grows plan before after element only top grows next line nominated sent among =
+    IsNext-grows (hops plan) (rank_at before) (rank_at after) line (rank_after top (line_bundle plan line)) grows (next line nominated sent among)
 
 -- more and yet more
 pub IsMore-same : (plan : Topology) (ranking : Ranking) → IsPeeling plan ranking → IsMore plan ranking ranking
@@ -269,10 +246,11 @@ IsMore-watch plan before after element watch peeling within watched ranks waitin
 }
 
 -- what is known of an element's new watch
-pub IsWatched-new : (plan : Topology) (ranks : Ranks) (element : ℕ) (old new : Watch) → IsWatched plan ranks element old → AreFirstOpen ranks (inputs_of plan element) new
-    → new.done ≡ old.done → IsWatched plan ranks element new
-IsWatched-new plan ranks element old new was places done = record {
+pub IsWatched-new : (plan : Topology) (ranks : Ranks) (element : ℕ) (old new : Watch) → IsWatched plan ranks element old → AreFirstOpen plan ranks (inputs_of plan element) new
+    → new.back ≡ old.back → new.done ≡ old.done → IsWatched plan ranks element new
+IsWatched-new plan ranks element old new was places back done = record {
   watched = places.watched;
+  back = λ is_back. was.back (sym back ∙ is_back);
   done = λ is_done. was.done (sym done ∙ is_done);
 }
 
@@ -305,25 +283,41 @@ peeled_at_end plan ranking peeling kept none = record {
   ];
 }
 
--- once all outputs that are kept for an element have ranks, it is done
-pub ranked_outputs : (plan : Topology) (ranks : Ranks) (outputs : List (Vec LineId Global)) (element : ℕ) (own : List LineId) → AreOutputs plan (line_count plan) outputs
-    → kept outputs element ≡ own → All (λ (line : LineId). rank_at ranks line.0 ≢ None) own
-    → (line : ℕ) → IsNominated plan line → sender_of plan line ≡ element → rank_at ranks line ≢ None
-ranked_outputs plan ranks outputs element own are_outputs own_is ranked line nominated sent =
+-- once the outputs that are kept for an element and are meant have ranks, all lines out of it that are meant have
+pub ranked_outputs : (plan : Topology) (ranks : Ranks) (outputs : List (Vec LineId Global)) (element : ℕ) (own : List LineId) (only : Option ℕ)
+    → AreOutputs plan (line_count plan) outputs → kept outputs element ≡ own
+    → All (λ (line : LineId). IsAmong plan only line.0 → rank_at ranks line.0 ≢ None) own
+    → (line : ℕ) → IsNominated plan line → sender_of plan line ≡ element → IsAmong plan only line → rank_at ranks line ≢ None
+ranked_outputs plan ranks outputs element own only are_outputs own_is ranked line nominated sent =
     let stands : Contains (kept outputs (sender_of plan line)) (record { 0 = line }) =
     are_outputs.each (record { 0 = line }) (IsNominated-within plan line nominated) nominated in
     let here : Contains own (record { 0 = line }) = subst (λ lines. Contains lines (record { 0 = line })) (ap (λ e. kept outputs e) sent ∙ own_is) stands in
-    All-contains (λ (l : LineId). rank_at ranks l.0 ≢ None) own (record { 0 = line }) ranked here
-
--- the line at an open place has no rank
-pub unranked_at : (ranks : Ranks) (inputs : List InputId) (place line : ℕ) → is_open ranks inputs place ≡ true → line_at inputs place ≡ Some line → rank_at ranks line ≡ None
-unranked_at ranks inputs place line is_it here =
-    let found = open_line ranks inputs place is_it in
-    let same : found.0 ≡ line = same_Some found.0 line (sym found.1 ∙ here) in
-    ap (λ l. rank_at ranks l) (sym same) ∙ found.2
+    All-contains (λ (l : LineId). IsAmong plan only l.0 → rank_at ranks l.0 ≢ None) own (record { 0 = line }) ranked here
 
 -- the line at the first open place has no rank
-pub unranked_first : (plan : Topology) (ranks : Ranks) (element : ℕ) (watch : Watch) (line : ℕ) → AreFirstOpen ranks (inputs_of plan element) watch
-    → line_at (inputs_of plan element) watch.first ≡ Some line → rank_at ranks line ≡ None
-unranked_first plan ranks element watch line places here =
-    unranked_at ranks (inputs_of plan element) watch.first line (places.first (line_at_within (inputs_of plan element) watch.first line here)) here
+pub first_line : (plan : Topology) (ranks : Ranks) (element : ℕ) (watch : Watch) (line : ℕ) → AreFirstOpen plan ranks (inputs_of plan element) watch
+    → line_at (inputs_of plan element) watch.first ≡ Some line → IsOpenInto plan ranks element line
+first_line plan ranks element watch line places here =
+    let inputs : List InputId = inputs_of plan element in
+    open_into plan ranks element watch.first line
+    (line_at_open ranks inputs watch.first line here (places.first (line_at_within inputs watch.first line here)))
+
+-- an open input that is no line out of the element stays open while only such lines get ranks
+pub open_stays : (plan : Topology) (before after : Ranks) (element line : ℕ) → IsWellFormed plan → IsOpenInto plan before element line
+    → ((other : ℕ) → sender_of plan other ≢ element → rank_at after other ≡ rank_at before other) → IsOpenInto plan after element line
+open_stays plan before after element line well stands others = record {
+  nominated = stands.nominated;
+  into = stands.into;
+  unranked =
+      others line (λ sent. ends_apart plan line well (IsNominated-within plan line stands.nominated) (sent ∙ sym stands.into)) ∙ stands.unranked;
+}
+
+-- once the lines out of the element over the bundle of its open inputs have ranks, the ways back are done
+pub back_done : (plan : Topology) (before after : Ranks) (element : ℕ) (watch : Watch) (last : ℕ) → AreFirstOpen plan before (inputs_of plan element) watch
+    → length (inputs_of plan element) ≤ watch.second → line_at (inputs_of plan element) watch.first ≡ Some last → Grows (rank_at before) (rank_at after)
+    → ((line : ℕ) → IsNominated plan line → sender_of plan line ≡ element → IsAmong plan (Some (line_bundle plan last)) line → rank_at after line ≢ None)
+    → (line from : ℕ) → IsNominated plan line → sender_of plan line ≡ element → IsOpenInto plan after element from
+    → line_bundle plan from ≡ line_bundle plan line → rank_at after line ≢ None
+back_done plan before after element watch last places one here grows given line from nominated sent stands bundles =
+    let of_last = open_of_bundle plan before element watch last from places one here (IsOpenInto-grows plan before after element from grows stands) in
+    given line nominated sent (eq-eqb _ _ (sym bundles ∙ of_last))

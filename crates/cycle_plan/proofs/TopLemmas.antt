@@ -1,157 +1,193 @@
 -- The greatest rank after one more input.
-use Rattle.std.proofs.Common.{◌≡◌, ℕ, ◌+◌, ◌<◌, ◌≤◌, Bool, true, false, nat_le, List, Some, refl, sym, ap, ◌∙◌, inl, inr, arith}
-use Rattle.std.specs.Prelude.{◌⊎◌, if◌then◌else◌}
-use Rattle.std.proofs.lemmas.Bool.{cases_lt, leb-true, leb-false}
-use Rattle.std.proofs.lemmas.Option.{same_Some}
-use Rattle.sync_topo.specs.declared.input.LineId.{LineId}
+use Rattle.std.proofs.Common.{◌≡◌, ℕ, ◌+◌, ◌<◌, ◌≤◌, Bool, true, false, nat_eq, nat_le, List, Option, Some, None, refl, sym, ap, ◌∙◌, inl, inr, arith}
+use Rattle.std.specs.Prelude.{◌≢◌, ◌⊎◌, max, if◌then◌else◌}
+use Rattle.std.specs.Option.{option_map_or}
+use Rattle.std.proofs.lemmas.Bool.{true≢false, cases_lt, leb-true, leb-false, eqb-true, eq-eqb}
+use Rattle.std.proofs.lemmas.Option.{none-some, same_Some}
+use Rattle.sync_topo.specs.Topology.{Topology}
+use Rattle.sync_topo.specs.Bundles.{line_bundle}
 use Rattle.rank_cert.specs.Ranks.{Ranks, rank_at}
 use Rattle.sync_topo.specs.declared.input.InputId.{InputId}
 use Rattle.cycle_plan.specs.Inputs.{line_at}
-use Rattle.cycle_plan.specs.Tops.{AreRising, IsTop, raised}
+use Rattle.cycle_plan.specs.Tops.{IsRankedAt, IsTop, is_top, raised}
 use Rattle.cycle_plan.specs.declared.top.Top.{Top}
 
--- a place below n + 1 is below n, or it is n
-below_more : (place n : ℕ) → place < n + 1 → (place < n) ⊎ (place ≡ n)
-below_more place n low = elim (cases_lt place n) [
-  | inl before ↦ inl before
-  | inr not_before ↦ inr (omega arith)
+-- what stands among the first n inputs stands among one more
+one_more : (ranks : Ranks) (inputs : List InputId) (n line rank : ℕ) → IsRankedAt ranks inputs n line rank → IsRankedAt ranks inputs (n + 1) line rank
+one_more ranks inputs n line rank stands = record { place = stands.place; low = omega (arith, stands.low); here = stands.here; ranked = stands.ranked }
+
+-- what stands among n + 1 inputs stands among n, or at place n
+one_less : (ranks : Ranks) (inputs : List InputId) (n line rank : ℕ) → IsRankedAt ranks inputs (n + 1) line rank
+    → IsRankedAt ranks inputs n line rank ⊎ ((line_at inputs n ≡ Some line) × (rank_at ranks line ≡ Some rank))
+one_less ranks inputs n line rank stands = elim (cases_lt stands.place n) [
+  | inl before ↦ inl (record { place = stands.place; low = before; here = stands.here; ranked = stands.ranked })
+  | inr not_before ↦
+      let same : n ≡ stands.place = omega (arith, stands.low, not_before) in
+      inr (ap (λ i. line_at inputs i) same ∙ stands.here, stands.ranked)
 ]
 
--- the line at place n
-at_last : (inputs : List InputId) (place n line last : ℕ) → place ≡ n → line_at inputs n ≡ Some last → line_at inputs place ≡ Some line → last ≡ line
-at_last inputs place n line last same here there =
-    same_Some last line (sym here ∙ ap (λ i. line_at inputs i) (sym same) ∙ there)
+-- the bundle that has the greatest rank, and one that hasn't
+pub is_top-Some : (top : Top) (bundle : ℕ) → is_top top bundle ≡ true → top.bundle ≡ Some bundle
+is_top-Some top bundle is = cases top.bundle refl is
+  where
+    cases : (o : Option ℕ) → top.bundle ≡ o → option_map_or (λ number. nat_eq number bundle) o false ≡ true → o ≡ Some bundle
+    cases None e none = absurd (true≢false (sym none))
+    cases (Some number) e same = ap (λ n. Some n) (eqb-true number bundle same)
+
+pub is_top-other : (top : Top) (bundle : ℕ) → is_top top bundle ≡ false → top.bundle ≢ Some bundle
+is_top-other top bundle never = cases top.bundle never
+  where
+    cases : (o : Option ℕ) → option_map_or (λ number. nat_eq number bundle) o false ≡ false → o ≢ Some bundle
+    cases None e none = none-some bundle none
+    cases (Some number) e same = true≢false (sym (eq-eqb number bundle (same_Some number bundle same)) ∙ e)
 
 -- an input without a rank changes nothing
-pub IsTop-same : (ranks : Ranks) (inputs : List InputId) (n : ℕ) (top : Top) → ((line rank : ℕ) → line_at inputs n ≡ Some line → rank_at ranks line ≡ Some rank → ⊥)
-    → IsTop ranks inputs n top → IsTop ranks inputs (n + 1) top
-IsTop-same ranks inputs n top unranked before = record {
-  above = λ place line rank low here ranked. elim (below_more place n low) [
-    | inl inside ↦ before.above place line rank inside here ranked
-    | inr last ↦ absurd (unranked line rank (ap (λ i. line_at inputs i) (sym last) ∙ here) ranked)
+pub IsTop-same : (plan : Topology) (ranks : Ranks) (inputs : List InputId) (n : ℕ) (top : Top) → ((line rank : ℕ) → line_at inputs n ≡ Some line → rank_at ranks line ≡ Some rank → ⊥)
+    → IsTop plan ranks inputs n top → IsTop plan ranks inputs (n + 1) top
+IsTop-same plan ranks inputs n top unranked before = record {
+  above = λ line rank stands. elim (one_less ranks inputs n line rank stands) [
+    | inl inside ↦ before.above line rank inside
+    | inr last ↦ absurd (unranked line rank last.0 last.1)
   ];
-  above_others = λ place line rank low here ranked other. elim (below_more place n low) [
-    | inl inside ↦ before.above_others place line rank inside here ranked other
-    | inr last ↦ absurd (unranked line rank (ap (λ i. line_at inputs i) (sym last) ∙ here) ranked)
+  above_others = λ line rank stands other. elim (one_less ranks inputs n line rank stands) [
+    | inl inside ↦ before.above_others line rank inside other
+    | inr last ↦ absurd (unranked line rank last.0 last.1)
   ];
   reached = elim before.reached [
     | inl none ↦ inl none
-    | inr some ↦ inr (some.0, some.1, some.2, omega (arith, some.3), some.4, some.5, some.6, some.7)
+    | inr some ↦ inr (some.0, some.1, one_more ranks inputs n some.0 some.1 some.2, some.3, some.4)
   ];
   reached_by_others = elim before.reached_by_others [
     | inl none ↦ inl none
-    | inr some ↦ inr (some.0, some.1, some.2, omega (arith, some.3), some.4, some.5, some.6, some.7)
+    | inr some ↦ inr (some.0, some.1, one_more ranks inputs n some.0 some.1 some.2, some.3, some.4)
   ];
 }
 
--- what stands at place n, where it stands at a place that is n
-rank_here : (ranks : Ranks) (inputs : List InputId) (n place line rank last last_rank : ℕ) → line_at inputs n ≡ Some last → rank_at ranks last ≡ Some last_rank
-    → place ≡ n → line_at inputs place ≡ Some line → rank_at ranks line ≡ Some rank → (last ≡ line) × (last_rank ≡ rank)
-rank_here ranks inputs n place line rank last last_rank here ranked same there ranked_there =
-    let lines : last ≡ line = at_last inputs place n line last same here there in
-    (lines, same_Some last_rank rank (sym ranked ∙ ap (λ l. rank_at ranks l) lines ∙ ranked_there))
+-- the line at place n and its rank
+pub record IsLast (ranks : Ranks) (inputs : List InputId) (n line rank : ℕ) : Type 0 where
+  pub here : line_at inputs n ≡ Some line
+  pub ranked : rank_at ranks line ≡ Some rank
 
--- no earlier input is the line at place n
-not_earlier : (inputs : List InputId) (n place line : ℕ) → AreRising inputs → line_at inputs n ≡ Some line → place < n → line_at inputs place ≡ Some line → ⊥
-not_earlier inputs n place line rising here low there =
-    let less = rising place n line line low there here in omega arith
+same_last : (ranks : Ranks) (inputs : List InputId) (n last last_rank line rank : ℕ) → IsLast ranks inputs n last last_rank
+    → (line_at inputs n ≡ Some line) × (rank_at ranks line ≡ Some rank) → (last ≡ line) × (last_rank ≡ rank)
+same_last ranks inputs n last last_rank line rank is at =
+    let lines : last ≡ line = same_Some last line (sym is.here ∙ at.0) in
+    (lines, same_Some last_rank rank (sym is.ranked ∙ ap (λ l. rank_at ranks l) lines ∙ at.1))
 
--- the rank is the greatest so far
-new_top : (ranks : Ranks) (inputs : List InputId) (n : ℕ) (top : Top) (line : LineId) (rank : ℕ) → AreRising inputs
-    → line_at inputs n ≡ Some line.0 → rank_at ranks line.0 ≡ Some rank → IsTop ranks inputs n top → top.next ≤ rank
-    → IsTop ranks inputs (n + 1) (record { line = Some line; next = rank + 1; next_without = top.next })
-new_top ranks inputs n top line rank rising here ranked before high = record {
-  above = λ place other lower low there at_other. elim (below_more place n low) [
-    | inl inside ↦ let less = before.above place other lower inside there at_other in omega arith
-    | inr last ↦ let same = rank_here ranks inputs n place other lower line.0 rank here ranked last there at_other in omega (arith, same.1)
+last_stands : (ranks : Ranks) (inputs : List InputId) (n line rank : ℕ) → IsLast ranks inputs n line rank → IsRankedAt ranks inputs (n + 1) line rank
+last_stands ranks inputs n line rank is = record { place = n; low = omega arith; here = is.here; ranked = is.ranked }
+
+-- one more line of the bundle with the greatest rank
+more_of_top : (plan : Topology) (ranks : Ranks) (inputs : List InputId) (n : ℕ) (top : Top) (line rank : ℕ) → IsLast ranks inputs n line rank
+    → IsTop plan ranks inputs n top → top.bundle ≡ Some (line_bundle plan line)
+    → IsTop plan ranks inputs (n + 1) (record { bundle = top.bundle; next = max top.next (rank + 1); next_without = top.next_without })
+more_of_top plan ranks inputs n top line rank last before same_bundle = record {
+  above = λ other lower stands. elim (one_less ranks inputs n other lower stands) [
+    | inl inside ↦ let less = before.above other lower inside in omega (arith, less)
+    | inr here ↦ let same = same_last ranks inputs n line rank other lower last here in omega (arith, same.1)
   ];
-  above_others = λ place other lower low there at_other differs. elim (below_more place n low) [
-    | inl inside ↦ before.above place other lower inside there at_other
-    | inr last ↦ let same = rank_here ranks inputs n place other lower line.0 rank here ranked last there at_other in absurd (differs (ap (λ l. Some l) same.0))
+  above_others = λ other lower stands differs. elim (one_less ranks inputs n other lower stands) [
+    | inl inside ↦ before.above_others other lower inside differs
+    | inr here ↦
+        let same = same_last ranks inputs n line rank other lower last here in
+        absurd (differs (same_bundle ∙ ap (λ l. Some (line_bundle plan l)) same.0))
   ];
-  reached = inr (n, line.0, rank, omega arith, here, ranked, refl, refl);
+  reached = elim (cases_lt rank top.next) [
+    | inl low ↦ elim before.reached [
+      | inl none ↦ absurd (omega (arith, none, low))
+      | inr some ↦ inr (some.0, some.1, one_more ranks inputs n some.0 some.1 some.2, omega (arith, some.3, low), some.4)
+    ]
+    | inr high ↦ inr (line, rank, last_stands ranks inputs n line rank last, omega (arith, high), same_bundle)
+  ];
+  reached_by_others = elim before.reached_by_others [
+    | inl none ↦ inl none
+    | inr some ↦ inr (some.0, some.1, one_more ranks inputs n some.0 some.1 some.2, some.3, some.4)
+  ];
+}
+
+-- a greatest rank of another bundle: the one so far is now the greatest of the others
+new_top : (plan : Topology) (ranks : Ranks) (inputs : List InputId) (n : ℕ) (top : Top) (line rank : ℕ) → IsLast ranks inputs n line rank
+    → IsTop plan ranks inputs n top → top.bundle ≢ Some (line_bundle plan line) → top.next ≤ rank
+    → IsTop plan ranks inputs (n + 1) (record { bundle = Some (line_bundle plan line); next = rank + 1; next_without = top.next })
+new_top plan ranks inputs n top line rank last before apart high = record {
+  above = λ other lower stands. elim (one_less ranks inputs n other lower stands) [
+    | inl inside ↦ let less = before.above other lower inside in omega (arith, less, high)
+    | inr here ↦ let same = same_last ranks inputs n line rank other lower last here in omega (arith, same.1)
+  ];
+  above_others = λ other lower stands differs. elim (one_less ranks inputs n other lower stands) [
+    | inl inside ↦ before.above other lower inside
+    | inr here ↦
+        let same = same_last ranks inputs n line rank other lower last here in
+        absurd (differs (ap (λ l. Some (line_bundle plan l)) same.0))
+  ];
+  reached = inr (line, rank, last_stands ranks inputs n line rank last, refl, refl);
   reached_by_others = elim before.reached [
     | inl none ↦ inl none
     | inr some ↦ inr (
       some.0,
       some.1,
-      some.2,
-      omega (arith, some.3),
-      some.4,
-      some.5,
-      some.6,
-      λ same. not_earlier inputs n some.0 line.0 rising here some.3 (some.4 ∙ sym same),
+      one_more ranks inputs n some.0 some.1 some.2,
+      some.3,
+      λ same. apart (some.4 ∙ sym same),
     )
   ];
 }
 
--- the rank is the greatest but one
-new_second : (ranks : Ranks) (inputs : List InputId) (n : ℕ) (top : Top) (line : LineId) (rank : ℕ) → AreRising inputs
-    → line_at inputs n ≡ Some line.0 → rank_at ranks line.0 ≡ Some rank → IsTop ranks inputs n top → rank < top.next → top.next_without ≤ rank
-    → IsTop ranks inputs (n + 1) (record { line = top.line; next = top.next; next_without = rank + 1 })
-new_second ranks inputs n top line rank rising here ranked before low_rank high = record {
-  above = λ place other lower low there at_other. elim (below_more place n low) [
-    | inl inside ↦ before.above place other lower inside there at_other
-    | inr last ↦ let same = rank_here ranks inputs n place other lower line.0 rank here ranked last there at_other in omega (arith, same.1)
+-- the greatest rank of the others
+new_second : (plan : Topology) (ranks : Ranks) (inputs : List InputId) (n : ℕ) (top : Top) (line rank : ℕ) → IsLast ranks inputs n line rank
+    → IsTop plan ranks inputs n top → top.bundle ≢ Some (line_bundle plan line) → rank < top.next → top.next_without ≤ rank
+    → IsTop plan ranks inputs (n + 1) (record { bundle = top.bundle; next = top.next; next_without = rank + 1 })
+new_second plan ranks inputs n top line rank last before apart low high = record {
+  above = λ other lower stands. elim (one_less ranks inputs n other lower stands) [
+    | inl inside ↦ before.above other lower inside
+    | inr here ↦ let same = same_last ranks inputs n line rank other lower last here in omega (arith, same.1, low)
   ];
-  above_others = λ place other lower low there at_other differs. elim (below_more place n low) [
-    | inl inside ↦ let less = before.above_others place other lower inside there at_other differs in omega arith
-    | inr last ↦ let same = rank_here ranks inputs n place other lower line.0 rank here ranked last there at_other in omega (arith, same.1)
+  above_others = λ other lower stands differs. elim (one_less ranks inputs n other lower stands) [
+    | inl inside ↦ let less = before.above_others other lower inside differs in omega (arith, less, high)
+    | inr here ↦ let same = same_last ranks inputs n line rank other lower last here in omega (arith, same.1)
   ];
   reached = elim before.reached [
     | inl none ↦ inl none
-    | inr some ↦ inr (some.0, some.1, some.2, omega (arith, some.3), some.4, some.5, some.6, some.7)
+    | inr some ↦ inr (some.0, some.1, one_more ranks inputs n some.0 some.1 some.2, some.3, some.4)
   ];
-  reached_by_others = inr (
-    n,
-    line.0,
-    rank,
-    omega arith,
-    here,
-    ranked,
-    refl,
-    λ same. elim before.reached [
-      | inl none ↦ omega arith
-      | inr some ↦ not_earlier inputs n some.0 line.0 rising here some.3 (some.4 ∙ sym some.7 ∙ same)
-    ],
-  );
+  reached_by_others = inr (line, rank, last_stands ranks inputs n line rank last, refl, apart);
 }
 
--- the rank is below both
-no_top : (ranks : Ranks) (inputs : List InputId) (n : ℕ) (top : Top) (line : LineId) (rank : ℕ)
-    → line_at inputs n ≡ Some line.0 → rank_at ranks line.0 ≡ Some rank → IsTop ranks inputs n top → rank < top.next → rank < top.next_without
-    → IsTop ranks inputs (n + 1) top
-no_top ranks inputs n top line rank here ranked before low_rank lower_rank = record {
-  above = λ place other lower low there at_other. elim (below_more place n low) [
-    | inl inside ↦ before.above place other lower inside there at_other
-    | inr last ↦ let same = rank_here ranks inputs n place other lower line.0 rank here ranked last there at_other in omega (arith, same.1)
+-- a rank below both
+no_top : (plan : Topology) (ranks : Ranks) (inputs : List InputId) (n : ℕ) (top : Top) (line rank : ℕ) → IsLast ranks inputs n line rank
+    → IsTop plan ranks inputs n top → rank < top.next → rank < top.next_without → IsTop plan ranks inputs (n + 1) top
+no_top plan ranks inputs n top line rank last before low lower = record {
+  above = λ other least stands. elim (one_less ranks inputs n other least stands) [
+    | inl inside ↦ before.above other least inside
+    | inr here ↦ let same = same_last ranks inputs n line rank other least last here in omega (arith, same.1, low)
   ];
-  above_others = λ place other lower low there at_other differs. elim (below_more place n low) [
-    | inl inside ↦ before.above_others place other lower inside there at_other differs
-    | inr last ↦ let same = rank_here ranks inputs n place other lower line.0 rank here ranked last there at_other in omega (arith, same.1)
+  above_others = λ other least stands differs. elim (one_less ranks inputs n other least stands) [
+    | inl inside ↦ before.above_others other least inside differs
+    | inr here ↦ let same = same_last ranks inputs n line rank other least last here in omega (arith, same.1, lower)
   ];
   reached = elim before.reached [
     | inl none ↦ inl none
-    | inr some ↦ inr (some.0, some.1, some.2, omega (arith, some.3), some.4, some.5, some.6, some.7)
+    | inr some ↦ inr (some.0, some.1, one_more ranks inputs n some.0 some.1 some.2, some.3, some.4)
   ];
   reached_by_others = elim before.reached_by_others [
     | inl none ↦ inl none
-    | inr some ↦ inr (some.0, some.1, some.2, omega (arith, some.3), some.4, some.5, some.6, some.7)
+    | inr some ↦ inr (some.0, some.1, one_more ranks inputs n some.0 some.1 some.2, some.3, some.4)
   ];
 }
 
 -- one more line
-pub IsTop-raised : (ranks : Ranks) (inputs : List InputId) (n : ℕ) (top : Top) (line : LineId) (rank : ℕ) → AreRising inputs
-    → line_at inputs n ≡ Some line.0 → rank_at ranks line.0 ≡ Some rank → IsTop ranks inputs n top → IsTop ranks inputs (n + 1) (raised top line rank)
-IsTop-raised ranks inputs n top line rank rising here ranked before =
-    cases (nat_le top.next rank) (nat_le top.next_without rank) refl refl
+pub IsTop-raised : (plan : Topology) (ranks : Ranks) (inputs : List InputId) (n : ℕ) (top : Top) (line rank : ℕ) → IsLast ranks inputs n line rank
+    → IsTop plan ranks inputs n top → IsTop plan ranks inputs (n + 1) (raised top (line_bundle plan line) rank)
+IsTop-raised plan ranks inputs n top line rank last before =
+    cases (is_top top (line_bundle plan line)) (nat_le top.next rank) (nat_le top.next_without rank) refl refl refl
   where
-    cases : (b c : Bool) → nat_le top.next rank ≡ b → nat_le top.next_without rank ≡ c
-        → IsTop ranks inputs (n + 1)
-        (if b then record { line = Some line; next = rank + 1; next_without = top.next }
-        else if c then record { line = top.line; next = top.next; next_without = rank + 1 } else top)
-    cases true c high other = new_top ranks inputs n top line rank rising here ranked before (leb-true _ _ high)
-    cases false true high other =
-        new_second ranks inputs n top line rank rising here ranked before (leb-false _ _ high) (leb-true _ _ other)
-    cases false false high other =
-        no_top ranks inputs n top line rank here ranked before (leb-false _ _ high) (leb-false _ _ other)
+    cases : (a b c : Bool) → is_top top (line_bundle plan line) ≡ a → nat_le top.next rank ≡ b → nat_le top.next_without rank ≡ c
+        → IsTop plan ranks inputs (n + 1)
+        (if a then record { bundle = top.bundle; next = max top.next (rank + 1); next_without = top.next_without }
+        else if b then record { bundle = Some (line_bundle plan line); next = rank + 1; next_without = top.next }
+        else if c then record { bundle = top.bundle; next = top.next; next_without = rank + 1 } else top)
+    cases true b c same high other = more_of_top plan ranks inputs n top line rank last before (is_top-Some top (line_bundle plan line) same)
+    cases false true c apart high other = new_top plan ranks inputs n top line rank last before (is_top-other top (line_bundle plan line) apart) (leb-true _ _ high)
+    cases false false true apart high other =
+        new_second plan ranks inputs n top line rank last before (is_top-other top (line_bundle plan line) apart) (leb-false _ _ high) (leb-true _ _ other)
+    cases false false false apart high other = no_top plan ranks inputs n top line rank last before (leb-false _ _ high) (leb-false _ _ other)

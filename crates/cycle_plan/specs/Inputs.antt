@@ -1,8 +1,10 @@
 -- Which inputs of an element have no rank yet: what only private clauses cite.
-use Rattle.std.specs.Prelude.{◌≡◌, ℕ, ◌<◌, ◌≤◌, Bool, true, false, List, length, slice_get, is_none, Option, Some, None}
+use Rattle.std.specs.Prelude.{◌≡◌, ◌≢◌, ℕ, ◌<◌, ◌≤◌, Bool, true, false, not, ◌&&◌, ◌==◌, List, length, slice_get, is_none, Option, Some, None}
 use Rattle.std.specs.Option.{option_map_or, option_and_then}
 use Rattle.sync_topo.specs.declared.input.InputId.{InputId}
 use Rattle.sync_topo.specs.declared.input.InputId.TheVariants.{Line, Source}
+use Rattle.sync_topo.specs.Topology.{Topology}
+use Rattle.sync_topo.specs.Bundles.{line_bundle}
 use Rattle.rank_cert.specs.Ranks.{Ranks, rank_at}
 use Rattle.cycle_plan.specs.declared.inputs.Watch.{Watch}
 
@@ -23,16 +25,29 @@ AreWithin n inputs = (place line : ℕ) → line_at inputs place ≡ Some line �
 abbrev pub is_open : Ranks → List InputId → ℕ → Bool
 is_open ranks inputs place = option_map_or (λ line. is_none (rank_at ranks line)) (line_at inputs place) false
 
--- no input before the first place is open, and none between the two places
-pub record IsWatch (ranks : Ranks) (inputs : List InputId) (watch : Watch) : Type 0 where
+-- and it is of another bundle
+abbrev pub is_other : Topology → Ranks → List InputId → ℕ → ℕ → Bool
+is_other plan ranks inputs bundle place =
+    option_map_or (λ line. is_none (rank_at ranks line) && not (line_bundle plan line == bundle)) (line_at inputs place) false
+
+-- the input at a place is this line, and it has no rank
+pub record IsOpenLine (ranks : Ranks) (inputs : List InputId) (place line : ℕ) : Type 0 where
+  pub here : line_at inputs place ≡ Some line
+  pub unranked : rank_at ranks line ≡ None
+
+-- no input before the first place is open, and all that are open from there up to the second are of one bundle
+pub record IsWatch (plan : Topology) (ranks : Ranks) (inputs : List InputId) (watch : Watch) : Type 0 where
   pub first_within : watch.first ≤ length inputs
   pub second_within : watch.second ≤ length inputs
   pub before : (place : ℕ) → place < watch.first → is_open ranks inputs place ≡ false
-  pub between : (place : ℕ) → watch.first < place → place < watch.second → is_open ranks inputs place ≡ false
+  pub between : (place other line next : ℕ) → watch.first ≤ place → place < watch.second → watch.first ≤ other → other < watch.second
+      → IsOpenLine ranks inputs place line → IsOpenLine ranks inputs other next → line_bundle plan line ≡ line_bundle plan next
 
--- the places are those of the first two open inputs, or the end where there are fewer
-pub record AreFirstOpen (ranks : Ranks) (inputs : List InputId) (watch : Watch) : Type 0 where
-  pub watched : IsWatch ranks inputs watch
+-- the places are those of the first open input and of the first open one of another bundle, or the end where there is none
+pub record AreFirstOpen (plan : Topology) (ranks : Ranks) (inputs : List InputId) (watch : Watch) : Type 0 where
+  pub watched : IsWatch plan ranks inputs watch
   pub first : watch.first < length inputs → is_open ranks inputs watch.first ≡ true
   pub second : watch.second < length inputs → is_open ranks inputs watch.second ≡ true
   pub apart : watch.second < length inputs → watch.first < watch.second
+  pub differ : (line other : ℕ) → line_at inputs watch.first ≡ Some line → line_at inputs watch.second ≡ Some other
+      → line_bundle plan line ≢ line_bundle plan other

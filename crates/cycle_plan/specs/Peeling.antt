@@ -1,8 +1,9 @@
 -- How lines get their ranks one after another: what only private clauses cite.
-use Rattle.std.specs.Prelude.{◌≡◌, ◌≢◌, ℕ, ◌+◌, ◌*◌, ◌<◌, ◌≤◌, ◌⊎◌, Bool, true, IsTrue, length, Option, Some, None, slice_get, is_none}
+use Rattle.std.specs.Prelude.{◌≡◌, ◌≢◌, ℕ, ◌+◌, ◌*◌, ◌<◌, ◌≤◌, ◌⊎◌, Bool, true, ◌==◌, IsTrue, length, Option, Some, None, slice_get, is_none}
 use Rattle.std.specs.List.{All, Contains, count_by}
 use Rattle.sync_topo.specs.Topology.{Topology}
-use Rattle.sync_topo.specs.Lines.{line_count, IsNominated, sender_of, receiver_of, reverse_of, inputs_of}
+use Rattle.sync_topo.specs.Bundles.{line_bundle}
+use Rattle.sync_topo.specs.Lines.{line_count, IsNominated, sender_of, receiver_of, inputs_of}
 use Rattle.sync_topo.specs.Hops.{hops, Hops}
 use Rattle.sync_topo.specs.Ranks.{HopTest}
 use Rattle.rank_cert.specs.Ranks.{Ranks, rank_at}
@@ -38,9 +39,18 @@ pub record IsRanking (plan : Topology) (ranks : Ranks) : Type 0 where
   pub only : (line rank : ℕ) → rank_at ranks line ≡ Some rank → IsNominated plan line
   pub below : (line rank : ℕ) → rank_at ranks line ≡ Some rank → rank + left_over ranks < line_count plan
 
--- the element's inputs are watched, and where it is done each of its nominated outputs has a rank
+-- a nominated line into the element that has no rank
+pub record IsOpenInto (plan : Topology) (ranks : Ranks) (element line : ℕ) : Type 0 where
+  pub nominated : IsNominated plan line
+  pub into : receiver_of plan line ≡ element
+  pub unranked : rank_at ranks line ≡ None
+
+-- the element's inputs are watched; where the ways back are done, each nominated output over the bundle of an open input
+-- has a rank, and where the element is done, each nominated output has one
 pub record IsWatched (plan : Topology) (ranks : Ranks) (element : ℕ) (watch : Watch) : Type 0 where
-  pub watched : IsWatch ranks (inputs_of plan element) watch
+  pub watched : IsWatch plan ranks (inputs_of plan element) watch
+  pub back : watch.back ≡ true → (line from : ℕ) → IsNominated plan line → sender_of plan line ≡ element → IsOpenInto plan ranks element from
+      → line_bundle plan from ≡ line_bundle plan line → rank_at ranks line ≢ None
   pub done : watch.done ≡ true → (line : ℕ) → IsNominated plan line → sender_of plan line ≡ element → rank_at ranks line ≢ None
 
 -- how things stand while lines are ranked
@@ -77,17 +87,27 @@ AreKept plan ranking = (line : ℕ) → IsNominated plan line → rank_at rankin
 abbrev pub IsSettled : Topology → Ranks → ℕ → Type 0
 IsSettled plan ranks element = (line : ℕ) → IsNominated plan line → sender_of plan line ≡ element → rank_at ranks line ≡ None → IsHeld plan ranks line
 
--- the line comes next after all inputs of the element but the one that it goes back to
-abbrev pub AreNext : Topology → Ranks → ℕ → Top → Type 0
-AreNext plan ranks element top =
-    (line : ℕ) → IsNominated plan line → sender_of plan line ≡ element → IsNext (hops plan) (rank_at ranks) line (rank_after top (reverse_of line))
+-- the line is one of those that are meant: of the bundle, if one is named
+abbrev pub is_among : Topology → Option ℕ → ℕ → Bool
+is_among plan None line = true
+is_among plan (Some bundle) line = line_bundle plan line == bundle
 
--- the same, for a line to which no line without a rank hops
+abbrev pub IsAmong : Topology → Option ℕ → ℕ → Type 0
+IsAmong plan only line = IsTrue (is_among plan only line)
+
+-- no line without a rank hops to one of the lines out of the element that are meant
+abbrev pub AreFree : Topology → Ranks → ℕ → Option ℕ → Type 0
+AreFree plan ranks element only =
+    (line from : ℕ) → IsNominated plan line → sender_of plan line ≡ element → IsAmong plan only line → Hops plan from line → rank_at ranks from ≢ None
+
+-- each of them comes next after all inputs of the element but those of its own bundle
+abbrev pub AreNext : Topology → Ranks → ℕ → Option ℕ → Top → Type 0
+AreNext plan ranks element only top =
+    (line : ℕ) → IsNominated plan line → sender_of plan line ≡ element → IsAmong plan only line
+    → IsNext (hops plan) (rank_at ranks) line (rank_after top (line_bundle plan line))
+
+-- the same, for any line to which no line without a rank hops
 abbrev pub IsTopOf : Topology → Ranks → ℕ → Top → Type 0
 IsTopOf plan ranks element top =
     (line : ℕ) → IsNominated plan line → sender_of plan line ≡ element → ((from : ℕ) → Hops plan from line → rank_at ranks from ≢ None)
-    → IsNext (hops plan) (rank_at ranks) line (rank_after top (reverse_of line))
-
--- each nominated line into the element has a rank
-abbrev pub AreRanked : Topology → Ranks → ℕ → Type 0
-AreRanked plan ranks element = (line : ℕ) → IsNominated plan line → receiver_of plan line ≡ element → rank_at ranks line ≢ None
+    → IsNext (hops plan) (rank_at ranks) line (rank_after top (line_bundle plan line))

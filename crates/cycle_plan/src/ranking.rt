@@ -1,15 +1,16 @@
 ghost use Rattle.std.specs.Prelude.{◌≡◌, ◌≢◌, ◌<◌, ◌&&◌, ℕ, length, is_none, Some, None, OnOk, IfOk};
 ghost use Rattle.std.specs.List.{All, Contains};
-ghost use Rattle.sync_topo.specs.Lines.{line_count, is_nominated, IsNominated, receiver_of, inputs_of, reverse_of};
-ghost use Rattle.sync_topo.specs.Hops.{hops, Hops};
+ghost use Rattle.sync_topo.specs.Bundles.{line_bundle};
+ghost use Rattle.sync_topo.specs.Lines.{line_count, is_nominated, IsNominated, sender_of, inputs_of};
+ghost use Rattle.sync_topo.specs.Hops.{hops};
 ghost use Rattle.rank_cert.specs.Ranks.{rank_at};
 ghost use Rattle.cycle_plan.specs.Inputs.{AreFirstOpen};
 ghost use Rattle.cycle_plan.specs.Outputs.{AreOutputs, IsOutput};
 ghost use Rattle.cycle_plan.specs.Tops.{rank_after};
 ghost use Rattle.cycle_plan.specs.Rings.{IsDone};
-ghost use Rattle.cycle_plan.specs.Peeling.{IsRanking, IsPeeling, IsPeeled, IsMore, IsNext, IsSettled, AreKept, IsWatched, AreRanked, AreNext, IsTopOf};
+ghost use Rattle.cycle_plan.specs.Peeling.{IsRanking, IsPeeling, IsPeeled, IsMore, IsNext, IsSettled, AreKept, IsWatched, is_among, IsAmong, AreFree, IsTopOf};
 
-use crate::inputs::{Watch, first_open, inputs_of, line_at};
+use crate::inputs::{Watch, bundle_of, first_open, inputs_of, line_at};
 use crate::outputs::outputs;
 use crate::top::{Top, top_of};
 use rank_cert::Cert;
@@ -48,6 +49,7 @@ impl Ranking {
         let watch = Watch {
             first: 0,
             second: 0,
+            back: false,
             done: false,
         };
         let Ok(watches) = vec![in alloc; watch; plan.elements() as usize] else {
@@ -91,22 +93,32 @@ impl Ranking {
         plan.nominated(InputId::Line(line)) && self.ranks.rank(line).is_none()
     }
 
-    /// Gives a line its rank, where it is nominated and has none yet.
-    fn give_next(&mut self, plan: &Plan, line: LineId, top: Top) -> Result<(), NoMemory>
+    /// Gives a line its rank, where it is nominated, is one of those that are meant, and has none yet.
+    fn give_next(
+        &mut self,
+        plan: &Plan,
+        only: Option<u32>,
+        line: LineId,
+        top: Top,
+    ) -> Result<(), NoMemory>
         requires peeling { IsPeeling plan.now self.old }
         requires within { line.0 < line_count plan.now }
-        requires next { IsNominated plan.now line.0 → IsNext (hops plan.now)
-            (rank_at self.old.ranks) line.0 (rank_after top (reverse_of line.0)) }
+        requires next { IsNominated plan.now line.0 → IsAmong plan.now only line.0
+            → IsNext (hops plan.now) (rank_at self.old.ranks) line.0
+            (rank_after top (line_bundle plan.now line.0)) }
         ensures more { OnOk result (IsMore plan.now self.old self.new) }
-        ensures given { OnOk result (IsNominated plan.now line.0
+        ensures given { OnOk result (IsNominated plan.now line.0 → IsAmong plan.now only line.0
             → rank_at self.new.ranks line.0 ≢ None) }
         ensures others { OnOk result ((other : ℕ) → other ≢ line.0
             → rank_at self.new.ranks other ≡ rank_at self.old.ranks other) }
     {
+        if !is_among(plan, only, line) {
+            return Ok(());
+        }
         if !self.lacks_rank(plan, line) {
             return Ok(());
         }
-        self.give(plan, line, top.rank_of(plan.rev(line)))?;
+        self.give(plan, line, top.rank_of(bundle_of(plan, line)))?;
         Ok(())
     }
 
@@ -116,46 +128,32 @@ impl Ranking {
         requires within { element < length plan.now.elements }
         ensures { IsTopOf plan.now self.now.ranks element result }
     {
-        top_of(&self.ranks, inputs_of(plan, element))
+        top_of(plan, &self.ranks, inputs_of(plan, element))
     }
 
-    /// Gives all lines out of an element their ranks, once each input of it has one.
-    fn give_all(&mut self, plan: &Plan, outputs: &[LineId], element: u32) -> Result<(), NoMemory>
+    /// Gives the lines out of an element that are meant their ranks, once no line without a rank
+    /// hops to one of them.
+    fn give_all(
+        &mut self,
+        plan: &Plan,
+        outputs: &[LineId],
+        element: u32,
+        only: Option<u32>,
+    ) -> Result<(), NoMemory>
         requires peeling { IsPeeling plan.now self.old }
         requires within { element < length plan.now.elements }
         requires outputs { All (IsOutput plan.now element) outputs.now }
-        requires closed { AreRanked plan.now self.old.ranks element }
+        requires free { AreFree plan.now self.old.ranks element only }
         ensures more { OnOk result (IsMore plan.now self.old self.new) }
-        ensures given { OnOk result (All (λ line. rank_at self.new.ranks line.0 ≢ None)
-            outputs.now) }
+        ensures given { OnOk result (All (λ line. IsAmong plan.now only line.0
+            → rank_at self.new.ranks line.0 ≢ None) outputs.now) }
+        ensures others { OnOk result ((other : ℕ) → sender_of plan.now other ≢ element
+            → rank_at self.new.ranks other ≡ rank_at self.old.ranks other) }
     {
         let top = self.top(plan, element);
         for line in outputs {
-            self.give_next(plan, *line, top)?;
+            self.give_next(plan, only, *line, top)?;
         }
-        Ok(())
-    }
-
-    /// Gives the way back of an element's only input without a rank its own.
-    fn give_back(&mut self, plan: &Plan, last: LineId, element: u32) -> Result<(), NoMemory>
-        requires peeling { IsPeeling plan.now self.old }
-        requires element { element < length plan.now.elements }
-        requires last { last.0 < line_count plan.now }
-        requires into { receiver_of plan.now last.0 ≡ element }
-        requires others { (from : ℕ) → Hops plan.now from (reverse_of last.0)
-            → rank_at self.old.ranks from ≢ None }
-        ensures more { OnOk result (IsMore plan.now self.old self.new) }
-        ensures given { OnOk result (IsNominated plan.now (reverse_of last.0)
-            → rank_at self.new.ranks (reverse_of last.0) ≢ None) }
-        ensures others { OnOk result ((other : ℕ) → other ≢ reverse_of last.0
-            → rank_at self.new.ranks other ≡ rank_at self.old.ranks other) }
-    {
-        let line = plan.rev(last);
-        if !self.lacks_rank(plan, line) {
-            return Ok(());
-        }
-        let top = self.top(plan, element);
-        self.give_next(plan, line, top)?;
         Ok(())
     }
 
@@ -165,11 +163,11 @@ impl Ranking {
         requires within { element < length plan.now.elements }
         ensures more { IsMore plan.now self.old self.new }
         ensures ranks { self.new.ranks ≡ self.old.ranks }
-        ensures places { AreFirstOpen self.new.ranks (inputs_of plan.now element) result }
+        ensures places { AreFirstOpen plan.now self.new.ranks (inputs_of plan.now element) result }
         ensures watched { IsWatched plan.now self.new.ranks element result }
     {
         let inputs = inputs_of(plan, element);
-        let watch = first_open(&self.ranks, inputs, self.watches[element as usize]);
+        let watch = first_open(plan, &self.ranks, inputs, self.watches[element as usize]);
         self.watches[element as usize] = watch;
         watch
     }
@@ -183,16 +181,21 @@ impl Ranking {
         ensures settled { OnOk result (IsSettled plan.now self.new.ranks element) }
     {
         let inputs = inputs_of(plan, element);
+        let own = outputs[element as usize].as_slice();
         let watch = self.watch(plan, element);
         if watch.done || watch.second < inputs.len() {
             return Ok(());
         }
-        if let Some(last) = line_at(inputs, watch.first) {
-            self.give_back(plan, last, element)?;
+        let Some(last) = line_at(inputs, watch.first) else {
+            self.give_all(plan, own, element, None)?;
+            self.watches[element as usize].done = true;
+            return Ok(());
+        };
+        if watch.back {
             return Ok(());
         }
-        self.give_all(plan, &outputs[element as usize], element)?;
-        self.watches[element as usize].done = true;
+        self.give_all(plan, own, element, Some(bundle_of(plan, last)))?;
+        self.watches[element as usize].back = true;
         Ok(())
     }
 
@@ -209,6 +212,17 @@ impl Ranking {
             self.settle(plan, outputs, element)?;
         }
         Ok(())
+    }
+}
+
+/// The line is one of those that are meant: of the bundle, if one is named.
+fn is_among(plan: &Plan, only: Option<u32>, line: LineId) -> bool
+    requires { line.0 < line_count plan.now }
+    ensures { result ≡ is_among plan.now only line.0 }
+{
+    match only {
+        Some(bundle) => bundle_of(plan, line) == bundle,
+        None => true,
     }
 }
 

@@ -5,7 +5,7 @@ ghost use Rattle.sync_topo.specs.Ranks.{IsBefore, StepsBack, IsFirstCycle, IsLow
 ghost use Rattle.rank_cert.specs.Ranks.{rank_at};
 ghost use Rattle.cycle_plan.specs.Rings.{IsLeft, IsDone, IsLowOn, HasRound, IsLowest, IsWalked, numbers};
 
-use crate::inputs::{first_open, inputs_of, line_at};
+use crate::inputs::{bundle_of, first_open, inputs_of, line_at};
 use crate::ranking::Ranking;
 use std::alloc::Global;
 use sync_edge::{NoMemory, Rows};
@@ -38,11 +38,11 @@ impl Ranking {
     {
         let sender = plan.from(line);
         let inputs = inputs_of(plan, sender);
-        let watch = first_open(&self.ranks, inputs, self.watches[sender as usize]);
+        let watch = first_open(plan, &self.ranks, inputs, self.watches[sender as usize]);
         let Some(first) = line_at(inputs, watch.first) else {
             unreachable!();
         };
-        if first != plan.rev(line) {
+        if bundle_of(plan, first) != bundle_of(plan, line) {
             return first;
         }
         let Some(second) = line_at(inputs, watch.second) else {

@@ -1,71 +1,78 @@
 ghost use Rattle.std.specs.Prelude.{◌≡◌, ◌<◌, ◌+◌, ◌^◌, length, map};
+ghost use Rattle.sync_topo.specs.Lines.{line_count};
 ghost use Rattle.cycle_plan.specs.Inputs.{AreWithin};
-ghost use Rattle.cycle_plan.specs.Tops.{AreSmall, AreRising, IsTop, raised, rank_after};
+ghost use Rattle.cycle_plan.specs.Tops.{AreSmall, IsTop, raised, rank_after};
 
-use crate::inputs::line_at;
+use crate::inputs::{bundle_of, line_at};
 use rank_cert::Cert;
-use sync_topo::{InputId, LineId};
+use sync_topo::{InputId, Plan};
 
-/// The greatest rank among an element's inputs, and the greatest of all but that line.
+/// The greatest rank among an element's inputs, and the greatest among those of other bundles.
 #[derive(Clone, Copy, Debug, Drop)]
 pub(crate) struct Top {
-    /// The line with the greatest rank.
-    pub(crate) line: Option<LineId>,
+    /// The bundle of a line with the greatest rank.
+    pub(crate) bundle: Option<u32>,
     /// One more than the greatest rank, or 0 without any.
     pub(crate) next: u64,
-    /// The same without that line.
+    /// The same among the lines of other bundles.
     pub(crate) next_without: u64,
 }
 
 /// What the ranks of all inputs of an element come to.
-pub(crate) fn top_of(cert: &Cert, inputs: &[InputId]) -> Top
+pub(crate) fn top_of(plan: &Plan, cert: &Cert, inputs: &[InputId]) -> Top
+    requires counted { length cert.now ≡ line_count plan.now }
     requires within { AreWithin (length cert.now) inputs.now }
     requires small { AreSmall cert.now }
-    requires rising { AreRising inputs.now }
-    ensures { IsTop cert.now inputs.now (length inputs.now) result }
+    ensures { IsTop plan.now cert.now inputs.now (length inputs.now) result }
 {
     let mut top = Top {
-        line: None,
+        bundle: None,
         next: 0,
         next_without: 0,
     };
     for place in 0..inputs.len() {
-        top = raised_by(cert, inputs, place, top);
+        top = raised_by(plan, cert, inputs, place, top);
     }
     top
 }
 
 /// What the ranks come to with one more input.
-fn raised_by(cert: &Cert, inputs: &[InputId], place: usize, top: Top) -> Top
+fn raised_by(plan: &Plan, cert: &Cert, inputs: &[InputId], place: usize, top: Top) -> Top
+    requires counted { length cert.now ≡ line_count plan.now }
     requires within { AreWithin (length cert.now) inputs.now }
     requires small { AreSmall cert.now }
-    requires rising { AreRising inputs.now }
-    requires top { IsTop cert.now inputs.now place top }
-    ensures { IsTop cert.now inputs.now (place + 1) result }
+    requires top { IsTop plan.now cert.now inputs.now place top }
+    ensures { IsTop plan.now cert.now inputs.now (place + 1) result }
 {
     let Some(line) = line_at(inputs, place) else {
         return top;
     };
     match cert.rank(line) {
-        Some(rank) => raised(top, line, rank),
+        Some(rank) => raised(top, bundle_of(plan, line), rank),
         None => top,
     }
 }
 
-/// What the ranks come to with one more line.
-fn raised(top: Top, line: LineId, rank: u64) -> Top
+/// What the ranks come to with one more line, of this bundle.
+fn raised(top: Top, bundle: u32, rank: u64) -> Top
     requires { rank < 2 ^ 32 }
-    ensures { result ≡ raised top line rank }
+    ensures { result ≡ raised top bundle rank }
 {
-    if top.next <= rank {
+    if top.bundle == Some(bundle) {
         Top {
-            line: Some(line),
+            bundle: top.bundle,
+            next: top.next.max(rank + 1),
+            next_without: top.next_without,
+        }
+    } else if top.next <= rank {
+        Top {
+            bundle: Some(bundle),
             next: rank + 1,
             next_without: top.next,
         }
     } else if top.next_without <= rank {
         Top {
-            line: top.line,
+            bundle: top.bundle,
             next: top.next,
             next_without: rank + 1,
         }
@@ -75,11 +82,11 @@ fn raised(top: Top, line: LineId, rank: u64) -> Top
 }
 
 impl Top {
-    /// The rank of a line out of the element, after all inputs but the one from which it goes back.
-    pub(crate) fn rank_of(self, back: LineId) -> u64
-        ensures { result ≡ rank_after self back.0 }
+    /// The rank of a line out of the element, after all inputs but those of its own bundle.
+    pub(crate) fn rank_of(self, bundle: u32) -> u64
+        ensures { result ≡ rank_after self bundle }
     {
-        if self.line == Some(back) {
+        if self.bundle == Some(bundle) {
             self.next_without
         } else {
             self.next

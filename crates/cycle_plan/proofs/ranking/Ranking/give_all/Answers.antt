@@ -1,9 +1,11 @@
-use Rattle.std.proofs.Common.{None, take, take_all, subst}
+use Rattle.std.proofs.Common.{◌∙◌, None, take, take_all, subst, ap}
 use Rattle.std.specs.Prelude.{◌≢◌}
 use Rattle.std.specs.List.{All}
 use Rattle.std.proofs.lemmas.List.Elements.{All-more, All-weaker}
 use Rattle.sync_topo.specs.declared.input.LineId.{LineId}
+use Rattle.sync_topo.specs.Lines.{sender_of}
 use Rattle.rank_cert.specs.Ranks.{rank_at}
+use Rattle.cycle_plan.specs.Peeling.{IsAmong}
 use Rattle.cycle_plan.proofs.PeelingLemmas.{fewer}
 use Rattle.cycle_plan.proofs.Settling.{IsMore-trans, AreNext-grows}
 use Rattle.cycle_plan.proofs.ranking.Ranking.give_all.Goals as goal
@@ -11,19 +13,22 @@ use Rattle.cycle_plan.proofs.ranking.Ranking.give_all.Goals as goal
 pub loop-line-preserved : goal.loop-line-preserved
 loop-line-preserved c =
     let more = c.in_ok-give_next.ensures.more in
-    let nominated = (c.requires.outputs c.loop-line.line-index (record { 0 = 0 }) c.loop-line-test.true).nominated in
+    let output = c.requires.outputs c.loop-line.line-index (record { 0 = 0 }) c.loop-line-test.true in
     record {
       more = IsMore-trans c.args.plan.now c.args.self.now c.loop-line.self c.give_next.new.self c.loop-line.invariant.more more;
-      next = AreNext-grows c.args.plan.now c.loop-line.self.ranks c.give_next.new.self.ranks c.args.element c.top-top.result more.grows c.loop-line.invariant.next;
+      next = AreNext-grows c.args.plan.now c.loop-line.self.ranks c.give_next.new.self.ranks c.args.element c.args.only c.top-top.result more.grows c.loop-line.invariant.next;
       given =
-          All-more (λ (line : LineId). rank_at c.give_next.new.self.ranks line.0 ≢ None) c.args.outputs.now c.loop-line.line-index (record { 0 = 0 }) c.loop-line-test.true
-          (All-weaker (λ (line : LineId). rank_at c.loop-line.self.ranks line.0 ≢ None) (λ (line : LineId). rank_at c.give_next.new.self.ranks line.0 ≢ None)
-          (λ line some none. some (fewer (rank_at c.loop-line.self.ranks) (rank_at c.give_next.new.self.ranks) more.grows line.0 none))
+          All-more (λ (line : LineId). IsAmong c.args.plan.now c.args.only line.0 → rank_at c.give_next.new.self.ranks line.0 ≢ None) c.args.outputs.now c.loop-line.line-index (record { 0 = 0 }) c.loop-line-test.true
+          (All-weaker (λ (line : LineId). IsAmong c.args.plan.now c.args.only line.0 → rank_at c.loop-line.self.ranks line.0 ≢ None) (λ (line : LineId). IsAmong c.args.plan.now c.args.only line.0 → rank_at c.give_next.new.self.ranks line.0 ≢ None)
+          (λ line some among none. some among (fewer (rank_at c.loop-line.self.ranks) (rank_at c.give_next.new.self.ranks) more.grows line.0 none))
           (take c.loop-line.line-index c.args.outputs.now) c.loop-line.invariant.given)
-          (c.in_ok-give_next.ensures.given nominated);
+          (c.in_ok-give_next.ensures.given output.nominated);
+      others = λ other apart.
+          c.in_ok-give_next.ensures.others other (λ same. apart (ap (λ l. sender_of c.args.plan.now l) same ∙ output.sent))
+          ∙ c.loop-line.invariant.others other apart;
     }
 
 pub returns-clause-given : goal.returns-clause-given
 returns-clause-given c =
-    subst (λ lines. All (λ (line : LineId). rank_at c.loop-line.self.ranks line.0 ≢ None) lines)
+    subst (λ lines. All (λ (line : LineId). IsAmong c.args.plan.now c.args.only line.0 → rank_at c.loop-line.self.ranks line.0 ≢ None) lines)
     (take_all c.loop-line.line-index c.args.outputs.now c.loop-line-test.false) c.loop-line.invariant.given

@@ -1,8 +1,14 @@
 use Rattle.std.proofs.Common.{sym}
 use Rattle.std.proofs.lemmas.Bool.{eqb-false, not-true}
 use Rattle.sync_topo.specs.Hops.{hops}
-use Rattle.cycle_plan.proofs.Rounds.{walked_more}
+use Rattle.cycle_plan.proofs.Rounds.{walked_first, walked_more}
 use Rattle.cycle_plan.proofs.ranking.Ranking.ring_behind.Goals as goal
+
+pub loop-low-init : goal.loop-low-init
+loop-low-init c = record {
+  walked = rw c.new-lines.ensures.items (walked_first (hops c.args.plan.now) c.args.low.0 c.before-at.result.0 c.before-at.ensures.before);
+  left = c.before-at.ensures.left;
+}
 
 pub loop-low-preserved : goal.loop-low-preserved
 loop-low-preserved c = record {

@@ -1,12 +1,8 @@
 use Rattle.cycle_plan.proofs.Settling.{small, IsTopOf-from}
-use Rattle.cycle_plan.proofs.HopFacts.{inputs_rise}
 use Rattle.cycle_plan.proofs.ranking.Ranking.top.Goals as goal
 
 pub top_of-requires-clause-small : goal.top_of-requires-clause-small
 top_of-requires-clause-small c = small c.args.plan.now c.args.self.now.ranks c.inputs_of.ensures.well_formed c.requires.ranking
-
-pub top_of-requires-clause-rising : goal.top_of-requires-clause-rising
-top_of-requires-clause-rising c = rw c.inputs_of.ensures.inputs (inputs_rise c.args.plan.now c.args.element)
 
 pub returns : goal.returns
 returns c =
