@@ -50,7 +50,7 @@ dnu_option I = refl
 dnu_option II = refl
 
 pub level_back_option : (e : ElementState) → IsWhole e → (i : ℕ) → (level_back_of e i).option ≡ e.settings.own.option
-level_back_option e whole i = of (goes_back e.selection i)
+level_back_option e whole i = of (goes_back e.settings e.selection i)
   where
     of : (b : Bool) → (if b then do_not_use_of e.settings.own.option else level_of e).option ≡ e.settings.own.option
     of true = dnu_option e.settings.own.option
@@ -59,8 +59,8 @@ level_back_option e whole i = of (goes_back e.selection i)
 pub level_back_until : (e : ElementState) → IsWhole e → (i : ℕ) (past : List Moment) (n : ℕ) → StandsFor e past → IsInTime e n → level_back_of e i ≡ sent_back_at e.settings (moments_until e.settings n past) i
 unfolding sent_back_at
 level_back_until e whole i past n stands in_time =
-    ap (λ taken. if goes_back taken i then do_not_use_of e.settings.own.option else level_of e) (selected_until e whole past n stands in_time)
-    ∙ ap (λ level. if goes_back (selection_at e.settings (moments_until e.settings n past)) i then do_not_use_of e.settings.own.option else level) (level_until e whole past n stands in_time)
+    ap (λ taken. if goes_back e.settings taken i then do_not_use_of e.settings.own.option else level_of e) (selected_until e whole past n stands in_time)
+    ∙ ap (λ level. if goes_back e.settings (selection_at e.settings (moments_until e.settings n past)) i then do_not_use_of e.settings.own.option else level) (level_until e whole past n stands in_time)
 
 pub mode_until : (e : ElementState) → IsWhole e → (past : List Moment) (n : ℕ) → StandsFor e past → IsInTime e n → mode_of e.switches.forced e.switches.manual ≡ mode_at e.settings (moments_until e.settings n past)
 unfolding mode_at

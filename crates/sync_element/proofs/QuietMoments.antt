@@ -153,8 +153,8 @@ IsSameOutput-quiet settings now before failed =
       selection = selection;
       level = level;
       sent_back = λ i.
-          ap (λ taken. if goes_back taken i then do_not_use_of settings.own.option else clock_level_at settings after) selection
-          ∙ ap (λ l. if goes_back (selection_at settings past) i then do_not_use_of settings.own.option else l) level;
+          ap (λ taken. if goes_back settings taken i then do_not_use_of settings.own.option else clock_level_at settings after) selection
+          ∙ ap (λ l. if goes_back settings (selection_at settings past) i then do_not_use_of settings.own.option else l) level;
       mode = ap (λ s. mode_of s.forced s.manual) (switches_at-quiet settings now before failed);
       state =
           ap (λ taken. state_of taken (was_locked settings after)) selection

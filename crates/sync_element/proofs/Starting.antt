@@ -45,7 +45,7 @@ pub record IsNewState (config : Config) (monitors : List Monitored) (ups : List 
   pub switches_are : switches ≡ unswitched (length config.inputs)
 
 pub no_input : InputConfig
-no_input = record { priority = 0; first = None }
+no_input = record { priority = 0; first = None; bundle = 0 }
 
 pub candidate_first : (inputs : List InputConfig) (i : ℕ) → candidate (map first_candidate inputs) i ≡ first_candidate (get_or inputs i no_input)
 unfolding no_input

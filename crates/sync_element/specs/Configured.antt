@@ -10,4 +10,5 @@ settings_of config = record {
   floor = config.floor;
   priorities = map (λ input. input.priority) config.inputs;
   first_levels = map (λ input. input.first) config.inputs;
+  bundles = map (λ input. input.bundle) config.inputs;
 }

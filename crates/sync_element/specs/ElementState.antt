@@ -67,7 +67,7 @@ level_of e =
 
 abbrev pub level_back_of : ElementState → ℕ → Level
 level_back_of e i =
-    if goes_back e.selection i then do_not_use_of e.settings.own.option else level_of e
+    if goes_back e.settings e.selection i then do_not_use_of e.settings.own.option else level_of e
 
 -- the first of the milliseconds at which the running time of one of the first n monitors ends
 pub record IsFirstDueAt (monitors : List Monitored) (n due : ℕ) : Type 0 where

@@ -3,13 +3,16 @@ use sync_ql::Level;
 
 /// What one input of an element is set to.
 ///
-/// After G.781, priority and quality level.
+/// After G.781, priority and quality level; bundles are this project's own.
 #[derive(Clone, Copy, Debug, PartialEq, Eq)]
 pub struct InputConfig {
     /// The priority number, from 1, of which the smaller comes first.
     pub priority: u8,
     /// The level that the input has until one is told.
     pub first: Option<Level>,
+    /// The number of the input's bundle: inputs of parallel links that are joined have the same, and
+    /// any other input has one of its own.
+    pub bundle: u32,
 }
 
 /// What an element is set to.

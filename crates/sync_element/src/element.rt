@@ -176,10 +176,12 @@ impl Element {
         state_of(self.selected, self.was_locked)
     }
 
-    /// The level that is sent back on an input: do-not-use where the timing comes from, and the
-    /// element's level elsewhere; from the last step up to but not at `due`, if nothing is told.
+    /// The level that is sent back on an input: do-not-use on each input of the bundle from which the
+    /// timing comes, and the element's level elsewhere; from the last step up to but not at `due`, if
+    /// nothing is told.
     ///
-    /// After G.781, do not use in the reverse direction of the selected input.
+    /// After G.781, do not use in the reverse direction of the selected input; bundles are this
+    /// project's own.
     pub fn out_to(&self, i: u32) -> Level
         requires place { i < inputs_of self.now }
         ensures value { result ≡ level_back_of self.now i }
@@ -189,7 +191,7 @@ impl Element {
             result ≡ sent_back_at self.now.settings (moments_until self.now.settings n past) i }
     {
         let level = level_of(self.candidates.as_slice(), self.selected, self.config.own);
-        level_back(self.selected, i, level, self.config.own.option)
+        level_back(&self.config, self.selected, i, level)
     }
 
     /// The condition of an input at the last step, and what was left then of a running time.

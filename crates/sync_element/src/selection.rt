@@ -4,12 +4,14 @@ ghost use Rattle.std.specs.Prelude.{◌≡◌, ◌≤◌, ◌<◌, IfSome, lengt
 ghost use Rattle.sync_ql.specs.Selection.{candidate, choice, AreOfOneOption};
 ghost use Rattle.sync_ql.specs.Level.{do_not_use_of};
 ghost use Rattle.sync_ql.specs.Moment.{at_end};
-ghost use Rattle.sync_ql.specs.Output.{goes_back, mode_of, state_of};
+ghost use Rattle.sync_ql.specs.Output.{bundle_of, goes_back, mode_of, state_of};
+ghost use Rattle.sync_element.specs.Configured.{settings_of};
 
+use crate::config::Config;
 use operator_cmds::Cmds;
 use selector::choose;
 use sync_ql::rules::{Candidate, ClockState, Mode};
-use sync_ql::{Level, NetOption, do_not_use};
+use sync_ql::{Level, do_not_use};
 
 // Chooses an input, and ends a manual switch that does not stand.
 pub fn evaluate(inputs: &[Candidate], commands: &mut Cmds, current: Option<u32>) -> Option<u32>
@@ -51,25 +53,38 @@ pub fn level_of(inputs: &[Candidate], selected: Option<u32>, own: Level) -> Leve
     }
 }
 
-// Do-not-use on an input from which the timing comes, and the element's level on any other.
-pub fn level_back(selected: Option<u32>, i: u32, level: Level, option: NetOption) -> Level
-    ensures { result ≡ (if goes_back selected i then do_not_use_of option else level) }
+// Do-not-use on each input of the bundle from which the timing comes, and the element's level on any
+// other.
+pub fn level_back(config: &Config, selected: Option<u32>, i: u32, level: Level) -> Level
+    requires selected { IfSome selected (λ taken. taken < length config.now.inputs) }
+    requires place { i < length config.now.inputs }
+    ensures { result ≡ (if goes_back (settings_of config.now) selected i
+        then do_not_use_of config.now.own.option else level) }
 {
-    if goes_back(selected, i) {
-        do_not_use(option)
+    if goes_back(config, selected, i) {
+        do_not_use(config.own.option)
     } else {
         level
     }
 }
 
 // Whether what is sent back on an input goes back to where the timing comes from.
-fn goes_back(selected: Option<u32>, i: u32) -> bool
-    ensures { result ≡ goes_back selected i }
+fn goes_back(config: &Config, selected: Option<u32>, i: u32) -> bool
+    requires selected { IfSome selected (λ taken. taken < length config.now.inputs) }
+    requires place { i < length config.now.inputs }
+    ensures { result ≡ goes_back (settings_of config.now) selected i }
 {
     match selected {
-        Some(selected) => selected == i,
+        Some(selected) => bundle_of(config, selected) == bundle_of(config, i),
         None => false,
     }
+}
+
+fn bundle_of(config: &Config, i: u32) -> u32
+    requires { i < length config.now.inputs }
+    ensures { result ≡ bundle_of (settings_of config.now) i }
+{
+    config.inputs.as_slice()[i as usize].bundle
 }
 
 pub fn mode_of(forced: Option<u32>, manual: Option<u32>) -> Mode

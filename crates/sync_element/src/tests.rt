@@ -46,8 +46,8 @@ struct Case {
     shows: &'static str,
     wtr: u32,
     floor: &'static str,
-    /// The priority number and the first level of each input.
-    inputs: &'static [(u8, &'static str)],
+    /// The priority number, the first level and the bundle of each input.
+    inputs: &'static [(u8, &'static str, u32)],
     rows: &'static [Row],
 }
 
@@ -56,7 +56,7 @@ const CASES: [Case; 7] = [
         shows: "on_a_tie_the_other_stays_when_the_first_is_good_again",
         wtr: 0,
         floor: "",
-        inputs: &[(1, "QL-PRC"), (1, "QL-PRC")],
+        inputs: &[(1, "QL-PRC", 0), (1, "QL-PRC", 1)],
         rows: &[
             (0, &[], Some(0), "QL-PRC", Auto, Locked),
             (1000, &[Down(0)], Some(0), "QL-PRC", Auto, Locked),
@@ -68,7 +68,7 @@ const CASES: [Case; 7] = [
         shows: "forced_to_do_not_use_is_holdover_until_a_lockout",
         wtr: 300_000,
         floor: "",
-        inputs: &[(1, "QL-PRC"), (2, "QL-SSU-A")],
+        inputs: &[(1, "QL-PRC", 0), (2, "QL-SSU-A", 1)],
         rows: &[
             (0, &[], Some(0), "QL-PRC", Auto, Locked),
             (1000, &[Has(1, "QL-DNU")], Some(0), "QL-PRC", Auto, Locked),
@@ -81,7 +81,7 @@ const CASES: [Case; 7] = [
         shows: "free_running_before_the_first_input_and_in_holdover_after_the_last",
         wtr: 0,
         floor: "",
-        inputs: &[(1, ""), (2, "")],
+        inputs: &[(1, "", 0), (2, "", 1)],
         rows: &[
             (0, &[], None, "QL-SEC", Auto, FreeRun),
             (10, &[Has(0, "QL-DNU")], None, "QL-SEC", Auto, FreeRun),
@@ -93,7 +93,7 @@ const CASES: [Case; 7] = [
         shows: "a_level_equal_to_the_floor_is_taken_and_a_worse_one_is_not",
         wtr: 0,
         floor: "QL-SSU-A",
-        inputs: &[(1, "QL-SSU-B"), (2, "QL-SSU-A")],
+        inputs: &[(1, "QL-SSU-B", 0), (2, "QL-SSU-A", 1)],
         rows: &[
             (0, &[], Some(1), "QL-SSU-A", Auto, Locked),
             (5, &[Has(0, "QL-PRC")], Some(0), "QL-PRC", Auto, Locked),
@@ -105,7 +105,7 @@ const CASES: [Case; 7] = [
         shows: "a_manual_switch_ends_for_a_better_level_a_clear_or_a_lockout",
         wtr: 0,
         floor: "",
-        inputs: &[(1, "QL-PRC"), (2, "QL-PRC")],
+        inputs: &[(1, "QL-PRC", 0), (2, "QL-PRC", 1)],
         rows: &[
             (0, &[], Some(0), "QL-PRC", Auto, Locked),
             (1, &[Gives(Manual(1))], Some(1), "QL-PRC", ByHand, Locked),
@@ -143,7 +143,7 @@ const CASES: [Case; 7] = [
         shows: "a_failed_input_is_taken_again_when_restored_or_cleared",
         wtr: 500,
         floor: "",
-        inputs: &[(1, "QL-PRC"), (2, "QL-SSU-A")],
+        inputs: &[(1, "QL-PRC", 0), (2, "QL-SSU-A", 1)],
         rows: &[
             (0, &[], Some(0), "QL-PRC", Auto, Locked),
             (100, &[Down(0)], Some(0), "QL-PRC", Auto, Locked),
@@ -161,7 +161,7 @@ const CASES: [Case; 7] = [
         shows: "of_one_millisecond_the_last_signal_and_level_count",
         wtr: 0,
         floor: "",
-        inputs: &[(1, "QL-DNU"), (2, "QL-SSU-A")],
+        inputs: &[(1, "QL-DNU", 0), (2, "QL-SSU-A", 1)],
         rows: &[
             (
                 0,
@@ -193,7 +193,7 @@ const TWO_INPUTS: Case = Case {
     shows: "conditions_and_what_goes_back",
     wtr: 500,
     floor: "",
-    inputs: &[(1, "QL-PRC"), (2, "QL-SSU-A")],
+    inputs: &[(1, "QL-PRC", 0), (2, "QL-SSU-A", 1)],
     rows: &[],
 };
 
@@ -270,10 +270,11 @@ fn level(rt: &impl Abort, name: &'static str) -> Level {
 
 fn config_of(rt: &(impl Abort + AllocGlobal), case: &Case) -> Result<Config, Fail> {
     let mut inputs = Rows::new(rt.alloc());
-    for (priority, first) in case.inputs {
+    for (priority, first, bundle) in case.inputs {
         inputs.push(InputConfig {
             priority: *priority,
             first: level_of_name(NetOption::I, first.as_bytes()),
+            bundle: *bundle,
         })?;
     }
     Ok(Config {
@@ -636,4 +637,46 @@ fn show<L: Ledger>(rt: &(impl Abort + AllocGlobal), blank: Blank) -> Result<(), 
 #[test]
 fn conditions_due_and_what_goes_back(rt: HostRuntime) -> Result<(), Fail> {
     show::<Brand>(&rt, Blank::new(1))
+}
+
+/// Two parallel links in a bundle, and an input beside them.
+const BUNDLED: Case = Case {
+    shows: "a_bundle_goes_back_together",
+    wtr: 500,
+    floor: "",
+    inputs: &[(1, "QL-PRC", 4), (2, "QL-PRC", 4), (3, "QL-SSU-A", 5)],
+    rows: &[],
+};
+
+fn show_bundle<L: Ledger>(rt: &(impl Abort + AllocGlobal), blank: Blank) -> Result<(), Fail>
+    requires name { blank.name ≡ L.name }
+    requires parts { blank.parts ≡ L.parts }
+    requires some { 0 < blank.parts }
+{
+    let mut steps = Steps::<L>::new(blank);
+    let mut element = element_of(rt, &BUNDLED, 3)?;
+    assert!(rt; is_in_time(&element, 0));
+    element.step(0, &[], &mut steps);
+    assert_eq!(rt; element.selected(), Some(0));
+    assert_eq!(rt;
+        element.out_to(0),
+        level(rt, "QL-DNU"),
+        "the input that is taken"
+    );
+    assert_eq!(rt;
+        element.out_to(1),
+        level(rt, "QL-DNU"),
+        "the other of its bundle"
+    );
+    assert_eq!(rt;
+        element.out_to(2),
+        level(rt, "QL-PRC"),
+        "the input beside it"
+    );
+    Ok(())
+}
+
+#[test]
+fn a_bundle_goes_back_together(rt: HostRuntime) -> Result<(), Fail> {
+    show_bundle::<Brand>(&rt, Blank::new(1))
 }

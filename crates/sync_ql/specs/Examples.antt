@@ -100,7 +100,7 @@ clears :
 clears = refl
 
 abbrev set_to : Timers → Option Level → List ℕ → List (Option Level) → Settings
-set_to timers floor priorities first_levels = record { own = sec; timers = timers; floor = floor; priorities = priorities; first_levels = first_levels }
+set_to timers floor priorities first_levels = record { own = sec; timers = timers; floor = floor; priorities = priorities; first_levels = first_levels; bundles = 0 ∷ 1 ∷ [] }
 
 -- an element of two inputs with these priority numbers, without a floor
 abbrev two_inputs : ℕ → ℕ → Settings
@@ -220,6 +220,22 @@ what_goes_back :
     ≡ do_not_use_of I ∷ prc_level ∷ []
 unfolding failed_at switches_at selection_at moment_after clock_level_at sent_back_at
 what_goes_back = refl
+
+-- do-not-use goes back on each input of the bundle of the one that is taken, and on no other
+abbrev with_a_bundle : Settings
+with_a_bundle = record {
+  own = sec;
+  timers = times;
+  floor = None;
+  priorities = 1 ∷ 2 ∷ 3 ∷ [];
+  first_levels = prc ∷ prc ∷ ssu_a ∷ [];
+  bundles = 4 ∷ 4 ∷ 5 ∷ [];
+}
+
+bundle_goes_back :
+    map (sent_back_at with_a_bundle (told with_a_bundle ([] ∷ []))) (0 ∷ 1 ∷ 2 ∷ []) ≡ do_not_use_of I ∷ do_not_use_of I ∷ prc_level ∷ []
+unfolding failed_at switches_at selection_at moment_after clock_level_at sent_back_at
+bundle_goes_back = refl
 
 -- of the signals told in one millisecond the last one counts, and a clear counts in any order
 last_signal_counts :

@@ -22,14 +22,15 @@ pub record Moment : Type 0 where
   pub commands : List Cmd
 
 -- what an element is set to: its own clock's level, the times of its inputs, its floor, than which
--- no level is taken that is worse, if it has one, and for each input its priority number and the
--- level that it has before any is told
+-- no level is taken that is worse, if it has one, and for each input its priority number, the level
+-- that it has before any is told, and the number of its bundle, which inputs of parallel links share
 pub record Settings : Type 0 where
   pub own : Level
   pub timers : Timers
   pub floor : Option Level
   pub priorities : List ℕ
   pub first_levels : List (Option Level)
+  pub bundles : List ℕ
 
 -- a millisecond of the input at a place; beyond the list it is up and has no level
 abbrev pub input_of : ℕ → Moment → InputMoment

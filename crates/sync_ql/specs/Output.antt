@@ -1,6 +1,6 @@
 -- What one element gives: its level, what it sends back on each input, its mode and its state.
 -- After G.781, quality level of a clock, do not use on the way back, and clock modes.
-use Rattle.std.specs.Prelude.{ℕ, Bool, true, false, ◌||◌, nat_eq, if◌then◌else◌, List, [], ◌∷◌, Option, None, Some, is_some, unwrap_or, option_and_then}
+use Rattle.std.specs.Prelude.{ℕ, Bool, true, false, ◌||◌, nat_eq, if◌then◌else◌, List, [], ◌∷◌, slice_index, Option, None, Some, is_some, unwrap_or, option_and_then}
 use Rattle.sync_ql.specs.declared.levels.Level.{Level}
 use Rattle.sync_ql.specs.declared.rules.Mode.{Mode}
 use Rattle.sync_ql.specs.declared.rules.Mode.TheVariants as mode
@@ -14,16 +14,21 @@ unfoldable pub clock_level_at : Settings → List Moment → Level
 clock_level_at settings past =
     unwrap_or (option_and_then (λ i. level_now i past) (selection_at settings past)) settings.own
 
--- whether what is sent back on an input goes back to where the element takes its timing from
-abbrev pub goes_back : Option ℕ → ℕ → Bool
-goes_back None i = false
-goes_back (Some taken) i = nat_eq taken i
+-- the number of the bundle of the input at a place
+abbrev pub bundle_of : Settings → ℕ → ℕ
+bundle_of settings i = slice_index settings.bundles i
+
+-- whether what is sent back on an input goes back to where the element takes its timing from: on
+-- each input of the bundle of the one that is taken. That parallel links share it is this project's own
+abbrev pub goes_back : Settings → Option ℕ → ℕ → Bool
+goes_back settings None i = false
+goes_back settings (Some taken) i = nat_eq (bundle_of settings taken) (bundle_of settings i)
 
 -- the level that is sent back on an input: do-not-use to where the timing comes from, and the
 -- element's level to all others
 unfoldable pub sent_back_at : Settings → List Moment → ℕ → Level
 sent_back_at settings past i =
-    if goes_back (selection_at settings past) i then do_not_use_of settings.own.option
+    if goes_back settings (selection_at settings past) i then do_not_use_of settings.own.option
     else clock_level_at settings past
 
 -- forced or manual by the switch that stands, and otherwise automatic
