@@ -85,7 +85,7 @@ leaves_off cfg s fields field (c ∷ rest) p e =
     record { stops = later.stops; left = omega (arith, later.left) }
 
 -- from a state in which the text may end, a record takes a byte
-takes_a_byte : (cfg : Config) (s : State) (xs : List ℕ) (p : Read) → ends_at_end s ≡ false
+pub takes_a_byte : (cfg : Config) (s : State) (xs : List ℕ) (p : Read) → ends_at_end s ≡ false
     → next_record cfg s [] [] xs ≡ Some p → LeavesOff p (length xs - 1) × (0 < length xs)
 unfolding next_record
 takes_a_byte cfg s [] p may e = cc (rw may at e)

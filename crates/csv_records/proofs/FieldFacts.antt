@@ -1,7 +1,7 @@
 -- The fields of a record, as `csv` finds them.
-use Rattle.std.proofs.Common.{◌≡◌, ◌≢◌, ℕ, zero, suc, List, [], ◌∷◌, length, Some, None, slice_get, refl, arith}
+use Rattle.std.proofs.Common.{◌≡◌, ◌≢◌, ◌<◌, ℕ, zero, suc, List, [], ◌∷◌, length, Some, None, slice_get, refl, arith}
 use Rattle.csv.specs.Records.{field_at}
-use Rattle.csv_records.specs.Fields.{pair_of}
+use Rattle.csv_records.specs.Fields.{pair_of, four_of}
 
 -- the field at a place is the list's element there
 pub field_at_is : (fields : List (List ℕ)) (i : ℕ) → field_at fields i ≡ slice_get fields i
@@ -37,3 +37,38 @@ pair_empty (x ∷ more) n = cc
 
 -- what the fields of a record say of its pair
 pub ruleset pair_facts = (pair_is, pair_other, pair_short, pair_empty)
+
+-- four fields that are the first to the fourth of four
+pub four_is : (fields : List (List ℕ)) (a b c d : List ℕ) → length fields ≡ 4 → Some a ≡ slice_get fields 0 → Some b ≡ slice_get fields 1
+    → Some c ≡ slice_get fields 2 → Some d ≡ slice_get fields 3 → Some (a, b, c, d) ≡ four_of fields
+four_is [] a b c d n e f g h = absurd (omega arith)
+four_is (w ∷ []) a b c d n e f g h = absurd (omega arith)
+four_is (w ∷ x ∷ []) a b c d n e f g h = absurd (omega arith)
+four_is (w ∷ x ∷ y ∷ []) a b c d n e f g h = absurd (omega arith)
+four_is (w ∷ x ∷ y ∷ z ∷ []) a b c d n e f g h = cc
+four_is (v ∷ w ∷ x ∷ y ∷ z ∷ more) a b c d n e f g h = absurd (omega arith)
+
+-- a record of another length is not of four
+pub four_other : (fields : List (List ℕ)) → length fields ≢ 4 → four_of fields ≡ None
+four_other [] n = refl
+four_other (w ∷ []) n = refl
+four_other (w ∷ x ∷ []) n = refl
+four_other (w ∷ x ∷ y ∷ []) n = refl
+four_other (w ∷ x ∷ y ∷ z ∷ []) n = absurd (n refl)
+four_other (v ∷ w ∷ x ∷ y ∷ z ∷ more) n = refl
+
+-- nor is one without a field at one of the first four places
+pub four_short : (fields : List (List ℕ)) (place : ℕ) → place < 4 → slice_get fields place ≡ None → four_of fields ≡ None
+four_short [] place within n = refl
+four_short (w ∷ []) place within n = refl
+four_short (w ∷ x ∷ []) place within n = refl
+four_short (w ∷ x ∷ y ∷ []) place within n = refl
+four_short (w ∷ x ∷ y ∷ z ∷ []) zero within n = cc
+four_short (w ∷ x ∷ y ∷ z ∷ []) (suc zero) within n = cc
+four_short (w ∷ x ∷ y ∷ z ∷ []) (suc (suc zero)) within n = cc
+four_short (w ∷ x ∷ y ∷ z ∷ []) (suc (suc (suc zero))) within n = cc
+four_short (w ∷ x ∷ y ∷ z ∷ []) (suc (suc (suc (suc place)))) within n = absurd (omega arith)
+four_short (v ∷ w ∷ x ∷ y ∷ z ∷ more) place within n = refl
+
+-- what the fields of a record say of its four
+pub ruleset four_facts = (four_is, four_other, four_short)

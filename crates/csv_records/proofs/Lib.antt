@@ -1,3 +1,5 @@
 pub mod AllRecords
+pub mod Left
 pub mod FieldFacts
+pub mod FirstRefusals
 pub mod WrittenRecords

@@ -5,3 +5,8 @@ use Rattle.std.specs.Prelude.{ℕ, List, [], ◌∷◌, Option, Some, None}
 abbrev pub pair_of : List (List ℕ) → Option (List ℕ × List ℕ)
 pair_of (first ∷ second ∷ []) = Some (first, second)
 pair_of _ = None
+
+-- all fields of a record of four
+abbrev pub four_of : List (List ℕ) → Option (List ℕ × List ℕ × List ℕ × List ℕ)
+four_of (a ∷ b ∷ c ∷ d ∷ []) = Some (a, b, c, d)
+four_of _ = None

@@ -1,4 +1,6 @@
 pub mod Records
 pub mod Fields
 pub mod Written
+pub mod FirstRefusal
+pub mod Stream
 pub mod Examples

@@ -36,7 +36,7 @@ pub fn read_records(alloc: Global, bytes: &[u8]) -> Result<Rows<Record>, NoMemor
 /// Want of memory, as the one reason that is left for a reader to stop: the bytes are in memory.
 ///
 /// An error of the records themselves stops no reader.
-fn want_of_memory(error: Error) -> NoMemory
+pub(crate) fn want_of_memory(error: Error) -> NoMemory
     requires { stops_reader (error_kind error) ≡ true }
 {
     let _ = error;

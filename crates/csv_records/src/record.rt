@@ -1,9 +1,10 @@
 // One record and its fields.
 
-ghost use Rattle.std.specs.Prelude.{◌≡◌, ◌==◌, List, length, option_map, slice_get};
-ghost use Rattle.csv_records.specs.Fields.{pair_of};
+ghost use Rattle.std.specs.Prelude.{◌≡◌, ◌==◌, [], List, length, option_map, slice_get};
+ghost use Rattle.csv_records.specs.Fields.{pair_of, four_of};
 
 use csv::ByteRecord;
+use std::alloc::Global;
 use std::marker::Model;
 
 /// A record: its fields in order, each of them bytes.
@@ -11,7 +12,7 @@ use std::marker::Model;
 /// After RFC 4180, record.
 #[derive(Debug, Drop)]
 pub struct Record {
-    fields: ByteRecord,
+    pub(crate) fields: ByteRecord,
 }
 
 impl Model for Record {
@@ -25,6 +26,15 @@ impl Model for Record {
 
 impl Record {
     ghost use Rattle.csv.specs.Records.{fields_of};
+
+    /// A record without fields.
+    pub(crate) fn new(alloc: Global) -> Record
+        ensures { result ≡ [] }
+    {
+        Record {
+            fields: ByteRecord::new(alloc),
+        }
+    }
 
     pub(crate) fn of(fields: ByteRecord) -> Record
         ensures { result ≡ fields_of fields }
@@ -67,6 +77,25 @@ impl Record {
         let second = self.get(1)?;
         if self.len() == 2 {
             Some((first, second))
+        } else {
+            None
+        }
+    }
+
+    /// All fields of a record of four.
+    ///
+    /// `None` where the record has fewer fields or more.
+    #[tactic(auto, using(crate::proofs::FieldFacts::four_facts))]
+    pub fn four(&self) -> Option<(&[u8], &[u8], &[u8], &[u8])>
+        ensures { option_map (λ four. (four.0.now, four.1.now, four.2.now, four.3.now)) result
+            ≡ four_of self.now }
+    {
+        let first = self.get(0)?;
+        let second = self.get(1)?;
+        let third = self.get(2)?;
+        let fourth = self.get(3)?;
+        if self.len() == 4 {
+            Some((first, second, third, fourth))
         } else {
             None
         }

@@ -1,0 +1,7 @@
+use Rattle.std.proofs.Common.{Bor, List, ℕ, Some}
+use Rattle.csv_records.specs.Records.{records_of}
+use Rattle.csv_records.proofs.Left.{all_left}
+use Rattle.csv_records.proofs.stream.Records.of.Goals as goal
+
+pub returns-clause-left : goal.returns-clause-left
+returns-clause-left c = all_left (λ (s : Bor (List ℕ)). Some s.now) c.from_reader.result c.args.bytes.now c.from_reader.ensures.state c.from_reader.ensures.source

@@ -1,0 +1,83 @@
+// The records of a text, one after another.
+
+ghost use Rattle.std.specs.Prelude.{◌≡◌, [], ◌∷◌, true, false, Ok, OnOk, OnErr};
+ghost use Rattle.csv_records.specs.Records.{records_of};
+
+use crate::reading::want_of_memory;
+use crate::record::Record;
+use csv::{Reader, ReaderBuilder};
+use std::alloc::Global;
+use std::marker::Model;
+use sync_edge::NoMemory;
+
+/// The records of some bytes, taken one after another. Contracts see the record that was taken last,
+/// and those that are left.
+///
+/// It holds one record at a time. The records are those that `read_records` gives at once.
+/// After RFC 4180.
+#[derive(Drop)]
+pub struct Records<'a> {
+    reader: Reader<&'a [u8]>,
+    taken: Record,
+    ended: bool,
+}
+
+impl<'a> Model for Records<'a> {
+    ghost use Rattle.std.specs.Prelude.{◌≡◌, ℕ, false, List, Some};
+    ghost use Rattle.std.proofs.Common.{Bor};
+    ghost use Rattle.csv.specs.Reading.{has_failed};
+    ghost use Rattle.csv_records.specs.Stream.{Stream, IsReading, left_of};
+
+    ghost Value = { Stream };
+
+    ghost view = { λ s. record { taken = s.taken; left = left_of (λ (bytes : Bor (List ℕ)). Some bytes.now) s.reader s.ended; spent = has_failed s.reader } };
+
+    ghost invariant = { λ s. s.ended ≡ false → has_failed s.reader ≡ false → IsReading (λ (bytes : Bor (List ℕ)). Some bytes.now) s.reader };
+}
+
+impl<'a> Records<'a> {
+    /// The records of these bytes, none of which is taken yet. It takes no memory.
+    pub fn of(alloc: Global, bytes: &'a [u8]) -> Records<'a>
+        ensures left { result.left ≡ records_of bytes.now }
+        ensures spent { result.spent ≡ false }
+    {
+        Records {
+            reader: ReaderBuilder::new()
+                .has_headers(false)
+                .flexible(true)
+                .from_reader(alloc, bytes),
+            taken: Record::new(alloc),
+            ended: false,
+        }
+    }
+
+    /// Takes the next record, and says whether there was one.
+    ///
+    /// After want of memory it is spent.
+    pub fn advance(&mut self) -> Result<bool, NoMemory>
+        requires { self.old.spent ≡ false }
+        ensures found { result ≡ Ok true → self.old.left ≡ self.new.taken ∷ self.new.left }
+        ensures none { result ≡ Ok false → self.old.left ≡ [] }
+        ensures goes_on { OnOk result (self.new.spent ≡ false) }
+        ensures spent { OnErr result (self.new.spent ≡ true) }
+    {
+        if self.ended {
+            return Ok(false);
+        }
+        match self.reader.read_byte_record(&mut self.taken.fields) {
+            Ok(true) => Ok(true),
+            Ok(false) => {
+                self.ended = true;
+                Ok(false)
+            }
+            Err(error) => Err(want_of_memory(error)),
+        }
+    }
+
+    /// The record that was taken last; one without fields before the first.
+    pub fn taken(&self) -> &Record
+        ensures { result.now ≡ self.now.taken }
+    {
+        &self.taken
+    }
+}

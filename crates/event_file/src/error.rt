@@ -1,0 +1,73 @@
+// Why a text gives no events.
+
+ghost use Rattle.std.specs.Prelude.{◌≡◌};
+ghost use Rattle.event_file.specs.Refusal.{number_of};
+
+use sync_edge::NoMemory;
+use thiserror::Error;
+
+/// The first rule for event files that a text breaks. Rows count from 1 after the header.
+///
+/// This project's own.
+#[derive(Clone, Copy, Debug, PartialEq, Eq, Error)]
+pub enum EventErr {
+    /// The first record isn't `at,what,target,value`, or there is none.
+    #[error("the first record isn't at,what,target,value")]
+    Header,
+    /// The row hasn't four fields.
+    #[error("row {0}: not AT,WHAT,TARGET,VALUE")]
+    Fields(u64),
+    /// The first field is no number, or one above 86,400,000.
+    #[error("row {0}: no millisecond up to 86400000")]
+    Time(u64),
+    /// The row's time is before that of the row before.
+    #[error("row {0}: before the row before it")]
+    Order(u64),
+    /// The second field is no word of the format.
+    #[error("row {0}: no word for what happens")]
+    What(u64),
+    /// The third field is not the name of something that the word is said of.
+    #[error("row {0}: not a target of this word")]
+    Target(u64),
+    /// The fourth field isn't empty; or, for `level`, it is no level of the plan's option.
+    #[error("row {0}: not a value of this word")]
+    Value(u64),
+    /// There are more than 100,000 rows.
+    #[error("more than 100000 rows")]
+    Limit,
+    /// Memory ran out.
+    #[error("out of memory")]
+    NoMemory,
+}
+
+impl EventErr {
+    /// The number by which the refusal is printed, from 26 to 33.
+    ///
+    /// `None` where memory ran out, which refuses no text.
+    /// This project's own.
+    pub fn number(self) -> Option<u8>
+        ensures { result ≡ number_of self }
+    {
+        match self {
+            EventErr::Header => Some(26),
+            EventErr::Fields(_) => Some(27),
+            EventErr::Time(_) => Some(28),
+            EventErr::Order(_) => Some(29),
+            EventErr::What(_) => Some(30),
+            EventErr::Target(_) => Some(31),
+            EventErr::Value(_) => Some(32),
+            EventErr::Limit => Some(33),
+            EventErr::NoMemory => None,
+        }
+    }
+}
+
+impl From<NoMemory> for EventErr {
+    ghost use Rattle.event_file.specs.declared.error.EventErr.TheVariants as refusal;
+
+    ghost from_gives = { λ _ e. e ≡ refusal.NoMemory };
+
+    fn from(_: NoMemory) -> EventErr {
+        EventErr::NoMemory
+    }
+}
