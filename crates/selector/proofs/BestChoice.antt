@@ -6,7 +6,7 @@ use Rattle.sync_ql.specs.declared.rules.Candidate.{Candidate}
 use Rattle.sync_ql.specs.Selection.{candidate, is_eligible, beats, best_choice, IsEligible, IsBest, IsBestChoice}
 use Rattle.selector.specs.Scanned.{IsFirstBest, IsFirstBestAt}
 use Rattle.selector.proofs.Beating.{not_beats-trans}
-use Rattle.selector.proofs.Eligible.{eligible_within}
+use Rattle.sync_ql.proofs.Eligible.{eligible_within}
 use Rattle.selector.proofs.FirstBest.{is_good, none_eligible, position-first, stays, first_taken, none_taken}
 
 first_is_best : (inputs : List Candidate) (i : ℕ) → IsFirstBestAt inputs (length inputs) i → IsBest inputs i

@@ -1,23 +1,12 @@
--- The eligible inputs of a list, and what none of them is.
+-- What no eligible input of a list is.
 use Rattle.std.proofs.Common.{◌≡◌, ◌≤◌, ◌<◌, ℕ, Bool, true, false, not, ◌&&◌, List, length, get_or, None, refl, sym, ap, ◌∙◌, arith}
 use Rattle.std.specs.List.{list_all}
-use Rattle.std.proofs.Math.Decide.{dec_lt}
-use Rattle.std.proofs.lemmas.List.{get_or_past, get_or_default}
+use Rattle.std.proofs.lemmas.List.{get_or_default}
 use Rattle.std.proofs.lemmas.List.Folds.{list_all_at}
 use Rattle.std.proofs.lemmas.List.Recursion.{and_from_places}
 use Rattle.sync_ql.specs.declared.rules.Candidate.{Candidate}
 use Rattle.sync_ql.specs.Selection.{candidate, is_eligible}
-
-abbrev pub nobody : Candidate
-nobody = record { level = None; priority = 0; usable = false }
-
--- beyond the list nothing is eligible
-pub eligible_within : (inputs : List Candidate) (k : ℕ) → is_eligible (candidate inputs k) ≡ true → k < length inputs
-eligible_within inputs k eligible =
-    elim (dec_lt k (length inputs)) [
-      | yes within ↦ within
-      | no beyond ↦ absurd (let past : length inputs ≤ k = omega arith in let none = ap is_eligible (get_or_past inputs k nobody past) in cc)
-    ]
+use Rattle.sync_ql.proofs.Eligible.{nobody, eligible_within}
 
 -- an input that was read is the candidate at its place
 pub read_is : (inputs : List Candidate) (i : ℕ) (c : Candidate) → c ≡ get_or inputs i c → i < length inputs → candidate inputs i ≡ c

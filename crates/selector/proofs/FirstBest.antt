@@ -6,7 +6,8 @@ use Rattle.sync_ql.specs.declared.rules.Candidate.{Candidate}
 use Rattle.sync_ql.specs.Selection.{candidate, is_eligible, is_better, beats, is_best, best_choice}
 use Rattle.selector.specs.Scanned.{IsFirstBest, IsFirstBestAt}
 use Rattle.selector.proofs.Beating.{not_beats-trans, no_better-trans}
-use Rattle.selector.proofs.Eligible.{nobody, eligible_within, none_passes, none_passes-true, none_passes-false}
+use Rattle.sync_ql.proofs.Eligible.{nobody, eligible_within}
+use Rattle.selector.proofs.Eligible.{none_passes, none_passes-true, none_passes-false}
 
 -- an input that the best one doesn't beat is beaten by none
 unbeaten_by_best : (inputs : List Candidate) (i : ℕ) → IsFirstBestAt inputs (length inputs) i → (c : Candidate) → none_passes (λ other. beats other c) inputs ≡ not (beats (candidate inputs i) c)

@@ -16,8 +16,9 @@ use Rattle.input_monitor.specs.StandsFor as Monitor
 use Rattle.std.proofs.lemmas.List.{get_or_default}
 use Rattle.sync_element.specs.ElementState.{ElementState, inputs_of, monitor_in, monitor_of, unused, level_of, level_back_of, IsInTime, IsWhole}
 use Rattle.sync_element.specs.StandsFor.{StandsFor}
-use Rattle.sync_element.proofs.QuietMoments.{selection_at-within, level_of_taken}
-use Rattle.sync_element.proofs.Waiting.{stays_until, until_first, length-signals_of, signals_of-moments_until}
+use Rattle.sync_ql.proofs.QuietMoments.{selection_at-within, level_of_taken}
+use Rattle.sync_ql.proofs.Staying.{length-signals_of, signals_of-moments_until}
+use Rattle.sync_element.proofs.Waiting.{stays_until, until_first}
 
 pub selected_until : (e : ElementState) → IsWhole e → (past : List Moment) (n : ℕ) → StandsFor e past → IsInTime e n → e.selection ≡ selection_at e.settings (moments_until e.settings n past)
 selected_until e whole past n stands in_time = stands.selection ∙ sym (stays_until e past n whole stands in_time).selection

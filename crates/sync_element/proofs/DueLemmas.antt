@@ -13,9 +13,11 @@ use Rattle.input_monitor.proofs.Stepping.{aged}
 use Rattle.input_monitor.proofs.Conditions.{Lasts, condition_at-after_quiet}
 use Rattle.sync_element.specs.ElementState.{ElementState, inputs_of, monitor_of, IsFirstDue, IsFirstDueAt, IsInTime, IsWhole}
 use Rattle.sync_element.specs.StandsFor.{StandsFor}
-use Rattle.sync_element.specs.QuietLaw.{IsSameFailed, IsSameOutput}
-use Rattle.sync_element.specs.Due.{left_of, left_in, later_by, IsLastStepPlusLeast, NoneEnds, IsFirstFailedChange, IsElementDue}
-use Rattle.sync_element.proofs.Waiting.{length-signals_of, signals_of-moments_until, until_first, Lasting, stays-quiet_moments}
+use Rattle.sync_ql.specs.Quiet.{IsSameFailed, IsSameOutput}
+use Rattle.sync_ql.specs.Quiet.{IsFirstFailedChange, IsElementDue}
+use Rattle.sync_element.specs.Due.{left_of, left_in, later_by, IsLastStepPlusLeast, NoneEnds}
+use Rattle.sync_ql.proofs.Staying.{length-signals_of, signals_of-moments_until, Lasting, stays-quiet_moments}
+use Rattle.sync_element.proofs.Waiting.{until_first}
 
 -- what is left of a condition that ends at a millisecond
 abbrev LeftAt : ℕ → ℕ → Cond → Type 0
@@ -152,25 +154,3 @@ left_until e whole i within past n stands in_time =
     ∙ aged_is (n - length signals) (condition_at e.settings.timers signals)
     ∙ ap (λ k. later_by k (condition_at e.settings.timers signals)) passed
     ∙ ap (later_by (n - e.next)) (sym is)
-
--- before its due time no input's "failed" changes
-same_until_due : (settings : Settings) (past : List Moment) (due : Option ℕ) (n : ℕ) → IsElementDue settings past due → length past ≤ n → IfSome due (λ d. n ≤ d) → IsSameFailed settings past (moments_until settings n past)
-same_until_due settings past None n never later in_time = never n later
-same_until_due settings past (Some due) n first later in_time = first.same_before n later in_time
-
-earlier_too : (due : Option ℕ) (m n : ℕ) → m ≤ n → IfSome due (λ d. n ≤ d) → IfSome due (λ d. m ≤ d)
-earlier_too None m n less in_time = tt
-earlier_too (Some due) m n less in_time = let until : n ≤ due = in_time in omega arith
-
-lasting_until_due : (settings : Settings) (past : List Moment) (due : Option ℕ) (n : ℕ) → IsElementDue settings past due → length past ≤ n → IfSome due (λ d. n ≤ d) → Lasting settings past (n - length past)
-lasting_until_due settings past due n first later in_time i within j few =
-    let signals = signals_of i past in
-    let some : length past + j - length signals ≡ j = omega (arith, length-signals_of i past) in
-    ap (λ k. failed_at settings.timers (after_quiet k signals)) (sym some)
-    ∙ sym (ap (failed_at settings.timers) (signals_of-moments_until settings i (length past + j) past within))
-    ∙ same_until_due settings past due (length past + j) first (omega arith) (earlier_too due (length past + j) n (omega arith) in_time) i within
-
--- until the due time the element gives the same
-pub same_output_until : (settings : Settings) (now : Moment) (before : List Moment) (due : Option ℕ) (n : ℕ) → IsElementDue settings (now ∷ before) due → length (now ∷ before) ≤ n → IfSome due (λ d. n ≤ d) → IsSameOutput settings (now ∷ before) (moments_until settings n (now ∷ before))
-same_output_until settings now before due n first later in_time =
-    (stays-quiet_moments settings (now ∷ before) (n - length (now ∷ before)) (omega arith) (lasting_until_due settings (now ∷ before) due n first later in_time)).output

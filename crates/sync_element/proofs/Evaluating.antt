@@ -9,8 +9,8 @@ use Rattle.sync_ql.specs.Switches.{Switches}
 use Rattle.sync_ql.specs.Selection.{candidate, choice}
 use Rattle.sync_ql.specs.Moment.{Moment, Settings, candidates_at, at_end, switches_at, selection_at}
 use Rattle.sync_ql.specs.Output.{was_locked}
-use Rattle.selector.proofs.Eligible.{nobody}
-use Rattle.sync_element.proofs.QuietMoments.{seen, commanded, switches_at-cons, selection_at-cons}
+use Rattle.sync_ql.proofs.Eligible.{nobody}
+use Rattle.sync_ql.proofs.QuietMoments.{seen, commanded, switches_at-cons, selection_at-cons}
 
 -- inputs that are seen as the rules say, place by place
 pub candidates_seen : (settings : Settings) (s : Switches) (past : List Moment) (inputs : List Candidate) → length inputs ≡ length settings.priorities → ((i : ℕ) → i < length settings.priorities → candidate inputs i ≡ seen settings s past i) → inputs ≡ candidates_at settings s past

@@ -1,5 +1,3 @@
-pub mod Choices
-pub mod QuietMoments
 pub mod Waiting
 pub mod Answering
 pub mod DueLemmas

@@ -7,7 +7,7 @@ use Rattle.sync_ql.specs.declared.rules.Candidate.{Candidate}
 use Rattle.sync_ql.specs.Switches.{Switches, is_locked}
 use Rattle.sync_ql.specs.Selection.{candidate}
 use Rattle.sync_ql.specs.Moment.{Settings}
-use Rattle.selector.proofs.Eligible.{nobody}
+use Rattle.sync_ql.proofs.Eligible.{nobody}
 use Rattle.sync_element.specs.ElementState.{up_in}
 use Rattle.sync_element.specs.Telling.{clear_in}
 use Rattle.sync_element.specs.Plain.{IsCountedOne, AreCounted}

@@ -15,12 +15,12 @@ use Rattle.sync_ql.specs.Selection.{candidate, is_better, choice}
 use Rattle.sync_ql.specs.Moment.{Moment, Settings, input_of, signals_of, level_now, at_end, switches_at, selection_at}
 use Rattle.sync_ql.specs.Told.{last_said, says_up, says_level, clears, commands_in, moment_after, IsOfOption, FitsElement}
 use Rattle.sync_ql.specs.Output.{clock_level_at, mode_of, mode_at, state_of, state_at}
-use Rattle.selector.proofs.Eligible.{nobody}
+use Rattle.sync_ql.proofs.Eligible.{nobody}
 use Rattle.sync_element.specs.ElementState.{up_in}
 use Rattle.sync_element.specs.Telling.{clear_in, IsToldSoFar, IsSameInputs}
 use Rattle.sync_element.specs.Plain.{IsPlainWhole, PlainStands, one_more, counted_failed, IsCountedOne, AreCounted}
-use Rattle.sync_element.proofs.QuietMoments.{input_of-moment_after, seen, selection_at-within, level_of_taken}
-use Rattle.sync_element.proofs.Waiting.{length-signals_of}
+use Rattle.sync_ql.proofs.QuietMoments.{input_of-moment_after, seen, selection_at-within, level_of_taken}
+use Rattle.sync_ql.proofs.Staying.{length-signals_of}
 use Rattle.sync_element.proofs.Evaluating.{candidates_seen, IsEvaluated, switches_evaluated, selection_evaluated, was_locked_evaluated}
 use Rattle.sync_element.proofs.Taking.{or-false, commands_after, same_candidate, said_levels}
 

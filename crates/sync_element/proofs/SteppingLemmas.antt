@@ -10,7 +10,7 @@ use Rattle.input_monitor.specs.Monitored.{Monitored}
 use Rattle.sync_element.specs.ElementState.{monitor_in, unused, up_in}
 use Rattle.sync_element.specs.Telling.{clear_in}
 use Rattle.sync_element.specs.Stepping.{IsStepped, AreStepped}
-use Rattle.selector.proofs.Eligible.{nobody}
+use Rattle.sync_ql.proofs.Eligible.{nobody}
 
 -- one input more is one step on
 pub stepped_more : (n now : ℕ) (ups clear : List Bool) (s : Switches) (floor : Option Level) (monitors monitors_now : List Monitored) (inputs inputs_now : List Candidate) (m_then : Monitored) (c_then : Candidate) → AreStepped n now ups clear s floor monitors monitors_now inputs inputs_now →

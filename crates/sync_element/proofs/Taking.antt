@@ -18,15 +18,16 @@ use Rattle.sync_ql.specs.Moment.{Moment, Settings, input_of, signals_of, at_end,
 use Rattle.sync_ql.specs.Told.{last_said, says_up, says_level, clears, commands_in, moment_after, moments_until, IsOfOption, FitsElement}
 use Rattle.input_monitor.specs.Monitored.{Monitored}
 use Rattle.input_monitor.specs.StandsFor as Monitor
-use Rattle.selector.proofs.Eligible.{nobody}
+use Rattle.sync_ql.proofs.Eligible.{nobody}
 use Rattle.sync_element.specs.ElementState.{ElementState, inputs_of, monitor_in, up_in, HasEnd, IsFirstDue, IsInTime, IsWhole}
 use Rattle.sync_element.specs.StandsFor.{StandsFor}
 use Rattle.sync_element.specs.Telling.{clear_in, IsToldSoFar, IsSameInputs}
 use Rattle.sync_element.specs.Stepping.{IsStepped, AreStepped}
 use Rattle.sync_element.proofs.TellingLemmas.{unwrap_or-option_or}
 use Rattle.sync_element.proofs.Evaluating.{candidates_seen, IsEvaluated, switches_evaluated, selection_evaluated, was_locked_evaluated}
-use Rattle.sync_element.proofs.QuietMoments.{input_of-moment_after, seen}
-use Rattle.sync_element.proofs.Waiting.{stays_until, length-quiet_moments, signals_of-quiet_moments, signals_of-moments_until, is_up-after_quiet, last_level-quiet_moments}
+use Rattle.sync_ql.proofs.QuietMoments.{input_of-moment_after, seen}
+use Rattle.sync_ql.proofs.Staying.{length-quiet_moments, signals_of-quiet_moments, signals_of-moments_until, is_up-after_quiet, last_level-quiet_moments}
+use Rattle.sync_element.proofs.Waiting.{stays_until}
 
 -- what a step makes on its way: which wait-to-restore times are cleared, and the inputs and switches
 -- as they are told; and what it keeps

@@ -1,12 +1,8 @@
--- When a condition of an element's input ends, and when an input's "failed" changes, if nothing happens.
-use Rattle.std.specs.Prelude.{◌≡◌, ◌≤◌, ◌<◌, ◌+◌, ◌-◌, ℕ, not, List, length, Option, None, Some, IfSome}
+-- When a condition of an element's input ends, if nothing happens.
+use Rattle.std.specs.Prelude.{◌≡◌, ◌≤◌, ◌<◌, ◌+◌, ◌-◌, ℕ, Option, None, Some, IfSome}
 use Rattle.sync_ql.specs.declared.rules.Cond.{Cond}
 use Rattle.sync_ql.specs.declared.rules.Cond.TheVariants.{Good, HoldOff, Failed, Restoring}
-use Rattle.sync_ql.specs.Condition.{failed_at}
-use Rattle.sync_ql.specs.Moment.{Moment, Settings, signals_of}
-use Rattle.sync_ql.specs.Told.{moments_until}
 use Rattle.sync_element.specs.ElementState.{ElementState, inputs_of, monitor_of}
-use Rattle.sync_element.specs.QuietLaw.{IsSameFailed}
 
 -- the milliseconds that are left of a condition that ends
 abbrev pub left_of : Cond → Option ℕ
@@ -41,18 +37,3 @@ pub record IsLastStepPlusLeast (e : ElementState) (due : ℕ) : Type 0 where
 -- every condition is good or failed, of which none ends
 abbrev pub NoneEnds : ElementState → Type 0
 NoneEnds e = (i : ℕ) → i < inputs_of e → left_in e i ≡ None
-
--- there is an input that is failed after one past exactly where it isn't after another
-abbrev pub SomeFailedChanges : Settings → List Moment → List Moment → Type 0
-SomeFailedChanges settings past past_then = (i : ℕ) × (i < length settings.priorities) × (failed_at settings.timers (signals_of i past_then) ≡ not (failed_at settings.timers (signals_of i past)))
-
--- the first later millisecond in which an input's "failed" changes, if nothing is told
-pub record IsFirstFailedChange (settings : Settings) (past : List Moment) (due : ℕ) : Type 0 where
-  pub later : length past ≤ due
-  pub changed : SomeFailedChanges settings past (moments_until settings (due + 1) past)
-  pub same_before : (n : ℕ) → length past ≤ n → n ≤ due → IsSameFailed settings past (moments_until settings n past)
-
--- that millisecond, or None where every input's "failed" stays for ever
-abbrev pub IsElementDue : Settings → List Moment → Option ℕ → Type 0
-IsElementDue settings past (Some due) = IsFirstFailedChange settings past due
-IsElementDue settings past None = (n : ℕ) → length past ≤ n → IsSameFailed settings past (moments_until settings n past)

@@ -1,7 +1,6 @@
 pub mod Configured
 pub mod ElementState
 pub mod StandsFor
-pub mod QuietLaw
 pub mod Due
 pub mod Starting
 pub mod Telling

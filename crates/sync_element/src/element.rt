@@ -3,12 +3,12 @@ ghost use Rattle.sync_ql.specs.Level.{do_not_use_of};
 ghost use Rattle.sync_ql.specs.Condition.{condition_at, IsSameKind};
 ghost use Rattle.sync_ql.specs.Selection.{candidate};
 ghost use Rattle.sync_ql.specs.Moment.{Moment, Settings, signals_of, selection_at};
-ghost use Rattle.sync_ql.specs.Told.{moment_after, quiet_moment, moments_until, FitsElement, IsOfOption};
+ghost use Rattle.sync_ql.specs.Told.{moment_after, moments_until, FitsElement, IsOfOption};
 ghost use Rattle.sync_ql.specs.Output.{clock_level_at, sent_back_at, mode_at, state_at, goes_back, mode_of, state_of};
 ghost use Rattle.sync_element.specs.Configured.{settings_of};
 ghost use Rattle.sync_element.specs.StandsFor.{StandsFor};
-ghost use Rattle.sync_element.specs.QuietLaw.{IsSameFailed, IsSameOutput};
-ghost use Rattle.sync_element.specs.Due.{IsLastStepPlusLeast, NoneEnds, IsElementDue, later_by};
+ghost use Rattle.sync_ql.specs.Quiet.{IsElementDue};
+ghost use Rattle.sync_element.specs.Due.{IsLastStepPlusLeast, NoneEnds, later_by};
 ghost use Rattle.sync_element.specs.ElementState.{inputs_of, monitor_of, level_of, level_back_of, IsInTime};
 
 use crate::config::Config;
@@ -286,19 +286,3 @@ impl Element {
         self.next = now + 1;
     }
 }
-
-/// The law of a quiet millisecond: where nothing is told in it, and each input is failed exactly as
-/// before, the selection, the level, the levels sent back, the mode and the state stay. So they do
-/// while nothing is told, up to but not at the first millisecond at which an input's "failed"
-/// changes.
-///
-/// It does nothing: its contract is the law. This project's own.
-pub fn quiet_law()
-    ensures one { (settings : Settings) (now : Moment) (before : List Moment) →
-        IsSameFailed settings (now ∷ before) (quiet_moment settings (now ∷ before) ∷ now ∷ before) →
-        IsSameOutput settings (now ∷ before) (quiet_moment settings (now ∷ before) ∷ now ∷ before) }
-    ensures until { (settings : Settings) (now : Moment) (before : List Moment)
-        (due : Option ℕ) (n : ℕ) → IsElementDue settings (now ∷ before) due →
-        length (now ∷ before) ≤ n → IfSome due (λ due. n ≤ due) →
-        IsSameOutput settings (now ∷ before) (moments_until settings n (now ∷ before)) }
-{}

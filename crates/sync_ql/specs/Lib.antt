@@ -6,5 +6,7 @@ pub mod Selection
 pub mod Moment
 pub mod Told
 pub mod Output
+pub mod Quiet
+pub mod Taken
 pub mod Examples
 pub mod Rows

@@ -9,7 +9,7 @@
 //! what holds at a millisecond is read off the list of the milliseconds until then, the newest
 //! first (`failed_at`, `condition_at`, `switches_at`, `selection_at`, `clock_level_at`,
 //! `sent_back_at`, `mode_at`, `state_at`), and a millisecond by what is told in it (`moment_after`).
-//! The module [`rules`] has the types in which they ask and answer.
+//! The module [`rules`] has the types in which they ask and answer, and [`laws`] what follows.
 //!
 //! After ITU-T G.781, quality levels and SSM codes of network options I and II, hold-off and
 //! wait-to-restore times, external commands and selection; the idea of enhanced codes after ITU-T
@@ -17,6 +17,7 @@
 //! own. That the table has these values is tested.
 #![tactic(auto)]
 
+pub mod laws;
 mod levels;
 mod rows;
 pub mod rules;

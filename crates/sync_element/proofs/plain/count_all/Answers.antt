@@ -1,6 +1,6 @@
 use Rattle.std.proofs.Common.{◌<◌, true, false, length, arith}
 use Rattle.std.proofs.lemmas.List.{get_or_default}
-use Rattle.selector.proofs.Eligible.{nobody}
+use Rattle.sync_ql.proofs.Eligible.{nobody}
 use Rattle.sync_element.specs.Configured.{settings_of}
 use Rattle.sync_element.proofs.PlainCounting.{counted_more}
 use Rattle.sync_element.proofs.plain.count_all.Goals as goal

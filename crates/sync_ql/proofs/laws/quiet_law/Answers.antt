@@ -1,6 +1,6 @@
-use Rattle.sync_element.proofs.QuietMoments.{IsSameOutput-quiet}
-use Rattle.sync_element.proofs.DueLemmas.{same_output_until}
-use Rattle.sync_element.proofs.element.quiet_law.Goals as goal
+use Rattle.sync_ql.proofs.QuietMoments.{IsSameOutput-quiet}
+use Rattle.sync_ql.proofs.Staying.{same_output_until}
+use Rattle.sync_ql.proofs.laws.quiet_law.Goals as goal
 
 pub returns-clause-one : goal.returns-clause-one
 returns-clause-one c = IsSameOutput-quiet

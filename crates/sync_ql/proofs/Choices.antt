@@ -5,7 +5,7 @@ use Rattle.std.proofs.lemmas.Bool.{and_parts}
 use Rattle.std.proofs.lemmas.List.Quantifiers.{position-Some}
 use Rattle.sync_ql.specs.declared.rules.Candidate.{Candidate}
 use Rattle.sync_ql.specs.Selection.{candidate, is_eligible, is_better, beats, is_best, best_choice, manual_stands, standing_manual, choice}
-use Rattle.selector.proofs.Eligible.{nobody, eligible_within}
+use Rattle.sync_ql.proofs.Eligible.{nobody, eligible_within}
 
 -- a manual switch that stands, stands again
 pub standing_manual-again : (inputs : List Candidate) (manual : Option ℕ) → standing_manual inputs (standing_manual inputs manual) ≡ standing_manual inputs manual

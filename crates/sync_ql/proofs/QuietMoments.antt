@@ -14,8 +14,8 @@ use Rattle.sync_ql.specs.Moment.{Moment, Settings, input_of, signals_of, level_n
 use Rattle.sync_ql.specs.Told.{input_after, moment_after, quiet_moment}
 use Rattle.sync_ql.specs.Output.{goes_back, clock_level_at, sent_back_at, mode_of, mode_at, was_locked, state_of, state_at}
 use Rattle.sync_ql.specs.Level.{do_not_use_of}
-use Rattle.sync_element.specs.QuietLaw.{IsSameFailed, IsSameOutput}
-use Rattle.sync_element.proofs.Choices.{standing_manual-again, choice-again, choice-within}
+use Rattle.sync_ql.specs.Quiet.{IsSameFailed, IsSameOutput}
+use Rattle.sync_ql.proofs.Choices.{standing_manual-again, choice-again, choice-within}
 
 -- two functions that agree below n give one list
 pub map-range_same : {X : Type 0} (f g : ℕ → X) (n : ℕ) → ((i : ℕ) → i < n → f i ≡ g i) → map f (range_with_len 0 n) ≡ map g (range_with_len 0 n)

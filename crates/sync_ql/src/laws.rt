@@ -1,0 +1,48 @@
+//! What follows from the rules of one element, for crates that hold none.
+//!
+//! Each function does nothing: its contract is the law. This project's own.
+
+ghost use Rattle.std.specs.Prelude.{◌≡◌, ◌≤◌, ℕ, List, ◌∷◌, Option, IfSome, length};
+ghost use Rattle.sync_ql.specs.declared.rules.Candidate.{Candidate};
+ghost use Rattle.sync_ql.specs.Selection.{choice, standing_manual, IsEligible};
+ghost use Rattle.sync_ql.specs.Moment.{Moment, Settings, selection_at};
+ghost use Rattle.sync_ql.specs.Told.{quiet_moment, moments_until};
+ghost use Rattle.sync_ql.specs.Quiet.{IsSameFailed, IsSameOutput, IsElementDue};
+ghost use Rattle.sync_ql.specs.Taken.{MayBeTaken, AllAlike};
+
+/// The laws of the choice: what is chosen is eligible; choosing again from what was chosen changes
+/// nothing; and candidates that are alike place by place, each the same or none of both eligible,
+/// give one choice, and the same manual switch stands.
+pub fn choice_law()
+    ensures eligible { (inputs : List Candidate) (forced manual current : Option ℕ) →
+        IfSome (choice inputs forced (standing_manual inputs manual) current) (IsEligible inputs) }
+    ensures again { (inputs : List Candidate) (forced manual current : Option ℕ) →
+        choice inputs forced manual (choice inputs forced manual current)
+        ≡ choice inputs forced manual current }
+    ensures alike { (inputs others : List Candidate) → AllAlike inputs others →
+        (forced manual current : Option ℕ) →
+        choice inputs forced manual current ≡ choice others forced manual current }
+    ensures manual { (inputs others : List Candidate) → AllAlike inputs others →
+        (manual : Option ℕ) → standing_manual inputs manual ≡ standing_manual others manual }
+{}
+
+/// The law of the input that is taken: it is neither locked out nor failed, and has a level better
+/// than do-not-use, than which the floor is not better.
+pub fn taken_law()
+    ensures { (settings : Settings) (now : Moment) (before : List Moment) →
+        IfSome (selection_at settings (now ∷ before)) (MayBeTaken settings (now ∷ before)) }
+{}
+
+/// The law of a quiet millisecond: where nothing is told in it, and each input is failed exactly as
+/// before, the selection, the level, the levels sent back, the mode and the state stay. So they do
+/// while nothing is told, up to but not at the first millisecond at which an input's "failed"
+/// changes.
+pub fn quiet_law()
+    ensures one { (settings : Settings) (now : Moment) (before : List Moment) →
+        IsSameFailed settings (now ∷ before) (quiet_moment settings (now ∷ before) ∷ now ∷ before) →
+        IsSameOutput settings (now ∷ before) (quiet_moment settings (now ∷ before) ∷ now ∷ before) }
+    ensures until { (settings : Settings) (now : Moment) (before : List Moment)
+        (due : Option ℕ) (n : ℕ) → IsElementDue settings (now ∷ before) due →
+        length (now ∷ before) ≤ n → IfSome due (λ due. n ≤ due) →
+        IsSameOutput settings (now ∷ before) (moments_until settings n (now ∷ before)) }
+{}
