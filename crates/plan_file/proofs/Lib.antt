@@ -6,3 +6,4 @@ pub mod FirstBroken
 pub mod PlanLaws
 pub mod WritingFacts
 pub mod WrittenPlan
+pub mod Versions

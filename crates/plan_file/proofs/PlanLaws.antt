@@ -11,10 +11,11 @@ use Rattle.sync_topo.specs.Topology.{Topology}
 use Rattle.plan_file.specs.declared.error.PlanFileErr.{PlanFileErr}
 use Rattle.plan_file.specs.declared.error.PlanFileErr.TheVariants.{Syntax, Key as WrongKey, Kind as WrongKind, Plan, NoMemory}
 use Rattle.plan_file.specs.Chain.{◌>>=◌, found, unless}
-use Rattle.plan_file.specs.Format.{keys_of}
+use Rattle.plan_file.specs.Format.{keys_of, version_of}
+use Rattle.plan_file.specs.declared.version.Version.{Version}
 use Rattle.plan_file.specs.Rules.{has_only, has_needed, keeps_kinds, refusal_of, refusal_at, value_at, IsFirstBroken, KeepsRules}
 use Rattle.plan_file.specs.Rows.{said_rows, first_refusal, rows_of_document}
-use Rattle.plan_file.specs.PlanText.{document_of, of_rows, plan_of, OfDocument, GivesRows}
+use Rattle.plan_file.specs.PlanText.{document_of, of_rows, rows_in_file, plan_of, OfDocument, GivesRows}
 use Rattle.plan_file.specs.Gives.{Gives, RefusesWhere}
 use Rattle.plan_file.proofs.FirstBroken.{keeps, some_at, is_first}
 
@@ -24,29 +25,29 @@ place_in (WrongKey place) = Some place
 place_in (WrongKind place) = Some place
 place_in error = None
 
-own_place : (place : Place) (value : Data) (refusal : PlanFileErr) → refusal_of place value ≡ Some refusal → place_in refusal ≡ Some place
+own_place : (version : Version) (place : Place) (value : Data) (refusal : PlanFileErr) → refusal_of version place value ≡ Some refusal → place_in refusal ≡ Some place
 unfolding refusal_of
-own_place place (table fields) refusal is =
-    by (has_only (keys_of place.section) fields && has_needed (keys_of place.section) fields) (keeps_kinds (keys_of place.section) fields) is
+own_place version place (table fields) refusal is =
+    by (has_only (keys_of version place.section) fields && has_needed (keys_of version place.section) fields) (keeps_kinds (keys_of version place.section) fields) is
   where
     by : (named kinds : Bool) → (if not named then Some (WrongKey place) else if not kinds then Some (WrongKind place) else None) ≡ Some refusal → place_in refusal ≡ Some place
     by false kinds is = let same : WrongKey place ≡ refusal = cc in rw (← same) refl
     by true false is = let same : WrongKind place ≡ refusal = cc in rw (← same) refl
     by true true is = absurd (cc)
-own_place place (string s) refusal is = let same : WrongKind place ≡ refusal = cc in rw (← same) refl
-own_place place (integer z) refusal is = let same : WrongKind place ≡ refusal = cc in rw (← same) refl
-own_place place (float x) refusal is = let same : WrongKind place ≡ refusal = cc in rw (← same) refl
-own_place place (boolean b) refusal is = let same : WrongKind place ≡ refusal = cc in rw (← same) refl
-own_place place (datetime d) refusal is = let same : WrongKind place ≡ refusal = cc in rw (← same) refl
-own_place place (array ds) refusal is = let same : WrongKind place ≡ refusal = cc in rw (← same) refl
+own_place version place (string s) refusal is = let same : WrongKind place ≡ refusal = cc in rw (← same) refl
+own_place version place (integer z) refusal is = let same : WrongKind place ≡ refusal = cc in rw (← same) refl
+own_place version place (float x) refusal is = let same : WrongKind place ≡ refusal = cc in rw (← same) refl
+own_place version place (boolean b) refusal is = let same : WrongKind place ≡ refusal = cc in rw (← same) refl
+own_place version place (datetime d) refusal is = let same : WrongKind place ≡ refusal = cc in rw (← same) refl
+own_place version place (array ds) refusal is = let same : WrongKind place ≡ refusal = cc in rw (← same) refl
 
 -- a refusal at a place names it
 names_place : (document : Members) (place : Place) (refusal : PlanFileErr) → refusal_at document place ≡ Some refusal → place_in refusal ≡ Some place
 names_place document place refusal is = by (value_at document place) is
   where
-    by : (value : Option Data) → option_and_then (refusal_of place) value ≡ Some refusal → place_in refusal ≡ Some place
+    by : (value : Option Data) → option_and_then (refusal_of (version_of document) place) value ≡ Some refusal → place_in refusal ≡ Some place
     by None is = absurd (cc)
-    by (Some value) is = own_place place value refusal is
+    by (Some value) is = own_place (version_of document) place value refusal is
 
 -- a table is refused exactly where a rule is broken there first
 pub table_law : (bytes : List ℕ) (place : Place) (refusal : PlanFileErr) → place_in refusal ≡ Some place
@@ -59,7 +60,7 @@ table_law bytes place refusal named = by (document_of bytes)
     no_rows (Err error) is = let same : Plan error ≡ refusal = cc in let none : place_in (Plan error) ≡ Some place = subst (λ r. place_in r ≡ Some place) (sym same) named in absurd (cc)
 
     by : (document : Option Members)
-        → ((found document Syntax >>= λ document. rows_of_document document >>= λ rows. of_rows (plan_of_rows rows)) ≡ Err refusal)
+        → (((found document Syntax >>= λ document. rows_of_document document) >>= λ rows. of_rows (plan_of_rows rows)) ≡ Err refusal)
         ↔ elim document as (λ _. Type 0) [ None ↦ ⊥ | Some document ↦ IsFirstBroken document place refusal ]
     by None = (λ is. (let same : Syntax ≡ refusal = cc in let none : place_in Syntax ≡ Some place = subst (λ r. place_in r ≡ Some place) (sym same) named in absurd (cc)), λ never. absurd never)
     by (Some document) = of (first_refusal document) refl
@@ -89,7 +90,7 @@ syntax_law bytes = by (document_of bytes)
     no_rows (Err error) is = absurd (cc)
 
     by : (document : Option Members)
-        → ((found document Syntax >>= λ document. rows_of_document document >>= λ rows. of_rows (plan_of_rows rows)) ≡ Err Syntax) ↔ (document ≡ None)
+        → (((found document Syntax >>= λ document. rows_of_document document) >>= λ rows. of_rows (plan_of_rows rows)) ≡ Err Syntax) ↔ (document ≡ None)
     by None = (λ is. refl, λ none. refl)
     by (Some document) = of (first_refusal document) refl
       where
@@ -126,7 +127,7 @@ rows_law bytes answer = by (document_of bytes)
     no_document (Err error) is = absurd (cc)
 
     by : (document : Option Members)
-        → ((found document Syntax >>= λ document. rows_of_document document >>= λ rows. of_rows (plan_of_rows rows)) ≡ of_rows answer)
+        → (((found document Syntax >>= λ document. rows_of_document document) >>= λ rows. of_rows (plan_of_rows rows)) ≡ of_rows answer)
         ↔ elim document as (λ _. Type 0) [ None ↦ ⊥ | Some document ↦ KeepsRules document × (plan_of_rows (said_rows document) ≡ answer) ]
     by None = (λ is. absurd (no_document answer is), λ never. absurd never)
     by (Some document) = of (first_refusal document) refl
@@ -171,6 +172,14 @@ rows_no_memory document result gives is = by (first_refusal document) refl (subs
         let named_at = names_place document at own broken.broken in
         let none : place_in (Plan rows.NoMemory) ≡ Some at = subst (λ r. place_in r ≡ Some at) same named_at in
         absurd (cc)
+
+-- nor are those of a file
+pub file_rows_no_memory : (bytes : List ℕ) (result : Result PlanRows PlanFileErr) → Gives result (rows_in_file bytes) → result ≢ Err (Plan rows.NoMemory)
+file_rows_no_memory bytes result = by (document_of bytes)
+  where
+    by : (document : Option Members) → Gives result (found document Syntax >>= λ document. rows_of_document document) → result ≢ Err (Plan rows.NoMemory)
+    by None gives is = let none : Result PlanRows PlanFileErr = Err Syntax in let other : none ≡ Err (Plan rows.NoMemory) = subst (λ r. Gives r none) is gives in absurd (cc)
+    by (Some document) gives is = rows_no_memory document result gives is
 
 pub gives_plan : (bytes : List ℕ) (result : Result Topology PlanFileErr) → Gives result (plan_of bytes) → IfOk result (λ plan. GivesRows bytes (Ok plan))
 gives_plan bytes (Ok plan) gives = (plan_law bytes plan).0 gives

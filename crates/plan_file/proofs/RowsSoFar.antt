@@ -1,10 +1,14 @@
 -- The rows that are read so far, and those of the entries that are left.
 use Rattle.std.proofs.Common.{◌≡◌, ℕ, ◌+◌, List, [], ◌∷◌, ◌++◌, map, Option, Some, None, Result, Ok, Err, refl, sym}
 use Rattle.std.specs.Option.{option_or}
-use Rattle.toml.specs.Data.{Data, table, Members}
+use Rattle.toml.specs.Data.{Data, string, integer, float, boolean, datetime, array, table, Members}
 use Rattle.sync_topo.specs.declared.rows.PlanRows.{PlanRows}
 use Rattle.sync_topo.specs.declared.place.Section.TheVariants.{Head, Elements, Links, Sources}
 use Rattle.sync_topo.specs.declared.place.Section.{Section}
+use Rattle.sync_topo.specs.declared.place.Place.{Place}
+use Rattle.plan_file.specs.declared.version.Version.{Version}
+use Rattle.plan_file.specs.declared.version.Version.TheVariants.{One}
+use Rattle.plan_file.specs.Format.{keys_of, version_of}
 use Rattle.plan_file.specs.declared.error.PlanFileErr.{PlanFileErr}
 use Rattle.plan_file.specs.Chain.{◌>>=◌, unless}
 use Rattle.plan_file.specs.Rules.{refusal_of, entries_of}
@@ -24,12 +28,12 @@ first_and_rest None (Some refusal) first rest = refl
 first_and_rest (Some refusal) later first rest = refl
 
 -- the rows of all entries, or the first refusal among them
-pub rows_are : {A : Type 0} (row : Data → A) (section : Section) (n : ℕ) (entries : List Data)
-    → unless (first_from section n entries) (map row entries) ≡ rows_from row section n entries
-rows_are row section n [] = refl
-rows_are row section n (entry ∷ entries) =
-    rw (← rows_are row section (n + 1) entries)
-    (first_and_rest (refusal_of (record { section = section; row = n }) entry) (first_from section (n + 1) entries) (row entry) (map row entries))
+pub rows_are : {A : Type 0} (version : Version) (row : Data → A) (section : Section) (n : ℕ) (entries : List Data)
+    → unless (first_from version section n entries) (map row entries) ≡ rows_from version row section n entries
+rows_are version row section n [] = refl
+rows_are version row section n (entry ∷ entries) =
+    rw (← rows_are version row section (n + 1) entries)
+    (first_and_rest (refusal_of version (record { section = section; row = n }) entry) (first_from version section (n + 1) entries) (row entry) (map row entries))
 
 -- a step that may be refused, before the others
 step : {A B : Type 0} (first : Result A PlanFileErr) (here later : Option PlanFileErr) (value : A) (all : B) (next : A → Result B PlanFileErr)
@@ -42,24 +46,45 @@ last_step : {A B : Type 0} (last : Result A PlanFileErr) (here : Option PlanFile
 last_step last None value all is = rw (← is) refl
 last_step last (Some refusal) value all is = rw (← is) refl
 
+-- versions with the same keys for a section refuse the same of it
+pub refusal-same : (version other : Version) (place : Place) (entry : Data) → keys_of version place.section ≡ keys_of other place.section
+    → refusal_of version place entry ≡ refusal_of other place entry
+unfolding refusal_of
+refusal-same version other place (table fields) same = rw same refl
+refusal-same version other place (string s) same = refl
+refusal-same version other place (integer z) same = refl
+refusal-same version other place (float x) same = refl
+refusal-same version other place (boolean b) same = refl
+refusal-same version other place (datetime d) same = refl
+refusal-same version other place (array ds) same = refl
+
+pub first_from-same : (version other : Version) (section : Section) (n : ℕ) (entries : List Data) → keys_of version section ≡ keys_of other section
+    → first_from version section n entries ≡ first_from other section n entries
+first_from-same version other section n [] same = refl
+first_from-same version other section n (entry ∷ entries) same =
+    rw (refusal-same version other (record { section = section; row = n }) entry same, first_from-same version other section (n + 1) entries same) refl
+
 abbrev pub document_steps : Members → Result PlanRows PlanFileErr
 document_steps document = do
-  head ← unless (refusal_of (record { section = Head; row = 0 }) (table document)) (head_said document)
-  elements ← rows_from element_row Elements 1 head.elements
-  links ← rows_from link_row Links 1 head.links
-  sources ← rows_from source_row Sources 1 head.sources
+  head ← unless (refusal_of (version_of document) (record { section = Head; row = 0 }) (table document)) (head_said document)
+  elements ← rows_from One element_row Elements 1 head.elements
+  links ← rows_from head.version (link_row head.version) Links 1 head.links
+  sources ← rows_from One source_row Sources 1 head.sources
   Ok (record { option = head.option; elements = elements; links = links; sources = sources })
 
 -- the head, and then the rows of each section in order, give what the document says
 pub document_is : (document : Members) → rows_of_document document ≡ document_steps document
 unfolding rows_of_document
 document_is document =
+    let version : Version = version_of document in
     let es = entries_of Elements document in
     let ls = entries_of Links document in
     let ss = entries_of Sources document in
     let said = said_rows document in
-    sym (step (unless (refusal_of (record { section = Head; row = 0 }) (table document)) (head_said document))
-    (refusal_of (record { section = Head; row = 0 }) (table document)) _ (head_said document) said _ refl
-    (step (rows_from element_row Elements 1 es) (first_from Elements 1 es) _ (map element_row es) said _ (rows_are element_row Elements 1 es)
-    (step (rows_from link_row Links 1 ls) (first_from Links 1 ls) _ (map link_row ls) said _ (rows_are link_row Links 1 ls)
-    (last_step (rows_from source_row Sources 1 ss) (first_from Sources 1 ss) (map source_row ss) (λ rows. record said { sources = rows }) (rows_are source_row Sources 1 ss)))))
+    let elements : first_from version Elements 1 es ≡ first_from One Elements 1 es = first_from-same version One Elements 1 es refl in
+    let sources : first_from version Sources 1 ss ≡ first_from One Sources 1 ss = first_from-same version One Sources 1 ss refl in
+    rw (elements, sources) (sym (step (unless (refusal_of version (record { section = Head; row = 0 }) (table document)) (head_said document))
+    (refusal_of version (record { section = Head; row = 0 }) (table document)) _ (head_said document) said _ refl
+    (step (rows_from One element_row Elements 1 es) (first_from One Elements 1 es) _ (map element_row es) said _ (rows_are One element_row Elements 1 es)
+    (step (rows_from version (link_row version) Links 1 ls) (first_from version Links 1 ls) _ (map (link_row version) ls) said _ (rows_are version (link_row version) Links 1 ls)
+    (last_step (rows_from One source_row Sources 1 ss) (first_from One Sources 1 ss) (map source_row ss) (λ rows. record said { sources = rows }) (rows_are One source_row Sources 1 ss))))))

@@ -1,5 +1,5 @@
 -- The tables that are written, and the names in them.
-use Rattle.std.proofs.Common.{◌≡◌, ℕ, ◌+◌, ◌<◌, zero, suc, true, List, [], ◌∷◌, ◌++◌, length, map, take, Some, slice_get, option_map, ◌∙◌, String, Global, string_bytes, BTreeMap, Ordering, Less, Equal, Greater, refl, ap, arith}
+use Rattle.std.proofs.Common.{◌≡◌, ℕ, ◌+◌, ◌<◌, zero, suc, true, false, List, [], ◌∷◌, ◌++◌, length, map, take, Some, slice_get, option_map, ◌∙◌, String, Global, string_bytes, BTreeMap, Ordering, Less, Equal, Greater, refl, ap, arith}
 use Rattle.std.specs.List.{list_all}
 use Rattle.std.specs.Ordering.{match_ordering}
 use Rattle.std.specs.String.{string_cmp}
@@ -19,6 +19,7 @@ use Rattle.sync_topo.specs.declared.element.Element.{Element}
 use Rattle.sync_topo.specs.declared.link.Link.{Link}
 use Rattle.sync_topo.specs.declared.source.Source.{Source}
 use Rattle.sync_topo.specs.Topology.{Topology}
+use Rattle.sync_topo.specs.Rules.{is_bad_bundle_name}
 use Rattle.sync_topo.specs.WellFormed.{IsWellFormed}
 use Rattle.sync_topo.specs.Names.{is_name, is_name_byte, element_names, link_names, source_names}
 use Rattle.plan_file.specs.Writing.{put_member}
@@ -68,6 +69,9 @@ element_is_named plan e element well at =
 pub link_is_named : (plan : Topology) (k : ℕ) (link : Link) → IsWellFormed plan → slice_get plan.links k ≡ Some link → is_name link.name ≡ true
 link_is_named plan k link well at =
     named_at (link_names plan.links) k link.name well.links_named (slice_get-map (λ (x : Link). x.name) plan.links k ∙ ap (option_map (λ (x : Link). x.name)) at)
+
+pub bundle_is_named : (plan : Topology) (k : ℕ) (link : Link) → IsWellFormed plan → slice_get plan.links k ≡ Some link → is_bad_bundle_name link.bundle ≡ false
+bundle_is_named plan k link well at = well.bundles_named k link at
 
 pub source_is_named : (plan : Topology) (j : ℕ) (source : Source) → IsWellFormed plan → slice_get plan.sources j ≡ Some source → is_name source.name ≡ true
 source_is_named plan j source well at =

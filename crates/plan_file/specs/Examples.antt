@@ -32,9 +32,21 @@ pub unknown_key_comes_before_a_wrong_kind : first_fault (codes "version=2\ncolor
 unfolding toml_on_literals is_utf8 chars refusal_of
 unknown_key_comes_before_a_wrong_kind = refl
 
-pub other_version_is_of_the_wrong_kind : first_fault (codes "version=2\nelement=[1]") ≡ Some (Kind (at Head 0))
+pub other_version_is_of_the_wrong_kind : first_fault (codes "version=3\nelement=[1]") ≡ Some (Kind (at Head 0))
 unfolding toml_on_literals is_utf8 chars refusal_of
 other_version_is_of_the_wrong_kind = refl
+
+pub bundle_is_a_key_of_version_two : first_fault (codes "version=2\nlink=[{name='L',a='A',b='B',bundle='T'}]") ≡ None
+unfolding toml_on_literals is_utf8 chars refusal_of
+bundle_is_a_key_of_version_two = refl
+
+pub bundle_is_unknown_in_version_one : first_fault (codes "version=1\nlink=[{name='L',a='A',b='B',bundle='T'}]") ≡ Some (Key (at Links 1))
+unfolding toml_on_literals is_utf8 chars refusal_of
+bundle_is_unknown_in_version_one = refl
+
+pub bundle_is_unknown_without_a_version : first_fault (codes "link=[{name='L',a='A',b='B',bundle='T'}]") ≡ Some (Key (at Links 1))
+unfolding toml_on_literals is_utf8 chars refusal_of
+bundle_is_unknown_without_a_version = refl
 
 pub missing_key_is_told_at_its_row : first_fault (codes "element=[{name='A'},{}]\nlink=[1]") ≡ Some (Key (at Elements 2))
 unfolding toml_on_literals is_utf8 chars refusal_of
@@ -48,6 +60,16 @@ pub source_without_a_level : first_fault (codes "source=[{name='S',at='A'}]") �
 unfolding toml_on_literals is_utf8 chars refusal_of
 source_without_a_level = refl
 
+pub link_has_its_bundle : option_map said_rows (document_of (codes "version=2\nlink=[{name='L',a='A',b='B',bundle='T'}]"))
+    ≡ Some (record {
+      option = I;
+      elements = [];
+      links = record { name = codes "L"; a = codes "A"; b = codes "B"; priority_a = None; priority_b = None; delay_a = None; delay_b = None; bundle = Some (codes "T") } ∷ [];
+      sources = [];
+    })
+unfolding toml_on_literals is_utf8 chars link_row
+link_has_its_bundle = refl
+
 pub no_bytes_say_no_rows : option_map said_rows (document_of []) ≡ Some (record { option = I; elements = []; links = []; sources = [] })
 unfolding toml_on_literals is_utf8 chars
 no_bytes_say_no_rows = refl
@@ -56,7 +78,7 @@ pub each_key_has_its_field : option_map said_rows (document_of (codes "option='I
     ≡ Some (record {
       option = II;
       elements = [];
-      links = record { name = codes "L"; a = codes "A"; b = codes "B"; priority_a = None; priority_b = Some (pos 2); delay_a = Some (negsuc 2); delay_b = None } ∷ [];
+      links = record { name = codes "L"; a = codes "A"; b = codes "B"; priority_a = None; priority_b = Some (pos 2); delay_a = Some (negsuc 2); delay_b = None; bundle = None } ∷ [];
       sources = record { name = codes "S"; at = codes "A"; level = codes "QL-PRS"; priority = None } ∷ [];
     })
 unfolding toml_on_literals is_utf8 chars link_row source_row
@@ -74,7 +96,7 @@ pub delay_a_is_of_the_line_into_a : plan_of (codes "element=[{name='A'},{name='B
     ≡ Ok (record {
       option = I;
       elements = plain_element (codes "A") ∷ plain_element (codes "B") ∷ [];
-      links = record { name = codes "L"; a = 0; b = 1; priority_a = 0; priority_b = 1; delay_a = 7; delay_b = 1 } ∷ [];
+      links = record { name = codes "L"; a = 0; b = 1; priority_a = 0; priority_b = 1; delay_a = 7; delay_b = 1; bundle = None } ∷ [];
       sources = [];
     })
 unfolding toml_on_literals is_utf8 chars refusal_of element_row link_row rows_of_document plan_of plan_of_rows

@@ -1,10 +1,12 @@
 -- The tables of a plan file: which keys each has, and what stands at each. This project's own.
-use Rattle.std.specs.Prelude.{ℕ, pos, Bool, true, false, ◌==◌, List, [], ◌∷◌, codes, Option, Some, None, is_some, option_and_then, if◌then◌else◌}
+use Rattle.std.specs.Prelude.{ℕ, pos, Bool, true, false, ◌==◌, List, [], ◌∷◌, codes, Option, Some, None, is_some, option_and_then, unwrap_or, if◌then◌else◌}
 use Rattle.std.specs.Str.{bytes_eq}
-use Rattle.toml.specs.Data.{Data, integer, as_str, as_integer, as_array}
+use Rattle.toml.specs.Data.{Data, Members, integer, as_str, as_integer, as_array, get_member}
 use Rattle.sync_ql.specs.declared.levels.NetOption.{NetOption}
 use Rattle.sync_ql.specs.declared.levels.NetOption.TheVariants.{I, II}
 use Rattle.sync_topo.specs.declared.place.Section.{Section}
+use Rattle.plan_file.specs.declared.version.Version.{Version}
+use Rattle.plan_file.specs.declared.version.Version.TheVariants.{One, Two}
 use Rattle.sync_topo.specs.declared.place.Section.TheVariants.{Head, Elements, Links, Sources}
 
 -- a text, an integer, an array: no value of another kind is taken for one
@@ -17,10 +19,21 @@ is_integer value = is_some (as_integer value)
 abbrev pub is_array : Data → Bool
 is_array value = is_some (as_array value)
 
--- the integer 1, the one version of the format
+-- the version of the format that an integer says
+abbrev pub version_of_number : ℕ → Option Version
+version_of_number n = if n == 1 then Some One else if n == 2 then Some Two else None
+
+-- the version of the format that a value says, if it says one
+abbrev pub version_said : Data → Option Version
+version_said (integer (pos n)) = version_of_number n
+version_said value = None
+
 abbrev pub is_version : Data → Bool
-is_version (integer (pos n)) = n == 1
-is_version value = false
+is_version value = is_some (version_said value)
+
+-- the version of a document: the first where it says none
+abbrev pub version_of : Members → Version
+version_of document = unwrap_or (option_and_then version_said (get_member (codes "version") document)) One
 
 -- the network option of a text
 abbrev pub option_of : List ℕ → Option NetOption
@@ -42,23 +55,28 @@ required name takes = record { name = name; needed = true; takes = takes }
 abbrev pub optional : List ℕ → (Data → Bool) → Key
 optional name takes = record { name = name; needed = false; takes = takes }
 
+-- the key of a link that names its bundle, in version 2 alone
+abbrev pub bundle_key : Version → List Key
+bundle_key One = []
+bundle_key Two = optional (codes "bundle") is_text ∷ []
+
 -- the keys of the head, which is the document itself, and of the tables of each section
-abbrev pub keys_of : Section → List Key
-keys_of Head =
+abbrev pub keys_of : Version → Section → List Key
+keys_of version Head =
     optional (codes "version") is_version
     ∷ optional (codes "option") is_option
     ∷ optional (codes "element") is_array
     ∷ optional (codes "link") is_array
     ∷ optional (codes "source") is_array
     ∷ []
-keys_of Elements =
+keys_of version Elements =
     required (codes "name") is_text
     ∷ optional (codes "own") is_text
     ∷ optional (codes "floor") is_text
     ∷ optional (codes "holdoff") is_integer
     ∷ optional (codes "wtr") is_integer
     ∷ []
-keys_of Links =
+keys_of version Links =
     required (codes "name") is_text
     ∷ required (codes "a") is_text
     ∷ required (codes "b") is_text
@@ -66,8 +84,8 @@ keys_of Links =
     ∷ optional (codes "priority_b") is_integer
     ∷ optional (codes "delay_a") is_integer
     ∷ optional (codes "delay_b") is_integer
-    ∷ []
-keys_of Sources =
+    ∷ bundle_key version
+keys_of version Sources =
     required (codes "name") is_text
     ∷ required (codes "at") is_text
     ∷ required (codes "level") is_text

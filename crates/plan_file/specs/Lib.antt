@@ -4,6 +4,7 @@ pub mod Chain
 pub mod Rows
 pub mod PlanText
 pub mod IsPlanText
+pub mod Refusal
 pub mod Gives
 pub mod Steps
 pub mod Writing

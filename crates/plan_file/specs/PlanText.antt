@@ -4,6 +4,7 @@ use Rattle.std.specs.Str.{is_utf8}
 use Rattle.toml.specs.Data.{Members}
 use Rattle.toml.specs.Parse.{parse_document}
 use Rattle.sync_topo.specs.declared.error.PlanErr.{PlanErr}
+use Rattle.sync_topo.specs.declared.rows.PlanRows.{PlanRows}
 use Rattle.sync_topo.specs.PlanRows.{plan_of_rows}
 use Rattle.sync_topo.specs.Topology.{Topology}
 use Rattle.plan_file.specs.declared.error.PlanFileErr.{PlanFileErr}
@@ -21,11 +22,16 @@ abbrev pub of_rows : {A : Type 0} → Result A PlanErr → Result A PlanFileErr
 of_rows (Ok value) = Ok value
 of_rows (Err refusal) = Err (Plan refusal)
 
--- the plan of a file: of the rows of its document
+-- the rows of a file: those of its document
+abbrev pub rows_in_file : List ℕ → Result PlanRows PlanFileErr
+rows_in_file bytes = do
+  document ← found (document_of bytes) Syntax
+  rows_of_document document
+
+-- the plan of a file: of its rows
 unfoldable pub plan_of : List ℕ → Result Topology PlanFileErr
 plan_of bytes = do
-  document ← found (document_of bytes) Syntax
-  rows ← rows_of_document document
+  rows ← rows_in_file bytes
   of_rows (plan_of_rows rows)
 
 -- the bytes are a document of which this holds

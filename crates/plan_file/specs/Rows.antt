@@ -1,5 +1,5 @@
 -- The rows that a document says.
-use Rattle.std.specs.Prelude.{ℕ, ◌+◌, ℤ, List, [], ◌∷◌, map, codes, Option, None, unwrap_or, option_and_then, Result}
+use Rattle.std.specs.Prelude.{◌≡◌, ℕ, ◌+◌, ℤ, List, [], ◌∷◌, map, codes, Option, Some, None, slice_get, unwrap_or, option_and_then, Result}
 use Rattle.std.specs.Option.{option_or}
 use Rattle.toml.specs.Data.{Data, table, Members, get, as_str, as_integer}
 use Rattle.sync_ql.specs.declared.levels.NetOption.{NetOption}
@@ -11,8 +11,10 @@ use Rattle.sync_topo.specs.declared.rows.PlanRows.{PlanRows}
 use Rattle.sync_topo.specs.declared.place.Section.{Section}
 use Rattle.sync_topo.specs.declared.place.Section.TheVariants.{Head, Elements, Links, Sources}
 use Rattle.plan_file.specs.declared.error.PlanFileErr.{PlanFileErr}
+use Rattle.plan_file.specs.declared.version.Version.{Version}
+use Rattle.plan_file.specs.declared.version.Version.TheVariants.{One, Two}
 use Rattle.plan_file.specs.Chain.{unless}
-use Rattle.plan_file.specs.Format.{option_of}
+use Rattle.plan_file.specs.Format.{option_of, version_of}
 use Rattle.plan_file.specs.Rules.{entries_of, refusal_of}
 
 -- the text, and the integer, at a key of an entry, if it has one there
@@ -36,8 +38,13 @@ element_row entry = record {
   wtr = integer_at (codes "wtr") entry;
 }
 
-unfoldable pub link_row : Data → LinkRow
-link_row entry = record {
+-- the bundle that the entry of a link names
+abbrev pub bundle_at : Version → Data → Option (List ℕ)
+bundle_at One entry = None
+bundle_at Two entry = text_at (codes "bundle") entry
+
+unfoldable pub link_row : Version → Data → LinkRow
+link_row version entry = record {
   name = name_at (codes "name") entry;
   a = name_at (codes "a") entry;
   b = name_at (codes "b") entry;
@@ -45,6 +52,7 @@ link_row entry = record {
   priority_b = integer_at (codes "priority_b") entry;
   delay_a = integer_at (codes "delay_a") entry;
   delay_b = integer_at (codes "delay_b") entry;
+  bundle = bundle_at version entry;
 }
 
 unfoldable pub source_row : Data → SourceRow
@@ -59,34 +67,49 @@ source_row entry = record {
 abbrev pub network_option : Members → NetOption
 network_option document = unwrap_or (option_and_then option_of (text_at (codes "option") (table document))) I
 
--- the rows of a document that keeps the rules
-abbrev pub said_rows : Members → PlanRows
-said_rows document = record {
+-- the rows of a document that keeps the rules of this version
+abbrev pub rows_said_in : Version → Members → PlanRows
+rows_said_in version document = record {
   option = network_option document;
   elements = map element_row (entries_of Elements document);
-  links = map link_row (entries_of Links document);
+  links = map (link_row version) (entries_of Links document);
   sources = map source_row (entries_of Sources document);
 }
 
+abbrev pub said_rows : Members → PlanRows
+said_rows document = rows_said_in (version_of document) document
+
 -- the row of the entry at a place, or the rule that it breaks
-abbrev pub row_at : {A : Type 0} → (Data → A) → Section → ℕ → Data → Result A PlanFileErr
-row_at row section n entry = unless (refusal_of (record { section = section; row = n }) entry) (row entry)
+abbrev pub row_at : {A : Type 0} → Version → (Data → A) → Section → ℕ → Data → Result A PlanFileErr
+row_at version row section n entry = unless (refusal_of version (record { section = section; row = n }) entry) (row entry)
 
 -- the first refusal of the entries of a section, the first of them at row n
-abbrev pub first_from : Section → ℕ → List Data → Option PlanFileErr
-first_from section n [] = None
-first_from section n (entry ∷ entries) =
-    option_or (refusal_of (record { section = section; row = n }) entry) (first_from section (n + 1) entries)
+abbrev pub first_from : Version → Section → ℕ → List Data → Option PlanFileErr
+first_from version section n [] = None
+first_from version section n (entry ∷ entries) =
+    option_or (refusal_of version (record { section = section; row = n }) entry) (first_from version section (n + 1) entries)
 
 -- the first refusal of a section, and of a document: of its head, then of each section in order
-abbrev pub first_in : Members → Section → Option PlanFileErr
-first_in document section = first_from section 1 (entries_of section document)
+abbrev pub first_in : Version → Members → Section → Option PlanFileErr
+first_in version document section = first_from version section 1 (entries_of section document)
+
+abbrev pub first_refusal_in : Version → Members → Option PlanFileErr
+first_refusal_in version document =
+    option_or (refusal_of version (record { section = Head; row = 0 }) (table document))
+    (option_or (first_in version document Elements) (option_or (first_in version document Links) (first_in version document Sources)))
 
 abbrev pub first_refusal : Members → Option PlanFileErr
-first_refusal document =
-    option_or (refusal_of (record { section = Head; row = 0 }) (table document))
-    (option_or (first_in document Elements) (option_or (first_in document Links) (first_in document Sources)))
+first_refusal document = first_refusal_in (version_of document) document
 
--- the rows of a document, or the first refusal
+-- the rows of a document in this version, or the first refusal
+abbrev pub rows_in : Version → Members → Result PlanRows PlanFileErr
+rows_in version document = unless (first_refusal_in version document) (rows_said_in version document)
+
+-- the rows of a document in the version that it says, or the first refusal
 unfoldable pub rows_of_document : Members → Result PlanRows PlanFileErr
-rows_of_document document = unless (first_refusal document) (said_rows document)
+rows_of_document document = rows_in (version_of document) document
+
+-- no link of the document names a bundle
+abbrev pub NamesNoBundle : Members → Type 0
+NamesNoBundle document =
+    (i : ℕ) (entry : Data) → slice_get (entries_of Links document) i ≡ Some entry → get (codes "bundle") entry ≡ None

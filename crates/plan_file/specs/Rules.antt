@@ -8,8 +8,9 @@ use Rattle.sync_topo.specs.declared.place.Place.{Place}
 use Rattle.sync_topo.specs.declared.place.Section.{Section}
 use Rattle.sync_topo.specs.declared.place.Section.TheVariants.{Head, Elements, Links, Sources}
 use Rattle.plan_file.specs.declared.error.PlanFileErr.{PlanFileErr}
+use Rattle.plan_file.specs.declared.version.Version.{Version}
 use Rattle.plan_file.specs.declared.error.PlanFileErr.TheVariants.{Key as WrongKey, Kind as WrongKind}
-use Rattle.plan_file.specs.Format.{Key, keys_of, section_key}
+use Rattle.plan_file.specs.Format.{Key, keys_of, section_key, version_of}
 
 -- the table's keys are all among these
 abbrev pub has_only : List Key → Members → Bool
@@ -24,15 +25,15 @@ has_needed keys fields = list_all (λ key. not key.needed || is_some (get_member
 abbrev pub keeps_kinds : List Key → Members → Bool
 keeps_kinds keys fields = list_all (λ key. option_map_or key.takes (get_member key.name fields) true) keys
 
--- the rule that the value at a place breaks, if it breaks one: it is a table, with the keys of its section, and with
--- values of their kinds
-unfoldable pub refusal_of : Place → Data → Option PlanFileErr
-refusal_of place (table fields) =
-    let keys = keys_of place.section in
+-- the rule that the value at a place breaks, if it breaks one: it is a table, with the keys of its section in this version,
+-- and with values of their kinds
+unfoldable pub refusal_of : Version → Place → Data → Option PlanFileErr
+refusal_of version place (table fields) =
+    let keys = keys_of version place.section in
     if not (has_only keys fields && has_needed keys fields) then Some (WrongKey place)
     else if not (keeps_kinds keys fields) then Some (WrongKind place)
     else None
-refusal_of place value = Some (WrongKind place)
+refusal_of version place value = Some (WrongKind place)
 
 -- the entries of a section: those of the array at its key, and none where no array is
 abbrev pub data_of : Items → List Data
@@ -55,7 +56,7 @@ value_at document place = at_row place.section place.row
 
 -- the rule that is broken at a place
 abbrev pub refusal_at : Members → Place → Option PlanFileErr
-refusal_at document place = option_and_then (refusal_of place) (value_at document place)
+refusal_at document place = option_and_then (refusal_of (version_of document) place) (value_at document place)
 
 -- sections in the order in which their rows count
 abbrev pub order_of : Section → ℕ

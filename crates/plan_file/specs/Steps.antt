@@ -1,5 +1,5 @@
 -- Steps of the reading of one table: what only private clauses cite.
-use Rattle.std.specs.Prelude.{ℕ, ◌+◌, Bool, true, ◌&&◌, ◌||◌, List, [], ◌∷◌, map, codes, is_some, option_and_then, Result, Ok, Err, if◌then◌else◌}
+use Rattle.std.specs.Prelude.{ℕ, ◌+◌, Bool, true, ◌&&◌, ◌||◌, List, [], ◌∷◌, map, codes, is_some, option_and_then, Option, None, Result, Ok, Err, if◌then◌else◌}
 use Rattle.std.specs.Option.{option_map_or}
 use Rattle.std.specs.List.{list_all, list_any}
 use Rattle.std.specs.Str.{bytes_eq}
@@ -11,10 +11,12 @@ use Rattle.plan_file.specs.declared.error.PlanFileErr.{PlanFileErr}
 use Rattle.plan_file.specs.declared.error.PlanFileErr.TheVariants.{Key as WrongKey, Kind as WrongKind}
 use Rattle.sync_ql.specs.declared.levels.NetOption.{NetOption}
 use Rattle.plan_file.specs.declared.head.Head.{Head}
+use Rattle.plan_file.specs.declared.version.Version.{Version}
+use Rattle.plan_file.specs.declared.version.Version.TheVariants.{One, Two}
 use Rattle.plan_file.specs.Chain.{◌>>=◌}
-use Rattle.plan_file.specs.Format.{is_version}
+use Rattle.plan_file.specs.Format.{is_version, is_text, version_of}
 use Rattle.plan_file.specs.Rules.{data_of}
-use Rattle.plan_file.specs.Rows.{network_option, row_at}
+use Rattle.plan_file.specs.Rows.{network_option, text_at, row_at}
 
 -- the key is one of these
 abbrev pub is_among : List (List ℕ) → List ℕ → Bool
@@ -53,12 +55,26 @@ of_kind place takes key fields value = if kind_at takes key fields then Ok value
 abbrev pub entries_at : List ℕ → Members → List Data
 entries_at key fields = option_map_or data_of (option_and_then as_array (get_member key fields)) []
 
--- the version, if the document gives one, is the one that there is
-abbrev pub version_at : Place → Members → Result (Unit {0}) PlanFileErr
-version_at place document = of_kind place is_version (codes "version") document tt
+-- the version of the document
+abbrev pub version_at : Place → Members → Result Version PlanFileErr
+version_at place document = of_kind place is_version (codes "version") document (version_of document)
+
+-- the optional keys of a link
+abbrev pub bundle_names : Version → List (List ℕ)
+bundle_names One = []
+bundle_names Two = codes "bundle" ∷ []
+
+abbrev pub link_names : Version → List (List ℕ)
+link_names version = codes "priority_a" ∷ codes "priority_b" ∷ codes "delay_a" ∷ codes "delay_b" ∷ bundle_names version
+
+-- the bundle that the table of a link names
+abbrev pub bundle_of : Version → Place → Members → Result (Option (List ℕ)) PlanFileErr
+bundle_of One place fields = Ok None
+bundle_of Two place fields = of_kind place is_text (codes "bundle") fields (text_at (codes "bundle") (table fields))
 
 -- what the head of a document says
 pub record HeadSaid : Type 0 where
+  pub version : Version
   pub option : NetOption
   pub elements : List Data
   pub links : List Data
@@ -66,6 +82,7 @@ pub record HeadSaid : Type 0 where
 
 abbrev pub seen : Head → HeadSaid
 seen head = record {
+  version = head.version;
   option = head.option;
   elements = map view head.elements.now;
   links = map view head.links.now;
@@ -74,6 +91,7 @@ seen head = record {
 
 abbrev pub head_said : Members → HeadSaid
 head_said document = record {
+  version = version_of document;
   option = network_option document;
   elements = entries_at (codes "element") document;
   links = entries_at (codes "link") document;
@@ -81,9 +99,9 @@ head_said document = record {
 }
 
 -- the rows of entries, one after the other
-abbrev pub rows_from : {A : Type 0} → (Data → A) → Section → ℕ → List Data → Result (List A) PlanFileErr
-rows_from row section n [] = Ok []
-rows_from row section n (entry ∷ entries) = do
-  first ← row_at row section n entry
-  rest ← rows_from row section (n + 1) entries
+abbrev pub rows_from : {A : Type 0} → Version → (Data → A) → Section → ℕ → List Data → Result (List A) PlanFileErr
+rows_from version row section n [] = Ok []
+rows_from version row section n (entry ∷ entries) = do
+  first ← row_at version row section n entry
+  rest ← rows_from version row section (n + 1) entries
   Ok (first ∷ rest)

@@ -1,5 +1,6 @@
 -- Private: the document that is written for a plan, which only clauses of private functions cite.
-use Rattle.std.specs.Prelude.{ℕ, ◌/◌, pos, List, map, codes, Option, Some, None}
+use Rattle.std.specs.Prelude.{ℕ, ◌/◌, pos, Bool, true, false, List, map, codes, Option, Some, None, is_some}
+use Rattle.std.specs.List.{list_any}
 use Rattle.std.specs.Ordering.{nat_cmp, match_ordering}
 use Rattle.std.specs.Cmp.Lexicographic.{slice_cmp}
 use Rattle.toml.specs.Data.{Data, string, integer, array, table, Members, no_members, member}
@@ -38,15 +39,21 @@ element_table element = with_floor element.floor
     (member (codes "own") (string (name_of element.own))
     (member (codes "wtr") (integer (pos (element.wtr / 60000))) no_members))))
 
+-- the bundle, if the link names one, before the keys after it
+abbrev pub with_bundle : Option (List ℕ) → Members → Members
+with_bundle None fields = fields
+with_bundle (Some bundle) fields = member (codes "bundle") (string bundle) fields
+
 abbrev pub link_table : Topology → Link → Members
 link_table plan link =
     member (codes "a") (string (element_name plan link.a))
     (member (codes "b") (string (element_name plan link.b))
+    (with_bundle link.bundle
     (member (codes "delay_a") (integer (pos link.delay_a))
     (member (codes "delay_b") (integer (pos link.delay_b))
     (member (codes "name") (string link.name)
     (member (codes "priority_a") (integer (pos link.priority_a))
-    (member (codes "priority_b") (integer (pos link.priority_b)) no_members))))))
+    (member (codes "priority_b") (integer (pos link.priority_b)) no_members)))))))
 
 abbrev pub source_table : Topology → Source → Members
 source_table plan source =
@@ -65,10 +72,19 @@ links_data plan = map (λ link. table (link_table plan link)) plan.links
 abbrev pub sources_data : Topology → List Data
 sources_data plan = map (λ source. table (source_table plan source)) plan.sources
 
+-- a link of the plan names a bundle
+abbrev pub names_bundle : Topology → Bool
+names_bundle plan = list_any (λ link. is_some link.bundle) plan.links
+
+-- the second version, where a bundle needs it, and no version where none does
+abbrev pub with_version : Bool → Members
+with_version true = member (codes "version") (integer (pos 2)) no_members
+with_version false = no_members
+
 -- the document
 abbrev pub plan_document : Topology → Members
 plan_document plan =
     member (codes "element") (array (items_of (elements_data plan)))
     (member (codes "link") (array (items_of (links_data plan)))
     (member (codes "option") (string (option_name plan.option))
-    (member (codes "source") (array (items_of (sources_data plan))) no_members)))
+    (member (codes "source") (array (items_of (sources_data plan))) (with_version (names_bundle plan)))))

@@ -1,3 +1,6 @@
+ghost use Rattle.std.specs.Prelude.{◌≡◌};
+ghost use Rattle.plan_file.specs.Refusal.{number_of};
+
 use sync_edge::NoMemory;
 use sync_topo::{Place, PlanErr};
 use thiserror::Error;
@@ -11,10 +14,10 @@ pub enum PlanFileErr {
     #[error("no TOML document")]
     Syntax,
     /// The table at this place has an unknown key, or lacks one that it must have.
-    #[error("a table has an unknown key, or lacks one")]
+    #[error("{0}: a table has an unknown key, or lacks one")]
     Key(Place),
     /// What stands at this place is no table, or has a value of another kind than its key's.
-    #[error("a value is of the wrong kind")]
+    #[error("{0}: a value is of the wrong kind")]
     Kind(Place),
     /// The rows break a rule for plans.
     #[error("{0}")]
@@ -24,8 +27,25 @@ pub enum PlanFileErr {
     NoMemory,
 }
 
+impl PlanFileErr {
+    /// The number by which the refusal is printed, from 22 to 25. That of a rule for plans, 25, is
+    /// followed by the rule's own.
+    ///
+    /// `None` where memory ran out, which refuses no file. This project's own.
+    pub fn number(self) -> Option<u8>
+        ensures { result ≡ number_of self }
+    {
+        match self {
+            PlanFileErr::Syntax => Some(22),
+            PlanFileErr::Key(_) => Some(23),
+            PlanFileErr::Kind(_) => Some(24),
+            PlanFileErr::Plan(_) => Some(25),
+            PlanFileErr::NoMemory => None,
+        }
+    }
+}
+
 impl From<NoMemory> for PlanFileErr {
-    ghost use Rattle.std.specs.Prelude.{◌≡◌};
     ghost use Rattle.plan_file.specs.declared.error.PlanFileErr.TheVariants as refusal;
 
     ghost from_gives = { λ _ e. e ≡ refusal.NoMemory };
@@ -36,7 +56,6 @@ impl From<NoMemory> for PlanFileErr {
 }
 
 impl From<PlanErr> for PlanFileErr {
-    ghost use Rattle.std.specs.Prelude.{◌≡◌};
     ghost use Rattle.plan_file.specs.Gives.{file_error};
 
     ghost from_gives = { λ e f. f ≡ file_error e };

@@ -1,11 +1,11 @@
 // The head of a document: its own keys.
 
 ghost use Rattle.std.specs.Prelude.{◌≡◌, map, codes};
-ghost use Rattle.toml.specs.Data.{table};
+ghost use Rattle.toml.specs.Data.{table, integer};
 ghost use Rattle.toml.specs.View.{view, table_view};
 ghost use Rattle.sync_topo.specs.declared.place.Section.TheVariants as section;
 ghost use Rattle.plan_file.specs.Chain.{unless};
-ghost use Rattle.plan_file.specs.Format.{is_option, option_of};
+ghost use Rattle.plan_file.specs.Format.{is_option, option_of, version_of, version_said};
 ghost use Rattle.plan_file.specs.Rules.{refusal_of};
 ghost use Rattle.plan_file.specs.Rows.{network_option};
 ghost use Rattle.plan_file.specs.Steps.{of_kind, version_at, seen, head_said};
@@ -13,6 +13,7 @@ ghost use Rattle.plan_file.specs.Gives.{Gives, GivesBy};
 
 use crate::error::PlanFileErr;
 use crate::fields::{entries_at, find, keyed};
+use crate::version::Version;
 use sync_ql::NetOption;
 use sync_topo::{Place, Section};
 use toml::{Table, Value};
@@ -20,20 +21,37 @@ use toml::{Table, Value};
 /// What the head of a document says.
 #[derive(Clone, Copy)]
 pub(crate) struct Head<'a> {
+    pub(crate) version: Version,
     pub(crate) option: NetOption,
     pub(crate) elements: &'a [Value],
     pub(crate) links: &'a [Value],
     pub(crate) sources: &'a [Value],
 }
 
-/// The version of the format is the one that there is, if the document gives one.
-fn version_at(place: Place, document: &Table) -> Result<(), PlanFileErr>
-    ensures { GivesBy (λ _. tt) result (version_at place (table_view document.now)) }
+/// The version that an integer says.
+fn version_of_number(number: i64) -> Option<Version>
+    ensures { result ≡ version_said (integer number) }
 {
-    match find(document, "version") {
-        None => Ok(()),
-        Some(value) if value.as_integer() == Some(1) => Ok(()),
-        Some(_) => Err(PlanFileErr::Kind(place)),
+    match number {
+        1 => Some(Version::One),
+        2 => Some(Version::Two),
+        _ => None,
+    }
+}
+
+/// The version of a document, and the first where it gives none.
+fn version_at(place: Place, document: &Table) -> Result<Version, PlanFileErr>
+    ensures { Gives result (version_at place (table_view document.now)) }
+{
+    let Some(value) = find(document, "version") else {
+        return Ok(Version::One);
+    };
+    let Some(number) = value.as_integer() else {
+        return Err(PlanFileErr::Kind(place));
+    };
+    match version_of_number(number) {
+        Some(version) => Ok(version),
+        None => Err(PlanFileErr::Kind(place)),
     }
 }
 
@@ -70,7 +88,8 @@ fn option_at(place: Place, document: &Table) -> Result<NetOption, PlanFileErr>
 pub(crate) fn head_of(document: &Table) -> Result<Head<'_>, PlanFileErr>
     ensures { let members = table_view document.now in
         GivesBy seen result
-        (unless (refusal_of (record { section = section.Head; row = 0 }) (table members)) (head_said members)) }
+        (unless (refusal_of (version_of members) (record { section = section.Head; row = 0 })
+        (table members)) (head_said members)) }
 {
     let place = Place {
         section: Section::Head,
@@ -82,12 +101,13 @@ pub(crate) fn head_of(document: &Table) -> Result<Head<'_>, PlanFileErr>
         &[],
         &["version", "option", "element", "link", "source"],
     )?;
-    version_at(place, document)?;
+    let version = version_at(place, document)?;
     let option = option_at(place, document)?;
     let elements = entries_at(place, document, "element")?;
     let links = entries_at(place, document, "link")?;
     let sources = entries_at(place, document, "source")?;
     Ok(Head {
+        version,
         option,
         elements,
         links,

@@ -13,6 +13,7 @@ mod fields;
 mod head;
 mod reading;
 mod rows;
+mod version;
 mod writing;
 
 pub use error::PlanFileErr;

@@ -7,15 +7,18 @@ ghost use Rattle.sync_topo.specs.declared.error.PlanErr.TheVariants as rows;
 ghost use Rattle.sync_topo.specs.declared.place.Place.{Place};
 ghost use Rattle.sync_topo.specs.WellFormed.{IsWellFormed};
 ghost use Rattle.plan_file.specs.declared.error.PlanFileErr.TheVariants as refusal;
+ghost use Rattle.toml.specs.Data.{Members};
+ghost use Rattle.plan_file.specs.declared.version.Version.TheVariants.{One, Two};
+ghost use Rattle.plan_file.specs.Rows.{NamesNoBundle, rows_in};
 ghost use Rattle.plan_file.specs.Chain.{found};
 ghost use Rattle.plan_file.specs.Rules.{IsFirstBroken};
-ghost use Rattle.plan_file.specs.PlanText.{document_of, plan_of, OfDocument, GivesRows};
+ghost use Rattle.plan_file.specs.PlanText.{document_of, rows_in_file, plan_of, OfDocument, GivesRows};
 ghost use Rattle.plan_file.specs.Gives.{Gives, GivesBy, RefusesWhere};
 
 use crate::error::PlanFileErr;
 use crate::rows::rows_of;
 use std::alloc::Global;
-use sync_topo::Plan;
+use sync_topo::{Plan, PlanRows};
 use toml::Table;
 
 /// The plan of a file.
@@ -41,6 +44,10 @@ pub fn read_plan(alloc: Global, bytes: &[u8]) -> Result<Plan, PlanFileErr>
         (OfDocument bytes.now (λ document. IsFirstBroken document place (refusal.Kind place))) }
     ensures rows { (error : PlanErr) → RefusesWhere result (refusal.Plan error) (GivesRows bytes.now (Err error)) }
     ensures memory { result ≢ Err (refusal.Plan rows.NoMemory) }
+
+    // A document that names no bundle says the same in both versions.
+    ensures versions { (document : Members) → NamesNoBundle document
+        → rows_in Two document ≡ rows_in One document }
 {
     plan_in(alloc, bytes)
 }
@@ -52,9 +59,16 @@ fn plan_in(alloc: Global, bytes: &[u8]) -> Result<Plan, PlanFileErr>
     ensures well_formed { IfOk result (λ plan. IsWellFormed plan) }
     ensures memory { result ≢ Err (refusal.Plan rows.NoMemory) }
 {
-    let document = document_of(alloc, bytes)?;
-    let rows = rows_of(alloc, &document)?;
+    let rows = rows_in(alloc, bytes)?;
     Ok(Plan::new(alloc, rows)?)
+}
+
+/// The rows that a file says. Its document is freed before a plan is made of them.
+fn rows_in(alloc: Global, bytes: &[u8]) -> Result<PlanRows, PlanFileErr>
+    ensures { Gives result (rows_in_file bytes.now) }
+{
+    let document = document_of(alloc, bytes)?;
+    rows_of(alloc, &document)
 }
 
 /// The TOML document that the bytes are.

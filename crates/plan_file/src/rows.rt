@@ -1,24 +1,26 @@
 // The rows of a document's tables.
 
-ghost use Rattle.std.specs.Prelude.{◌≡◌, map};
+ghost use Rattle.std.specs.Prelude.{◌≡◌, ◌∷◌, [], map, codes};
 ghost use Rattle.toml.specs.View.{view, table_view};
 ghost use Rattle.sync_topo.specs.declared.place.Section.TheVariants as section;
 ghost use Rattle.plan_file.specs.Rows.{element_row, link_row, source_row, row_at, rows_of_document};
-ghost use Rattle.plan_file.specs.Steps.{rows_from};
-ghost use Rattle.plan_file.specs.Gives.{Gives};
+ghost use Rattle.plan_file.specs.Steps.{rows_from, table_with, link_names, bundle_of};
+ghost use Rattle.plan_file.specs.declared.version.Version.TheVariants.{One};
+ghost use Rattle.plan_file.specs.Gives.{Gives, GivesBy};
 
 use crate::error::PlanFileErr;
 use crate::fields::{integer_at, name_at, table_with, text_at};
 use crate::head::head_of;
+use crate::version::Version;
 use std::alloc::Global;
-use sync_edge::Rows;
+use sync_edge::{Rows, Text};
 use sync_topo::{ElementRow, LinkRow, Place, PlanRows, Section, SourceRow};
 use toml::{Table, Value};
 
 /// The row that an entry of `element` says.
 #[tactic(auto, using(crate::proofs::EntryFacts::element_is))]
 fn element_row(alloc: Global, row: u64, entry: &Value) -> Result<ElementRow, PlanFileErr>
-    ensures { Gives result (row_at element_row section.Elements row (view entry.now)) }
+    ensures { Gives result (row_at One element_row section.Elements row (view entry.now)) }
 {
     let place = Place {
         section: Section::Elements,
@@ -39,21 +41,59 @@ fn element_row(alloc: Global, row: u64, entry: &Value) -> Result<ElementRow, Pla
     })
 }
 
+/// The table of a link, with the keys that it must and may have in this version.
+fn link_table(version: Version, place: Place, entry: &Value) -> Result<&Table, PlanFileErr>
+    ensures { GivesBy (λ fields. table_view fields.now) result
+        (table_with place (codes "name" ∷ codes "a" ∷ codes "b" ∷ []) (link_names version)
+        (view entry.now)) }
+{
+    let needed = &["name", "a", "b"];
+    match version {
+        Version::One => table_with(
+            place,
+            entry,
+            needed,
+            &["priority_a", "priority_b", "delay_a", "delay_b"],
+        ),
+        Version::Two => table_with(
+            place,
+            entry,
+            needed,
+            &["priority_a", "priority_b", "delay_a", "delay_b", "bundle"],
+        ),
+    }
+}
+
+/// The bundle that a link's table names, if the version has bundles.
+fn bundle_of(
+    alloc: Global,
+    version: Version,
+    place: Place,
+    fields: &Table,
+) -> Result<Option<Text>, PlanFileErr>
+    ensures { Gives result (bundle_of version place (table_view fields.now)) }
+{
+    match version {
+        Version::One => Ok(None),
+        Version::Two => text_at(alloc, place, fields, "bundle"),
+    }
+}
+
 /// The row that an entry of `link` says.
 #[tactic(auto, using(crate::proofs::EntryFacts::link_is))]
-fn link_row(alloc: Global, row: u64, entry: &Value) -> Result<LinkRow, PlanFileErr>
-    ensures { Gives result (row_at link_row section.Links row (view entry.now)) }
+fn link_row(
+    alloc: Global,
+    version: Version,
+    row: u64,
+    entry: &Value,
+) -> Result<LinkRow, PlanFileErr>
+    ensures { Gives result (row_at version (link_row version) section.Links row (view entry.now)) }
 {
     let place = Place {
         section: Section::Links,
         row,
     };
-    let fields = table_with(
-        place,
-        entry,
-        &["name", "a", "b"],
-        &["priority_a", "priority_b", "delay_a", "delay_b"],
-    )?;
+    let fields = link_table(version, place, entry)?;
     let name = name_at(alloc, place, fields, "name")?;
     let a = name_at(alloc, place, fields, "a")?;
     let b = name_at(alloc, place, fields, "b")?;
@@ -61,6 +101,7 @@ fn link_row(alloc: Global, row: u64, entry: &Value) -> Result<LinkRow, PlanFileE
     let priority_b = integer_at(place, fields, "priority_b")?;
     let delay_a = integer_at(place, fields, "delay_a")?;
     let delay_b = integer_at(place, fields, "delay_b")?;
+    let bundle = bundle_of(alloc, version, place, fields)?;
     Ok(LinkRow {
         name,
         a,
@@ -69,13 +110,14 @@ fn link_row(alloc: Global, row: u64, entry: &Value) -> Result<LinkRow, PlanFileE
         priority_b,
         delay_a,
         delay_b,
+        bundle,
     })
 }
 
 /// The row that an entry of `source` says.
 #[tactic(auto, using(crate::proofs::EntryFacts::source_is))]
 fn source_row(alloc: Global, row: u64, entry: &Value) -> Result<SourceRow, PlanFileErr>
-    ensures { Gives result (row_at source_row section.Sources row (view entry.now)) }
+    ensures { Gives result (row_at One source_row section.Sources row (view entry.now)) }
 {
     let place = Place {
         section: Section::Sources,
@@ -96,7 +138,7 @@ fn source_row(alloc: Global, row: u64, entry: &Value) -> Result<SourceRow, PlanF
 
 /// The rows of the entries of `element`.
 fn element_rows(alloc: Global, entries: &[Value]) -> Result<Rows<ElementRow>, PlanFileErr>
-    ensures { Gives result (rows_from element_row section.Elements 1 (map view entries.now)) }
+    ensures { Gives result (rows_from One element_row section.Elements 1 (map view entries.now)) }
 {
     let mut rows = Rows::new(alloc);
     for (index, entry) in entries.iter().enumerate() {
@@ -106,19 +148,23 @@ fn element_rows(alloc: Global, entries: &[Value]) -> Result<Rows<ElementRow>, Pl
 }
 
 /// The rows of the entries of `link`.
-fn link_rows(alloc: Global, entries: &[Value]) -> Result<Rows<LinkRow>, PlanFileErr>
-    ensures { Gives result (rows_from link_row section.Links 1 (map view entries.now)) }
+fn link_rows(
+    alloc: Global,
+    version: Version,
+    entries: &[Value],
+) -> Result<Rows<LinkRow>, PlanFileErr>
+    ensures { Gives result (rows_from version (link_row version) section.Links 1 (map view entries.now)) }
 {
     let mut rows = Rows::new(alloc);
     for (index, entry) in entries.iter().enumerate() {
-        rows.push(link_row(alloc, index as u64 + 1, entry)?)?;
+        rows.push(link_row(alloc, version, index as u64 + 1, entry)?)?;
     }
     Ok(rows)
 }
 
 /// The rows of the entries of `source`.
 fn source_rows(alloc: Global, entries: &[Value]) -> Result<Rows<SourceRow>, PlanFileErr>
-    ensures { Gives result (rows_from source_row section.Sources 1 (map view entries.now)) }
+    ensures { Gives result (rows_from One source_row section.Sources 1 (map view entries.now)) }
 {
     let mut rows = Rows::new(alloc);
     for (index, entry) in entries.iter().enumerate() {
@@ -135,7 +181,7 @@ pub(crate) fn rows_of(alloc: Global, document: &Table) -> Result<PlanRows, PlanF
 {
     let head = head_of(document)?;
     let elements = element_rows(alloc, head.elements)?;
-    let links = link_rows(alloc, head.links)?;
+    let links = link_rows(alloc, head.version, head.links)?;
     let sources = source_rows(alloc, head.sources)?;
     Ok(PlanRows {
         option: head.option,

@@ -1,11 +1,11 @@
 // Plan files that are known from outside.
 
-use crate::{PlanFileErr, read_plan};
+use crate::{PlanFileErr, read_plan, write_plan};
 use std::alloc::{AllocError, Global};
 use std::fmt::Write;
 use std::process::Abort;
 use std::test::Fail;
-use sync_topo::{Place, PlanErr, Section};
+use sync_topo::{Place, Plan, PlanErr, Section};
 
 /// How many elements, links and sources a plan has, or why there is none.
 type Read = Result<(u32, u32, u32), PlanFileErr>;
@@ -93,7 +93,9 @@ fn tables_are_refused_at_the_first_fault(rt: HostRuntime) -> Result<(), Fail> {
         ("version = 1\nversion = 1\n", Err(PlanFileErr::Syntax)),
         ("version = 9223372036854775808\n", Err(PlanFileErr::Syntax)),
         ("elements = []\n", key(Section::Head, 0)),
-        ("version = 2\n", kind(Section::Head, 0)),
+        ("version = 3\n", kind(Section::Head, 0)),
+        ("version = 0\n", kind(Section::Head, 0)),
+        ("version = -2\n", kind(Section::Head, 0)),
         ("version = 1.0\n", kind(Section::Head, 0)),
         ("version = '1'\n", kind(Section::Head, 0)),
         ("option = 'III'\n", kind(Section::Head, 0)),
@@ -352,6 +354,119 @@ fn rows_are_refused_at_the_first_fault(rt: HostRuntime) -> Result<(), Fail> {
         let link = "link = [{ name = 'L', a = 'A', b = 'B' }]";
         let text = format!(in rt.alloc(); "{TWO}{link}\nsource = [{sources}]\n")?;
         gives(&rt, text.as_bytes(), rows(want))?;
+    }
+    Ok(())
+}
+
+// Bundles: a key of the second version, the rule for them, and which of two faults comes first.
+#[test]
+fn bundles_join_the_same_two_elements(rt: HostRuntime) -> Result<(), Fail> {
+    let first = at(Section::Links, 1);
+    let second = at(Section::Links, 2);
+    for (version, links, want) in [
+        (
+            "2",
+            "{ name = 'L1', a = 'A', b = 'B', bundle = 'T' }",
+            Ok((3, 1, 0)),
+        ),
+        ("2", "{ name = 'L1', a = 'A', b = 'B' }", Ok((3, 1, 0))),
+        (
+            "2",
+            "{ name = 'L1', a = 'A', b = 'B', bundle = 'T' }, { name = 'L2', a = 'B', b = 'A', bundle = 'T' }, \
+{ name = 'L3', a = 'A', b = 'B' }, { name = 'L4', a = 'A', b = 'B', bundle = 'T' }, { name = 'L5', a = 'A', b = 'C', bundle = 'L1' }",
+            Ok((3, 5, 0)),
+        ),
+        (
+            "2",
+            "{ name = 'L1', a = 'A', b = 'B', bundle = 'T' }, { name = 'L2', a = 'A', b = 'C', bundle = 'T' }",
+            rows(PlanErr::Bundle(second)),
+        ),
+        (
+            "2",
+            "{ name = 'L1', a = 'A', b = 'B', bundle = 'T' }, { name = 'L2', a = 'C', b = 'B', bundle = 'T' }",
+            rows(PlanErr::Bundle(second)),
+        ),
+        (
+            "2",
+            "{ name = 'L1', a = 'A', b = 'B', bundle = 'T>' }",
+            rows(PlanErr::Bundle(first)),
+        ),
+        (
+            "2",
+            "{ name = 'L1', a = 'A', b = 'B', bundle = '', delay_b = 0 }",
+            rows(PlanErr::Range(first)),
+        ),
+        (
+            "2",
+            "{ name = 'L1', a = 'A', b = 'B', bundle = 1 }",
+            kind(Section::Links, 1),
+        ),
+        (
+            "1",
+            "{ name = 'L1', a = 'A', b = 'B', bundle = 'T' }, { name = 'L2', a = 'A', b = 'C', bundle = 'T' }",
+            key(Section::Links, 1),
+        ),
+    ] {
+        let elements = "element = [{ name = 'A' }, { name = 'B' }, { name = 'C' }]";
+        let text = format!(in rt.alloc(); "version = {version}\n{elements}\nlink = [{links}]\n")?;
+        gives(&rt, text.as_bytes(), want)?;
+    }
+    // Sixty-four inputs in one bundle, and a bad bundle before a 65th input.
+    let input = "a = 'A'\nb = 'B'\npriority_b = 1\nbundle = 'T'\n";
+    let mut text = String::from_str(rt.alloc(), "version = 2\n")?;
+    text.push_str(entries(rt.alloc(), "link", 64, input)?.as_str())?;
+    gives(&rt, text.as_bytes(), Ok((2, 64, 0)))?;
+    text.push_str("[[link]]\nname = 'L'\na = 'A'\nb = 'B'\npriority_b = 1\nbundle = 'U>'\n")?;
+    gives(
+        &rt,
+        text.as_bytes(),
+        rows(PlanErr::Bundle(at(Section::Links, 65))),
+    )
+}
+
+fn names_its_bundle(rt: &impl Abort, plan: &Plan) {
+    assert!(rt; 0 < plan.links());
+    let bundle = plan.link(0).bundle.as_ref();
+    assert_eq!(rt; bundle.map(|name| name.bytes()), Some(b"T".as_slice()));
+}
+
+// A bundle of one link is another plan than none, and is kept.
+#[test]
+fn bundle_of_one_link_is_written(rt: HostRuntime) -> Result<(), Fail> {
+    let text =
+        "version = 2\nelement = [{ name = 'A' }, { name = 'B' }]\nlink = [{ name = 'L', a = 'A', b = 'B', bundle = 'T' }]\n";
+    let plan = read_plan(rt.alloc(), text.as_bytes())?;
+    let written = write_plan(rt.alloc(), &plan)?;
+    let back = read_plan(rt.alloc(), written.bytes())?;
+    names_its_bundle(&rt, &back);
+    Ok(())
+}
+
+#[test]
+fn refusals_name_the_place(rt: HostRuntime) -> Result<(), Fail> {
+    let link = at(Section::Links, 2);
+    for (error, text, number) in [
+        (PlanFileErr::Syntax, "no TOML document", Some(22)),
+        (
+            PlanFileErr::Key(at(Section::Head, 0)),
+            "head: a table has an unknown key, or lacks one",
+            Some(23),
+        ),
+        (
+            PlanFileErr::Kind(link),
+            "link 2: a value is of the wrong kind",
+            Some(24),
+        ),
+        (
+            PlanFileErr::Plan(PlanErr::Twice(link)),
+            "link 2: a name stands twice",
+            Some(25),
+        ),
+        (PlanFileErr::NoMemory, "out of memory", None),
+    ] {
+        let printed = format!(in rt.alloc(); "{error}")?;
+        assert_eq!(rt; printed.as_str(), text);
+        assert_eq!(rt; error.number(), number, "{text}");
     }
     Ok(())
 }

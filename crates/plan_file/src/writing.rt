@@ -1,14 +1,15 @@
 // From a plan to a text of it.
 
-ghost use Rattle.std.specs.Prelude.{◌≡◌, ◌<◌, map, length, true, IfOk, OnOk, pos};
-ghost use Rattle.toml.specs.Data.{table, array, string, integer};
+ghost use Rattle.std.specs.Prelude.{◌≡◌, ◌<◌, map, length, true, false, codes, if◌then◌else◌, IfOk, OnOk, pos};
+ghost use Rattle.toml.specs.Data.{table, array, string, integer, no_members};
 ghost use Rattle.toml.specs.View.{view, table_view};
 ghost use Rattle.toml.specs.declared.ser.error.Error.TheVariants as refusal;
 ghost use Rattle.sync_topo.specs.Names.{is_name};
 ghost use Rattle.sync_topo.specs.Lines.{element_name};
+ghost use Rattle.sync_topo.specs.Rules.{is_bad_bundle_name};
 ghost use Rattle.sync_topo.specs.WellFormed.{JoinsTwo, IsWellFormed};
 ghost use Rattle.plan_file.specs.IsPlanText.{IsPlanText};
-ghost use Rattle.plan_file.specs.Writing.{put_member, option_name, element_table, link_table, source_table, elements_data, links_data, sources_data, plan_document};
+ghost use Rattle.plan_file.specs.Writing.{put_member, option_name, element_table, link_table, source_table, elements_data, links_data, sources_data, with_bundle, names_bundle, plan_document};
 
 use std::alloc::Global;
 use std::str;
@@ -71,7 +72,32 @@ fn plan_document(alloc: Global, plan: &Plan) -> Result<Table, NoMemory>
         "source",
         Value::Array(source_tables(alloc, plan)?),
     )?;
+    put_version(alloc, &mut document, names_bundle(plan))?;
     Ok(document)
+}
+
+/// Puts the second version into a document that needs it for its bundles, and none into another.
+fn put_version(alloc: Global, document: &mut Table, second: bool) -> Result<(), NoMemory>
+    ensures { OnOk result (table_view document.new ≡ (if second
+        then put_member (codes "version") (integer (pos 2)) (table_view document.old)
+        else table_view document.old)) }
+{
+    if second {
+        return put_number(alloc, document, "version", 2);
+    }
+    Ok(())
+}
+
+/// A link of the plan names a bundle.
+fn names_bundle(plan: &Plan) -> bool
+    ensures { result ≡ names_bundle plan.now }
+{
+    for k in 0..plan.links() {
+        if plan.link(k).bundle.is_some() {
+            return true;
+        }
+    }
+    false
 }
 
 /// The tables of the elements, in order.
@@ -90,7 +116,7 @@ fn element_tables(alloc: Global, plan: &Plan) -> Result<Vec<Value>, NoMemory>
 }
 
 /// The tables of the links, in order.
-#[tactic(auto, using(crate::proofs::WritingFacts::link_is_named, crate::proofs::WritingFacts::map_take_more, crate::proofs::WritingFacts::map_take_whole))]
+#[tactic(auto, using(crate::proofs::WritingFacts::link_is_named, crate::proofs::WritingFacts::bundle_is_named, crate::proofs::WritingFacts::map_take_more, crate::proofs::WritingFacts::map_take_whole))]
 fn link_tables(alloc: Global, plan: &Plan) -> Result<Vec<Value>, NoMemory>
     ensures { IfOk result (λ tables. map view tables.items ≡ links_data plan.now) }
 {
@@ -139,9 +165,10 @@ fn element_table(alloc: Global, element: &Element) -> Result<Table, NoMemory>
 fn link_table(alloc: Global, plan: &Plan, link: &Link) -> Result<Table, NoMemory>
     requires named { is_name link.now.name ≡ true }
     requires joins { JoinsTwo (length plan.now.elements) link.now }
+    requires bundle { is_bad_bundle_name link.now.bundle ≡ false }
     ensures { IfOk result (λ fields. table_view fields ≡ link_table plan.now link.now) }
 {
-    let mut fields = Table::new(alloc);
+    let mut fields = bundle_table(alloc, &link.bundle)?;
     put_text(alloc, &mut fields, "a", element_name(plan, link.a))?;
     put_text(alloc, &mut fields, "b", element_name(plan, link.b))?;
     put_number(alloc, &mut fields, "delay_a", link.delay_a)?;
@@ -149,6 +176,18 @@ fn link_table(alloc: Global, plan: &Plan, link: &Link) -> Result<Table, NoMemory
     put_text(alloc, &mut fields, "name", text_of(link.name.bytes()))?;
     put_number(alloc, &mut fields, "priority_a", u32::from(link.priority_a))?;
     put_number(alloc, &mut fields, "priority_b", u32::from(link.priority_b))?;
+    Ok(fields)
+}
+
+/// A table of a link's bundle alone; of nothing where the link names none.
+fn bundle_table(alloc: Global, bundle: &Option<Text>) -> Result<Table, NoMemory>
+    requires { is_bad_bundle_name bundle.now ≡ false }
+    ensures { IfOk result (λ fields. table_view fields ≡ with_bundle bundle.now no_members) }
+{
+    let mut fields = Table::new(alloc);
+    if let Some(name) = bundle {
+        put_text(alloc, &mut fields, "bundle", text_of(name.bytes()))?;
+    }
     Ok(fields)
 }
 

@@ -1,12 +1,12 @@
 -- The ladder keeps every rule for plans.
-use Rattle.std.proofs.Common.{◌≡◌, ℕ, ◌+◌, ◌-◌, ◌*◌, ◌/◌, ◌%◌, ◌^◌, ◌<◌, ◌≤◌, zero, suc, true, false, ◌&&◌, ◌==◌, List, [], ◌∷◌, ◌++◌, length, map, get_or, drop, Some, slice_get, refl, sym, ap, subst, ◌∙◌, inl, inr, arith}
-use Rattle.std.specs.Prelude.{◌≢◌, ◌⊎◌, codes, nat_lt, nat_le, if◌then◌else◌}
+use Rattle.std.proofs.Common.{◌≡◌, ℕ, ◌+◌, ◌-◌, ◌*◌, ◌/◌, ◌%◌, ◌^◌, ◌<◌, ◌≤◌, zero, suc, true, false, ◌&&◌, ◌==◌, List, [], ◌∷◌, ◌++◌, length, map, get_or, drop, Some, slice_get, refl, sym, ap, subst, ◌∙◌, inl, inr, arith, None}
+use Rattle.std.specs.Prelude.{◌≢◌, ◌⊎◌, Option, codes, nat_lt, nat_le, if◌then◌else◌}
 use Rattle.std.specs.List.{list_all, range_with_len}
 use Rattle.std.specs.Str.{bytes_eq, all_ascii_digits}
 use Rattle.std.specs.Fmt.{decimal}
 use Rattle.std.specs.Char.{is_ascii_digit}
 use Rattle.std.proofs.Math.Decide.{dec_lt}
-use Rattle.std.proofs.lemmas.Bool.{cases_Bool, and_parts, le-leb, eqb-true, both_ways}
+use Rattle.std.proofs.lemmas.Bool.{cases_Bool, true≢false, and_parts, le-leb, eqb-true, both_ways}
 use Rattle.std.proofs.lemmas.Bool.Decides.{nat_tests}
 use Rattle.std.proofs.lemmas.Slice.Eq.{bytes_eq-Decides}
 use Rattle.std.proofs.lemmas.List.FromFn.{length-map-range_with_len}
@@ -20,6 +20,8 @@ use Rattle.sync_topo.specs.declared.source.Source.{Source}
 use Rattle.sync_topo.specs.Topology.{Topology}
 use Rattle.sync_topo.specs.Names.{is_name, is_name_byte, is_named, element_names, link_names, source_names}
 use Rattle.sync_topo.specs.Lines.{link_of, ends_at_b, is_nominated, receiver_of, source_priority, element_of_source, inputs_of}
+use Rattle.sync_topo.specs.Bundles.{is_same_bundle}
+use Rattle.sync_topo.specs.Rules.{is_bad_bundle_name}
 use Rattle.sync_topo.specs.WellFormed.{AreDistinct, IsElementOf, JoinsTwo, IsSourceOf, IsWellFormed}
 use Rattle.sync_topo.proofs.KeptRules.{inputs_counted}
 use Rattle.sync_topo.proofs.RowsOfPlan.{map-map}
@@ -255,6 +257,21 @@ source_fits m (suc (suc j)) source at = absurd (none-some source at)
 
 -- ---- the whole
 
+-- no link names a bundle
+no_bundle : (m k : ℕ) (link : Link) → slice_get (ladder (m + 2)).links k ≡ Some link → link.bundle ≡ None
+no_bundle m k link at =
+    let made = range_at ladder_link (2 * m + 1) k link (rw (links_by_number m) at at) in
+    ap (λ (l : Link). l.bundle) (sym made.1) ∙ none k
+  where
+    none : (k : ℕ) → (ladder_link k).bundle ≡ None
+    none k = elim (cases_Bool (is_step k)) [
+      | inl is_one ↦ rw is_one refl
+      | inr rail_one ↦ rw rail_one refl
+    ]
+
+unnamed : (m k : ℕ) (link : Link) → slice_get (ladder (m + 2)).links k ≡ Some link → is_bad_bundle_name link.bundle ≡ false
+unnamed m k link at = rw (no_bundle m k link at) refl
+
 from_two : (m : ℕ) → m ≤ 1998 → IsWellFormed (ladder (m + 2))
 from_two m few = record {
   few_elements = omega (arith, element_count (m + 2));
@@ -269,6 +286,8 @@ from_two m few = record {
   links_join = λ k link at.
       let made = range_at ladder_link (2 * m + 1) k link (rw (links_by_number m) at at) in
       rw (element_count (m + 2)) (subst (JoinsTwo (m + 2)) made.1 (link_joins m k made.0));
+  bundles_named = λ k link at. unnamed m k link at;
+  bundles_join = λ i j one other at_i at_j same. absurd (true≢false (sym (ap (λ (b : Option (List ℕ)). is_same_bundle b other.bundle) (sym (no_bundle m i one at_i)) ∙ same)));
   sources_named = refl;
   links_distinct = links_distinct m few;
   sources_distinct = sources_distinct m;

@@ -10,7 +10,7 @@ use Rattle.std.proofs.lemmas.Grind.{flat_map-append}
 use Rattle.sync_ql.specs.declared.levels.NetOption.TheVariants.{I}
 use Rattle.sync_topo.specs.declared.link.Link.{Link}
 use Rattle.sync_topo.specs.declared.error.PlanErr.{PlanErr}
-use Rattle.sync_topo.specs.declared.error.PlanErr.TheVariants.{Limit, Name, Twice, NoElement, SelfLink, Range, LevelName, NoMemory}
+use Rattle.sync_topo.specs.declared.error.PlanErr.TheVariants.{Limit, Name, Twice, NoElement, SelfLink, Range, Bundle, LevelName, NoMemory}
 use Rattle.sync_topo.specs.Topology.{Topology}
 use Rattle.sync_topo.specs.Names.{is_named, element_names}
 use Rattle.sync_topo.specs.RowValues.{element_of_name, element_from, link_from, plan_from}
@@ -127,6 +127,7 @@ only_memory (Twice place) answer plan refused given = absurd (cc)
 only_memory (NoElement place) answer plan refused given = absurd (cc)
 only_memory (SelfLink place) answer plan refused given = absurd (cc)
 only_memory (Range place) answer plan refused given = absurd (cc)
+only_memory (Bundle place) answer plan refused given = absurd (cc)
 only_memory (LevelName place) answer plan refused given = absurd (cc)
 only_memory NoMemory answer plan refused given = refl
 

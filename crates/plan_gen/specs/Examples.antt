@@ -1,5 +1,5 @@
 -- The ladder of four elements, written out by hand.
-use Rattle.std.specs.Prelude.{◌≡◌, [], ◌∷◌, codes, map, refl}
+use Rattle.std.specs.Prelude.{◌≡◌, None, [], ◌∷◌, codes, map, refl}
 use Rattle.std.specs.Fmt.{digits}
 use Rattle.std.proofs.Math.Decide.{dec_lt}
 use Rattle.sync_ql.specs.Level.{name_of}
@@ -21,11 +21,11 @@ pub levels_of_four : map (λ source. name_of source.level) (ladder 4).sources �
 unfolding dec_lt
 levels_of_four = refl
 
-pub last_step : step 3 ≡ record { name = codes "S3"; a = 2; b = 3; priority_a = 0; priority_b = 2; delay_a = 10; delay_b = 10 }
+pub last_step : step 3 ≡ record { name = codes "S3"; a = 2; b = 3; priority_a = 0; priority_b = 2; delay_a = 10; delay_b = 10; bundle = None }
 unfolding digits dec_lt
 last_step = refl
 
-pub last_rail : rail 3 ≡ record { name = codes "R3"; a = 1; b = 3; priority_a = 0; priority_b = 1; delay_a = 10; delay_b = 10 }
+pub last_rail : rail 3 ≡ record { name = codes "R3"; a = 1; b = 3; priority_a = 0; priority_b = 1; delay_a = 10; delay_b = 10; bundle = None }
 unfolding digits dec_lt
 last_rail = refl
 

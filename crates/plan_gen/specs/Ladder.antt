@@ -25,7 +25,7 @@ ladder_element j = record { name = numbered (codes "E") j; own = level_named (co
 -- a link from an earlier element up to element j, which alone may take its timing from it
 abbrev pub link_up : List ℕ → ℕ → ℕ → ℕ → Link
 link_up letter from j priority =
-    record { name = numbered letter j; a = from; b = j; priority_a = 0; priority_b = priority; delay_a = 10; delay_b = 10 }
+    record { name = numbered letter j; a = from; b = j; priority_a = 0; priority_b = priority; delay_a = 10; delay_b = 10; bundle = None }
 
 -- the step from the element before, and the rail from the one before that, which comes first in priority
 abbrev pub step : ℕ → Link

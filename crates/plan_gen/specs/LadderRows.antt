@@ -22,6 +22,7 @@ link_row letter from j priority = record {
   priority_b = Some priority;
   delay_a = Some (pos 10);
   delay_b = Some (pos 10);
+  bundle = None;
 }
 
 abbrev pub step_row : ℕ → LinkRow

@@ -94,6 +94,7 @@ fn link_row(
         priority_b: Some(priority),
         delay_a: Some(DELAY),
         delay_b: Some(DELAY),
+        bundle: None,
     })
 }
 

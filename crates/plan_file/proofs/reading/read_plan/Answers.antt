@@ -3,6 +3,7 @@ use Rattle.std.proofs.Common.{◌≡◌, None, Err, refl}
 use Rattle.plan_file.specs.Rules.{IsFirstBroken}
 use Rattle.plan_file.specs.PlanText.{document_of, plan_of, OfDocument, GivesRows}
 use Rattle.plan_file.proofs.PlanLaws.{table_law, syntax_law, refused_rows_law, refuses_where, gives_plan}
+use Rattle.plan_file.proofs.Versions.{both_versions}
 use Rattle.plan_file.proofs.reading.read_plan.Goals as goal
 
 pub returns-clause-ok : goal.returns-clause-ok
@@ -26,3 +27,6 @@ pub returns-clause-rows : goal.returns-clause-rows
 returns-clause-rows c = λ error.
     refuses_where c.plan_in.result (plan_of c.args.bytes.now) (refusal.Plan error) (GivesRows c.args.bytes.now (Err error))
     c.plan_in.ensures.exact (refused_rows_law c.args.bytes.now error)
+
+pub returns-clause-versions : goal.returns-clause-versions
+returns-clause-versions c = both_versions

@@ -9,5 +9,5 @@ use Rattle.plan_file.proofs.rows.link_rows.Given as goal
 -- the rows so far and those of the entries left are those of all entries
 abbrev pub invariant-loop-index : goal.invariant-loop-index
 invariant-loop-index l =
-    with_front l.rows (rows_from link_row Links (l.index + 1) (map view (drop l.index l.entries)))
-    ≡ rows_from link_row Links 1 (map view l.entries)
+    with_front l.rows (rows_from l.version (link_row l.version) Links (l.index + 1) (map view (drop l.index l.entries)))
+    ≡ rows_from l.version (link_row l.version) Links 1 (map view l.entries)
