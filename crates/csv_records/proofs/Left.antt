@@ -39,7 +39,7 @@ left_more cfg s xs p may is =
     let byte = takes_a_byte cfg s xs p may is in
     let one : length xs + 1 ≡ suc (length xs) = omega arith in (
       ap (λ n. records_from cfg n s xs) one ∙ turn cfg (length xs) s xs (Some p) is
-      ∙ ap (λ rest. p.0 ∷ rest) (same_records cfg (length xs) (length p.2 + 1) p.1 p.2 byte.0.stops (omega (arith, byte.0.left, byte.1)) (omega arith)),
+          ∙ ap (λ rest. p.0 ∷ rest) (same_records cfg (length xs) (length p.2 + 1) p.1 p.2 byte.0.stops (omega (arith, byte.0.left, byte.1)) (omega arith)),
       byte.0.stops,
     )
 
@@ -86,7 +86,7 @@ after_record rem a b fields reading read first same =
             between = rw (← state) left.1;
           },
           left.0 ∙ ap (λ row. row ∷ records_left p.1 p.2) (sym taken) ∙ ap (λ s. fields ∷ records_left s p.2) state
-          ∙ ap (λ xs. fields ∷ records_left b.state xs) (bytes ∙ sym open_bytes),
+              ∙ ap (λ xs. fields ∷ records_left b.state xs) (bytes ∙ sym open_bytes),
         )
 
 -- a read that gave none came to the end

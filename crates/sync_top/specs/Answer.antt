@@ -1,5 +1,5 @@
 -- The program's answer to some words over some files: a status and a text.
-use Rattle.std.specs.Prelude.{◌≡◌, ℕ, ◌⊎◌, Bool, nat_lt, List, [], ◌++◌, length, map, codes, Option, Some, None, Result, Ok, Err, if◌then◌else◌}
+use Rattle.std.specs.Prelude.{◌≡◌, ℕ, ◌≤◌, ◌⊎◌, Bool, nat_lt, List, [], ◌++◌, length, map, codes, Option, Some, None, Result, Ok, Err, if◌then◌else◌}
 use Rattle.std.specs.Prelude.{IsTrue, IfSome}
 use Rattle.std.specs.List.{concat}
 use Rattle.std.specs.FinMap.{get}
@@ -25,7 +25,11 @@ use Rattle.sync_top.specs.declared.status.Status.{Status}
 use Rattle.sync_top.specs.declared.status.Status.TheVariants.{Done, Refuted, Usage, BadPlan, BadCert, BadFrames, TooLong}
 use Rattle.std.specs.Fmt.{decimal}
 use Rattle.sync_ql.specs.declared.levels.NetOption.{NetOption}
-use Rattle.esmc_frame.specs.Numbers.{number_of}
+use Rattle.esmc_frame.specs.Numbers.{number_of as frame_number}
+use Rattle.capture_text.specs.Numbers.{number_of as capture_number}
+use Rattle.rank_cert.specs.Refusal.{refusal_number as certificate_number}
+use Rattle.plan_file.specs.Refusal.{number_of as file_number}
+use Rattle.sync_topo.specs.declared.error.PlanErr.{PlanErr}
 use Rattle.capture_text.specs.declared.error.CaptureErr.{CaptureErr}
 use Rattle.capture_text.specs.declared.error.CaptureErr.TheVariants as refusal
 use Rattle.capture_text.specs.Capture.{decoded_text, encoded_text}
@@ -50,6 +54,12 @@ pub data End : Type 0 where
 abbrev pub file_limit : ℕ
 file_limit = 8388608
 
+-- the answer to what was read, or what ended the reading
+abbrev pub Answered : {A : Type 0} → (A → Status → List ℕ → Type 0) → Result A End → Status → List ℕ → Type 0
+Answered Answers (Ok read) status text = Answers read status text
+Answered Answers (Err no_file) status text = ⊥
+Answered Answers (Err (answered known written)) status text = (status ≡ known) × (text ≡ written)
+
 -- the bytes of a file
 abbrev pub file : List ℕ → Contents → Result (List ℕ) End
 file name files = within (get files name)
@@ -68,18 +78,30 @@ section_name Sources = codes "source"
 abbrev pub place_text : Place → List ℕ
 place_text place = section_name place.section ++ codes " " ++ decimal place.row
 
+-- the line on a refusal: what is refused, the refusal's number, and where; want of memory has no number and no line
+abbrev pub refusal_line : List ℕ → Option ℕ → List ℕ → List ℕ
+refusal_line what None place = []
+refusal_line what (Some number) place = what ++ decimal number ++ place
+
 -- the refusal of a plan's rows: its number, and the row that breaks the rule
-abbrev pub rows_refusal : Option ℕ → Option Place → List ℕ
-rows_refusal (Some number) (Some place) = decimal number ++ codes " " ++ place_text place
-rows_refusal _ _ = []
+abbrev pub rows_refusal : PlanErr → List ℕ
+rows_refusal error = refusal_line (codes " ") (refusal_number error) (place_after (refused_place error))
+  where
+    place_after : Option Place → List ℕ
+    place_after None = []
+    place_after (Some place) = codes " " ++ place_text place
+
+-- where a plan is refused
+abbrev pub plan_place : PlanFileErr → List ℕ
+plan_place plan.Syntax = []
+plan_place (plan.Key place) = codes " " ++ place_text place
+plan_place (plan.Kind place) = codes " " ++ place_text place
+plan_place (plan.Plan error) = rows_refusal error
+plan_place plan.NoMemory = []
 
 -- the line on a plan that is refused
 abbrev pub plan_refusal : PlanFileErr → List ℕ
-plan_refusal plan.Syntax = codes "bad plan 22"
-plan_refusal (plan.Key place) = codes "bad plan 23 " ++ place_text place
-plan_refusal (plan.Kind place) = codes "bad plan 24 " ++ place_text place
-plan_refusal (plan.Plan error) = codes "bad plan 25 " ++ rows_refusal (refusal_number error) (refused_place error)
-plan_refusal plan.NoMemory = []
+plan_refusal refused = refusal_line (codes "bad plan ") (file_number refused) (plan_place refused)
 
 -- the plan, where it isn't refused
 abbrev pub accepted_plan : Result Topology PlanFileErr → Result Topology End
@@ -92,14 +114,19 @@ plan_in name files = do
   bytes ← file name files
   accepted_plan (plan_of bytes)
 
--- the line on a certificate that is refused: the refusal's number, and the row or the line that it names
+-- where a certificate is refused: the row, or the line that has none
+abbrev pub certificate_place : Topology → CertErr → List ℕ
+certificate_place plan broken.Header = []
+certificate_place plan (broken.Row n) = codes " " ++ decimal n
+certificate_place plan (broken.Line n) = codes " " ++ decimal n
+certificate_place plan (broken.Twice n) = codes " " ++ decimal n
+certificate_place plan (broken.Missing line) = codes " " ++ line_name plan line.0
+certificate_place plan broken.NoMemory = []
+
+-- the line on a certificate that is refused
 abbrev pub certificate_refusal : Topology → CertErr → List ℕ
-certificate_refusal plan broken.Header = codes "bad certificate 34"
-certificate_refusal plan (broken.Row n) = codes "bad certificate 35 " ++ decimal n
-certificate_refusal plan (broken.Line n) = codes "bad certificate 36 " ++ decimal n
-certificate_refusal plan (broken.Twice n) = codes "bad certificate 37 " ++ decimal n
-certificate_refusal plan (broken.Missing line) = codes "bad certificate 38 " ++ line_name plan line.0
-certificate_refusal plan broken.NoMemory = []
+certificate_refusal plan refused =
+    refusal_line (codes "bad certificate ") (certificate_number refused) (certificate_place plan refused)
 
 -- the ranks of a certificate, where it isn't refused
 abbrev pub accepted_ranks : Topology → Result Ranks CertErr → Result Ranks End
@@ -129,41 +156,36 @@ IsVerdict plan ranks status text = ⊥
 
 -- the answer to `check`: the verdict on both documents, or what ends their reading
 abbrev pub CheckAnswer : List ℕ → List ℕ → Contents → Status → List ℕ → Type 0
-CheckAnswer plan_name certificate_name files status text = ends (documents plan_name certificate_name files)
-  where
-    ends : Result (Topology × Ranks) End → Type 0
-    ends (Ok read) = IsVerdict read.0 read.1 status text
-    ends (Err no_file) = ⊥
-    ends (Err (answered known written)) = (status ≡ known) × (text ≡ written)
+CheckAnswer plan_name certificate_name files status text =
+    Answered (λ read. IsVerdict read.0 read.1) (documents plan_name certificate_name files) status text
 
 -- the line on a cycle: its lines by their names
 abbrev pub cycle_text : Topology → List ℕ → List ℕ
 cycle_text plan lines = text_line (codes "cycle" ++ concat (map (λ line. codes " " ++ line_name plan line) lines))
 
--- the certificate of the least ranks, which is read back as these ranks, and they rise; or the first cycle
+-- the certificate of the least ranks, which is read back as these ranks, and they rise, and which is not too long for a
+-- file; or the first cycle
 abbrev pub IsPlanned : Topology → Status → List ℕ → Type 0
 IsPlanned plan Done text =
     (ranks : Ranks) × AreLeastRanks (hops plan) (is_nominated plan) (rank_at ranks) × IsRising plan (rank_of ranks)
-    × (text ≡ certificate_text plan ranks) × (certificate_of plan text ≡ Ok ranks)
+    × (text ≡ certificate_text plan ranks) × (certificate_of plan text ≡ Ok ranks) × (length text ≤ file_limit)
 IsPlanned plan Refuted text = (lines : List ℕ) × IsFirstCycle (hops plan) lines × (text ≡ cycle_text plan lines)
 IsPlanned plan status text = ⊥
 
 -- the answer to `rank`: what the planner finds, or what ends the reading
 abbrev pub RankAnswer : List ℕ → Contents → Status → List ℕ → Type 0
-RankAnswer plan_name files status text = ends (plan_in plan_name files)
-  where
-    ends : Result Topology End → Type 0
-    ends (Ok plan) = IsPlanned plan status text
-    ends (Err no_file) = ⊥
-    ends (Err (answered known written)) = (status ≡ known) × (text ≡ written)
+RankAnswer plan_name files status text = Answered IsPlanned (plan_in plan_name files) status text
 
--- the line on the first captured frame or row that is refused: the refusal's number, the line, and for a frame the
--- number of its first wrong part
+-- where captured text is refused: the line, and for a frame the number of its first wrong part
+abbrev pub capture_place : CaptureErr → List ℕ
+capture_place (refusal.Hex n) = codes " " ++ decimal n
+capture_place (refusal.Frame n error) = codes " " ++ decimal n ++ codes " " ++ decimal (frame_number error)
+capture_place (refusal.Row n) = codes " " ++ decimal n
+capture_place refusal.NoMemory = []
+
+-- the line on the first captured frame or row that is refused
 abbrev pub capture_refusal : CaptureErr → List ℕ
-capture_refusal (refusal.Hex n) = codes "bad frames 12 " ++ decimal n
-capture_refusal (refusal.Frame n error) = codes "bad frames 13 " ++ decimal n ++ codes " " ++ decimal (number_of error)
-capture_refusal (refusal.Row n) = codes "bad frames 14 " ++ decimal n
-capture_refusal refusal.NoMemory = []
+capture_refusal refused = refusal_line (codes "bad frames ") (capture_number refused) (capture_place refused)
 
 -- the text that captured frames or rows give, where none is refused
 abbrev pub accepted_frames : Result (List ℕ) CaptureErr → Result (List ℕ) End
@@ -176,14 +198,13 @@ captured text_of option name files = do
   bytes ← file name files
   accepted_frames (text_of option bytes)
 
+-- the text that was asked for
+abbrev pub IsText : List ℕ → Status → List ℕ → Type 0
+IsText given status text = (status ≡ Done) × (text ≡ given)
+
 -- the answer to `decode` and to `encode`: that text, or what ends the reading
 abbrev pub CaptureAnswer : (NetOption → List ℕ → Result (List ℕ) CaptureErr) → NetOption → List ℕ → Contents → Status → List ℕ → Type 0
-CaptureAnswer text_of option name files status text = ends (captured text_of option name files)
-  where
-    ends : Result (List ℕ) End → Type 0
-    ends (Ok given) = (status ≡ Done) × (text ≡ given)
-    ends (Err no_file) = ⊥
-    ends (Err (answered known written)) = (status ≡ known) × (text ≡ written)
+CaptureAnswer text_of option name files status text = Answered IsText (captured text_of option name files) status text
 
 -- the answer to `gen`: any text of the ladder of so many elements
 abbrev pub GenAnswer : ℕ → Status → List ℕ → Type 0

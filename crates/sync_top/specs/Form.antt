@@ -56,6 +56,15 @@ reads_file None = false
 reads_file (Some (gen n)) = false
 reads_file (Some form) = true
 
+-- how many files the form names
+abbrev pub file_count : Option Form → ℕ
+file_count None = 0
+file_count (Some (check plan certificate)) = 2
+file_count (Some (rank plan)) = 1
+file_count (Some (decode option name)) = 1
+file_count (Some (encode option name)) = 1
+file_count (Some (gen n)) = 0
+
 -- the form of the words, if they have one
 abbrev pub form_of : List (List ℕ) → Option Form
 form_of (word ∷ second ∷ []) =

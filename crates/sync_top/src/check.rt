@@ -1,7 +1,7 @@
-ghost use Rattle.std.specs.Prelude.{◌≡◌, ◌≢◌, ◌++◌, ◌<◌, Some, IfOk, codes};
+ghost use Rattle.std.specs.Prelude.{◌≡◌, ◌≢◌, ◌+◌, ◌++◌, ◌<◌, ◌≤◌, Some, IfOk, OnOk, codes};
 ghost use Rattle.sync_edge.specs.Contents.{KeepsFolder};
 ghost use Rattle.sync_topo.specs.Lines.{line_count, line_name};
-ghost use Rattle.sync_top.specs.Answer.{text_line, certificate_refusal, across, ranks_in, documents, IsVerdict, CheckAnswer, FormMissesFile};
+ghost use Rattle.sync_top.specs.Answer.{text_line, certificate_refusal, certificate_place, across, ranks_in, documents, IsVerdict, CheckAnswer, FormMissesFile};
 ghost use Rattle.sync_top.specs.Form.{check};
 ghost use Rattle.rank_cert.specs.Ranks.{IsRanked};
 ghost use Rattle.rank_cert.specs.Rules.{NamesLine};
@@ -9,7 +9,7 @@ ghost use Rattle.sync_top.specs.Work.{Reads, Replies, NeverUsage};
 
 use crate::input::file;
 use crate::plan_input::plan_in;
-use crate::reply::{Reply, Stop, line_text};
+use crate::reply::{Reply, Stop, line_text, put_number, refusal};
 use crate::status::Status;
 use rank_cert::{Cert, CertErr, Verdict, read_cert};
 use std::alloc::Global;
@@ -18,32 +18,32 @@ use sync_topo::{InputId, LineId, Plan};
 
 /// The line on a certificate that is refused.
 fn refusal_text(alloc: Global, plan: &Plan, refused: CertErr) -> Result<Text, NoMemory>
-    requires { NamesLine plan.now refused }
+    requires line { NamesLine plan.now refused }
+    requires numbered { refused ≢ CertErr.NoMemory }
     ensures { IfOk result (λ text. text ≡ text_line (certificate_refusal plan.now refused)) }
 {
-    let mut text = Text::new(alloc);
-    match refused {
-        CertErr::Header => text.put(b"bad certificate 34")?,
-        CertErr::Row(row) => {
-            text.put(b"bad certificate 35 ")?;
-            text.put_number(row)?;
-        }
-        CertErr::Line(row) => {
-            text.put(b"bad certificate 36 ")?;
-            text.put_number(row)?;
-        }
-        CertErr::Twice(row) => {
-            text.put(b"bad certificate 37 ")?;
-            text.put_number(row)?;
-        }
-        CertErr::Missing(line) => {
-            text.put(b"bad certificate 38 ")?;
-            plan.put_input_name(alloc, &mut text, InputId::Line(line))?;
-        }
-        CertErr::NoMemory => return Err(NoMemory),
-    }
+    let Some(number) = refused.number() else {
+        unreachable!()
+    };
+    let mut text = refusal(alloc, b"bad certificate ", number)?;
+    put_place(alloc, &mut text, plan, refused)?;
     text.put(b"\n")?;
     Ok(text)
+}
+
+/// Puts the row of a certificate that is refused, or the line that it has no row for.
+fn put_place(alloc: Global, text: &mut Text, plan: &Plan, refused: CertErr) -> Result<(), NoMemory>
+    requires { NamesLine plan.now refused }
+    ensures { OnOk result (text.new ≡ text.old ++ certificate_place plan.now refused) }
+{
+    match refused {
+        CertErr::Header | CertErr::NoMemory => Ok(()),
+        CertErr::Row(row) | CertErr::Line(row) | CertErr::Twice(row) => put_number(text, row),
+        CertErr::Missing(line) => {
+            text.put(b" ")?;
+            plan.put_input_name(alloc, text, InputId::Line(line))
+        }
+    }
 }
 
 /// The certificate of a file.
@@ -52,6 +52,7 @@ fn cert_in<F: Folder>(alloc: Global, folder: &mut F, plan: &Plan, name: &str) ->
         (ranks_in plan.now name.now) }
     ensures form { NeverUsage result }
     ensures keeps { KeepsFolder F.contents F.steady F.faults folder.old folder.new }
+    ensures once { F.tries folder.new ≤ F.tries folder.old + 1 }
     ensures ranked { IfOk result (IsRanked plan.now) }
 {
     let bytes = file(alloc, folder, name)?;
@@ -76,6 +77,7 @@ fn documents<F: Folder>(
         (documents plan.now cert.now) }
     ensures form { NeverUsage result }
     ensures keeps { KeepsFolder F.contents F.steady F.faults folder.old folder.new }
+    ensures once { F.tries folder.new ≤ F.tries folder.old + 2 }
     ensures ranked { IfOk result (λ read. IsRanked read.0 read.1) }
 {
     let plan = plan_in(alloc, folder, plan)?;
@@ -131,7 +133,11 @@ pub(crate) fn check<F: Folder>(
     ensures form { NeverUsage result }
     ensures verdict { IfOk result (λ reply. reply.status ≢ Status.Usage) }
     ensures keeps { KeepsFolder F.contents F.steady F.faults folder.old folder.new }
+    ensures once { F.tries folder.new ≤ F.tries folder.old + 2 }
 {
     let (plan, cert) = documents(alloc, folder, plan, cert)?;
-    Ok(verdict(alloc, &plan, &cert)?)
+    match verdict(alloc, &plan, &cert) {
+        Ok(reply) => Ok(reply),
+        Err(_) => Err(Stop::OutOfMemory),
+    }
 }

@@ -1,12 +1,12 @@
-ghost use Rattle.std.specs.Prelude.{◌≡◌, ◌≢◌, Some, IfOk};
+ghost use Rattle.std.specs.Prelude.{◌≡◌, ◌≢◌, ◌+◌, ◌++◌, ◌≤◌, Some, IfOk, OnOk};
 ghost use Rattle.sync_edge.specs.Contents.{KeepsFolder};
 ghost use Rattle.capture_text.specs.Capture.{decoded_text, encoded_text};
-ghost use Rattle.sync_top.specs.Answer.{across, text_line, capture_refusal, captured, CaptureAnswer, FormMissesFile};
+ghost use Rattle.sync_top.specs.Answer.{across, text_line, capture_refusal, capture_place, captured, CaptureAnswer, FormMissesFile};
 ghost use Rattle.sync_top.specs.Form.{decode, encode};
 ghost use Rattle.sync_top.specs.Work.{Reads, Replies, NeverUsage};
 
 use crate::input::file;
-use crate::reply::{Reply, Stop};
+use crate::reply::{Reply, Stop, put_number, refusal};
 use crate::status::Status;
 use capture_text::{CaptureErr, decode_lines, encode_rows};
 use std::alloc::Global;
@@ -15,28 +15,30 @@ use sync_ql::NetOption;
 
 /// The line on the first frame or row that is refused.
 fn refusal_text(alloc: Global, refused: CaptureErr) -> Result<Text, NoMemory>
+    requires { refused ≢ CaptureErr.NoMemory }
     ensures { IfOk result (λ text. text ≡ text_line (capture_refusal refused)) }
 {
-    let mut text = Text::new(alloc);
-    match refused {
-        CaptureErr::Hex(line) => {
-            text.put(b"bad frames 12 ")?;
-            text.put_number(line)?;
-        }
-        CaptureErr::Frame(line, error) => {
-            text.put(b"bad frames 13 ")?;
-            text.put_number(line)?;
-            text.put(b" ")?;
-            text.put_number(u64::from(error.number()))?;
-        }
-        CaptureErr::Row(line) => {
-            text.put(b"bad frames 14 ")?;
-            text.put_number(line)?;
-        }
-        CaptureErr::NoMemory => return Err(NoMemory),
-    }
+    let Some(number) = refused.number() else {
+        unreachable!()
+    };
+    let mut text = refusal(alloc, b"bad frames ", number)?;
+    put_place(&mut text, refused)?;
     text.put(b"\n")?;
     Ok(text)
+}
+
+/// Puts the line of what is refused, and for a frame the number of its first wrong part.
+fn put_place(text: &mut Text, refused: CaptureErr) -> Result<(), NoMemory>
+    ensures { OnOk result (text.new ≡ text.old ++ capture_place refused) }
+{
+    match refused {
+        CaptureErr::Hex(line) | CaptureErr::Row(line) => put_number(text, line),
+        CaptureErr::Frame(line, error) => {
+            put_number(text, line)?;
+            put_number(text, u64::from(error.number()))
+        }
+        CaptureErr::NoMemory => Ok(()),
+    }
 }
 
 /// The rows of the frames of a file.
@@ -50,6 +52,7 @@ fn decoded<F: Folder>(
         (captured decoded_text option name.now) }
     ensures form { NeverUsage result }
     ensures keeps { KeepsFolder F.contents F.steady F.faults folder.old folder.new }
+    ensures once { F.tries folder.new ≤ F.tries folder.old + 1 }
 {
     let bytes = file(alloc, folder, name)?;
     match decode_lines(alloc, bytes.bytes(), option) {
@@ -73,6 +76,7 @@ fn encoded<F: Folder>(
         (captured encoded_text option name.now) }
     ensures form { NeverUsage result }
     ensures keeps { KeepsFolder F.contents F.steady F.faults folder.old folder.new }
+    ensures once { F.tries folder.new ≤ F.tries folder.old + 1 }
 {
     let bytes = file(alloc, folder, name)?;
     match encode_rows(alloc, bytes.bytes(), option) {
@@ -97,6 +101,7 @@ pub(crate) fn decode<F: Folder>(
     ensures form { NeverUsage result }
     ensures done { IfOk result (λ reply. reply.status ≢ Status.Usage) }
     ensures keeps { KeepsFolder F.contents F.steady F.faults folder.old folder.new }
+    ensures once { F.tries folder.new ≤ F.tries folder.old + 1 }
 {
     let text = decoded(alloc, folder, option, name)?;
     Ok(Reply {
@@ -117,6 +122,7 @@ pub(crate) fn encode<F: Folder>(
     ensures form { NeverUsage result }
     ensures done { IfOk result (λ reply. reply.status ≢ Status.Usage) }
     ensures keeps { KeepsFolder F.contents F.steady F.faults folder.old folder.new }
+    ensures once { F.tries folder.new ≤ F.tries folder.old + 1 }
 {
     let text = encoded(alloc, folder, option, name)?;
     Ok(Reply {

@@ -1,3 +1,4 @@
+ghost use Rattle.std.specs.Prelude.{◌+◌, ◌≤◌};
 ghost use Rattle.sync_edge.specs.Contents.{KeepsFolder};
 ghost use Rattle.sync_top.specs.Answer.{across, file};
 ghost use Rattle.sync_top.specs.Work.{Reads, NeverUsage};
@@ -16,6 +17,7 @@ pub(crate) fn file<F: Folder>(alloc: Global, folder: &mut F, name: &str) -> Resu
         (file name.now) }
     ensures form { NeverUsage result }
     ensures keeps { KeepsFolder F.contents F.steady F.faults folder.old folder.new }
+    ensures once { F.tries folder.new ≤ F.tries folder.old + 1 }
 {
     match read_all(alloc, folder, name, FILE_LIMIT) {
         Ok(bytes) => Ok(bytes),

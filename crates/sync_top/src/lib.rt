@@ -2,8 +2,10 @@
 //! gives the exit status.
 //!
 //! `IsAnswer` says which status and text the words have over which files; `Delivers` that it was
-//! written, and `IsCut` what a write fault leaves. Which words are a form is `form_of`. No clause
-//! says that memory is found; docs/promises.md tells what shows it.
+//! written, and `IsCut` what a write fault leaves. Which words are a form is `form_of`. That there is
+//! one answer is [`one_answer_law`], and that what `rank` writes is accepted
+//! [`planned_is_accepted_law`]. No clause says that memory is found; docs/promises.md tells what
+//! shows it.
 #![tactic(auto)]
 
 mod check;
@@ -11,12 +13,14 @@ mod form;
 mod frames;
 mod input;
 mod ladder;
+mod laws;
 mod plan_input;
 mod planner;
 mod program;
 mod reply;
 mod status;
 
+pub use laws::{one_answer_law, planned_is_accepted_law};
 pub use program::run;
 pub use status::Status;
 

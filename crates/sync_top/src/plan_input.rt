@@ -1,11 +1,10 @@
-ghost use Rattle.std.specs.Prelude.{◌≡◌, ◌++◌, IfOk, OnOk};
+ghost use Rattle.std.specs.Prelude.{◌≡◌, ◌≢◌, ◌+◌, ◌++◌, ◌≤◌, IfOk, OnOk, codes};
 ghost use Rattle.sync_edge.specs.Contents.{KeepsFolder};
-ghost use Rattle.sync_topo.specs.Refusal.{refusal_number, refused_place};
-ghost use Rattle.sync_top.specs.Answer.{text_line, across, place_text, plan_in, plan_refusal, rows_refusal, section_name};
+ghost use Rattle.sync_top.specs.Answer.{text_line, across, place_text, plan_in, plan_place, plan_refusal, rows_refusal, section_name};
 ghost use Rattle.sync_top.specs.Work.{Reads, NeverUsage};
 
 use crate::input::file;
-use crate::reply::{Reply, Stop};
+use crate::reply::{Reply, Stop, put_number, refusal};
 use crate::status::Status;
 use plan_file::{PlanFileErr, read_plan};
 use std::alloc::Global;
@@ -18,6 +17,7 @@ pub(crate) fn plan_in<F: Folder>(alloc: Global, folder: &mut F, name: &str) -> R
         (plan_in name.now) }
     ensures form { NeverUsage result }
     ensures keeps { KeepsFolder F.contents F.steady F.faults folder.old folder.new }
+    ensures once { F.tries folder.new ≤ F.tries folder.old + 1 }
 {
     let bytes = file(alloc, folder, name)?;
     match read_plan(alloc, bytes.bytes()) {
@@ -32,49 +32,50 @@ pub(crate) fn plan_in<F: Folder>(alloc: Global, folder: &mut F, name: &str) -> R
 
 /// The line on a plan that is refused.
 fn refusal_text(alloc: Global, refused: PlanFileErr) -> Result<Text, NoMemory>
+    requires { refused ≢ PlanFileErr.NoMemory }
     ensures { IfOk result (λ text. text ≡ text_line (plan_refusal refused)) }
 {
-    let mut text = Text::new(alloc);
-    match refused {
-        PlanFileErr::Syntax => text.put(b"bad plan 22")?,
-        PlanFileErr::Key(place) => {
-            text.put(b"bad plan 23 ")?;
-            put_place(&mut text, place)?;
-        }
-        PlanFileErr::Kind(place) => {
-            text.put(b"bad plan 24 ")?;
-            put_place(&mut text, place)?;
-        }
-        PlanFileErr::Plan(error) => {
-            text.put(b"bad plan 25 ")?;
-            put_rows_refusal(&mut text, error)?;
-        }
-        PlanFileErr::NoMemory => return Err(NoMemory),
-    }
+    let Some(number) = refused.number() else {
+        unreachable!()
+    };
+    let mut text = refusal(alloc, b"bad plan ", number)?;
+    put_where(&mut text, refused)?;
     text.put(b"\n")?;
     Ok(text)
 }
 
-/// Puts the number of the rule that a plan's rows break, and the row that breaks it.
-fn put_rows_refusal(text: &mut Text, error: PlanErr) -> Result<(), NoMemory>
-    ensures { OnOk result (text.new
-        ≡ text.old ++ rows_refusal (refusal_number error) (refused_place error)) }
+/// Puts where a plan is refused, and for its rows the number of the rule that they break before.
+fn put_where(text: &mut Text, refused: PlanFileErr) -> Result<(), NoMemory>
+    ensures { OnOk result (text.new ≡ text.old ++ plan_place refused) }
 {
-    let (Some(number), Some(place)) = (error.number(), error.place()) else {
-        return Ok(());
-    };
-    text.put_number(u64::from(number))?;
-    text.put(b" ")?;
-    put_place(text, place)
+    match refused {
+        PlanFileErr::Syntax | PlanFileErr::NoMemory => Ok(()),
+        PlanFileErr::Key(place) | PlanFileErr::Kind(place) => put_place(text, place),
+        PlanFileErr::Plan(error) => put_rows_refusal(text, error),
+    }
 }
 
-/// Puts a place: its section and its row.
-fn put_place(text: &mut Text, place: Place) -> Result<(), NoMemory>
-    ensures { OnOk result (text.new ≡ text.old ++ place_text place) }
+/// Puts the number of the rule that a plan's rows break, and the row that breaks it.
+fn put_rows_refusal(text: &mut Text, error: PlanErr) -> Result<(), NoMemory>
+    ensures { OnOk result (text.new ≡ text.old ++ rows_refusal error) }
 {
-    text.put(section_name(place.section).as_bytes())?;
+    let Some(number) = error.number() else {
+        return Ok(());
+    };
+    put_number(text, u64::from(number))?;
+    match error.place() {
+        Some(place) => put_place(text, place),
+        None => Ok(()),
+    }
+}
+
+/// Puts a place behind a space: its section and its row.
+fn put_place(text: &mut Text, place: Place) -> Result<(), NoMemory>
+    ensures { OnOk result (text.new ≡ text.old ++ codes " " ++ place_text place) }
+{
     text.put(b" ")?;
-    text.put_number(place.row)
+    text.put(section_name(place.section).as_bytes())?;
+    put_number(text, place.row)
 }
 
 /// A section by its name.

@@ -1,4 +1,4 @@
-ghost use Rattle.std.specs.Prelude.{◌≡◌, ◌≢◌, ◌++◌, ◌<◌, Some, IfOk, OnOk, codes, map};
+ghost use Rattle.std.specs.Prelude.{◌≡◌, ◌≢◌, ◌+◌, ◌++◌, ◌<◌, ◌≤◌, Some, IfOk, OnOk, codes, map};
 ghost use Rattle.std.specs.List.{All, concat};
 ghost use Rattle.sync_edge.specs.Contents.{KeepsFolder};
 ghost use Rattle.sync_topo.specs.Lines.{line_count, line_name};
@@ -62,7 +62,11 @@ pub(crate) fn rank<F: Folder>(alloc: Global, folder: &mut F, plan: &str) -> Resu
     ensures form { NeverUsage result }
     ensures done { IfOk result (λ reply. reply.status ≢ Status.Usage) }
     ensures keeps { KeepsFolder F.contents F.steady F.faults folder.old folder.new }
+    ensures once { F.tries folder.new ≤ F.tries folder.old + 1 }
 {
     let plan = plan_in(alloc, folder, plan)?;
-    Ok(planned(alloc, &plan)?)
+    match planned(alloc, &plan) {
+        Ok(reply) => Ok(reply),
+        Err(_) => Err(Stop::OutOfMemory),
+    }
 }

@@ -1,10 +1,10 @@
-ghost use Rattle.std.specs.Prelude.{◌≡◌, ◌≢◌, ◌↔◌, map, None, false, IfOk, IfSome, IsTrue};
+ghost use Rattle.std.specs.Prelude.{◌≡◌, ◌≢◌, ◌↔◌, ◌+◌, ◌≤◌, map, None, false, IfOk, IfSome, IsTrue};
 ghost use Rattle.std.specs.String.{string_bytes};
 ghost use Rattle.std.specs.Io.KnownBytes.{Appends};
 ghost use Rattle.sync_edge.specs.Contents.{KeepsFolder};
 ghost use Rattle.sync_edge.specs.Faults.{Rose};
 ghost use Rattle.sync_top.specs.Status.{OnAnswer};
-ghost use Rattle.sync_top.specs.Form.{form_of, reads_file};
+ghost use Rattle.sync_top.specs.Form.{form_of, file_count, reads_file};
 ghost use Rattle.sync_top.specs.Answer.{across, IsAnswer, MissesFile, HasFiles, Delivers, IsCut, MayFault, fault_text};
 ghost use Rattle.sync_top.specs.Work.{Replies, EndsIn, UsageWhere};
 
@@ -25,6 +25,7 @@ fn work<F: Folder>(alloc: Global, words: &[String], folder: &mut F) -> Result<Re
     ensures usage { UsageWhere result (form_of (map string_bytes words.now) ≡ None) }
     ensures keeps { KeepsFolder F.contents F.steady F.faults folder.old folder.new }
     ensures no_call { reads_file (form_of (map string_bytes words.now)) ≡ false → folder.new ≡ folder.old }
+    ensures once { F.tries folder.new ≤ F.tries folder.old + file_count (form_of (map string_bytes words.now)) }
 {
     match form_of(words) {
         Some(Form::Check { plan, cert }) => check(alloc, folder, plan, cert),
@@ -49,6 +50,7 @@ fn reply_to<F: Folder>(alloc: Global, words: &[String], folder: &mut F) -> Resul
     ensures usage { IfOk result (λ reply. (reply.status ≡ Status.Usage) ↔ (form_of (map string_bytes words.now) ≡ None)) }
     ensures keeps { KeepsFolder F.contents F.steady F.faults folder.old folder.new }
     ensures no_call { reads_file (form_of (map string_bytes words.now)) ≡ false → folder.new ≡ folder.old }
+    ensures once { F.tries folder.new ≤ F.tries folder.old + file_count (form_of (map string_bytes words.now)) }
 {
     match work(alloc, words, folder) {
         Ok(reply) => Ok(reply),
@@ -82,6 +84,9 @@ pub fn run<F: Folder, K: Sink>(
     // at all.
     ensures usage { OnAnswer result ((result ≡ Status.Usage) ↔ (form_of (map string_bytes words.now) ≡ None)) }
     ensures no_call { reads_file (form_of (map string_bytes words.now)) ≡ false → folder.new ≡ folder.old }
+
+    // At most as many starts are tried as the form names files, so that a pipe will do for each.
+    ensures once { F.tries folder.new ≤ F.tries folder.old + file_count (form_of (map string_bytes words.now)) }
 
     // Where no fault is answered, no call of the folder failed: no file was tried after a refusal.
     // Nor did a write fail, but where a write fault is answered.

@@ -1,4 +1,5 @@
-ghost use Rattle.std.specs.Prelude.{◌≡◌, IfOk};
+ghost use Rattle.std.specs.Prelude.{◌≡◌, ◌++◌, codes, IfOk, OnOk};
+ghost use Rattle.std.specs.Fmt.{decimal};
 ghost use Rattle.sync_top.specs.Answer.{text_line};
 
 use crate::status::Status;
@@ -40,4 +41,22 @@ pub(crate) fn line_text(alloc: Global, words: &[u8]) -> Result<Text, NoMemory>
     text.put(words)?;
     text.put(b"\n")?;
     Ok(text)
+}
+
+/// The beginning of the line on a refusal: what is refused, and the refusal's number.
+pub(crate) fn refusal(alloc: Global, what: &[u8], number: u8) -> Result<Text, NoMemory>
+    ensures { IfOk result (λ text. text ≡ what.now ++ decimal number) }
+{
+    let mut text = Text::new(alloc);
+    text.put(what)?;
+    text.put_number(u64::from(number))?;
+    Ok(text)
+}
+
+/// Puts a number behind a space.
+pub(crate) fn put_number(text: &mut Text, number: u64) -> Result<(), NoMemory>
+    ensures { OnOk result (text.new ≡ text.old ++ codes " " ++ decimal number) }
+{
+    text.put(b" ")?;
+    text.put_number(number)
 }

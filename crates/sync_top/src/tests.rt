@@ -6,6 +6,8 @@ use std::process::Abort;
 use std::test::Fail;
 use sync_edge::{MemFile, MemFolder, MemSink, NoMemory, Rows, Text};
 
+mod sizes;
+
 const CHAIN: &[u8] =
     b"[[element]]\nname = \"A\"\n[[element]]\nname = \"B\"\n[[element]]\nname = \"C\"\n\
 [[link]]\nname = \"L1\"\na = \"A\"\nb = \"B\"\npriority_b = 1\n\
@@ -19,6 +21,10 @@ const PAIR: &[u8] = b"element = [{ name = 'A' }, { name = 'B' }]\n\
 link = [{ name = 'L1', a = 'A', b = 'B', priority_a = 1, priority_b = 1 }]\n";
 
 const ALONE: &[u8] = b"element = [{ name = 'A' }]\n";
+
+const TWIN_IN_A_BUNDLE: &[u8] = b"version = 2\nelement = [{ name = 'A' }, { name = 'B' }]\n\
+link = [{ name = 'L1', a = 'A', b = 'B', priority_a = 1, priority_b = 1, bundle = 'T' },\n\
+ { name = 'L2', a = 'B', b = 'A', priority_a = 1, priority_b = 1, bundle = 'T' }]\n";
 
 const RISING: &[u8] = b"line,rank\nL1>B,0\nL2>C,1\n";
 
@@ -98,7 +104,7 @@ fn memory_is_found_and_check_answers(rt: HostRuntime) -> Result<(), Fail> {
     let done: (Status, &[u8]) = (Status::Done, b"accepted\n");
     let usage: (Status, &[u8]) = (Status::Usage, b"usage\n");
     let unknown_key: (Status, &[u8]) = (Status::BadPlan, b"bad plan 23 head 0\n");
-    let rows: [(&[&str], &[u8], &[u8], (Status, &[u8])); 29] = [
+    let rows: [(&[&str], &[u8], &[u8], (Status, &[u8])); 33] = [
         (check, CHAIN, RISING, done),
         (
             check,
@@ -126,6 +132,19 @@ fn memory_is_found_and_check_answers(rt: HostRuntime) -> Result<(), Fail> {
             TWIN,
             b"",
             (Status::Refuted, b"cycle L1>B L2>A\n"),
+        ),
+        // Over its own bundle no line hops back, whichever end of a link is a.
+        (
+            &["rank", "plan"],
+            TWIN_IN_A_BUNDLE,
+            b"",
+            (Status::Done, b"line,rank\nL1>B,0\nL1>A,0\nL2>A,0\nL2>B,0\n"),
+        ),
+        (
+            check,
+            TWIN,
+            b"line,rank\nL1>B,0\nL1>A,0\nL2>B,0\nL2>A,0\n",
+            (Status::Refuted, b"falls L1>B L2>A\n"),
         ),
         (&["gen", "2"], b"", b"", (Status::Done, LADDER_OF_TWO)),
         (&["rank", ""], CHAIN, RISING, usage),
@@ -166,6 +185,19 @@ fn memory_is_found_and_check_answers(rt: HostRuntime) -> Result<(), Fail> {
             b"element = [{ name = 'A' }]\nlink = [{ name = 'L1', a = 'A', b = 'A' }]\n",
             RISING,
             (Status::BadPlan, b"bad plan 25 19 link 1\n"),
+        ),
+        (
+            check,
+            b"version = 2\nelement = [{ name = 'A' }, { name = 'B' }, { name = 'C' }]\n\
+link = [{ name = 'L1', a = 'A', b = 'B', bundle = 'T' }, { name = 'L2', a = 'A', b = 'C', bundle = 'T' }]\n",
+            RISING,
+            (Status::BadPlan, b"bad plan 25 39 link 2\n"),
+        ),
+        (
+            check,
+            b"link = [{ name = 'L1', a = 'A', b = 'B', bundle = 'T' }]\n",
+            RISING,
+            (Status::BadPlan, b"bad plan 23 link 1\n"),
         ),
         (
             &["check", "plan", "none"],
@@ -338,6 +370,11 @@ fn longest_file_is_read(rt: HostRuntime) -> Result<(), Fail> {
 
 const SOURCE: &[u8] = b"020000000001,info,QL-PRC\n";
 
+const ENHANCED_SOURCE: &[u8] = b"020000000001,info,QL-PRTC,0011223344556677,00,1,0\n";
+
+const ENHANCED_FRAME: &[u8] =
+    b"0180c200000202000000000188090a0019a7000110000000010004020200142000112233445566770001000000000000000000000000000000000000\n";
+
 const FRAME: &[u8] =
     b"0180c200000202000000000188090a0019a7000110000000010004020000000000000000000000000000000000000000000000000000000000000000\n";
 
@@ -350,9 +387,25 @@ fn captures_are_read_and_written(rt: HostRuntime) -> Result<(), Fail> {
         piece: 300,
         ..CALM
     };
-    let rows: [(&[&str], &[u8], (Status, &[u8])); 15] = [
+    let rows: [(&[&str], &[u8], (Status, &[u8])); 19] = [
         (encode, SOURCE, (Status::Done, FRAME)),
         (decode, FRAME, (Status::Done, SOURCE)),
+        // An enhanced level has a row of seven fields, and one that no level has counts as none.
+        (encode, ENHANCED_SOURCE, (Status::Done, ENHANCED_FRAME)),
+        (decode, ENHANCED_FRAME, (Status::Done, ENHANCED_SOURCE)),
+        (
+            decode,
+            b"0180c200000202000000000188090a0019a7000110000000010004020200143000112233445566770001000000000000000000000000000000000000\n",
+            (
+                Status::Done,
+                b"020000000001,info,QL-PRC,0011223344556677,00,1,0\n",
+            ),
+        ),
+        (
+            encode,
+            b"020000000001,info,QL-PRTC\n",
+            (Status::BadFrames, b"bad frames 14 1\n"),
+        ),
         // Padding that is not zero, and an event message.
         (
             decode,

@@ -1,0 +1,207 @@
+-- That words over some files have one answer.
+use Rattle.std.proofs.Common.{◌≡◌, ℕ, ◌<◌, ◌≤◌, Bool, true, false, List, [], ◌∷◌, ◌++◌, Option, Some, None, Result, Ok, Err, map, refl, sym, ◌∙◌, ap, inl, inr, arith, true≢false}
+use Rattle.std.specs.Prelude.{◌⊎◌, codes, slice_index_or, unwrap_or}
+use Rattle.std.specs.List.{All, concat, range_with_len}
+use Rattle.std.proofs.lemmas.List.Elements.{All-head, All-tail, filter_passes}
+use Rattle.sync_edge.specs.Contents.{Contents}
+use Rattle.sync_topo.specs.Topology.{Topology}
+use Rattle.sync_topo.specs.Lines.{line_count, line_name, is_nominated}
+use Rattle.sync_topo.specs.Hops.{hops, IsRising}
+use Rattle.sync_topo.specs.Ranks.{AreLeastRanks, IsFirstCycle}
+use Rattle.rank_cert.specs.Ranks.{Ranks, rank_at, rank_of, IsFirstFall}
+use Rattle.rank_cert.specs.CertificateText.{certificate_of, certificate_text, nominated_lines, row_text}
+use Rattle.rank_cert.proofs.RankLaws.{IsRising-no_cycle}
+use Rattle.cycle_plan.proofs.Walks.{one_least}
+use Rattle.cycle_plan.proofs.OneCycle.{one_cycle}
+use Rattle.cycle_plan.proofs.CycleLaws.{IsCycle-first}
+use Rattle.capture_text.specs.Capture.{decoded_text, encoded_text}
+use Rattle.sync_top.specs.declared.status.Status.{Status}
+use Rattle.sync_top.specs.declared.status.Status.TheVariants.{Done, Refuted, Usage, BadPlan, BadCert, BadFrames, ReadFault, WriteFault, TooLong, NoMemory}
+use Rattle.sync_top.specs.Form.{Form, check, rank, decode, encode, gen, form_of}
+use Rattle.sync_top.specs.Answer.{End, no_file, answered, text_line, documents, plan_in, captured, Answered, IsVerdict, IsPlanned, IsText, FormAnswer, IsAnswer, cycle_text}
+use Rattle.sync_top.specs.OneAnswer.{has_one_text}
+
+-- one status, and one text
+abbrev Same : Status → Status → List ℕ → List ℕ → Type 0
+Same status other text another = (status ≡ other) × (text ≡ another)
+
+-- of any two answers of a kind the status and the text are one
+abbrev IsOne : (Status → List ℕ → Type 0) → Type 0
+IsOne Answers = (status other : Status) (text another : List ℕ) → Answers status text → Answers other another → Same status other text another
+
+-- where there is one answer to what was read, there is one with all that may end the reading
+one_answered : {A : Type 0} (Answers : A → Status → List ℕ → Type 0) → ((value : A) → IsOne (Answers value))
+    → (read : Result A End) → IsOne (Answered Answers read)
+one_answered Answers one (Ok value) status other text another first second = one value status other text another first second
+one_answered Answers one (Err no_file) status other text another first second = absurd first
+one_answered Answers one (Err (answered known written)) status other text another first second =
+    (first.0 ∙ sym second.0, first.1 ∙ sym second.1)
+
+-- there is one first fall
+one_fall : (plan : Topology) (ranks : Ranks) (from to other after : ℕ) → IsFirstFall plan ranks from to → IsFirstFall plan ranks other after
+    → (from ≡ other) × (to ≡ after)
+one_fall plan ranks from to other after one two =
+    elim (one.first other after two.hops_on two.falls) [
+      | inl before ↦ elim (two.first from to one.hops_on one.falls) [
+        | inl behind ↦ absurd (omega (arith, before, behind))
+        | inr behind ↦ absurd (omega (arith, before, behind.0))
+      ]
+      | inr before ↦ elim (two.first from to one.hops_on one.falls) [
+        | inl behind ↦ absurd (omega (arith, before.0, behind))
+        | inr behind ↦ (before.0, omega (arith, before.1, behind.1))
+      ]
+    ]
+
+-- the text of a fall
+abbrev fall_text : Topology → ℕ → ℕ → List ℕ
+fall_text plan from to = text_line (codes "falls " ++ line_name plan from ++ codes " " ++ line_name plan to)
+
+-- what a verdict may be
+abbrev Rises : Topology → Ranks → Status → List ℕ → Type 0
+Rises plan ranks status text = (status ≡ Done) × IsRising plan (rank_of ranks) × (text ≡ text_line (codes "accepted"))
+
+abbrev Falls : Topology → Ranks → Status → List ℕ → Type 0
+Falls plan ranks status text = (status ≡ Refuted) × ((from to : ℕ) × IsFirstFall plan ranks from to × (text ≡ fall_text plan from to))
+
+either_verdict : (plan : Topology) (ranks : Ranks) (status : Status) (text : List ℕ) → IsVerdict plan ranks status text
+    → Rises plan ranks status text ⊎ Falls plan ranks status text
+either_verdict plan ranks Done text verdict = inl (refl, verdict.0, verdict.1)
+either_verdict plan ranks Refuted text verdict = inr (refl, verdict)
+either_verdict plan ranks Usage text verdict = absurd verdict
+either_verdict plan ranks BadPlan text verdict = absurd verdict
+either_verdict plan ranks BadCert text verdict = absurd verdict
+either_verdict plan ranks BadFrames text verdict = absurd verdict
+either_verdict plan ranks ReadFault text verdict = absurd verdict
+either_verdict plan ranks WriteFault text verdict = absurd verdict
+either_verdict plan ranks TooLong text verdict = absurd verdict
+either_verdict plan ranks NoMemory text verdict = absurd verdict
+
+-- ranks that rise fall nowhere
+no_fall : (plan : Topology) (ranks : Ranks) (from to : ℕ) → IsRising plan (rank_of ranks) → IsFirstFall plan ranks from to → ⊥
+no_fall plan ranks from to rising fall =
+    let less = rising from to fall.hops_on in omega (arith, less, fall.falls)
+
+-- there is one verdict
+one_verdict : (plan : Topology) (ranks : Ranks) → IsOne (IsVerdict plan ranks)
+one_verdict plan ranks status other text another first second =
+    elim (either_verdict plan ranks status text first) [
+      | inl rises ↦ elim (either_verdict plan ranks other another second) [
+        | inl also ↦ (rises.0 ∙ sym also.0, rises.2 ∙ sym also.2)
+        | inr falls ↦ absurd (no_fall plan ranks _ _ rises.1 falls.1.2)
+      ]
+      | inr falls ↦ elim (either_verdict plan ranks other another second) [
+        | inl rises ↦ absurd (no_fall plan ranks _ _ rises.1 falls.1.2)
+        | inr also ↦
+            let same = one_fall plan ranks _ _ _ _ falls.1.2 also.1.2 in
+            (falls.0 ∙ sym also.0, falls.1.3 ∙ ap (λ l. fall_text plan l falls.1.1) same.0 ∙ ap (λ l. fall_text plan also.1.0 l) same.1 ∙ sym also.1.3)
+      ]
+    ]
+
+-- what two functions make of each element is the same
+map_alike : (f g : ℕ → List ℕ) (xs : List ℕ) → All (λ x. f x ≡ g x) xs → map f xs ≡ map g xs
+map_alike f g [] alike = refl
+map_alike f g (x ∷ xs) alike =
+    ap (λ y. y ∷ map f xs) (All-head (λ y. f y ≡ g y) x xs alike)
+    ∙ ap (λ ys. g x ∷ ys) (map_alike f g xs (All-tail (λ y. f y ≡ g y) x xs alike))
+
+-- a line that is nominated has one least rank
+same_rank : (plan : Topology) (ranks others : Ranks) (line : ℕ) → AreLeastRanks (hops plan) (is_nominated plan) (rank_at ranks)
+    → AreLeastRanks (hops plan) (is_nominated plan) (rank_at others) → is_nominated plan line ≡ true → rank_of ranks line ≡ rank_of others line
+same_rank plan ranks others line first second nominated =
+    let one = first.least line nominated in
+    let two = second.least line nominated in
+    ap (λ r. unwrap_or r 0) one.1
+    ∙ one_least (hops plan) line one.0 two.0 one.2 two.2
+    ∙ sym (ap (λ r. unwrap_or r 0) two.1)
+
+-- so the text of the least ranks is one
+same_text : (plan : Topology) (ranks others : Ranks) → AreLeastRanks (hops plan) (is_nominated plan) (rank_at ranks)
+    → AreLeastRanks (hops plan) (is_nominated plan) (rank_at others) → certificate_text plan ranks ≡ certificate_text plan others
+same_text plan ranks others first second =
+    ap (λ rows. codes "line,rank\n" ++ concat rows)
+    (map_alike (λ line. row_text plan line (rank_of ranks line)) (λ line. row_text plan line (rank_of others line)) (nominated_lines plan)
+    (λ k d within. ap (λ rank. row_text plan (slice_index_or (nominated_lines plan) k d) rank)
+    (same_rank plan ranks others (slice_index_or (nominated_lines plan) k d) first second
+    (filter_passes (is_nominated plan) (range_with_len 0 (line_count plan)) k d within))))
+
+-- what the planner may find
+abbrev Ranked : Topology → Status → List ℕ → Type 0
+Ranked plan status text =
+    (status ≡ Done) × ((ranks : Ranks) × AreLeastRanks (hops plan) (is_nominated plan) (rank_at ranks) × IsRising plan (rank_of ranks)
+    × (text ≡ certificate_text plan ranks))
+
+abbrev Cycles : Topology → Status → List ℕ → Type 0
+Cycles plan status text = (status ≡ Refuted) × ((lines : List ℕ) × IsFirstCycle (hops plan) lines × (text ≡ cycle_text plan lines))
+
+either_planned : (plan : Topology) (status : Status) (text : List ℕ) → IsPlanned plan status text → Ranked plan status text ⊎ Cycles plan status text
+either_planned plan Done text planned = inl (refl, (planned.0, planned.1, planned.2, planned.3))
+either_planned plan Refuted text planned = inr (refl, planned)
+either_planned plan Usage text planned = absurd planned
+either_planned plan BadPlan text planned = absurd planned
+either_planned plan BadCert text planned = absurd planned
+either_planned plan BadFrames text planned = absurd planned
+either_planned plan ReadFault text planned = absurd planned
+either_planned plan WriteFault text planned = absurd planned
+either_planned plan TooLong text planned = absurd planned
+either_planned plan NoMemory text planned = absurd planned
+
+-- where ranks rise there is no first cycle
+no_first_cycle : (plan : Topology) (ranks : Ranks) (lines : List ℕ) → IsRising plan (rank_of ranks) → IsFirstCycle (hops plan) lines → ⊥
+no_first_cycle plan ranks lines rising cycle =
+    IsRising-no_cycle plan (rank_of ranks) rising lines (IsCycle-first plan lines cycle)
+
+-- the planner finds one thing
+one_planned : (plan : Topology) → IsOne (IsPlanned plan)
+one_planned plan status other text another first second =
+    elim (either_planned plan status text first) [
+      | inl ranked ↦ elim (either_planned plan other another second) [
+        | inl also ↦
+            (ranked.0 ∙ sym also.0, ranked.1.3 ∙ same_text plan ranked.1.0 also.1.0 ranked.1.1 also.1.1 ∙ sym also.1.3)
+        | inr cycles ↦ absurd (no_first_cycle plan ranked.1.0 cycles.1.0 ranked.1.2 cycles.1.1)
+      ]
+      | inr cycles ↦ elim (either_planned plan other another second) [
+        | inl ranked ↦ absurd (no_first_cycle plan ranked.1.0 cycles.1.0 ranked.1.2 cycles.1.1)
+        | inr also ↦
+            (cycles.0 ∙ sym also.0, cycles.1.2 ∙ ap (cycle_text plan) (one_cycle (hops plan) cycles.1.0 also.1.0 cycles.1.1 also.1.1) ∙ sym also.1.2)
+      ]
+    ]
+
+-- a text that was asked for is one
+one_asked : (given : List ℕ) → IsOne (IsText given)
+one_asked given status other text another first second = (first.0 ∙ sym second.0, first.1 ∙ sym second.1)
+
+-- a form has one status
+form_status : (form : Option Form) (files : Contents) (status other : Status) (text another : List ℕ) → FormAnswer form files status text
+    → FormAnswer form files other another → status ≡ other
+form_status None files status other text another first second = first.0 ∙ sym second.0
+form_status (Some (check plan cert)) files status other text another first second =
+    (one_answered (λ read. IsVerdict read.0 read.1) (λ read. one_verdict read.0 read.1) (documents plan cert files) status other text another first second).0
+form_status (Some (rank plan)) files status other text another first second =
+    (one_answered IsPlanned one_planned (plan_in plan files) status other text another first second).0
+form_status (Some (decode option name)) files status other text another first second =
+    (one_answered IsText one_asked (captured decoded_text option name files) status other text another first second).0
+form_status (Some (encode option name)) files status other text another first second =
+    (one_answered IsText one_asked (captured encoded_text option name files) status other text another first second).0
+form_status (Some (gen n)) files status other text another first second = first.0 ∙ sym second.0
+
+-- and one text, but for `gen`
+form_text : (form : Option Form) (files : Contents) (status other : Status) (text another : List ℕ) → FormAnswer form files status text
+    → FormAnswer form files other another → has_one_text form ≡ true → text ≡ another
+form_text None files status other text another first second one = first.1 ∙ sym second.1
+form_text (Some (check plan cert)) files status other text another first second one =
+    (one_answered (λ read. IsVerdict read.0 read.1) (λ read. one_verdict read.0 read.1) (documents plan cert files) status other text another first second).1
+form_text (Some (rank plan)) files status other text another first second one =
+    (one_answered IsPlanned one_planned (plan_in plan files) status other text another first second).1
+form_text (Some (decode option name)) files status other text another first second one =
+    (one_answered IsText one_asked (captured decoded_text option name files) status other text another first second).1
+form_text (Some (encode option name)) files status other text another first second one =
+    (one_answered IsText one_asked (captured encoded_text option name files) status other text another first second).1
+form_text (Some (gen n)) files status other text another first second one = absurd (true≢false (sym one))
+
+pub one_status : (words : List (List ℕ)) (files : Contents) (status other : Status) (text another : List ℕ) → IsAnswer words files status text
+    → IsAnswer words files other another → status ≡ other
+one_status words files = form_status (form_of words) files
+
+pub one_text : (words : List (List ℕ)) (files : Contents) (status other : Status) (text another : List ℕ) → IsAnswer words files status text
+    → IsAnswer words files other another → has_one_text (form_of words) ≡ true → text ≡ another
+one_text words files = form_text (form_of words) files

@@ -1,0 +1,34 @@
+// What follows from the definition of an answer alone.
+
+ghost use Rattle.std.specs.Prelude.{◌≡◌, ◌<◌, ℕ, List, [], ◌∷◌, length, codes, true, Some};
+ghost use Rattle.std.specs.FinMap.{get};
+ghost use Rattle.sync_edge.specs.Contents.{Contents};
+ghost use Rattle.sync_top.specs.declared.status.Status.{Status};
+ghost use Rattle.sync_top.specs.Answer.{IsAnswer, text_line};
+ghost use Rattle.sync_top.specs.Form.{form_of};
+ghost use Rattle.sync_top.specs.OneAnswer.{has_one_text};
+
+/// The law of the one answer: over given files some words have one status, and but for `gen` one
+/// text.
+///
+/// It does nothing: its contract is the law. This project's own.
+pub fn one_answer_law()
+    ensures status { (words : List (List ℕ)) → (files : Contents) → (status other : Status)
+        → (text another : List ℕ) → IsAnswer words files status text
+        → IsAnswer words files other another → status ≡ other }
+    ensures text { (words : List (List ℕ)) → (files : Contents) → (status other : Status)
+        → (text another : List ℕ) → IsAnswer words files status text
+        → IsAnswer words files other another → has_one_text (form_of words) ≡ true → text ≡ another }
+{}
+
+/// The law that the test of ranks accepts what the planner wrote: where `rank` of a plan was done,
+/// `check` of the plan and of a file that holds what was written is done too.
+///
+/// It does nothing: its contract is the law. This project's own.
+pub fn planned_is_accepted_law()
+    ensures { (plan certificate text : List ℕ) → (files : Contents)
+        → IsAnswer (codes "rank" ∷ plan ∷ []) files Status.Done text
+        → 0 < length certificate → get files certificate ≡ Some text
+        → IsAnswer (codes "check" ∷ plan ∷ certificate ∷ []) files Status.Done
+        (text_line (codes "accepted")) }
+{}
