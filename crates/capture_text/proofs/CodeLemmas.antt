@@ -1,18 +1,18 @@
 -- The codes that the text of a level stands for.
-use Rattle.std.proofs.Common.{◌≡◌, ◌<◌, ◌==◌, ◌&&◌, ℕ, ◌+◌, zero, suc, Bool, true, false, List, ◌++◌, codes, refl, nat_eq, nat_lt, Option, None, Some, inl, inr, sym, ap, subst, ◌∙◌, arith}
+use Rattle.std.proofs.Common.{◌≡◌, ◌<◌, ◌&&◌, ℕ, ◌+◌, zero, suc, Bool, true, false, List, ◌++◌, codes, refl, nat_eq, Option, None, Some, inl, inr, sym, ap, subst, ◌∙◌, arith}
 use Rattle.std.specs.Prelude.{is_none, option_map}
 use native.Mathlib.Decide.{dec_lt}
 use Rattle.std.specs.Fmt.{decimal, digits}
 use Rattle.std.specs.List.{find, list_all, range_with_len}
 use Rattle.std.specs.Option.{option_or}
 use Rattle.std.specs.Str.{bytes_eq}
-use Rattle.std.proofs.lemmas.Bool.{cases_Bool, cond-true, cond-false, eqb-true, and_parts, ltb-true}
+use Rattle.std.proofs.lemmas.Bool.{cases_Bool, cond-true, cond-false, eqb-true, and_parts}
 use Rattle.std.proofs.lemmas.Slice.Eq.{bytes_eq-Decides}
 use Rattle.sync_ql.specs.declared.levels.NetOption.{NetOption}
 use Rattle.sync_ql.specs.declared.levels.NetOption.TheVariants.{I, II}
 use Rattle.sync_ql.specs.declared.levels.Level.{Level}
-use Rattle.sync_ql.specs.Table.{levels_of, not_enhanced}
-use Rattle.sync_ql.specs.Level.{row_at, code_of, enhanced_of, name_of, level_of_code, level_of_codes, level_of_name, level_with_both}
+use Rattle.sync_ql.specs.Table.{not_enhanced}
+use Rattle.sync_ql.specs.Level.{code_of, enhanced_of, name_of, level_of_code, level_of_codes, level_of_name}
 use Rattle.sync_ql.proofs.Tables.{level_of_name-name_of, codes_name, found_by_codes, found_by_name, found_with, none_alone, ff_says_nothing, code_of-bound}
 use Rattle.capture_text.specs.declared.reading.Codes.{Codes}
 use Rattle.capture_text.specs.Row.{level_text, name_or_number}

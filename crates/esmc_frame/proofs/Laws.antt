@@ -7,7 +7,7 @@ use Rattle.esmc_frame.specs.declared.frame.Pdu.{Pdu}
 use Rattle.esmc_frame.specs.declared.frame.Extended.{Extended}
 use Rattle.esmc_frame.specs.declared.error.FrameErr.{FrameErr}
 use Rattle.esmc_frame.specs.Parts.{extended_tlv_of, extended_tlv_head, enhanced_code_of, clock_of, flags_of, eeecs_of, eecs_of}
-use Rattle.esmc_frame.specs.Frame.{Spells, SpellsTlv, SpellsExtended, written_frame}
+use Rattle.esmc_frame.specs.Frame.{Spells, SpellsExtended, written_frame}
 use Rattle.esmc_frame.specs.Reading.{first_wrong, reading_of, unless_wrong, value_of, extended_of}
 
 -- a search that finds nothing has passed its first element

@@ -1,5 +1,5 @@
 -- Candidates that are alike place by place give one choice, and what is chosen is eligible.
-use Rattle.std.proofs.Common.{◌≡◌, ◌<◌, ◌+◌, ℕ, zero, suc, Bool, true, false, not, ◌&&◌, cond, nat_lt, List, [], ◌∷◌, length, position, Option, None, Some, IfSome, IsTrue, refl, ap, sym, subst, ◌∙◌, inl, inr}
+use Rattle.std.proofs.Common.{◌≡◌, ℕ, zero, suc, Bool, true, false, not, ◌&&◌, cond, nat_lt, List, [], ◌∷◌, length, position, Option, None, Some, IfSome, refl, ap, sym, ◌∙◌, inl, inr}
 use Rattle.std.specs.Prelude.{if◌then◌else◌}
 use Rattle.std.specs.List.{list_all, prefix_len, position_or_len}
 use Rattle.std.proofs.lemmas.Bool.{and_parts}

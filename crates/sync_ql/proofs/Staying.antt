@@ -5,7 +5,7 @@ use Rattle.sync_ql.specs.Condition.{Signal, is_up, failed_at, quiet, after_quiet
 use Rattle.sync_ql.specs.Moment.{Moment, Settings, input_of, signals_of, switches_at, selection_at}
 use Rattle.sync_ql.specs.Told.{last_level, quiet_moment, quiet_moments, moments_until}
 use Rattle.sync_ql.specs.Output.{was_locked}
-use Rattle.sync_ql.specs.Quiet.{IsSameFailed, IsSameOutput, IsFirstFailedChange, IsElementDue}
+use Rattle.sync_ql.specs.Quiet.{IsSameFailed, IsSameOutput, IsElementDue}
 use Rattle.sync_ql.proofs.QuietMoments.{input_of-moment_after, switches_at-quiet, selection_at-quiet, was_locked-quiet, IsSameOutput-quiet}
 
 -- all that an element keeps is the same after both pasts

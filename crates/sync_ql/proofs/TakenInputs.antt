@@ -1,14 +1,12 @@
 -- What an element takes may be taken.
-use Rattle.std.proofs.Common.{◌≡◌, ◌<◌, ℕ, Bool, true, false, not, ◌&&◌, List, ◌∷◌, length, Option, None, Some, IfSome, refl, ap, sym, subst, ◌∙◌, zero-add}
-use Rattle.std.specs.List.{range_with_len}
+use Rattle.std.proofs.Common.{◌≡◌, ◌<◌, ℕ, Bool, true, false, not, List, ◌∷◌, length, Option, None, Some, IfSome, refl, ap, sym, subst, ◌∙◌, zero-add}
 use Rattle.std.proofs.lemmas.Bool.{and_parts, ltb-true}
 use Rattle.std.proofs.lemmas.List.FromFn.{get_or-map-range_with_len}
 use Rattle.sync_ql.specs.declared.levels.Level.{Level}
 use Rattle.sync_ql.specs.declared.rules.Candidate.{Candidate}
-use Rattle.sync_ql.specs.Condition.{failed_at}
 use Rattle.sync_ql.specs.Switches.{Switches, is_locked}
 use Rattle.sync_ql.specs.Selection.{candidate, can_be_used, is_better, is_eligible, choice, standing_manual, IsEligible}
-use Rattle.sync_ql.specs.Moment.{Moment, Settings, signals_of, level_now, usable_at, candidates_at, switches_at, selection_at}
+use Rattle.sync_ql.specs.Moment.{Moment, Settings, level_now, usable_at, candidates_at, switches_at, selection_at}
 use Rattle.sync_ql.specs.Taken.{MayBeTaken}
 use Rattle.sync_ql.proofs.Eligible.{nobody}
 use Rattle.sync_ql.proofs.QuietMoments.{seen, commanded, seen_at, switches_at-cons, selection_at-cons, selection_at-within}

@@ -15,7 +15,7 @@ use Rattle.sync_ql.specs.declared.rules.Mode.{Mode}
 use Rattle.sync_ql.specs.declared.rules.Mode.TheVariants as mode
 use Rattle.sync_ql.specs.declared.rules.ClockState.{ClockState}
 use Rattle.sync_ql.specs.declared.rules.ClockState.TheVariants.{FreeRun, Locked, Holdover}
-use Rattle.sync_ql.specs.Level.{row_at, name_of, place_of_name, level_of_code, level_of_codes, do_not_use_of}
+use Rattle.sync_ql.specs.Level.{name_of, place_of_name, level_of_code, level_of_codes, do_not_use_of}
 use Rattle.sync_ql.specs.Condition.{Signal, Timers, failed_at, left_at, condition_at}
 use Rattle.sync_ql.specs.Switches.{unswitched, after_commands}
 use Rattle.sync_ql.specs.Moment.{Moment, Settings, switches_at, selection_at}

@@ -1,5 +1,5 @@
 -- A text without such a number, or with that of a level's code, is that of no code.
-use Rattle.std.proofs.Common.{◌≡◌, Some, ap, refl, sym, ◌∙◌}
+use Rattle.std.proofs.Common.{ap, refl, sym, ◌∙◌}
 use Rattle.capture_text.specs.Reading.{code_of_number}
 use Rattle.capture_text.proofs.CodeLemmas.{no_number, code_of_its_number}
 use Rattle.capture_text.proofs.reading.code_of_number.Goals as goal

@@ -1,5 +1,4 @@
-use Rattle.std.proofs.Common.{rules, ◌≡◌, ◌∙◌, Some, sym}
-use Rattle.sync_ql.specs.Level.{level_of_codes}
+use Rattle.std.proofs.Common.{rules, ◌∙◌}
 use Rattle.sync_ql.proofs.Tables.{both_named}
 use Rattle.sync_ql.proofs.table.level_of_codes.Goals as goal
 
