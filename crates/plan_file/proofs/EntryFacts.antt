@@ -18,7 +18,7 @@ use Rattle.plan_file.specs.declared.error.PlanFileErr.TheVariants.{Key as WrongK
 use Rattle.plan_file.specs.Format.{Key, keys_of, is_text, is_integer}
 use Rattle.plan_file.specs.Rules.{has_only, keeps_kinds, refusal_of}
 use Rattle.plan_file.specs.Rows.{name_at, text_at, integer_at, element_row, link_row, source_row, row_at}
-use Rattle.plan_file.specs.Steps.{is_among, only_among, has_all, table_with, kind_at, of_kind, link_names, bundle_of}
+use Rattle.plan_file.specs.Steps.{is_among, only_among, has_all, table_with, kind_at, of_kind, link_keys, named_bundle}
 use Rattle.plan_file.proofs.KeyFacts.{list_any_map}
 
 -- a key of the format is a required or an optional one
@@ -97,12 +97,12 @@ link_fields version place fields = do
   priority_b ← of_kind place is_integer (codes "priority_b") fields (integer_at (codes "priority_b") (table fields))
   delay_a ← of_kind place is_integer (codes "delay_a") fields (integer_at (codes "delay_a") (table fields))
   delay_b ← of_kind place is_integer (codes "delay_b") fields (integer_at (codes "delay_b") (table fields))
-  bundle ← bundle_of version place fields
+  bundle ← named_bundle version place fields
   Ok (record { name = name; a = a; b = b; priority_a = priority_a; priority_b = priority_b; delay_a = delay_a; delay_b = delay_b; bundle = bundle })
 
 abbrev pub link_steps : Version → Place → Data → Result LinkRow PlanFileErr
 link_steps version place entry = do
-  fields ← table_with place (codes "name" ∷ codes "a" ∷ codes "b" ∷ []) (link_names version) entry
+  fields ← table_with place (codes "name" ∷ codes "a" ∷ codes "b" ∷ []) (link_keys version) entry
   link_fields version place fields
 
 link_kinds_one : (place : Place) (b0 b1 b2 b3 b4 b5 b6 : Bool) (name : List ℕ) (a : List ℕ) (b : List ℕ) (priority_a : Option ℤ) (priority_b : Option ℤ) (delay_a : Option ℤ) (delay_b : Option ℤ)
@@ -134,8 +134,8 @@ link_is_one : (n : ℕ) (fields : Members) → row_at One (link_row One) Links n
 unfolding refusal_of link_row
 link_is_one n fields =
     let place : Place = record { section = Links; row = n } in
-    rw (only_is (keys_of One Links) (codes "name" ∷ codes "a" ∷ codes "b" ∷ []) (link_names One) refl fields)
-    (settle place fields (only_among (codes "name" ∷ codes "a" ∷ codes "b" ∷ []) (link_names One) fields && has_all (codes "name" ∷ codes "a" ∷ codes "b" ∷ []) fields)
+    rw (only_is (keys_of One Links) (codes "name" ∷ codes "a" ∷ codes "b" ∷ []) (link_keys One) refl fields)
+    (settle place fields (only_among (codes "name" ∷ codes "a" ∷ codes "b" ∷ []) (link_keys One) fields && has_all (codes "name" ∷ codes "a" ∷ codes "b" ∷ []) fields)
     (keeps_kinds (keys_of One Links) fields) (link_row One (table fields)) (link_fields One place)
     (link_kinds_one place (kind_at is_text (codes "name") fields) (kind_at is_text (codes "a") fields) (kind_at is_text (codes "b") fields) (kind_at is_integer (codes "priority_a") fields) (kind_at is_integer (codes "priority_b") fields) (kind_at is_integer (codes "delay_a") fields) (kind_at is_integer (codes "delay_b") fields)
     (name_at (codes "name") (table fields)) (name_at (codes "a") (table fields)) (name_at (codes "b") (table fields)) (integer_at (codes "priority_a") (table fields)) (integer_at (codes "priority_b") (table fields)) (integer_at (codes "delay_a") (table fields)) (integer_at (codes "delay_b") (table fields))))
@@ -144,8 +144,8 @@ link_is_two : (n : ℕ) (fields : Members) → row_at Two (link_row Two) Links n
 unfolding refusal_of link_row
 link_is_two n fields =
     let place : Place = record { section = Links; row = n } in
-    rw (only_is (keys_of Two Links) (codes "name" ∷ codes "a" ∷ codes "b" ∷ []) (link_names Two) refl fields)
-    (settle place fields (only_among (codes "name" ∷ codes "a" ∷ codes "b" ∷ []) (link_names Two) fields && has_all (codes "name" ∷ codes "a" ∷ codes "b" ∷ []) fields)
+    rw (only_is (keys_of Two Links) (codes "name" ∷ codes "a" ∷ codes "b" ∷ []) (link_keys Two) refl fields)
+    (settle place fields (only_among (codes "name" ∷ codes "a" ∷ codes "b" ∷ []) (link_keys Two) fields && has_all (codes "name" ∷ codes "a" ∷ codes "b" ∷ []) fields)
     (keeps_kinds (keys_of Two Links) fields) (link_row Two (table fields)) (link_fields Two place)
     (link_kinds_two place (kind_at is_text (codes "name") fields) (kind_at is_text (codes "a") fields) (kind_at is_text (codes "b") fields) (kind_at is_integer (codes "priority_a") fields) (kind_at is_integer (codes "priority_b") fields) (kind_at is_integer (codes "delay_a") fields) (kind_at is_integer (codes "delay_b") fields) (kind_at is_text (codes "bundle") fields)
     (name_at (codes "name") (table fields)) (name_at (codes "a") (table fields)) (name_at (codes "b") (table fields)) (integer_at (codes "priority_a") (table fields)) (integer_at (codes "priority_b") (table fields)) (integer_at (codes "delay_a") (table fields)) (integer_at (codes "delay_b") (table fields)) (text_at (codes "bundle") (table fields))))

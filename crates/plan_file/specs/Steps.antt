@@ -64,13 +64,13 @@ abbrev pub bundle_names : Version → List (List ℕ)
 bundle_names One = []
 bundle_names Two = codes "bundle" ∷ []
 
-abbrev pub link_names : Version → List (List ℕ)
-link_names version = codes "priority_a" ∷ codes "priority_b" ∷ codes "delay_a" ∷ codes "delay_b" ∷ bundle_names version
+abbrev pub link_keys : Version → List (List ℕ)
+link_keys version = codes "priority_a" ∷ codes "priority_b" ∷ codes "delay_a" ∷ codes "delay_b" ∷ bundle_names version
 
 -- the bundle that the table of a link names
-abbrev pub bundle_of : Version → Place → Members → Result (Option (List ℕ)) PlanFileErr
-bundle_of One place fields = Ok None
-bundle_of Two place fields = of_kind place is_text (codes "bundle") fields (text_at (codes "bundle") (table fields))
+abbrev pub named_bundle : Version → Place → Members → Result (Option (List ℕ)) PlanFileErr
+named_bundle One place fields = Ok None
+named_bundle Two place fields = of_kind place is_text (codes "bundle") fields (text_at (codes "bundle") (table fields))
 
 -- what the head of a document says
 pub record HeadSaid : Type 0 where

@@ -4,7 +4,7 @@ ghost use Rattle.std.specs.Prelude.{◌≡◌, ◌∷◌, [], map, codes};
 ghost use Rattle.toml.specs.View.{view, table_view};
 ghost use Rattle.sync_topo.specs.declared.place.Section.TheVariants as section;
 ghost use Rattle.plan_file.specs.Rows.{element_row, link_row, source_row, row_at, rows_of_document};
-ghost use Rattle.plan_file.specs.Steps.{rows_from, table_with, link_names, bundle_of};
+ghost use Rattle.plan_file.specs.Steps.{rows_from, table_with, link_keys, named_bundle};
 ghost use Rattle.plan_file.specs.declared.version.Version.TheVariants.{One};
 ghost use Rattle.plan_file.specs.Gives.{Gives, GivesBy};
 
@@ -44,7 +44,7 @@ fn element_row(alloc: Global, row: u64, entry: &Value) -> Result<ElementRow, Pla
 /// The table of a link, with the keys that it must and may have in this version.
 fn link_table(version: Version, place: Place, entry: &Value) -> Result<&Table, PlanFileErr>
     ensures { GivesBy (λ fields. table_view fields.now) result
-        (table_with place (codes "name" ∷ codes "a" ∷ codes "b" ∷ []) (link_names version)
+        (table_with place (codes "name" ∷ codes "a" ∷ codes "b" ∷ []) (link_keys version)
         (view entry.now)) }
 {
     let needed = &["name", "a", "b"];
@@ -65,13 +65,13 @@ fn link_table(version: Version, place: Place, entry: &Value) -> Result<&Table, P
 }
 
 /// The bundle that a link's table names, if the version has bundles.
-fn bundle_of(
+fn named_bundle(
     alloc: Global,
     version: Version,
     place: Place,
     fields: &Table,
 ) -> Result<Option<Text>, PlanFileErr>
-    ensures { Gives result (bundle_of version place (table_view fields.now)) }
+    ensures { Gives result (named_bundle version place (table_view fields.now)) }
 {
     match version {
         Version::One => Ok(None),
@@ -101,7 +101,7 @@ fn link_row(
     let priority_b = integer_at(place, fields, "priority_b")?;
     let delay_a = integer_at(place, fields, "delay_a")?;
     let delay_b = integer_at(place, fields, "delay_b")?;
-    let bundle = bundle_of(alloc, version, place, fields)?;
+    let bundle = named_bundle(alloc, version, place, fields)?;
     Ok(LinkRow {
         name,
         a,
