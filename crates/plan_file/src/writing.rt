@@ -23,8 +23,9 @@ const MINUTE: u32 = 60_000;
 
 /// A text of the plan: reading it gives this plan.
 ///
-/// It has a table for each element, link and source, with every key, and is spelled as the crate
-/// `toml` spells documents. This project's own.
+/// It has a table for each element, link and source, with every key but a bundle that isn't named,
+/// and says the second version where a bundle is. It is spelled as the crate `toml` spells documents.
+/// This project's own.
 pub fn write_plan(alloc: Global, plan: &Plan) -> Result<Text, NoMemory>
     ensures text { IfOk result (IsPlanText plan.now) }
 {
