@@ -680,3 +680,31 @@ fn show_bundle<L: Ledger>(rt: &(impl Abort + AllocGlobal), blank: Blank) -> Resu
 fn a_bundle_goes_back_together(rt: HostRuntime) -> Result<(), Fail> {
     show_bundle::<Brand>(&rt, Blank::new(1))
 }
+
+/// As many inputs as an element may have, all of one bundle.
+const FULL: Case = Case {
+    shows: "an_element_has_64_inputs",
+    wtr: 0,
+    floor: "",
+    inputs: &[(1, "QL-PRC", 0); 64],
+    rows: &[],
+};
+
+fn show_full<L: Ledger>(rt: &(impl Abort + AllocGlobal), blank: Blank) -> Result<(), Fail>
+    requires name { blank.name ≡ L.name }
+    requires parts { blank.parts ≡ L.parts }
+    requires some { 0 < blank.parts }
+{
+    let mut steps = Steps::<L>::new(blank);
+    let mut element = element_of(rt, &FULL, 64)?;
+    assert!(rt; is_in_time(&element, 0));
+    element.step(0, &[], &mut steps);
+    assert_eq!(rt; element.selected(), Some(0));
+    assert_eq!(rt; element.out_to(63), level(rt, "QL-DNU"), "the last input");
+    Ok(())
+}
+
+#[test]
+fn an_element_has_64_inputs(rt: HostRuntime) -> Result<(), Fail> {
+    show_full::<Brand>(&rt, Blank::new(1))
+}
