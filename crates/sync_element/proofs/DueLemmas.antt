@@ -1,22 +1,21 @@
 -- The due time of an element: the last step plus the least that was left, and the first at which an
 -- input's "failed" changes.
-use Rattle.std.proofs.Common.{◌≡◌, ◌≤◌, ◌<◌, ◌+◌, ◌-◌, ℕ, List, ◌∷◌, length, Option, None, Some, IfSome, refl, ap, sym, ◌∙◌, arith, subst}
+use Rattle.std.proofs.Common.{◌≡◌, ◌≤◌, ◌<◌, ◌+◌, ◌-◌, ℕ, List, length, Option, None, Some, IfSome, refl, ap, sym, ◌∙◌, arith, subst}
 use Rattle.std.specs.Prelude.{MatchOption, IsNone, ◌↔◌}
 use Rattle.std.proofs.lemmas.Option.{same_Some}
 use Rattle.sync_ql.specs.declared.rules.Cond.{Cond}
 use Rattle.sync_ql.specs.declared.rules.Cond.TheVariants.{Good, HoldOff, Failed, Restoring}
-use Rattle.sync_ql.specs.Condition.{failed_at, condition_at, after_quiet, IsDue, IsFirstChange}
-use Rattle.sync_ql.specs.Moment.{Moment, Settings, signals_of}
+use Rattle.sync_ql.specs.Condition.{failed_at, condition_at, IsDue, IsFirstChange}
+use Rattle.sync_ql.specs.Moment.{Moment, signals_of}
 use Rattle.sync_ql.specs.Told.{moments_until}
 use Rattle.input_monitor.specs.Ending.{EndsWith, IsEnd}
 use Rattle.input_monitor.proofs.Stepping.{aged}
 use Rattle.input_monitor.proofs.Conditions.{Lasts, condition_at-after_quiet}
 use Rattle.sync_element.specs.ElementState.{ElementState, inputs_of, monitor_of, IsFirstDue, IsFirstDueAt, IsInTime, IsWhole}
 use Rattle.sync_element.specs.StandsFor.{StandsFor}
-use Rattle.sync_ql.specs.Quiet.{IsSameFailed, IsSameOutput}
 use Rattle.sync_ql.specs.Quiet.{IsFirstFailedChange, IsElementDue}
 use Rattle.sync_element.specs.Due.{left_of, left_in, later_by, IsLastStepPlusLeast, NoneEnds}
-use Rattle.sync_ql.proofs.Staying.{length-signals_of, signals_of-moments_until, Lasting, stays-quiet_moments}
+use Rattle.sync_ql.proofs.Staying.{length-signals_of, signals_of-moments_until}
 use Rattle.sync_element.proofs.Waiting.{until_first}
 
 -- what is left of a condition that ends at a millisecond
