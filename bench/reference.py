@@ -1,0 +1,401 @@
+#!/usr/bin/env python3
+"""The rules once more, plain and slow: an independent model, with which the proved crates are compared.
+
+usage: reference.py [--histories N] [--seed N] [--keep FOLDER]
+
+Written from the rules alone, and no code of the program is called. It goes through every millisecond and counts.
+Today it has levels, the condition of an input, operator commands, the choice of an input and one element. It grows
+with the program.
+
+For each of N random histories (300 where it isn't given) it says what an element gives at each of its steps: the
+input that is taken, the level, the mode, the state, when it is due, what is sent back on each input and each input's
+condition. A small program over the crate sync_element, which is made in a temporary repository beside copies of the
+crates, is run on the same histories by `rt try --cases`, which compares its texts with these. It wants the toolchain
+and Python 3.11.
+"""
+import argparse
+import os
+import random
+import re
+import shutil
+import subprocess
+import sys
+import tempfile
+
+LEVELS = {
+    "I": "QL-ePRTC QL-PRTC QL-ePRC QL-PRC QL-SSU-A QL-SSU-B QL-eEEC QL-SEC QL-DNU".split(),
+    "II": (
+        "QL-ePRTC QL-PRTC QL-ePRC QL-PRS QL-STU QL-ST2 QL-TNC QL-ST3E QL-eEEC QL-ST3 QL-SMC QL-PROV QL-DUS".split()
+    ),
+}
+
+
+class Input:
+    """One input of an element: its signal and its level, and for how long it has been up or down."""
+
+    def __init__(self, priority, first, bundle):
+        self.priority, self.level, self.bundle = priority, first, bundle
+        self.up, self.run, self.failed = True, 0, False
+
+    def pass_millisecond(self, up, cleared, holdoff, wtr):
+        self.run = self.run + 1 if up == self.up else 1
+        self.up = up
+        if not up and self.run > holdoff:
+            self.failed = True
+        elif up and (self.run > wtr or cleared):
+            self.failed = False
+
+    def left(self, holdoff, wtr):
+        return (wtr if self.up else holdoff) + 1 - self.run
+
+    def condition(self, holdoff, wtr):
+        if self.up and not self.failed:
+            return "good"
+        if not self.up and self.failed:
+            return "failed"
+        return f"{'restoring' if self.up else 'holdoff'}:{self.left(holdoff, wtr)}"
+
+
+class Element:
+    """An element over time. `millisecond` is called once for each millisecond from 0 on."""
+
+    def __init__(self, option, own, floor, holdoff, wtr, inputs):
+        self.places = {name: place for place, name in enumerate(LEVELS[option])}
+        self.worst = LEVELS[option][-1]
+        self.own, self.floor, self.holdoff, self.wtr = own, floor, holdoff, wtr
+        self.inputs = [Input(*each) for each in inputs]
+        self.locked, self.forced, self.manual = set(), None, None
+        self.taken, self.was_locked = None, False
+
+    def is_eligible(self, i):
+        each = self.inputs[i]
+        if i in self.locked or each.failed or each.level is None or each.level == self.worst:
+            return False
+        return self.floor is None or self.places[each.level] <= self.places[self.floor]
+
+    def place(self, i):
+        return self.places[self.inputs[i].level]
+
+    def command(self, word, i):
+        if word == "lockout":
+            self.locked.add(i)
+            if self.forced == i:
+                self.forced = None
+        elif word == "unlock":
+            self.locked.discard(i)
+        elif word == "forced" and i not in self.locked:
+            self.forced, self.manual = i, None
+        elif word == "manual" and i not in self.locked and self.forced is None:
+            self.manual = i
+        elif word == "clear":
+            self.forced, self.manual = None, None
+
+    def millisecond(self, told):
+        """What is told in it: a list of (word, input, level)."""
+        ups = [each.up for each in self.inputs]
+        cleared = set()
+        for word, i, level in told:
+            if word in ("up", "down"):
+                ups[i] = word == "up"
+            elif word == "has":
+                self.inputs[i].level = level
+            elif word == "clear-wtr":
+                cleared.add(i)
+            else:
+                self.command(word, i)
+        for i, each in enumerate(self.inputs):
+            each.pass_millisecond(ups[i], i in cleared, self.holdoff, self.wtr)
+        eligible = [i for i in range(len(self.inputs)) if self.is_eligible(i)]
+        best_level = min((self.place(i) for i in eligible), default=None)
+        if self.manual is not None and (self.manual not in eligible or self.place(self.manual) > best_level):
+            self.manual = None
+        self.taken = self.choice(eligible, best_level)
+        self.was_locked = self.was_locked or self.taken is not None
+
+    def choice(self, eligible, best_level):
+        if self.forced is not None:
+            return self.forced if self.forced in eligible else None
+        if self.manual is not None:
+            return self.manual
+        if not eligible:
+            return None
+        of_best_level = [i for i in eligible if self.place(i) == best_level]
+        first = min(self.inputs[i].priority for i in of_best_level)
+        best = [i for i in of_best_level if self.inputs[i].priority == first]
+        return self.taken if self.taken in best else best[0]
+
+    def level(self):
+        return self.own if self.taken is None else self.inputs[self.taken].level
+
+    def sent_back(self, i):
+        if self.taken is not None and self.inputs[self.taken].bundle == self.inputs[i].bundle:
+            return self.worst
+        return self.level()
+
+    def mode(self):
+        return "forced" if self.forced is not None else "manual" if self.manual is not None else "auto"
+
+    def state(self):
+        return "locked" if self.taken is not None else "holdover" if self.was_locked else "freerun"
+
+    def answer(self):
+        """What stays while nothing is told and no input's "failed" changes."""
+        sent = [self.sent_back(i) for i in range(len(self.inputs))]
+        taken = "none" if self.taken is None else str(self.taken)
+        return [taken, self.level(), self.mode(), self.state()] + sent
+
+
+def run(case):
+    """The text of an element's steps: at 0, at each millisecond in which something is told, and where it is due."""
+    element = Element(*case["element"])
+    told = {}
+    for at, word, i, level in case["events"]:
+        told.setdefault(at, []).append((word, i, level))
+    # Which milliseconds are steps, and where "failed" changes, is seen by going through all of them.
+    rows = []
+    failed = None
+    for now in range(case["until"] + 1):
+        before = element.answer()
+        element.millisecond(told.get(now, []))
+        failed_now = [each.failed for each in element.inputs]
+        conditions = [each.condition(element.holdoff, element.wtr) for each in element.inputs]
+        if now == 0 or now in told or failed_now != failed:
+            rows.append([now, element.answer(), conditions, failed_now])
+        else:
+            assert before == element.answer(), "a quiet millisecond changed something"
+        failed = failed_now
+    text = ""
+    for now, answer, conditions, _ in rows:
+        text += f"{now} {' '.join(answer)} {' '.join(conditions)}\n"
+    return text
+
+
+def random_case(chance):
+    option = chance.choice(["I", "II"])
+    names = LEVELS[option]
+    own = chance.choice(names[:-1])
+    floor = chance.choice([None, None, chance.choice(names[:-1])])
+    some = chance.sample(names, 3) + [names[-1]]
+    count = chance.randint(1, 5)
+    bundles = [chance.choice([i, 10]) for i in range(count)]
+    inputs = [(chance.randint(1, 3), chance.choice(some + [None]), bundles[i]) for i in range(count)]
+    until = 6000
+    words = ["up", "down", "down", "up", "has", "has", "has", "clear-wtr", "lockout", "unlock", "forced", "manual"]
+    words += ["clear"]
+    events = []
+    times = [chance.randint(0, until) for _ in range(chance.randint(0, 40))]
+    # Some stand where a time just ends, or together.
+    times += [min(until, at + chance.choice([0, 299, 300, 301, 500, 501])) for at in times[:10]]
+    for at in sorted(times):
+        word = chance.choice(words)
+        level = chance.choice(some + [None]) if word == "has" else None
+        events.append((at, word, chance.randrange(count), level))
+    wtr = chance.choice([0, 500, 500, 2000])
+    element = (option, own, floor, chance.choice([300, 300, 700]), wtr, inputs)
+    return {"element": element, "events": events, "until": until}
+
+
+def case_text(case):
+    option, own, floor, holdoff, wtr, inputs = case["element"]
+    words = [option, own, floor or "-", holdoff, wtr, len(inputs)]
+    for priority, first, bundle in inputs:
+        words += [priority, first or "-", bundle]
+    words += [case["until"], len(case["events"])]
+    for at, word, i, level in case["events"]:
+        words += [at, word, i, level or "-"]
+    return " ".join(str(word) for word in words) + "\n"
+
+
+# The small program: the element is stepped at 0, where something is told, and where it is due.
+PROGRAM = r"""//! Steps one element through a history, and prints what it gives at each step.
+#![tactic(auto)]
+
+use std::alloc::{AllocError, Global};
+use std::io;
+use std::marker::Brand;
+use std::str::SplitAsciiWhitespace;
+use std::sync::ledger::{Blank, Ledger};
+use sync_edge::{Rows, Steps};
+use sync_element::{ClockState, Cmd, Cond, Config, Element, InputConfig, InputEvent, Mode};
+use sync_ql::{Level, NetOption, do_not_use, level_of_name, name_of};
+
+fn word<'a>(words: &mut SplitAsciiWhitespace<'a>) -> &'a str {
+    words.next().unwrap_or("")
+}
+
+fn number(words: &mut SplitAsciiWhitespace<'_>) -> u64 {
+    word(words).parse::<u64>().unwrap_or(0)
+}
+
+fn level(option: NetOption, words: &mut SplitAsciiWhitespace<'_>) -> Option<Level> {
+    level_of_name(option, word(words).as_bytes())
+}
+
+fn config(alloc: Global, option: NetOption, words: &mut SplitAsciiWhitespace<'_>) -> Result<Config, AllocError> {
+    let own = level(option, words).unwrap_or(do_not_use(option));
+    let floor = level(option, words);
+    let holdoff = number(words) as u32;
+    let wtr = number(words) as u32;
+    let count = number(words);
+    let mut inputs = Rows::new(alloc);
+    for _ in 0..count {
+        let priority = number(words) as u8;
+        let first = level(option, words);
+        let bundle = number(words) as u32;
+        let input = InputConfig { priority, first, bundle };
+        if inputs.push(input).is_err() {
+            return Err(AllocError);
+        }
+    }
+    Ok(Config { own, floor, holdoff, wtr, inputs })
+}
+
+fn event(kind: &str, i: u32, level: Option<Level>) -> InputEvent {
+    match kind {
+        "up" => InputEvent::Signal(i, true),
+        "down" => InputEvent::Signal(i, false),
+        "has" => InputEvent::Heard(i, level),
+        "clear-wtr" => InputEvent::ClearWtr(i),
+        "lockout" => InputEvent::Command(Cmd::Lockout(i)),
+        "unlock" => InputEvent::Command(Cmd::Unlock(i)),
+        "forced" => InputEvent::Command(Cmd::Forced(i)),
+        "manual" => InputEvent::Command(Cmd::Manual(i)),
+        _ => InputEvent::Command(Cmd::Clear),
+    }
+}
+
+fn show<R: Print>(rt: &R, element: &Element, now: u64, count: u32) -> io::Result<()> {
+    print!(rt; "{now} ")?;
+    match element.selected() {
+        Some(taken) => print!(rt; "{taken} ")?,
+        None => print!(rt; "none ")?,
+    }
+    let mode = match element.mode() {
+        Mode::Auto => "auto",
+        Mode::Forced => "forced",
+        Mode::Manual => "manual",
+    };
+    let state = match element.state() {
+        ClockState::FreeRun => "freerun",
+        ClockState::Locked => "locked",
+        ClockState::Holdover => "holdover",
+    };
+    let name = name_of(element.level());
+    print!(rt; "{name} {mode} {state}")?;
+    for i in 0..count {
+        let sent = name_of(element.out_to(i));
+        print!(rt; " {sent}")?;
+    }
+    for i in 0..count {
+        match element.cond(i) {
+            Cond::Good => print!(rt; " good")?,
+            Cond::Failed => print!(rt; " failed")?,
+            Cond::HoldOff(left) => print!(rt; " holdoff:{left}")?,
+            Cond::Restoring(left) => print!(rt; " restoring:{left}")?,
+        }
+    }
+    println!(rt; "")
+}
+
+fn run<L: Ledger, R: Print + Input + AllocGlobal>(rt: &R, blank: Blank) -> io::Result<()> {
+    let mut steps = Steps::<L>::new(blank);
+    let text = io::read_to_string(rt.alloc(), rt.reader())?;
+    let mut words = text.as_str().split_ascii_whitespace();
+    let option = if word(&mut words) == "I" { NetOption::I } else { NetOption::II };
+    let config = config(rt.alloc(), option, &mut words)?;
+    let count = config.inputs.as_slice().len() as u32;
+    let Ok(mut element) = Element::new(rt.alloc(), config) else {
+        return println!(rt; "out of memory");
+    };
+    let until = number(&mut words);
+    let mut left = number(&mut words);
+    let mut at = if left > 0 { number(&mut words) } else { until + 1 };
+    let mut now = 0;
+    while now <= until {
+        let mut events = Vec::new(rt.alloc());
+        while left > 0 && at == now {
+            let kind = word(&mut words);
+            let i = number(&mut words) as u32;
+            let level = level(option, &mut words);
+            events.push(event(kind, i, level))?;
+            left -= 1;
+            at = if left > 0 { number(&mut words) } else { until + 1 };
+        }
+        element.step(now, events.as_slice(), &mut steps);
+        show(rt, &element, now, count)?;
+        now = at.min(element.due().unwrap_or(until + 1));
+    }
+    Ok(())
+}
+
+fn main(rt: HostRuntime) -> io::Result<()> {
+    run::<Brand, _>(&rt, Blank::new(1))
+}
+"""
+
+
+def write_cases(folder, cases):
+    for number, case in enumerate(cases):
+        path = os.path.join(folder, f"history{number:04}")
+        with open(path, "w", encoding="ascii") as out:
+            out.write(case_text(case))
+        with open(path + ".stdout", "w", encoding="ascii") as out:
+            out.write(run(case))
+
+
+def make_repository(folder):
+    top = os.path.dirname(os.path.dirname(os.path.abspath(__file__)))
+    wanted = ["element_cases", "sync_element"]
+    lines = {}
+    with open(os.path.join(top, "crates.txt"), encoding="ascii") as file:
+        for line in file:
+            match = re.match(r"(\w+):(.*)", line)
+            if match:
+                lines[match[1]] = match[2].split()
+    lines["element_cases"] = ["sync_element", "sync_ql", "sync_edge"]
+    kept = []
+    while wanted:
+        crate = wanted.pop()
+        if crate in lines and crate not in kept:
+            kept.append(crate)
+            wanted += lines[crate]
+    for crate in kept:
+        if crate != "element_cases":
+            shutil.copytree(
+                os.path.join(top, "crates", crate),
+                os.path.join(folder, "crates", crate),
+                ignore=shutil.ignore_patterns("out"),
+            )
+    os.makedirs(os.path.join(folder, "crates", "element_cases", "src"))
+    with open(os.path.join(folder, "crates", "element_cases", "src", "main.rt"), "w", encoding="utf-8") as out:
+        out.write(PROGRAM)
+    with open(os.path.join(folder, "crates.txt"), "w", encoding="ascii") as out:
+        out.writelines(f"{crate}: {' '.join(lines[crate])}\n" for crate in kept)
+
+
+def main():
+    words = argparse.ArgumentParser(description=__doc__, formatter_class=argparse.RawDescriptionHelpFormatter)
+    words.add_argument("--histories", type=int, default=300)
+    words.add_argument("--seed", type=int, default=1)
+    words.add_argument("--keep", help="make the repository and the cases in this folder, and leave them there")
+    given = words.parse_args()
+    chance = random.Random(given.seed)
+    cases = [random_case(chance) for _ in range(given.histories)]
+    folder = given.keep or tempfile.mkdtemp(prefix="reference-")
+    try:
+        make_repository(folder)
+        os.makedirs(os.path.join(folder, "cases"))
+        write_cases(os.path.join(folder, "cases"), cases)
+        tried = subprocess.run(
+            ["rt", "try", "--cases", os.path.join(folder, "cases")],
+            cwd=os.path.join(folder, "crates", "element_cases"),
+            check=False,
+        )
+        return tried.returncode
+    finally:
+        if not given.keep:
+            shutil.rmtree(folder)
+
+
+if __name__ == "__main__":
+    sys.exit(main())
