@@ -8,9 +8,8 @@ in all; the certificate ranks each nominated line by the longest chain of hops t
 every key is written and each element has a source of its own. Each program is run in turn, `check PLAN CERT`,
 `rank PLAN` (there the last plan is a dense one of 4,000 links, with up to 60 inputs at
 an element) or `gen N`, and its least and median wall time, its least processor time and its peak
-memory are printed. OTHER may be any program that takes the same words; the environment is passed on
-(BASELINE_READERS tells the one of bench/README.md how to read plans). The last line fits a power of the
-number of elements to the least times, less that of a bare start.
+memory are printed. OTHER may be any program that takes the same words, as plain.rs. The last line fits a
+power of the number of elements to the least times, less that of a bare start.
 """
 import argparse
 import math
