@@ -1,0 +1,6 @@
+pub mod Pcap
+pub mod Refusal
+pub mod Written
+pub mod Timed
+pub mod Steps
+pub mod Examples
