@@ -1,0 +1,345 @@
+#!/usr/bin/env python3
+"""Compares the answer of `rank` to random plans with up to three faults with a reading of its own.
+
+usage: plans_random.py PROGRAM [--plans N] [--seed N]
+       plans_random.py --write FOLDER [--plans N] [--seed N]
+
+A plan is made as tables of keys and values, some of them wrong: a key that is unknown or missing, a value of
+another kind, a version, a name, an end, a range, a level, a bundle, too many inputs. What is expected is made of
+these tables by the order of rules in docs/formats.md, and the ranks of a plan without fault are those of
+rank_random.py. The tables are written in random spellings of TOML: sections as headers in any order or inline, keys
+in any order, quotes, escapes, bases of integers, comments and both line ends. With --write the plans are written to
+a folder for `rt try --cases FOLDER`. It needs networkx.
+"""
+import argparse
+import collections
+import os
+import random
+import re
+import subprocess
+import sys
+import tempfile
+
+import rank_random
+
+LEVELS = {
+    "I": "ePRTC PRTC ePRC PRC SSU-A SSU-B eEEC SEC DNU".split(),
+    "II": "ePRTC PRTC ePRC PRS STU ST2 TNC ST3E eEEC ST3 SMC PROV DUS".split(),
+}
+LEVELS = {option: ["QL-" + name for name in names] for option, names in LEVELS.items()}
+# For each section its keys with their kind, those that a row must have first.
+KEYS = {
+    "element": {"name": str, "own": str, "floor": str, "holdoff": int, "wtr": int},
+    "link": dict(name=str, a=str, b=str, priority_a=int, priority_b=int, delay_a=int, delay_b=int, bundle=str),
+    "source": {"name": str, "at": str, "level": str, "priority": int},
+}
+MUST = {"element": ["name"], "link": ["name", "a", "b"], "source": ["name", "at", "level"]}
+RANGES = {"holdoff": (300, 1800), "wtr": (0, 12), "priority": (0, 255), "delay": (1, 2000)}
+SECTIONS = ["element", "link", "source"]
+# Values as they are written that are neither text nor integer.
+OTHERS = ["1.0", "true", "[]", "{}", "1979-05-27", "07:32:00", "nan", "[1]", "{x = 1}", "1e3"]
+
+
+class Other(str):
+    """A value that is neither text nor integer, as it is written."""
+
+
+class Refused(Exception):
+    """The plan is refused."""
+
+
+# ---- what is expected
+
+
+def is_kind(value, kind):
+    return isinstance(value, kind) and not isinstance(value, Other)
+
+
+def is_name(text):
+    return re.fullmatch(r"[A-Za-z0-9_-]{1,32}", text) is not None
+
+
+def refuse(broken, text):
+    if broken:
+        raise Refused(f"bad plan {text}\n")
+
+
+def read_tables(head):
+    known = {"version", "option", *SECTIONS}
+    refuse(set(head) - known, "23 head 0")
+    version, option = head.get("version", 1), head.get("option", "I")
+    sections = [head.get(section, []) for section in SECTIONS]
+    right = is_kind(version, int) and version in (1, 2) and is_kind(option, str) and option in LEVELS
+    refuse(not right or not all(isinstance(rows, list) for rows in sections), "24 head 0")
+    for section, rows in zip(SECTIONS, sections):
+        for number, row in enumerate(rows, 1):
+            place = f"{section} {number}"
+            refuse(not isinstance(row, dict), f"24 {place}")
+            known = set(KEYS[section]) - ({"bundle"} if version == 1 else set())
+            refuse(set(row) - known or set(MUST[section]) - set(row), f"23 {place}")
+            refuse(not all(is_kind(value, KEYS[section][key]) for key, value in row.items()), f"24 {place}")
+    return option, sections
+
+
+def out_of_range(row):
+    for key, value in row.items():
+        low, high = RANGES.get(key.removesuffix("_a").removesuffix("_b"), (value, value))
+        if isinstance(value, int) and not low <= value <= high:
+            return True
+    return False
+
+
+def read_rows(option, sections):
+    elements, links, sources = sections
+    inputs = collections.Counter()
+
+    def check(number, place, broken):
+        refuse(broken, f"25 {number} {place}")
+
+    for number, row in enumerate(elements):
+        place = f"element {number + 1}"
+        check(16, place, not is_name(row["name"]))
+        check(17, place, any(row["name"] == earlier["name"] for earlier in elements[:number]))
+        check(20, place, out_of_range(row))
+        levels = [row[key] for key in ("own", "floor") if key in row]
+        check(21, place, any(level not in LEVELS[option][:-1] for level in levels))
+    names = [row["name"] for row in elements]
+    for number, row in enumerate(links):
+        place, ends = f"link {number + 1}", {row["a"], row["b"]}
+        check(16, place, not is_name(row["name"]))
+        check(17, place, any(row["name"] == earlier["name"] for earlier in links[:number]))
+        check(18, place, not ends <= set(names))
+        check(19, place, row["a"] == row["b"])
+        check(20, place, out_of_range(row))
+        if "bundle" in row:
+            bundle = [earlier for earlier in links[:number] if earlier.get("bundle") == row["bundle"]]
+            others = [earlier for earlier in bundle if {earlier["a"], earlier["b"]} != ends]
+            check(39, place, not is_name(row["bundle"]) or others)
+        for end in "ab":
+            inputs[row[end]] += row.get("priority_" + end, 0) > 0
+        check(15, place, max(inputs[end] for end in ends) > 64)
+    for number, row in enumerate(sources):
+        place = f"source {number + 1}"
+        check(16, place, not is_name(row["name"]))
+        check(17, place, any(row["name"] == earlier["name"] for earlier in links + sources[:number]))
+        check(18, place, row["at"] not in names)
+        check(20, place, out_of_range(row))
+        check(21, place, row["level"] not in LEVELS[option])
+        inputs[row["at"]] += row.get("priority", 1) > 0
+        check(15, place, inputs[row["at"]] > 64)
+
+
+def expected(head):
+    try:
+        option, sections = read_tables(head)
+        read_rows(option, sections)
+    except Refused as refused:
+        return 3, refused.args[0]
+    names = [row["name"] for row in sections[0]]
+    links = [
+        (names.index(r["a"]), names.index(r["b"]), r.get("priority_a", 0), r.get("priority_b", 0), r.get("bundle"))
+        for r in sections[1]
+    ]
+    status, text = rank_random.expected((2, len(names), links, []))
+    return status, re.sub(r"L(\d+)>E(\d+)", lambda m: f"{sections[1][int(m[1])]['name']}>{names[int(m[2])]}", text)
+
+
+# ---- random plans
+
+
+def random_tables(chance):
+    """A plan without a fault."""
+    option = chance.choice(["I", "I", "II"])
+    bundled = chance.random() < 0.7
+    head = {"version": 2} if bundled else chance.choice([{}, {"version": 1}, {"version": 2}])
+    if option == "II" or chance.random() < 0.5:
+        head["option"] = option
+    letters = ["A", "B", "C", "a", "_", "-", "0", "x" * 32, "L1", "T"]
+    chance.shuffle(letters)
+    elements, links, sources = [], [], []
+    for name in letters[: chance.randint(1, 6)]:
+        keys = {"own": chance.choice(LEVELS[option][:-1]), "floor": chance.choice(LEVELS[option][:-1])}
+        keys |= {"holdoff": chance.choice([300, 301, 1000, 1799, 1800]), "wtr": chance.choice([0, 1, 5, 11, 12])}
+        elements.append({"name": name} | {key: keys[key] for key in keys if chance.random() < 0.3})
+    names = [row["name"] for row in elements]
+    busy = len(names) > 1 and chance.random() < 0.05
+    for number in range(chance.randint(62, 67) if busy else chance.randint(0, 8) if len(names) > 1 else 0):
+        a, b = names[:2] if busy else chance.sample(names, 2)
+        keys = {"priority_a": chance.choice([0, 0, 0, 1, 255]), "priority_b": chance.choice([0, 1, 2, 254, 255])}
+        keys |= {"delay_a": chance.choice([1, 10, 2000]), "delay_b": chance.choice([1, 10, 2000])}
+        row = {"name": f"L{number}", "a": a, "b": b} | {key: keys[key] for key in keys if chance.random() < 0.6}
+        if busy and chance.random() < 0.99:
+            row["priority_b"] = 1
+        if bundled and chance.random() < 0.6:
+            row["bundle"] = "-".join(sorted((a[:4], b[:4]))) + chance.choice(["", "", "2"])
+        links.append(row)
+    for number in range(chance.randint(0, 4)):
+        row = {"name": f"S{number}", "at": chance.choice(names), "level": chance.choice(LEVELS[option])}
+        sources.append(row | ({"priority": chance.choice([0, 1, 255])} if chance.random() < 0.5 else {}))
+    return head | dict(element=elements, link=links, source=sources)
+
+
+def put_fault(chance, head):
+    """Makes one thing wrong, mostly."""
+    fault = chance.choice("head unknown missing kind table name twice end range level level bundle bundle".split())
+    section = "link" if fault == "bundle" else chance.choice(["element", "link", "link", "source"])
+    rows = head[section]
+    if not isinstance(rows, list):
+        return
+    row = chance.choice(rows) if rows else None
+    if fault == "head":
+        key = chance.choice(["version", "option", "color", *SECTIONS])
+        values = {"version": [0, 3, -1, "2", 2**63 - 1], "option": ["III", "i", "", 1], "color": [1, "x"]}
+        head[key] = chance.choice(values.get(key, [1, "x"]) + [Other(chance.choice(OTHERS[:2] + OTHERS[3:7]))])
+    elif fault == "table":
+        rows.insert(chance.randint(0, len(rows)), chance.choice([1, "A", Other("[]"), Other("1.5"), Other("[{}]")]))
+    elif not isinstance(row, dict):
+        return
+    elif fault == "unknown":
+        key = chance.choice(["color", "Name", "name_", "", "version", "bundle", "priority", "at", "a", "delay"])
+        row[key] = chance.choice([1, "x"])
+    elif fault == "missing":
+        row.pop(chance.choice(MUST[section]), None)
+    elif fault == "kind":
+        key = chance.choice(list(KEYS[section]))
+        row[key] = chance.choice([1 if KEYS[section][key] is str else "1", Other(chance.choice(OTHERS))])
+    elif fault == "name":
+        names = ["", "x" * 33, "a b", "L>A", "ä", "a.b", "\n", "a'", 'a"', "\\", "\0", "\U0001f570"]
+        row["name"] = chance.choice(names)
+    elif fault == "twice":
+        sections = [head[section] for section in SECTIONS if isinstance(head[section], list)]
+        row["name"] = chance.choice([r.get("name", "A") for rows in sections for r in rows if isinstance(r, dict)])
+    elif fault == "end":
+        row[chance.choice(["at"] if section == "source" else ["a", "b"])] = chance.choice(["A", "B", "", "Q", "L1", row.get("a", "A")])
+    elif fault == "range":
+        key = chance.choice([key for key, kind in KEYS[section].items() if kind is int])
+        low, high = RANGES[key.removesuffix("_a").removesuffix("_b")]
+        row[key] = chance.choice([low - 1, high + 1, -1, 2**63 - 1, -(2**63), 2**32 + low, 2**8 + low])
+    elif fault == "level" and section != "link":
+        key = chance.choice(["own", "floor"]) if section == "element" else "level"
+        row[key] = chance.choice([*LEVELS["I"], *LEVELS["II"], "", "code-3", "PRC", "QL-prc"])
+    elif fault == "bundle":
+        row["bundle"] = chance.choice(["", "x" * 33, "a>b", "x" * 32, row.get("name")])
+        for row in chance.sample(rows, 2) if len(rows) > 1 and chance.random() < 0.8 else []:
+            if isinstance(row, dict):
+                row["bundle"] = "T"
+
+
+# ---- spellings
+
+
+def spell_key(chance, key):
+    if key and chance.random() < 0.9:
+        return key
+    return chance.choice(["'%s'", '"%s"']) % key
+
+
+def spell_text(chance, text):
+    how = chance.randrange(5)
+    if how == 0 and "'" not in text and text.isprintable():
+        return f"'{text}'"
+    if how == 1 and "'" not in text and text.isprintable():
+        return f"'''{text}'''"
+    some = [c for c in text if how == 2 and ord(c) < 65536 and chance.random() < 0.3]
+    escaped = "".join(f"\\u{ord(c):04x}" if ord(c) < 32 or c in '"\\' or c in some else c for c in text)
+    return f'"""\n{escaped}"""' if how == 3 else f'"{escaped}"'
+
+
+def spell(chance, value, wide):
+    if isinstance(value, Other):
+        return str(value)
+    if isinstance(value, str):
+        return spell_text(chance, value)
+    if isinstance(value, int):
+        if value < 0 or chance.random() < 0.8:
+            return str(value)
+        return format(value, chance.choice(["+", "_", "#x", "#o", "#b"]))
+    if isinstance(value, list):
+        gap = "\n  " if wide else " "
+        end = chance.choice(["", ","]) if value else ""
+        return "[" + ",".join(gap + spell(chance, item, wide) for item in value) + end + "]"
+    keys = list(value.items())
+    chance.shuffle(keys)
+    return "{ " + ", ".join(f"{spell_key(chance, k)} = {spell(chance, v, wide)}" for k, v in keys) + " }"
+
+
+def plan_text(chance, head):
+    lines, tables = [], []
+    for key, value in chance.sample(list(head.items()), len(head)):
+        if isinstance(value, list) and all(isinstance(row, dict) for row in value) and chance.random() < 0.8:
+            tables.append([(key, row) for row in value])
+        else:
+            wide = chance.random() < 0.5
+            lines.append(f"{spell_key(chance, key)} = {spell(chance, value, wide)}{chance.choice(['', ' # a'])}")
+    # Rows of several sections may be mixed, each in its own order.
+    while any(tables):
+        group = chance.choice([group for group in tables if group])
+        for _ in range(chance.choice([1, len(group)])):
+            if group:
+                key, row = group.pop(0)
+                lines.append(chance.choice(["[[%s]]", "[[%s]]", "[[ '%s' ]] # x"]) % key)
+                keys = chance.sample(list(row.items()), len(row))
+                for key, value in keys:
+                    equals = chance.choice([" = ", "=", "\t=  "])
+                    lines.append(spell_key(chance, key) + equals + spell(chance, value, False))
+    mark = "\ufeff" if chance.random() < 0.1 else ""
+    text = mark + "\n".join(lines) + chance.choice(["", "\n"])
+    return text.replace("\n", "\r\n") if chance.random() < 0.2 else text
+
+
+def random_plan(chance):
+    head = random_tables(chance)
+    for _ in range(chance.choice([0, 1, 1, 1, 2, 3])):
+        put_fault(chance, head)
+    return plan_text(chance, head).encode("utf-8"), expected(head)
+
+
+# ---- the comparison
+
+
+def write_cases(folder, plans):
+    os.makedirs(folder, exist_ok=True)
+    for number, (plan, (_, text)) in enumerate(plans):
+        path = os.path.join(folder, f"plan{number:05}")
+        for ending, what in (("", plan), (".stdout", text.encode("ascii")), (".args", b"rank\n{}\n")):
+            with open(path + ending, "wb") as out:
+                out.write(what)
+
+
+def compare(program, plans):
+    wrong = 0
+    with tempfile.TemporaryDirectory() as folder:
+        path = os.path.join(folder, "plan")
+        for number, (plan, (status, text)) in enumerate(plans):
+            with open(path, "wb") as out:
+                out.write(plan)
+            run = subprocess.run([program, "rank", path], capture_output=True, check=False)
+            if (run.returncode, run.stdout) != (status, text.encode("ascii")):
+                wrong += 1
+                print(f"plan {number}, {plan}: {text!r} is expected, and {(run.returncode, run.stdout)} was answered")
+    return wrong
+
+
+def main():
+    words = argparse.ArgumentParser()
+    words.add_argument("program", nargs="?")
+    words.add_argument("--write")
+    words.add_argument("--plans", type=int, default=5000)
+    words.add_argument("--seed", type=int, default=1)
+    given = words.parse_args()
+    chance = random.Random(given.seed)
+    plans = [random_plan(chance) for _ in range(given.plans)]
+    told = collections.Counter()
+    for _, (status, text) in plans:
+        told[re.sub(r"( \w+ \d+)?\n", "", text) if status == 3 else ("ranked", "a cycle")[status]] += 1
+    print(f"{len(plans)} plans: " + ", ".join(f"{count} {what}" for what, count in sorted(told.items())))
+    if given.write:
+        write_cases(given.write, plans)
+        return 0
+    wrong = compare(os.path.abspath(given.program), plans)
+    print(f"{wrong} wrong")
+    return 1 if wrong else 0
+
+
+if __name__ == "__main__":
+    sys.exit(main())
