@@ -13,7 +13,7 @@ use sync_edge::{NoMemory, Rows};
 ///
 /// Fields are parted by commas and may be quoted, spaces are part of a field, records may differ in
 /// length, the first record is one like the others, and a byte order mark at the start is passed
-/// over. Every text has records; an error is want of memory.
+/// over. No text is refused; an error is want of memory.
 /// After RFC 4180, as the crate `csv` reads it.
 pub fn read_records(alloc: Global, bytes: &[u8]) -> Result<Rows<Record>, NoMemory>
     ensures { IfOk result (λ records. records ≡ records_of bytes.now) }

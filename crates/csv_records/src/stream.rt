@@ -58,6 +58,7 @@ impl<'a> Records<'a> {
         requires { self.old.spent ≡ false }
         ensures found { result ≡ Ok true → self.old.left ≡ self.new.taken ∷ self.new.left }
         ensures none { result ≡ Ok false → self.old.left ≡ [] }
+        ensures ended { result ≡ Ok false → self.new.left ≡ [] }
         ensures goes_on { OnOk result (self.new.spent ≡ false) }
         ensures spent { OnErr result (self.new.spent ≡ true) }
     {

@@ -3,7 +3,7 @@ use Rattle.std.specs.Prelude.{ℕ, ⊤}
 use Rattle.sync_top.specs.declared.status.Status.{Status}
 use Rattle.sync_top.specs.declared.status.Status.TheVariants.{Done, Refuted, Usage, BadPlan, BadCert, BadFrames, ReadFault, WriteFault, TooLong, NoMemory}
 
--- the number of each status; 5 and 11 are kept for forms to come
+-- the number of each status; 5 is kept for forms to come
 abbrev pub exit_number : Status → ℕ
 exit_number Done = 0
 exit_number Refuted = 1

@@ -1,5 +1,5 @@
 -- What a step of the work did: what only private clauses cite.
-use Rattle.std.specs.Prelude.{◌≡◌, ◌≢◌, ◌↔◌, ℕ, ⊤, IsTrue, List, IfSome, Result, Ok, Err}
+use Rattle.std.specs.Prelude.{◌≡◌, ◌≢◌, ◌↔◌, ℕ, ⊤, IsTrue, List, Option, Some, None, IfSome, Result, Ok, Err}
 use Rattle.sync_edge.specs.Contents.{Contents}
 use Rattle.sync_edge.specs.Faults.{Rose}
 use Rattle.sync_top.specs.declared.status.Status.{Status}
@@ -45,3 +45,15 @@ abbrev pub UsageWhere : Result Reply Stop → Type 0 → Type 0
 UsageWhere (Ok reply) P = (reply.status ≡ Usage) ↔ P
 UsageWhere (Err OutOfMemory) P = ⊤
 UsageWhere (Err (Ended reply)) P = (reply.status ≡ Usage) ↔ P
+
+-- the status in which a step ended the work
+abbrev pub stopped_in : {A : Type 0} → Result A Stop → Option Status
+stopped_in (Ok value) = None
+stopped_in (Err OutOfMemory) = None
+stopped_in (Err (Ended reply)) = Some reply.status
+
+-- the status of the whole work
+abbrev pub status_of : Result Reply Stop → Option Status
+status_of (Ok reply) = Some reply.status
+status_of (Err OutOfMemory) = None
+status_of (Err (Ended reply)) = Some reply.status

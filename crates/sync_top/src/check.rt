@@ -5,7 +5,7 @@ ghost use Rattle.sync_top.specs.Answer.{text_line, certificate_refusal, certific
 ghost use Rattle.sync_top.specs.Form.{check};
 ghost use Rattle.rank_cert.specs.Ranks.{IsRanked};
 ghost use Rattle.rank_cert.specs.Rules.{NamesLine};
-ghost use Rattle.sync_top.specs.Work.{Reads, Replies, NeverUsage};
+ghost use Rattle.sync_top.specs.Work.{Reads, Replies, NeverUsage, stopped_in, status_of};
 
 use crate::input::file;
 use crate::plan_input::plan_in;
@@ -51,6 +51,7 @@ fn cert_in<F: Folder>(alloc: Global, folder: &mut F, plan: &Plan, name: &str) ->
     ensures reads { Reads (λ cert. cert) (across F.contents F.steady F.faults folder.old folder.new) result
         (ranks_in plan.now name.now) }
     ensures form { NeverUsage result }
+    ensures no_plan { stopped_in result ≢ Some Status.BadPlan }
     ensures keeps { KeepsFolder F.contents F.steady F.faults folder.old folder.new }
     ensures once { F.tries folder.new ≤ F.tries folder.old + 1 }
     ensures ranked { IfOk result (IsRanked plan.now) }
@@ -78,6 +79,7 @@ fn documents<F: Folder>(
     ensures form { NeverUsage result }
     ensures keeps { KeepsFolder F.contents F.steady F.faults folder.old folder.new }
     ensures once { F.tries folder.new ≤ F.tries folder.old + 2 }
+    ensures plan_alone { stopped_in result ≡ Some Status.BadPlan → F.tries folder.new ≤ F.tries folder.old + 1 }
     ensures ranked { IfOk result (λ read. IsRanked read.0 read.1) }
 {
     let plan = plan_in(alloc, folder, plan)?;
@@ -108,6 +110,7 @@ fn verdict(alloc: Global, plan: &Plan, cert: &Cert) -> Result<Reply, NoMemory>
     requires { IsRanked plan.now cert.now }
     ensures verdict { IfOk result (λ reply. IsVerdict plan.now cert.now reply.status reply.text) }
     ensures form { IfOk result (λ reply. reply.status ≢ Status.Usage) }
+    ensures no_plan { IfOk result (λ reply. reply.status ≢ Status.BadPlan) }
 {
     match rank_cert::check(plan, cert) {
         Verdict::Rising => Ok(Reply {
@@ -134,6 +137,7 @@ pub(crate) fn check<F: Folder>(
     ensures verdict { IfOk result (λ reply. reply.status ≢ Status.Usage) }
     ensures keeps { KeepsFolder F.contents F.steady F.faults folder.old folder.new }
     ensures once { F.tries folder.new ≤ F.tries folder.old + 2 }
+    ensures plan_alone { status_of result ≡ Some Status.BadPlan → F.tries folder.new ≤ F.tries folder.old + 1 }
 {
     let (plan, cert) = documents(alloc, folder, plan, cert)?;
     match verdict(alloc, &plan, &cert) {

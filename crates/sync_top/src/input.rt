@@ -1,7 +1,7 @@
-ghost use Rattle.std.specs.Prelude.{◌+◌, ◌≤◌};
+ghost use Rattle.std.specs.Prelude.{◌≢◌, ◌+◌, ◌≤◌, Some};
 ghost use Rattle.sync_edge.specs.Contents.{KeepsFolder};
 ghost use Rattle.sync_top.specs.Answer.{across, file};
-ghost use Rattle.sync_top.specs.Work.{Reads, NeverUsage};
+ghost use Rattle.sync_top.specs.Work.{Reads, NeverUsage, stopped_in};
 
 use crate::reply::{Reply, Stop, line_text};
 use crate::status::Status;
@@ -16,6 +16,7 @@ pub(crate) fn file<F: Folder>(alloc: Global, folder: &mut F, name: &str) -> Resu
     ensures reads { Reads (λ t. t) (across F.contents F.steady F.faults folder.old folder.new) result
         (file name.now) }
     ensures form { NeverUsage result }
+    ensures no_plan { stopped_in result ≢ Some Status.BadPlan }
     ensures keeps { KeepsFolder F.contents F.steady F.faults folder.old folder.new }
     ensures once { F.tries folder.new ≤ F.tries folder.old + 1 }
 {

@@ -22,7 +22,7 @@ pub fn one_answer_law()
 {}
 
 /// The law that the test of ranks accepts what the planner wrote: where `rank` of a plan was done,
-/// `check` of the plan and of a file that holds what was written is done too.
+/// `check` of the plan and of a file of nonempty name that holds what was written is done too.
 ///
 /// It does nothing: its contract is the law. This project's own.
 pub fn planned_is_accepted_law()

@@ -1,4 +1,4 @@
-ghost use Rattle.std.specs.Prelude.{◌≡◌, ◌≢◌, ◌↔◌, ◌+◌, ◌≤◌, map, None, false, IfOk, IfSome, IsTrue};
+ghost use Rattle.std.specs.Prelude.{◌≡◌, ◌≢◌, ◌↔◌, ◌+◌, ◌≤◌, map, None, Some, false, IfOk, IfSome, IsTrue};
 ghost use Rattle.std.specs.String.{string_bytes};
 ghost use Rattle.std.specs.Io.KnownBytes.{Appends};
 ghost use Rattle.sync_edge.specs.Contents.{KeepsFolder};
@@ -6,7 +6,7 @@ ghost use Rattle.sync_edge.specs.Faults.{Rose};
 ghost use Rattle.sync_top.specs.Status.{OnAnswer};
 ghost use Rattle.sync_top.specs.Form.{form_of, file_count, reads_file};
 ghost use Rattle.sync_top.specs.Answer.{across, IsAnswer, MissesFile, HasFiles, Delivers, IsCut, MayFault, fault_text};
-ghost use Rattle.sync_top.specs.Work.{Replies, EndsIn, UsageWhere};
+ghost use Rattle.sync_top.specs.Work.{Replies, EndsIn, UsageWhere, status_of};
 
 use crate::check::check;
 use crate::form::{Form, form_of};
@@ -26,6 +26,7 @@ fn work<F: Folder>(alloc: Global, words: &[String], folder: &mut F) -> Result<Re
     ensures keeps { KeepsFolder F.contents F.steady F.faults folder.old folder.new }
     ensures no_call { reads_file (form_of (map string_bytes words.now)) ≡ false → folder.new ≡ folder.old }
     ensures once { F.tries folder.new ≤ F.tries folder.old + file_count (form_of (map string_bytes words.now)) }
+    ensures plan_alone { status_of result ≡ Some Status.BadPlan → F.tries folder.new ≤ F.tries folder.old + 1 }
 {
     match form_of(words) {
         Some(Form::Check { plan, cert }) => check(alloc, folder, plan, cert),
@@ -51,6 +52,7 @@ fn reply_to<F: Folder>(alloc: Global, words: &[String], folder: &mut F) -> Resul
     ensures keeps { KeepsFolder F.contents F.steady F.faults folder.old folder.new }
     ensures no_call { reads_file (form_of (map string_bytes words.now)) ≡ false → folder.new ≡ folder.old }
     ensures once { F.tries folder.new ≤ F.tries folder.old + file_count (form_of (map string_bytes words.now)) }
+    ensures plan_alone { IfOk result (λ reply. reply.status ≡ Status.BadPlan → F.tries folder.new ≤ F.tries folder.old + 1) }
 {
     match work(alloc, words, folder) {
         Ok(reply) => Ok(reply),
@@ -85,11 +87,13 @@ pub fn run<F: Folder, K: Sink>(
     ensures usage { OnAnswer result ((result ≡ Status.Usage) ↔ (form_of (map string_bytes words.now) ≡ None)) }
     ensures no_call { reads_file (form_of (map string_bytes words.now)) ≡ false → folder.new ≡ folder.old }
 
-    // At most as many starts are tried as the form names files, so that a pipe will do for each.
+    // At most as many starts are tried as the form names files, and one where the plan is refused, so
+    // that a pipe will do for each.
     ensures once { F.tries folder.new ≤ F.tries folder.old + file_count (form_of (map string_bytes words.now)) }
+    ensures plan_alone { result ≡ Status.BadPlan → F.tries folder.new ≤ F.tries folder.old + 1 }
 
-    // Where no fault is answered, no call of the folder failed: no file was tried after a refusal.
-    // Nor did a write fail, but where a write fault is answered.
+    // Where the run ends neither in a fault nor for want of memory, no call of the folder failed: no
+    // absent file was tried after a refusal. A write failed only where a write fault is answered.
     ensures calm { OnAnswer result (F.faults folder.new ≡ F.faults folder.old) }
     ensures sink_calm { result ≢ Status.WriteFault → K.faults sink.new ≡ K.faults sink.old }
 

@@ -30,7 +30,7 @@ pub enum Status {
 impl Status {
     ghost use Rattle.sync_top.specs.Status.{exit_number};
 
-    /// The exit status of the program, 0 to 10; 5 is kept for answers to come.
+    /// The exit status of the program, 0 to 10; 5 is kept for forms to come.
     pub fn number(self) -> u8
         ensures { result ≡ exit_number self }
     {
