@@ -1,4 +1,3 @@
 pub mod Stepping
 pub mod Conditions
 pub mod Steps
-pub mod Counts

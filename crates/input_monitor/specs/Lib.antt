@@ -2,5 +2,4 @@ pub mod Monitored
 pub mod StandsFor
 pub mod Ending
 pub mod Running
-pub mod Signals
 pub use Rattle.sync_ql.specs.Condition

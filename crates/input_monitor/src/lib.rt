@@ -6,12 +6,10 @@
 //! and each answer is what the rules say of it. Nothing takes memory.
 //!
 //! After ITU-T G.781, hold-off time and wait-to-restore time. The exact milliseconds are this
-//! project's own. The tests compare a monitor with a program that goes through every millisecond.
+//! project's own. The tests go through histories whose conditions and times are written by hand.
 #![tactic(auto)]
 
 mod monitor;
-#[cfg(test)]
-mod plain;
 #[cfg(test)]
 mod tests;
 

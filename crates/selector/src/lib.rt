@@ -7,13 +7,11 @@
 //!
 //! After ITU-T G.781, selection by quality level and priority. That the current input stays on a
 //! tie is of the standard; that the least place is taken else is this project's own. The tests go
-//! through ties, switches and levels, beside a program that compares each input with each other.
+//! through ties, switches and levels, with choices written by hand.
 #![tactic(auto)]
 
 mod best;
 mod choice;
-#[cfg(test)]
-mod plain;
 #[cfg(test)]
 mod tests;
 

@@ -2,7 +2,6 @@ ghost use Rattle.std.specs.Prelude.{◌≤◌, ◌<◌, ◌⊎◌, IsTrue, IsNon
 ghost use Rattle.sync_ql.specs.Selection.{AreOfOneOption};
 ghost use Rattle.selector.specs.OneOption.{IsOfOption};
 
-use crate::plain::plain_choice;
 use crate::{Candidate, Choice, choose};
 use std::alloc::{AllocError, Global};
 use std::process::Abort;
@@ -178,8 +177,6 @@ fn agrees(
     };
     let chosen = choose(inputs, forced, manual, current);
     assert_eq!(rt; chosen, expected, "{shows}: {row:?}");
-    let plain = plain_choice(inputs, forced, manual, current);
-    assert_eq!(rt; plain, expected, "{shows}: {row:?}, plain program");
 }
 
 #[test]

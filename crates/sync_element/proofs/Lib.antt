@@ -6,7 +6,4 @@ pub mod TellingLemmas
 pub mod SteppingLemmas
 pub mod Evaluating
 pub mod Taking
-pub mod PlainCounting
-pub mod PlainStanding
-pub mod PlainStarting
-pub mod PlainFitting
+pub mod Fitting

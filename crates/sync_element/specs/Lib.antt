@@ -4,5 +4,5 @@ pub mod StandsFor
 pub mod Due
 pub mod Starting
 pub mod Telling
-pub mod Plain
+pub mod Fitting
 pub mod Stepping

@@ -7,15 +7,13 @@
 //! Only [`Element::new`] takes memory.
 //!
 //! After ITU-T G.781: hold-off and wait-to-restore, external commands, selection by quality level
-//! and priority, and do-not-use on the way back. The tests compare an element, millisecond by
-//! millisecond, with a program that only counts, whose contract is the rules.
+//! and priority, and do-not-use on the way back. The tests go through
+//! histories whose answers, times and levels sent back are written by hand.
 #![tactic(auto)]
 
 mod config;
 mod element;
 mod inputs;
-#[cfg(test)]
-mod plain;
 mod selection;
 #[cfg(test)]
 mod tests;

@@ -2,14 +2,12 @@ ghost use Rattle.std.specs.Prelude.{◌≡◌, ◌≤◌, ◌<◌, ◌+◌, ℕ,
 ghost use Rattle.sync_ql.specs.Switches.{NamesInput};
 ghost use Rattle.sync_ql.specs.Moment.{Settings};
 ghost use Rattle.sync_ql.specs.Told.{IsOfOption, FitsElement};
-ghost use Rattle.sync_element.specs.Configured.{settings_of};
-ghost use Rattle.sync_element.specs.Plain.{IsPlainWhole, FitsOption};
+ghost use Rattle.sync_element.specs.Fitting.{FitsOption};
 
 use crate::ClockState::{FreeRun, Holdover, Locked};
 use crate::Cmd::{Clear, Forced, Lockout, Manual, Unlock};
 use crate::Cond::{Failed, Good, HoldOff, Restoring};
 use crate::Mode::{Auto, Forced as ByForce, Manual as ByHand};
-use crate::plain::{Answer, Plain};
 use crate::{ClockState, Cmd, Cond, Config, Element, InputConfig, InputEvent, Mode};
 use std::alloc::{AllocError, Global};
 use std::marker::Brand;
@@ -40,6 +38,9 @@ type Row = (
     Mode,
     ClockState,
 );
+
+/// The input that is taken, the level, the mode and the state.
+type Answer = (Option<u32>, Level, Mode, ClockState);
 
 #[derive(Drop)]
 struct Case {
@@ -373,35 +374,22 @@ fn answer_of(element: &Element) -> Answer {
     )
 }
 
-/// Steps an element where something is told or due, and compares it at every millisecond.
+/// Steps an element where something is told or due, and compares it after each row.
 fn agrees<L: Ledger>(
     rt: &(impl Abort + AllocGlobal),
     case: &Case,
     steps: &mut Steps<L>,
 ) -> Result<(), Fail> {
-    let config = config_of(rt, case)?;
-    let inputs = config.inputs.as_slice().len();
+    let inputs = case.inputs.len();
     let mut element = element_of(rt, case, inputs)?;
-    let mut plain = plain_of(rt, &config)?;
-    assert!(rt; is_of_one_option(&config));
     let mut next = 0;
     for row in case.rows {
         let at = row.0;
         assert!(rt; next <= at && at <= 86_400_000);
-        come_to(
-            rt,
-            case.shows,
-            &config,
-            &mut element,
-            &mut plain,
-            next,
-            at,
-            steps,
-        );
-        tell(rt, &config, &mut element, &mut plain, row, steps)?;
+        come_to(rt, case.shows, &mut element, next, at, steps);
+        tell(rt, &mut element, inputs, at, row.1, steps)?;
         let expected = (row.2, level(rt, row.3), row.4, row.5);
         compare(rt, case.shows, at, answer_of(&element), expected);
-        compare(rt, case.shows, at, plain.answer(&config), expected);
         next = at + 1;
     }
     Ok(())
@@ -421,57 +409,37 @@ fn element_of(rt: &(impl Abort + AllocGlobal), case: &Case, inputs: usize) -> Re
     Ok(element)
 }
 
-fn plain_of(rt: &(impl Abort + AllocGlobal), config: &Config) -> Result<Plain, Fail>
-    ensures { IfOk result (λ p. IsPlainWhole (settings_of config.now)
-        p.ups.items p.candidates.items p.commands p.selected) }
-{
-    assert!(rt; config.inputs.as_slice().len() <= 64);
-    assert!(rt; is_of_one_option(config));
-    assert!(rt; has_inputs(config.inputs.as_slice()));
-    let plain = Plain::new(rt.alloc(), config)?;
-    Ok(plain)
-}
-
 fn compare(rt: &impl Abort, shows: &'static str, at: u64, given: Answer, expected: Answer) {
     assert_eq!(rt; given, expected, "{shows} at {at}");
 }
 
 fn tell<L: Ledger>(
     rt: &(impl Abort + AllocGlobal),
-    config: &Config,
     element: &mut Element,
-    plain: &mut Plain,
-    row: &Row,
+    inputs: usize,
+    at: u64,
+    told: &[Told],
     steps: &mut Steps<L>,
 ) -> Result<(), Fail>
-    requires started { element.old.next ≡ 0 → row.now.0 ≡ 0 }
-    requires later { element.old.next ≤ row.now.0 }
-    requires in_range { row.now.0 ≤ 86400000 }
+    requires started { element.old.next ≡ 0 → at ≡ 0 }
+    requires later { element.old.next ≤ at }
+    requires in_range { at ≤ 86400000 }
     requires option { element.old.settings.own.option ≡ NetOption.I }
-    requires inputs { length element.old.settings.priorities ≡ length config.now.inputs }
-    requires same_option { config.now.own.option ≡ NetOption.I }
-    requires whole { IsPlainWhole (settings_of config.now)
-        plain.old.ups.items plain.old.candidates.items plain.old.commands plain.old.selected }
-    ensures next { IfOk result (λ _. element.new.next ≡ row.now.0 + 1) }
+    requires inputs { length element.old.settings.priorities ≡ inputs }
+    ensures next { IfOk result (λ _. element.new.next ≡ at + 1) }
     ensures kept { IfOk result (λ _. element.new.settings ≡ element.old.settings) }
-    ensures whole { IfOk result (λ _. IsPlainWhole (settings_of config.now)
-        plain.new.ups.items plain.new.candidates.items plain.new.commands plain.new.selected) }
 {
-    let events = events_of(rt.alloc(), row.1)?;
-    let told = events.as_slice();
-    assert!(rt; all_fit(config.inputs.as_slice().len(), told));
-    assert!(rt; is_in_time(element, row.0));
-    element.step(row.0, told, steps);
-    plain.next(config, told);
+    let events = events_of(rt.alloc(), told)?;
+    assert!(rt; all_fit(inputs, events.as_slice()));
+    assert!(rt; is_in_time(element, at));
+    element.step(at, events.as_slice(), steps);
     Ok(())
 }
 
 fn come_to<L: Ledger>(
     rt: &impl Abort,
     shows: &'static str,
-    config: &Config,
     element: &mut Element,
-    plain: &mut Plain,
     next: u64,
     at: u64,
     steps: &mut Steps<L>,
@@ -479,27 +447,20 @@ fn come_to<L: Ledger>(
     requires next { element.old.next ≡ next }
     requires order { next ≤ at }
     requires in_range { at ≤ 86400000 }
-    requires whole { IsPlainWhole (settings_of config.now)
-        plain.old.ups.items plain.old.candidates.items plain.old.commands plain.old.selected }
     ensures started { element.new.next ≡ 0 → at ≡ 0 }
     ensures later { element.new.next ≤ at }
     ensures kept { element.new.settings ≡ element.old.settings }
-    ensures whole { IsPlainWhole (settings_of config.now)
-        plain.new.ups.items plain.new.candidates.items plain.new.commands plain.new.selected }
 {
     if next == at {
         return;
     }
     assert!(rt; 0 < next, "{shows}: the first row is at 0");
-    wait_until(rt, shows, config, element, plain, next, at, steps);
+    wait_until(rt, element, next, at, steps);
 }
 
 fn wait_until<L: Ledger>(
     rt: &impl Abort,
-    shows: &'static str,
-    config: &Config,
     element: &mut Element,
-    plain: &mut Plain,
     from: u64,
     until: u64,
     steps: &mut Steps<L>,
@@ -508,41 +469,24 @@ fn wait_until<L: Ledger>(
     requires later { element.old.next ≤ from }
     requires order { from ≤ until }
     requires in_range { until ≤ 86400000 }
-    requires whole { IsPlainWhole (settings_of config.now)
-        plain.old.ups.items plain.old.candidates.items plain.old.commands plain.old.selected }
     ensures started { 0 < element.new.next }
     ensures later { element.new.next ≤ until }
     ensures kept { element.new.settings ≡ element.old.settings }
-    ensures whole { IsPlainWhole (settings_of config.now)
-        plain.new.ups.items plain.new.candidates.items plain.new.commands plain.new.selected }
 {
     for now in from..until {
-        wait(rt, config, element, plain, now, steps);
-        compare(rt, shows, now, answer_of(element), plain.answer(config));
+        wait(rt, element, now, steps);
     }
 }
 
 /// A millisecond in which nothing is told, which is a step where one is due.
-fn wait<L: Ledger>(
-    rt: &impl Abort,
-    config: &Config,
-    element: &mut Element,
-    plain: &mut Plain,
-    now: u64,
-    steps: &mut Steps<L>,
-)
+fn wait<L: Ledger>(rt: &impl Abort, element: &mut Element, now: u64, steps: &mut Steps<L>)
     requires started { 0 < element.old.next }
     requires later { element.old.next ≤ now }
     requires in_range { now ≤ 86400000 }
-    requires whole { IsPlainWhole (settings_of config.now)
-        plain.old.ups.items plain.old.candidates.items plain.old.commands plain.old.selected }
     ensures started { 0 < element.new.next }
     ensures later { element.new.next ≤ now + 1 }
     ensures kept { element.new.settings ≡ element.old.settings }
-    ensures whole { IsPlainWhole (settings_of config.now)
-        plain.new.ups.items plain.new.candidates.items plain.new.commands plain.new.selected }
 {
-    plain.next(config, &[]);
     if element.due() == Some(now) {
         assert!(rt; is_in_time(element, now));
         element.step(now, &[], steps);
@@ -578,28 +522,6 @@ fn shows(rt: &impl Abort, element: &Element, row: &ShownRow)
     assert_eq!(rt; element.later_steps(), row.5, "at {at}");
 }
 
-fn tell_shown<L: Ledger>(
-    rt: &(impl Abort + AllocGlobal),
-    element: &mut Element,
-    row: &ShownRow,
-    steps: &mut Steps<L>,
-) -> Result<(), Fail>
-    requires started { element.old.next ≡ 0 → row.now.0 ≡ 0 }
-    requires later { element.old.next ≤ row.now.0 }
-    requires in_range { row.now.0 ≤ 86400000 }
-    requires option { element.old.settings.own.option ≡ NetOption.I }
-    requires inputs { length element.old.settings.priorities ≡ 2 }
-    ensures next { IfOk result (λ _. element.new.next ≡ row.now.0 + 1) }
-    ensures kept { IfOk result (λ _. element.new.settings ≡ element.old.settings) }
-{
-    let events = events_of(rt.alloc(), row.1)?;
-    let told = events.as_slice();
-    assert!(rt; all_fit(2, told));
-    assert!(rt; is_in_time(element, row.0));
-    element.step(row.0, told, steps);
-    Ok(())
-}
-
 fn shows_all<L: Ledger>(
     rt: &(impl Abort + AllocGlobal),
     element: &mut Element,
@@ -614,7 +536,7 @@ fn shows_all<L: Ledger>(
         let at = row.0;
         assert!(rt; next <= at && at <= 86_400_000);
         assert!(rt; 0 < next || at == 0);
-        tell_shown(rt, element, row, steps)?;
+        tell(rt, element, 2, at, row.1, steps)?;
         shows(rt, element, row);
         next = at + 1;
     }

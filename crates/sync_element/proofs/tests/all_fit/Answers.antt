@@ -1,5 +1,5 @@
 use Rattle.sync_ql.specs.declared.levels.NetOption.TheVariants.{I}
-use Rattle.sync_element.proofs.PlainFitting.{all_fit_element}
+use Rattle.sync_element.proofs.Fitting.{all_fit_element}
 use Rattle.sync_element.proofs.tests.all_fit.Goals as goal
 
 pub returns : goal.returns
