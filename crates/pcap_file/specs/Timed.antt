@@ -41,7 +41,7 @@ text_if_read option bytes (Ok packets) = Ok (text_of_packets option bytes packet
 text_if_read option bytes (Err refused) = Err refused
 
 -- the rows of a capture, or its first refusal
-abbrev pub decoded_pcap : NetOption → List ℕ → Result (List ℕ) PcapErr
+unfoldable pub decoded_pcap : NetOption → List ℕ → Result (List ℕ) PcapErr
 decoded_pcap option bytes = text_if_read option bytes (packets_of bytes)
 
 -- a number of 32 bits

@@ -19,6 +19,7 @@ use sync_ql::NetOption;
 ///
 /// A packet that is no such frame is passed over; the last line is `passed,N`, with how many are.
 /// Refusals as in `read_pcap`. This project's own; frames after G.8264, ESMC PDU format.
+#[tactic(auto, unfolding(crate::specs::Timed::decoded_pcap))]
 pub fn decode_pcap(alloc: Global, bytes: &[u8], option: NetOption) -> Result<Text, PcapErr>
     ensures exact { Gives result (decoded_pcap option bytes.now) }
 {

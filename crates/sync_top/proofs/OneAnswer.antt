@@ -1,5 +1,5 @@
 -- That words over some files have one answer.
-use Rattle.std.proofs.Common.{◌≡◌, ℕ, ◌<◌, ◌≤◌, Bool, true, false, List, [], ◌∷◌, ◌++◌, Option, Some, None, Result, Ok, Err, map, refl, sym, ◌∙◌, ap, inl, inr, arith, true≢false}
+use Rattle.std.proofs.Common.{◌≡◌, ℕ, true, List, [], ◌∷◌, ◌++◌, Option, Some, None, Result, Ok, Err, map, refl, sym, ◌∙◌, ap, inl, inr, arith, true≢false}
 use Rattle.std.specs.Prelude.{◌⊎◌, codes, slice_index_or, unwrap_or}
 use Rattle.std.specs.List.{All, concat, range_with_len}
 use Rattle.std.proofs.lemmas.List.Elements.{All-head, All-tail, filter_passes}
@@ -9,16 +9,17 @@ use Rattle.sync_topo.specs.Lines.{line_count, line_name, is_nominated}
 use Rattle.sync_topo.specs.Hops.{hops, IsRising}
 use Rattle.sync_topo.specs.Ranks.{AreLeastRanks, IsFirstCycle}
 use Rattle.rank_cert.specs.Ranks.{Ranks, rank_at, rank_of, IsFirstFall}
-use Rattle.rank_cert.specs.CertificateText.{certificate_of, certificate_text, nominated_lines, row_text}
+use Rattle.rank_cert.specs.CertificateText.{certificate_text, nominated_lines, row_text}
 use Rattle.rank_cert.proofs.RankLaws.{IsRising-no_cycle}
 use Rattle.cycle_plan.proofs.Walks.{one_least}
 use Rattle.cycle_plan.proofs.OneCycle.{one_cycle}
 use Rattle.cycle_plan.proofs.CycleLaws.{IsCycle-first}
 use Rattle.capture_text.specs.Capture.{decoded_text, encoded_text}
+use Rattle.pcap_file.specs.Timed.{encoded_pcap}
 use Rattle.sync_top.specs.declared.status.Status.{Status}
 use Rattle.sync_top.specs.declared.status.Status.TheVariants.{Done, Refuted, Usage, BadPlan, BadCert, BadFrames, ReadFault, WriteFault, TooLong, NoMemory}
-use Rattle.sync_top.specs.Form.{Form, check, rank, decode, encode, gen, form_of}
-use Rattle.sync_top.specs.Answer.{End, no_file, answered, text_line, documents, plan_in, captured, Answered, IsVerdict, IsPlanned, IsText, FormAnswer, IsAnswer, cycle_text}
+use Rattle.sync_top.specs.Form.{Form, check, rank, decode, encode, pcap_decode, pcap_encode, gen, form_of}
+use Rattle.sync_top.specs.Answer.{End, no_file, answered, text_line, documents, plan_in, captured, pcap_rows, Answered, IsVerdict, IsPlanned, IsText, FormAnswer, IsAnswer, cycle_text}
 use Rattle.sync_top.specs.OneAnswer.{has_one_text}
 
 -- one status, and one text
@@ -182,6 +183,10 @@ form_status (Some (decode option name)) files status other text another first se
     (one_answered IsText one_asked (captured decoded_text option name files) status other text another first second).0
 form_status (Some (encode option name)) files status other text another first second =
     (one_answered IsText one_asked (captured encoded_text option name files) status other text another first second).0
+form_status (Some (pcap_decode option name)) files status other text another first second =
+    (one_answered IsText one_asked (pcap_rows option name files) status other text another first second).0
+form_status (Some (pcap_encode option name)) files status other text another first second =
+    (one_answered IsText one_asked (captured encoded_pcap option name files) status other text another first second).0
 form_status (Some (gen n)) files status other text another first second = first.0 ∙ sym second.0
 
 -- and one text, but for `gen`
@@ -196,6 +201,10 @@ form_text (Some (decode option name)) files status other text another first seco
     (one_answered IsText one_asked (captured decoded_text option name files) status other text another first second).1
 form_text (Some (encode option name)) files status other text another first second one =
     (one_answered IsText one_asked (captured encoded_text option name files) status other text another first second).1
+form_text (Some (pcap_decode option name)) files status other text another first second one =
+    (one_answered IsText one_asked (pcap_rows option name files) status other text another first second).1
+form_text (Some (pcap_encode option name)) files status other text another first second one =
+    (one_answered IsText one_asked (captured encoded_pcap option name files) status other text another first second).1
 form_text (Some (gen n)) files status other text another first second one = absurd (true≢false (sym one))
 
 pub one_status : (words : List (List ℕ)) (files : Contents) (status other : Status) (text another : List ℕ) → IsAnswer words files status text

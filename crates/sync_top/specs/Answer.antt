@@ -33,7 +33,11 @@ use Rattle.sync_topo.specs.declared.error.PlanErr.{PlanErr}
 use Rattle.capture_text.specs.declared.error.CaptureErr.{CaptureErr}
 use Rattle.capture_text.specs.declared.error.CaptureErr.TheVariants as refusal
 use Rattle.capture_text.specs.Capture.{decoded_text, encoded_text}
-use Rattle.sync_top.specs.Form.{Form, check, rank, decode, encode, gen, form_of}
+use Rattle.pcap_file.specs.declared.error.PcapErr.{PcapErr}
+use Rattle.pcap_file.specs.declared.error.PcapErr.TheVariants as pcap
+use Rattle.pcap_file.specs.Refusal.{number_of as pcap_number}
+use Rattle.pcap_file.specs.Timed.{decoded_pcap, encoded_pcap}
+use Rattle.sync_top.specs.Form.{Form, check, rank, decode, encode, pcap_decode, pcap_encode, gen, form_of}
 use Rattle.rank_cert.specs.declared.error.CertErr.{CertErr}
 use Rattle.rank_cert.specs.declared.error.CertErr.TheVariants as broken
 use Rattle.rank_cert.specs.Ranks.{Ranks, rank_at, rank_of, IsFirstFall}
@@ -198,6 +202,28 @@ captured text_of option name files = do
   bytes ← file name files
   accepted_frames (text_of option bytes)
 
+-- where a capture is refused: the record
+abbrev pub pcap_place : PcapErr → List ℕ
+pcap_place pcap.Header = []
+pcap_place pcap.Link = []
+pcap_place (pcap.Record n) = codes " " ++ decimal n
+pcap_place pcap.NoMemory = []
+
+-- the line on the first thing that is wrong with a capture
+abbrev pub pcap_refusal : PcapErr → List ℕ
+pcap_refusal refused = refusal_line (codes "bad capture ") (pcap_number refused) (pcap_place refused)
+
+-- the rows that a capture gives, where it isn't refused
+abbrev pub accepted_capture : Result (List ℕ) PcapErr → Result (List ℕ) End
+accepted_capture (Ok text) = Ok text
+accepted_capture (Err refused) = Err (answered BadFrames (text_line (pcap_refusal refused)))
+
+-- the rows that the capture in a file gives
+abbrev pub pcap_rows : NetOption → List ℕ → Contents → Result (List ℕ) End
+pcap_rows option name files = do
+  bytes ← file name files
+  accepted_capture (decoded_pcap option bytes)
+
 -- the text that was asked for
 abbrev pub IsText : List ℕ → Status → List ℕ → Type 0
 IsText given status text = (status ≡ Done) × (text ≡ given)
@@ -205,6 +231,10 @@ IsText given status text = (status ≡ Done) × (text ≡ given)
 -- the answer to `decode` and to `encode`: that text, or what ends the reading
 abbrev pub CaptureAnswer : (NetOption → List ℕ → Result (List ℕ) CaptureErr) → NetOption → List ℕ → Contents → Status → List ℕ → Type 0
 CaptureAnswer text_of option name files status text = Answered IsText (captured text_of option name files) status text
+
+-- the answer to `pcap-decode`: these rows, or what ends the reading; that to `pcap-encode` is a `CaptureAnswer`
+abbrev pub PcapAnswer : NetOption → List ℕ → Contents → Status → List ℕ → Type 0
+PcapAnswer option name files status text = Answered IsText (pcap_rows option name files) status text
 
 -- the answer to `gen`: any text of the ladder of so many elements
 abbrev pub GenAnswer : ℕ → Status → List ℕ → Type 0
@@ -217,6 +247,8 @@ FormAnswer (Some (check plan_name certificate_name)) files status text = CheckAn
 FormAnswer (Some (rank plan_name)) files status text = RankAnswer plan_name files status text
 FormAnswer (Some (decode option name)) files status text = CaptureAnswer decoded_text option name files status text
 FormAnswer (Some (encode option name)) files status text = CaptureAnswer encoded_text option name files status text
+FormAnswer (Some (pcap_decode option name)) files status text = PcapAnswer option name files status text
+FormAnswer (Some (pcap_encode option name)) files status text = CaptureAnswer encoded_pcap option name files status text
 FormAnswer (Some (gen n)) files status text = GenAnswer n status text
 
 -- the program's answer to some words
@@ -230,6 +262,8 @@ FormMissesFile (Some (check plan_name certificate_name)) files = documents plan_
 FormMissesFile (Some (rank plan_name)) files = plan_in plan_name files ≡ Err no_file
 FormMissesFile (Some (decode option name)) files = captured decoded_text option name files ≡ Err no_file
 FormMissesFile (Some (encode option name)) files = captured encoded_text option name files ≡ Err no_file
+FormMissesFile (Some (pcap_decode option name)) files = pcap_rows option name files ≡ Err no_file
+FormMissesFile (Some (pcap_encode option name)) files = captured encoded_pcap option name files ≡ Err no_file
 FormMissesFile (Some (gen n)) files = ⊥
 
 -- words whose answer comes to a file that isn't there

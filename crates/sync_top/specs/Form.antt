@@ -16,6 +16,10 @@ pub data Form : Type 0 where
   decode : NetOption → List ℕ → Form
   -- the frames of rows
   encode : NetOption → List ℕ → Form
+  -- the rows of the frames in a capture, with their times
+  pcap_decode : NetOption → List ℕ → Form
+  -- the capture of rows with times
+  pcap_encode : NetOption → List ℕ → Form
   -- the ladder of so many elements
   gen : ℕ → Form
 
@@ -63,6 +67,8 @@ file_count (Some (check plan certificate)) = 2
 file_count (Some (rank plan)) = 1
 file_count (Some (decode option name)) = 1
 file_count (Some (encode option name)) = 1
+file_count (Some (pcap_decode option name)) = 1
+file_count (Some (pcap_encode option name)) = 1
 file_count (Some (gen n)) = 0
 
 -- the form of the words, if they have one
@@ -75,5 +81,7 @@ form_of (word ∷ second ∷ third ∷ []) =
     if bytes_eq word (codes "check") then check_form second third
     else if bytes_eq word (codes "decode") then capture_form decode second third
     else if bytes_eq word (codes "encode") then capture_form encode second third
+    else if bytes_eq word (codes "pcap-decode") then capture_form pcap_decode second third
+    else if bytes_eq word (codes "pcap-encode") then capture_form pcap_encode second third
     else None
 form_of _ = None

@@ -2,13 +2,15 @@
 use Rattle.std.specs.Prelude.{◌≤◌, ⊤}
 use Rattle.sync_top.specs.declared.form.Form as declared
 use Rattle.sync_top.specs.declared.form.Form.TheVariants as word
-use Rattle.sync_top.specs.Form.{Form, check, rank, decode, encode, gen}
+use Rattle.sync_top.specs.Form.{Form, check, rank, decode, encode, pcap_decode, pcap_encode, gen}
 
 abbrev pub seen : declared.Form → Form
 seen (word.Check plan certificate) = check plan.now certificate.now
 seen (word.Rank plan) = rank plan.now
 seen (word.Decode option name) = decode option name.now
 seen (word.Encode option name) = encode option name.now
+seen (word.PcapDecode option name) = pcap_decode option name.now
+seen (word.PcapEncode option name) = pcap_encode option name.now
 seen (word.Gen n) = gen n
 
 -- a ladder that is asked for may have so many elements

@@ -23,6 +23,10 @@ pub(crate) enum Form<'a> {
     Decode(NetOption, &'a str),
     /// The frames of rows.
     Encode(NetOption, &'a str),
+    /// The rows of the frames in a capture, with their times.
+    PcapDecode(NetOption, &'a str),
+    /// The capture of rows with times.
+    PcapEncode(NetOption, &'a str),
     /// The ladder of so many elements, 2 to 2,000.
     Gen(u32),
 }
@@ -79,6 +83,14 @@ fn form_of_three<'a>(word: &str, second: &'a str, third: &'a str) -> Option<Form
     if word == "encode" {
         let option = option_with(second, third)?;
         return Some(Form::Encode(option, third));
+    }
+    if word == "pcap-decode" {
+        let option = option_with(second, third)?;
+        return Some(Form::PcapDecode(option, third));
+    }
+    if word == "pcap-encode" {
+        let option = option_with(second, third)?;
+        return Some(Form::PcapEncode(option, third));
     }
     None
 }

@@ -14,7 +14,7 @@ use sync_edge::{Folder, NoMemory, Text};
 use sync_ql::NetOption;
 
 /// The line on the first frame or row that is refused.
-fn refusal_text(alloc: Global, refused: CaptureErr) -> Result<Text, NoMemory>
+pub(crate) fn refusal_text(alloc: Global, refused: CaptureErr) -> Result<Text, NoMemory>
     requires { refused ≢ CaptureErr.NoMemory }
     ensures { IfOk result (λ text. text ≡ text_line (capture_refusal refused)) }
 {

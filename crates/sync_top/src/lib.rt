@@ -14,6 +14,7 @@ mod frames;
 mod input;
 mod ladder;
 mod laws;
+mod pcap;
 mod plan_input;
 mod planner;
 mod program;

@@ -12,6 +12,7 @@ use crate::check::check;
 use crate::form::{Form, form_of};
 use crate::frames::{decode, encode};
 use crate::ladder::ladder_text;
+use crate::pcap::{pcap_decode, pcap_encode};
 use crate::planner::rank;
 use crate::reply::{Reply, Stop, line_text};
 use crate::status::Status;
@@ -33,6 +34,8 @@ fn work<F: Folder>(alloc: Global, words: &[String], folder: &mut F) -> Result<Re
         Some(Form::Rank(plan)) => rank(alloc, folder, plan),
         Some(Form::Decode(option, name)) => decode(alloc, folder, option, name),
         Some(Form::Encode(option, name)) => encode(alloc, folder, option, name),
+        Some(Form::PcapDecode(option, name)) => pcap_decode(alloc, folder, option, name),
+        Some(Form::PcapEncode(option, name)) => pcap_encode(alloc, folder, option, name),
         Some(Form::Gen(n)) => Ok(Reply {
             status: Status::Done,
             text: ladder_text(alloc, n)?,
@@ -66,8 +69,9 @@ fn reply_to<F: Folder>(alloc: Global, words: &[String], folder: &mut F) -> Resul
 /// The words are those after the program's name. `check PLAN CERT` tests the ranks of a certificate
 /// on a plan, and `rank PLAN` gives the least ranks as a certificate, or the first cycle.
 /// `decode OPTION FILE` gives the rows of captured frames, and `encode OPTION FILE` the frames of
-/// rows. `gen N` writes the ladder of N elements, 2 to 2,000. PLAN, CERT and FILE are nonempty names
-/// of files, and OPTION is `I` or `II`.
+/// rows. `pcap-decode OPTION FILE` and `pcap-encode OPTION FILE` do the same for a classic pcap
+/// capture and rows with times. `gen N` writes the ladder of N elements, 2 to 2,000. PLAN, CERT and
+/// FILE are nonempty names of files, and OPTION is `I` or `II`.
 ///
 /// The whole text is made before its first byte is written, and it is written by one `write_all`.
 ///

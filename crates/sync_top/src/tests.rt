@@ -463,3 +463,59 @@ fn captures_are_read_and_written(rt: HostRuntime) -> Result<(), Fail> {
     }
     Ok(())
 }
+
+const TIMED_SOURCE: &[u8] = b"1,5,020000000001,info,QL-PRC\n";
+
+/// The capture of that row, and a record of fourteen octets behind it.
+const CAPTURE: &[u8] =
+    b"\xd4\xc3\xb2\xa1\x02\x00\x04\x00\x00\x00\x00\x00\x00\x00\x00\x00\xff\xff\x00\x00\x01\x00\x00\x00\
+\x01\x00\x00\x00\x05\x00\x00\x00\x3c\x00\x00\x00\x3c\x00\x00\x00\
+\x01\x80\xc2\x00\x00\x02\x02\x00\x00\x00\x00\x01\x88\x09\x0a\x00\x19\xa7\x00\x01\x10\x00\x00\x00\x01\x00\x04\x02\
+\x00\x00\x00\x00\x00\x00\x00\x00\x00\x00\x00\x00\x00\x00\x00\x00\x00\x00\x00\x00\x00\x00\x00\x00\x00\x00\x00\x00\x00\x00\x00\x00\
+\x02\x00\x00\x00\x00\x00\x00\x00\x0e\x00\x00\x00\x0e\x00\x00\x00\x01\x02\x03\x04\x05\x06\x07\x08\x09\x0a\x0b\x0c\x0d\x0e";
+
+#[test]
+fn pcap_captures_are_read_and_written(rt: HostRuntime) -> Result<(), Fail> {
+    let decode: &[&str] = &["pcap-decode", "I", "plan"];
+    let encode: &[&str] = &["pcap-encode", "I", "plan"];
+    let rows: [(&[&str], &[u8], (Status, &[u8])); 10] = [
+        (encode, TIMED_SOURCE, (Status::Done, &CAPTURE[..100])),
+        (
+            decode,
+            CAPTURE,
+            (Status::Done, b"1,5,020000000001,info,QL-PRC\npassed,1\n"),
+        ),
+        (
+            decode,
+            &CAPTURE[..99],
+            (Status::BadFrames, b"bad capture 42 1\n"),
+        ),
+        (decode, b"", (Status::BadFrames, b"bad capture 40\n")),
+        (
+            decode,
+            b"\xa1\xb2\xc3\xd4\x00\x02\x00\x04\x00\x00\x00\x00\x00\x00\x00\x00\x00\x00\xff\xff\x00\x00\x00\x71",
+            (Status::BadFrames, b"bad capture 41\n"),
+        ),
+        (
+            encode,
+            b"\n020000000001,info,QL-PRC\n",
+            (Status::BadFrames, b"bad frames 14 2\n"),
+        ),
+        (encode, b"", (Status::Done, &CAPTURE[..24])),
+        (
+            &["pcap-decode", "III", "plan"],
+            CAPTURE,
+            (Status::Usage, b"usage\n"),
+        ),
+        (&["pcap-encode", "I"], b"", (Status::Usage, b"usage\n")),
+        (
+            &["pcap-decode", "I", "none"],
+            CAPTURE,
+            (Status::ReadFault, b"read fault\n"),
+        ),
+    ];
+    for (line, capture, want) in rows {
+        answers(&rt, line, (capture, b""), CALM, want)?;
+    }
+    Ok(())
+}
