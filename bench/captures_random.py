@@ -9,14 +9,12 @@ most are right and some have one thing wrong: a part of a frame, its length, a d
 few files have thousands of lines. Status and text have to be as expected. With --write the files are written to a
 folder, each with its words and the text that is expected, for `rt try --cases FOLDER`, which compares no status.
 """
-import argparse
 import collections
-import os
 import random
 import re
-import subprocess
 import sys
-import tempfile
+
+import cases
 
 # Each level with its four-bit code and its enhanced code.
 LEVELS = {
@@ -289,57 +287,20 @@ def random_case(chance):
 # ---- the comparison
 
 
-def write_cases(folder, cases):
-    os.makedirs(folder, exist_ok=True)
-    for number, (form, option, file) in enumerate(cases):
-        path = os.path.join(folder, f"case{number:05}")
-        for ending, text in (
-            ("", file),
-            (".stdout", expected(form, option, file)[1].encode("ascii")),
-            (".args", f"{form}\n{option}\n{{}}\n".encode("ascii")),
-        ):
-            with open(path + ending, "wb") as out:
-                out.write(text)
-
-
-def compare(program, cases):
-    wrong = 0
-    with tempfile.TemporaryDirectory() as folder:
-        path = os.path.join(folder, "file")
-        for number, (form, option, file) in enumerate(cases):
-            with open(path, "wb") as out:
-                out.write(file)
-            run = subprocess.run([program, form, option, path], capture_output=True, check=False)
-            want = expected(form, option, file)
-            if (run.returncode, run.stdout) != (want[0], want[1].encode("ascii")):
-                wrong += 1
-                answer = (run.returncode, run.stdout[:300])
-                print(f"case {number}, {form} {option} of {file[:300]}: {want} is expected, {answer} was answered")
-    return wrong
-
-
 def main():
-    words = argparse.ArgumentParser()
-    words.add_argument("program", nargs="?")
-    words.add_argument("--write")
-    words.add_argument("--cases", type=int, default=5000)
-    words.add_argument("--seed", type=int, default=1)
-    given = words.parse_args()
+    given = cases.words("cases", 5000).parse_args()
     chance = random.Random(given.seed)
-    cases = [random_case(chance) for _ in range(given.cases)]
-    lines = sum(len(list(lines_of(file))) for _, _, file in cases)
+    made = [random_case(chance) for _ in range(given.cases)]
+    lines = sum(len(list(lines_of(file))) for _, _, file in made)
     told = collections.Counter()
-    for case in cases:
-        status, text = expected(*case)
+    wanted = []
+    for form, option, file in made:
+        status, text = expected(form, option, file)
         told[re.sub(r"(\d+) \d+( ?\d*)\n", r"\1\2", text) if status else "taken"] += 1
+        wanted.append(cases.Case((form, option, "{}"), file, status, text.encode("ascii")))
     counts = ", ".join(f"{count} {what}" for what, count in sorted(told.items()))
-    print(f"{len(cases)} cases of {lines} lines: {counts}")
-    if given.write:
-        write_cases(given.write, cases)
-        return 0
-    wrong = compare(os.path.abspath(given.program), cases)
-    print(f"{wrong} wrong")
-    return 1 if wrong else 0
+    print(f"{len(made)} cases of {lines} lines: {counts}")
+    return cases.finish(given, wanted)
 
 
 if __name__ == "__main__":

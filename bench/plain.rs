@@ -114,17 +114,22 @@ impl<'a> Reader<'a> {
             }
         }
     }
-    fn literal(&mut self) -> Option<String> {
+    /// Passes the opening quote, and where two more follow these and a line end behind them.
+    fn opens_many(&mut self, two_more: &[u8]) -> bool {
         self.at += 1;
-        let many = self.starts(b"''");
-        if many {
-            self.at += 2;
-            if self.starts(b"\r\n") {
-                self.at += 2;
-            } else if self.peek() == b'\n' {
-                self.at += 1;
-            }
+        if !self.starts(two_more) {
+            return false;
         }
+        self.at += 2;
+        if self.starts(b"\r\n") {
+            self.at += 2;
+        } else if self.peek() == b'\n' {
+            self.at += 1;
+        }
+        true
+    }
+    fn literal(&mut self) -> Option<String> {
+        let many = self.opens_many(b"''");
         let end: &[u8] = if many { b"'''" } else { b"'" };
         let start = self.at;
         while !self.starts(end) {
@@ -138,16 +143,7 @@ impl<'a> Reader<'a> {
         Some(text)
     }
     fn basic(&mut self) -> Option<String> {
-        self.at += 1;
-        let many = self.starts(b"\"\"");
-        if many {
-            self.at += 2;
-            if self.starts(b"\r\n") {
-                self.at += 2;
-            } else if self.peek() == b'\n' {
-                self.at += 1;
-            }
-        }
+        let many = self.opens_many(b"\"\"");
         let end: &[u8] = if many { b"\"\"\"" } else { b"\"" };
         let mut text = Vec::new();
         while !self.starts(end) {

@@ -13,6 +13,8 @@ import subprocess
 import sys
 import tempfile
 
+import cases
+
 STATUS = {"bad plan": 3, "bad cert": 4, "read fau": 7, "too long": 9, "falls": 1, "cycle": 1}
 EMPTY = "line,rank\n"
 
@@ -463,17 +465,14 @@ def status_of(text):
     return next((status for front, status in STATUS.items() if text.startswith(front)), 0)
 
 
-def write_cases(folder):
-    os.makedirs(folder, exist_ok=True)
-    for number, (plan, answer) in enumerate(plans()):
-        path = os.path.join(folder, f"plan{number:04}")
-        for ending, text in (("", plan), (".stdout", answer.encode("ascii")), (".args", b"rank\n{}\n")):
-            with open(path + ending, "wb") as out:
-                out.write(text)
+def wanted_plans():
+    return [cases.Case(("rank", "{}"), plan, status_of(text), text.encode("ascii")) for plan, text in plans()]
 
 
 def compare(program):
-    wrong = count = 0
+    plan_cases = wanted_plans()
+    wrong = cases.compare(program, plan_cases)
+    count = len(plan_cases)
     with tempfile.TemporaryDirectory() as folder:
         path, second = os.path.join(folder, "plan"), os.path.join(folder, "certificate")
 
@@ -490,10 +489,6 @@ def compare(program):
             with open(name, "wb") as out:
                 out.write(text)
 
-        for plan, answer in plans():
-            put(path, plan)
-            wrong += answers(["rank", path], answer)
-            count += 1
         for text, certificate, answer in certificates():
             plan = text.encode("utf-8")
             put(path, plan)
@@ -510,7 +505,7 @@ def compare(program):
 
 def main():
     if sys.argv[1] == "--write":
-        write_cases(sys.argv[2])
+        cases.write(sys.argv[2], wanted_plans())
         return 0
     return 1 if compare(os.path.abspath(sys.argv[1])) else 0
 

@@ -11,15 +11,12 @@ rank_random.py. The tables are written in random spellings of TOML: sections as 
 in any order, quotes, escapes, bases of integers, comments and both line ends. With --write the plans are written to
 a folder for `rt try --cases FOLDER`. It needs networkx.
 """
-import argparse
 import collections
-import os
 import random
 import re
-import subprocess
 import sys
-import tempfile
 
+import cases
 import rank_random
 
 LEVELS = {
@@ -297,48 +294,16 @@ def random_plan(chance):
 # ---- the comparison
 
 
-def write_cases(folder, plans):
-    os.makedirs(folder, exist_ok=True)
-    for number, (plan, (_, text)) in enumerate(plans):
-        path = os.path.join(folder, f"plan{number:05}")
-        for ending, what in (("", plan), (".stdout", text.encode("ascii")), (".args", b"rank\n{}\n")):
-            with open(path + ending, "wb") as out:
-                out.write(what)
-
-
-def compare(program, plans):
-    wrong = 0
-    with tempfile.TemporaryDirectory() as folder:
-        path = os.path.join(folder, "plan")
-        for number, (plan, (status, text)) in enumerate(plans):
-            with open(path, "wb") as out:
-                out.write(plan)
-            run = subprocess.run([program, "rank", path], capture_output=True, check=False)
-            if (run.returncode, run.stdout) != (status, text.encode("ascii")):
-                wrong += 1
-                print(f"plan {number}, {plan}: {text!r} is expected, and {(run.returncode, run.stdout)} was answered")
-    return wrong
-
-
 def main():
-    words = argparse.ArgumentParser()
-    words.add_argument("program", nargs="?")
-    words.add_argument("--write")
-    words.add_argument("--plans", type=int, default=5000)
-    words.add_argument("--seed", type=int, default=1)
-    given = words.parse_args()
+    given = cases.words("plans", 5000).parse_args()
     chance = random.Random(given.seed)
     plans = [random_plan(chance) for _ in range(given.plans)]
     told = collections.Counter()
     for _, (status, text) in plans:
         told[re.sub(r"( \w+ \d+)?\n", "", text) if status == 3 else ("ranked", "a cycle")[status]] += 1
     print(f"{len(plans)} plans: " + ", ".join(f"{count} {what}" for what, count in sorted(told.items())))
-    if given.write:
-        write_cases(given.write, plans)
-        return 0
-    wrong = compare(os.path.abspath(given.program), plans)
-    print(f"{wrong} wrong")
-    return 1 if wrong else 0
+    wanted = [cases.Case(("rank", "{}"), plan, status, text.encode("ascii")) for plan, (status, text) in plans]
+    return cases.finish(given, wanted)
 
 
 if __name__ == "__main__":

@@ -17,7 +17,6 @@ them. That it is a cycle of hops is tested apart from how it was found. On rando
 first hop over which they don't rise. With --write the plans are written to a folder, each with the text that is
 expected of `rank`, for `rt try --cases FOLDER`. It needs networkx.
 """
-import argparse
 import os
 import random
 import subprocess
@@ -25,6 +24,8 @@ import sys
 import tempfile
 
 import networkx
+
+import cases
 
 
 def random_plan(chance):
@@ -156,19 +157,6 @@ def random_certificate(chance, plan):
     return certificate(ranks, ends), want
 
 
-def write_cases(folder, plans):
-    os.makedirs(folder, exist_ok=True)
-    for number, plan in enumerate(plans):
-        path = os.path.join(folder, f"plan{number:04}")
-        for ending, text in (
-            ("", plan_text(plan)),
-            (".stdout", expected(plan)[1]),
-            (".args", "rank\n{}\n"),
-        ):
-            with open(path + ending, "w", encoding="ascii") as out:
-                out.write(text)
-
-
 def compare(program, plans, chance):
     wrong = fallen = 0
     with tempfile.TemporaryDirectory() as folder:
@@ -201,22 +189,19 @@ def compare(program, plans, chance):
 
 
 def main():
-    words = argparse.ArgumentParser()
-    words.add_argument("program", nargs="?")
-    words.add_argument("--write")
+    words = cases.words("plans", 500)
     words.add_argument("--without-bundles", action="store_true")
-    words.add_argument("--plans", type=int, default=500)
-    words.add_argument("--seed", type=int, default=1)
     given = words.parse_args()
     chance = random.Random(given.seed)
     plans = [random_plan(chance) for _ in range(given.plans)]
     if not given.without_bundles:
         plans = [with_bundles(chance, plan) for plan in plans]
-    cycles = sum(expected(plan)[0] for plan in plans)
+    wanted = [(plan, *expected(plan)) for plan in plans]
     bundled = sum(any(link[4] for link in plan[2]) for plan in plans)
-    print(f"{len(plans)} plans, {bundled} with a bundle, {cycles} with a cycle")
+    print(f"{len(plans)} plans, {bundled} with a bundle, {sum(status for _, status, _ in wanted)} with a cycle")
     if given.write:
-        write_cases(given.write, plans)
+        texts = [(plan_text(plan).encode("ascii"), status, text.encode("ascii")) for plan, status, text in wanted]
+        cases.write(given.write, [cases.Case(("rank", "{}"), *text) for text in texts])
         return 0
     wrong = compare(os.path.abspath(given.program), plans, chance)
     print(f"{wrong} wrong")
