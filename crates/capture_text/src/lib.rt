@@ -2,8 +2,8 @@
 //!
 //! [`decode_lines`] gives the rows of frames that stand as hexadecimal digits, one a line, and
 //! [`encode_rows`] the frames of rows. Both answer the whole text or the first line that is wrong,
-//! a [`CaptureErr`]. [`put_row`] and [`read_row`] are the same for one row. [`Lines`] takes lines off
-//! one by one, and [`cut_at`] fields.
+//! a [`CaptureErr`]. [`put_row`] and [`read_row`] are the same for one row. [`Lines`] takes lines
+//! off one by one, and [`cut_at`] fields.
 //!
 //! Contracts see texts as lists of bytes: `lines_of` (the lines of some bytes), `fields_of` (the
 //! fields of a line), `row_of` (the row of what a frame carries), `as_named` (what such a row is
