@@ -1,8 +1,10 @@
 pub mod LineLemmas
 pub mod LongLines
+pub mod PaddingLemmas
 pub mod RowLemmas
 pub mod TextLemmas
 pub mod CodeLemmas
 pub mod ReadingLemmas
+pub mod StepLemmas
 pub mod FrameLemmas
 pub mod RoundTrip

@@ -1,6 +1,6 @@
 -- What lines give as digits: those that are longer than any frame, and all others.
 use Rattle.std.proofs.Common.{◌≡◌, ◌<◌, ◌*◌, ◌/◌, ◌%◌, ◌==◌, ◌&&◌, ◌||◌, ℕ, Bool, true, false, List, length, nat_lt, Result, Ok, Err, refl, sym, ap, ◌∙◌, inl, inr, arith}
-use Rattle.std.specs.Prelude.{if◌then◌else◌, is_ok, MatchResult}
+use Rattle.std.specs.Prelude.{if◌then◌else◌, is_ok}
 use Rattle.std.specs.Cmp.Derive.{both_true}
 use Rattle.std.specs.List.{list_all}
 use Rattle.std.proofs.lemmas.Bool.{cases_Bool, cond-true, cond-false, eqb-true, eq-eqb, and_parts, lt-ltb}
@@ -13,6 +13,7 @@ use Rattle.esmc_frame.specs.declared.error.FrameErr.TheVariants as wrong
 use Rattle.esmc_frame.specs.Reading.{reading_of}
 use Rattle.capture_text.specs.declared.error.CaptureErr.TheVariants as refusal
 use Rattle.capture_text.specs.Capture.{carried_at, value_at}
+use Rattle.capture_text.specs.Steps.{IsPut}
 
 -- into room for half as many octets a text is decoded as it is without bound
 pub half_sized : (text : List ℕ) → decode_sized text (length text / 2) ≡ decode_of text
@@ -32,23 +33,20 @@ pub no_octets : (n : ℕ) (line : List ℕ) (error : FromHexError) → decode_of
 unfolding carried_at
 no_octets n line error is = rw is refl
 
--- what a text gives that is decoded into room for half as many octets
-read_ok : (given : Result (List ℕ) FromHexError) (result : Result (Unit {0}) FromHexError) (out : List ℕ) → MatchResult given (λ octets. (result ≡ Ok tt) × (out ≡ octets)) (λ error. result ≡ Err error) → is_ok result ≡ true → given ≡ Ok out
-read_ok (Ok octets) result out says ok = ap Ok (sym says.1)
-read_ok (Err error) result out says ok = cc
+-- what it carries, where the octets that it gives are put, and the refusal where it gives none
+octets_put : (n : ℕ) (line : List ℕ) (given : Result (List ℕ) FromHexError) (is : Bool) (out : List ℕ) → decode_of line ≡ given → IsPut given is out → is ≡ true → carried_at n line ≡ value_at n (reading_of out)
+octets_put n line (Ok octets) is out same put good = carried_by n line octets same ∙ ap (λ o. value_at n (reading_of o)) (sym put.1)
+octets_put n line (Err error) is out same put good = cc
 
-read_err : (n : ℕ) (line : List ℕ) (given : Result (List ℕ) FromHexError) (result : Result (Unit {0}) FromHexError) (out : List ℕ) → MatchResult given (λ octets. (result ≡ Ok tt) × (out ≡ octets)) (λ error. result ≡ Err error) → is_ok result ≡ false → decode_of line ≡ given → carried_at n line ≡ Err (refusal.Hex n)
-read_err n line (Ok octets) result out says bad is = cc
-read_err n line (Err error) result out says bad is = no_octets n line error is
+pub octets_read : (n : ℕ) (line : List ℕ) (is : Bool) (out : List ℕ) → IsPut (decode_of line) is out → is ≡ true → carried_at n line ≡ value_at n (reading_of out)
+octets_read n line is out put good = octets_put n line (decode_of line) is out refl put good
 
-pub octets_read : (n : ℕ) (line room : List ℕ) (result : Result (Unit {0}) FromHexError) (out : List ℕ) → MatchResult (decode_sized line (length room)) (λ octets. (result ≡ Ok tt) × (out ≡ octets)) (λ error. result ≡ Err error) → length room ≡ length line / 2 → is_ok result ≡ true → carried_at n line ≡ value_at n (reading_of out)
-octets_read n line room result out says half ok =
-    let given : decode_of line ≡ decode_sized line (length room) = sym (ap (decode_sized line) half ∙ half_sized line) in
-    carried_by n line out (given ∙ read_ok (decode_sized line (length room)) result out says ok)
+none_put : (n : ℕ) (line : List ℕ) (given : Result (List ℕ) FromHexError) (is : Bool) (out : List ℕ) → decode_of line ≡ given → IsPut given is out → is ≡ false → carried_at n line ≡ Err (refusal.Hex n)
+none_put n line (Ok octets) is out same put bad = let good = put.0 in cc
+none_put n line (Err error) is out same put bad = no_octets n line error same
 
-pub octets_refused : (n : ℕ) (line room : List ℕ) (result : Result (Unit {0}) FromHexError) (out : List ℕ) → MatchResult (decode_sized line (length room)) (λ octets. (result ≡ Ok tt) × (out ≡ octets)) (λ error. result ≡ Err error) → length room ≡ length line / 2 → is_ok result ≡ false → carried_at n line ≡ Err (refusal.Hex n)
-octets_refused n line room result out says half bad =
-    read_err n line (decode_sized line (length room)) result out says bad (sym (ap (decode_sized line) half ∙ half_sized line))
+pub octets_refused : (n : ℕ) (line : List ℕ) (is : Bool) (out : List ℕ) → IsPut (decode_of line) is out → is ≡ false → carried_at n line ≡ Err (refusal.Hex n)
+octets_refused n line is out put bad = none_put n line (decode_of line) is out refl put bad
 
 -- octets that are more than any frame has
 either : (first second : Bool) → second ≡ true → (first || second) ≡ true

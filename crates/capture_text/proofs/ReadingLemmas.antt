@@ -22,7 +22,8 @@ use Rattle.esmc_frame.specs.declared.frame.Pdu.{Pdu}
 use Rattle.esmc_frame.specs.declared.frame.Extended.{Extended}
 use Rattle.capture_text.specs.Row.{kind_text, level_text, name_or_number, enhanced_in, fields_behind, row_fields, row_of}
 use Rattle.capture_text.specs.Reading.{IsRow, SayRow, SaysFrame, SaysTlv, SaysBehind, as_named, tlv_as_named, HasNamedCode, enhanced_named, fields_of, ◌>>=◌, event_of, codes_of_text, octet, count_of, tlv_of, behind_of, said_by, pdu_of}
-use Rattle.capture_text.specs.Steps.{AreOctets, parts_left}
+use Rattle.capture_text.specs.Lines.{parts_left}
+use Rattle.capture_text.specs.Steps.{AreOctets}
 use Rattle.capture_text.proofs.CodeLemmas.{codes_of_level_text, text_stands_for, alone_has_none, text_alone}
 use Rattle.capture_text.proofs.RowLemmas.{IsField, AreFields, fields_joined, field_tested, name_is_field, code_is_field, octet_is_field}
 
@@ -31,12 +32,12 @@ bind_some : {A B : Type 0} (found : Option A) (next : A → Option B) (value : B
 bind_some None next value gives = cc
 bind_some (Some first) next value gives = (first, refl, gives)
 
-same_ok : {A E : Type 0} (result : Result A E) (value : A) → result_ok result ≡ Some value → result ≡ Ok value
+pub same_ok : {A E : Type 0} (result : Result A E) (value : A) → result_ok result ≡ Some value → result ≡ Ok value
 same_ok (Ok first) value is = cc
 same_ok (Err error) value is = cc
 
 -- the kind of a message
-event_of_kind : (event : Bool) → event_of (kind_text event) ≡ Some event
+pub event_of_kind : (event : Bool) → event_of (kind_text event) ≡ Some event
 event_of_kind true = refl
 event_of_kind false = refl
 
@@ -230,7 +231,13 @@ digits_are_field octets bytes =
     All-weaker (λ digit. is_hex_digit digit ≡ true) (λ digit. (digit == 44) ≡ false) digit_is_no_comma (encode_lower octets)
     (decode_of-ok (encode_lower octets) octets (decode_of-encode_lower octets bytes)).1
 
-kind_is_field : (event : Bool) → IsField (kind_text event)
+-- digits that give octets
+pub digits_are_a_field : (text : List ℕ) (n : ℕ) (octets : List ℕ) → decode_sized text n ≡ Ok octets → IsField text
+digits_are_a_field text n octets is =
+    All-weaker (λ digit. is_hex_digit digit ≡ true) (λ digit. (digit == 44) ≡ false) digit_is_no_comma text
+    (decode_of-ok text octets (sym (decode_sized-twice text n (decode_sized-ok text n octets is)) ∙ is)).1
+
+pub kind_is_field : (event : Bool) → IsField (kind_text event)
 kind_is_field true = field_tested (kind_text true) refl
 kind_is_field false = field_tested (kind_text false) refl
 

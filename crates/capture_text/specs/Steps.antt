@@ -1,7 +1,7 @@
 -- Private: the steps of a text, which only clauses of private functions cite.
-use Rattle.std.specs.Prelude.{◌≡◌, ℕ, ◌+◌, ◌<◌, ◌==◌, List, [], ◌∷◌, ◌++◌, length, Option, None, Some, Result, Ok, Err}
+use Rattle.std.specs.Prelude.{◌≡◌, ℕ, ◌+◌, ◌<◌, Bool, true, false, List, [], ◌∷◌, ◌++◌, codes, length, take, drop, Option, None, Some, Result, Ok, Err, if◌then◌else◌}
 use Rattle.std.specs.Borrow.{Bor}
-use Rattle.std.specs.List.{slice_split}
+use Rattle.std.specs.Str.{bytes_eq}
 use Rattle.capture_text.specs.declared.error.CaptureErr.{CaptureErr}
 use Rattle.capture_text.specs.Lines.{lines_of}
 use Rattle.capture_text.specs.Gives.{Refuses}
@@ -19,6 +19,11 @@ abbrev pub with_front : List ℕ → Result (List ℕ) CaptureErr → Result (Li
 with_front front (Ok text) = Ok (front ++ text)
 with_front front (Err refused) = Err refused
 
+-- whether digits give octets, and these are put where they do
+abbrev pub IsPut : {E : Type 0} → Result (List ℕ) E → Bool → List ℕ → Type 0
+IsPut (Ok octets) is put = (is ≡ true) × (put ≡ octets)
+IsPut (Err error) is put = is ≡ false
+
 -- the lines of what is left
 abbrev pub lines_left : Option (Bor (List ℕ)) → List (List ℕ)
 lines_left None = []
@@ -29,10 +34,12 @@ abbrev pub size_left : Option (Bor (List ℕ)) → ℕ
 size_left None = 0
 size_left (Some rest) = length rest.now + 1
 
--- the parts of what is left, between bytes of this value
-abbrev pub parts_left : ℕ → Option (Bor (List ℕ)) → List (List ℕ)
-parts_left at None = []
-parts_left at (Some rest) = slice_split (λ byte. byte == at) rest.now
+-- whether the kind between the first two commas is that of an event message, and what stands behind them
+abbrev pub kind_and_rest : List ℕ → Option (Bool × List ℕ)
+kind_and_rest text =
+    if bytes_eq (take 6 text) (codes ",info,") then Some (false, drop 6 text)
+    else if bytes_eq (take 7 text) (codes ",event,") then Some (true, drop 7 text)
+    else None
 
 -- texts, each with a comma before it
 abbrev pub with_commas : List (List ℕ) → List ℕ

@@ -1,12 +1,12 @@
 //! Whole texts: frames to rows, and rows to frames.
 
-ghost use Rattle.std.specs.Prelude.{◌≡◌, ◌<◌, ◌*◌, ◌/◌, ◌%◌, ◌==◌, ◌&&◌, ◌++◌, length, Err, IfOk, OnOk};
+ghost use Rattle.std.specs.Prelude.{◌≡◌, ◌<◌, ◌+◌, ◌*◌, ◌/◌, ◌%◌, ◌==◌, ◌&&◌, ◌++◌, length, Err, IfOk, OnOk};
 ghost use Rattle.std.specs.List.{list_all};
-ghost use Rattle.hex.specs.Hex.{encode_lower, is_hex_digit};
+ghost use Rattle.hex.specs.Hex.{decode_of, encode_lower, is_hex_digit};
 ghost use Rattle.capture_text.specs.Capture.{row_of_line, frame_of_line, decoded_text, encoded_text, rows_in_form, carried_at, as_line};
 ghost use Rattle.capture_text.specs.Row.{row_of};
 ghost use Rattle.capture_text.specs.Gives.{Gives};
-ghost use Rattle.capture_text.specs.Steps.{GivesThat, with_front};
+ghost use Rattle.capture_text.specs.Steps.{GivesThat, with_front, IsPut};
 
 use crate::error::CaptureErr;
 use crate::lines::Lines;
@@ -19,6 +19,12 @@ use sync_ql::NetOption;
 
 /// The most octets of a frame.
 const LONGEST_FRAME: usize = 1514;
+/// The octets before the padding of a frame that has no extended QL TLV.
+const BEFORE_PADDING: usize = 28;
+/// The padding of the shortest frame that has no extended QL TLV.
+const PADDING: [u8; 32] = [0; 32];
+/// The digits of this padding.
+const PADDING_DIGITS: [u8; 64] = [b'0'; 64];
 
 /// The rows of captured frames, each with a line feed.
 ///
@@ -93,13 +99,35 @@ fn value_in(octets: &mut [u8], number: u64, line: &[u8]) -> Result<Pdu, CaptureE
     ensures value { carried_at number line.now ≡ result }
     ensures code { IfOk result (λ pdu. pdu.code < 16) }
 {
-    if hex::decode_to_slice(line, octets).is_err() {
+    if !put_octets(octets, line) {
         return Err(CaptureErr::Hex(number));
     }
     match decode(octets) {
         Ok(pdu) => Ok(pdu),
         Err(error) => Err(CaptureErr::Frame(number, error)),
     }
+}
+
+/// Puts the octets that a line gives as digits into room for as many. Whether it gives octets.
+fn put_octets(octets: &mut [u8], line: &[u8]) -> bool
+    requires { length octets.old ≡ length line.now / 2 }
+    ensures { IsPut (decode_of line.now) result octets.new }
+{
+    // Digits of padding are compared, all at once, and not decoded.
+    match line.strip_suffix(&PADDING_DIGITS) {
+        Some(front) => put_padded(octets, front),
+        None => hex::decode_to_slice(line, octets).is_ok(),
+    }
+}
+
+/// Puts the octets that digits and the digits of padding give into room for as many.
+fn put_padded(octets: &mut [u8], front: &[u8]) -> bool
+    requires { length octets.old ≡ length front.now / 2 + length PADDING }
+    ensures { IsPut (decode_of (front.now ++ PADDING_DIGITS)) result octets.new }
+{
+    let (read, padding) = octets.split_at_mut(front.len() / 2);
+    padding.copy_from_slice(&PADDING);
+    hex::decode_to_slice(front, read).is_ok()
 }
 
 /// Why a line is refused that is longer than any frame: for its digits, and else for its length.
@@ -168,8 +196,32 @@ fn put_frame_of(
 fn put_digits(text: &mut Text, frame: &[u8; 60]) -> Result<(), NoMemory>
     ensures { OnOk result (text.new ≡ text.old ++ as_line (encode_lower frame.now)) }
 {
+    text.put(&digits_of(frame))?;
+    text.put(b"\n")
+}
+
+/// The digits of a frame.
+#[tactic(auto, using(crate::proofs::PaddingLemmas::ends_with_padding))]
+fn digits_of(frame: &[u8; 60]) -> [u8; 120]
+    ensures { result ≡ encode_lower frame.now }
+{
+    let (front, behind) = frame.split_at(BEFORE_PADDING);
+    if behind == PADDING.as_slice() {
+        return padded_digits(front);
+    }
     let mut digits = [0; 120];
     hex::encode_to_slice(frame.as_slice(), &mut digits).unwrap();
-    text.put(&digits)?;
-    text.put(b"\n")
+    digits
+}
+
+/// The digits of octets and of the padding behind them.
+#[tactic(auto, using(crate::proofs::PaddingLemmas::padded_digits))]
+fn padded_digits(octets: &[u8]) -> [u8; 120]
+    requires { length octets.now ≡ BEFORE_PADDING }
+    ensures { result ≡ encode_lower (octets.now ++ PADDING) }
+{
+    // The digits of the padding stand there before the others are put.
+    let mut digits = [b'0'; 120];
+    hex::encode_to_slice(octets, &mut digits[..2 * BEFORE_PADDING]).unwrap();
+    digits
 }

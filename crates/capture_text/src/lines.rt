@@ -1,57 +1,67 @@
 //! Lines, cut off one by one.
 
-ghost use Rattle.std.specs.Prelude.{◌≡◌, ◌+◌, ◌^◌, ◌<◌, [], ◌∷◌, length, IfNone, IfSome, OnSome};
+ghost use Rattle.std.specs.Prelude.{◌≡◌, ◌+◌, [], ◌∷◌, IfNone, IfSome};
 ghost use Rattle.std.specs.Str.Lines.{strip_carriage_return};
-ghost use Rattle.capture_text.specs.Steps.{lines_left, size_left};
 ghost use Rattle.capture_text.specs.Lines.{lines_of};
 
-use crate::cutting::cut_at;
+use crate::cutting::cut_near;
+use std::marker::Model;
 
 /// Lines that are taken off one by one, each with its number, the first with 1.
+///
+/// Contracts see those that are left, and the number of the last that was taken.
+/// This project's own.
 #[derive(Drop)]
-pub(crate) struct Lines<'a> {
+pub struct Lines<'a> {
     /// What stands behind the last line feed that was passed, until the last line is taken.
-    pub(crate) left: Option<&'a [u8]>,
+    left: Option<&'a [u8]>,
     /// The number of the last line that was taken.
-    pub(crate) number: u64,
-    ghost counted: { number + size_left left < 2 ^ 64 },
+    number: u64,
+    /// How many bytes stood before its line feed: the next often has as many.
+    usual: usize,
+}
+
+impl<'a> Model for Lines<'a> {
+    ghost use Rattle.std.specs.Prelude.{◌+◌, ◌^◌, ◌<◌};
+    ghost use Rattle.capture_text.specs.Lines.{LinesLeft};
+    ghost use Rattle.capture_text.specs.Steps.{lines_left, size_left};
+
+    ghost Value = { LinesLeft };
+
+    ghost view = { λ lines. record { lines = lines_left lines.left; number = lines.number } };
+
+    ghost invariant = { λ lines. lines.number + size_left lines.left < 2 ^ 64 };
 }
 
 impl<'a> Lines<'a> {
     /// All lines of some bytes.
-    pub(crate) fn of(bytes: &'a [u8]) -> Lines<'a>
-        ensures lines { lines_left result.left ≡ lines_of bytes.now }
-        ensures number { result.number ≡ 0 }
+    ///
+    /// Lines end at line feeds, which the last needs not; one carriage return at a line's end is
+    /// dropped.
+    pub fn of(bytes: &'a [u8]) -> Lines<'a>
+        ensures { result ≡ record { lines = lines_of bytes.now; number = 0 } }
     {
         Lines {
             left: Some(bytes),
             number: 0,
+            usual: 0,
         }
     }
 
-    /// The next line and its number. `None` where no line is left.
-    pub(crate) fn next_line(&mut self) -> Option<(u64, &'a [u8])>
-        ensures none { IfNone result (lines_left self.old.left ≡ []) }
-        ensures line { IfSome result (λ next.
-            lines_left self.old.left ≡ next.1.now ∷ lines_left self.new.left) }
+    /// The next line and its number. `None` where no line is left, and then nothing changes.
+    pub fn next_line(&mut self) -> Option<(u64, &'a [u8])>
+        ensures none { IfNone result (self.old.lines ≡ []) }
+        ensures spent { IfNone result (self.new ≡ self.old) }
+        ensures line { IfSome result (λ next. self.old.lines ≡ next.1.now ∷ self.new.lines) }
         ensures number { IfSome result (λ next. next.0 ≡ self.old.number + 1) }
         ensures counts { IfSome result (λ next. next.0 ≡ self.new.number) }
-        ensures shorter { OnSome result (size_left self.new.left < size_left self.old.left) }
     {
-        let (line, rest) = cut_line(self.left?);
+        let (line, rest) = cut_near(self.left?, b'\n', self.usual);
         self.left = rest;
         self.number += 1;
-        Some((self.number, line))
+        self.usual = line.len();
+        Some((self.number, without_carriage_return(line)))
     }
-}
-
-/// The first line, and what stands behind its line feed if it has one.
-fn cut_line(bytes: &[u8]) -> (&[u8], Option<&[u8]>)
-    ensures lines { lines_of bytes.now ≡ result.0.now ∷ lines_left result.1 }
-    ensures shorter { IfSome result.1 (λ rest. length rest.now < length bytes.now) }
-{
-    let (line, rest) = cut_at(bytes, b'\n');
-    (without_carriage_return(line), rest)
 }
 
 fn without_carriage_return(line: &[u8]) -> &[u8]

@@ -2,11 +2,11 @@
 
 ghost use Rattle.std.specs.Prelude.{ℕ, ◌≡◌, ◌<◌, ◌↔◌, [], ◌∷◌, ◌++◌, codes, Some, IfSome, option_map, None};
 ghost use Rattle.std.specs.Fmt.{decimal};
-ghost use Rattle.std.specs.List.{slice_split};
 ghost use Rattle.sync_ql.specs.Level.{level_of_name};
 ghost use Rattle.esmc_frame.specs.declared.frame.Pdu.{Pdu};
-ghost use Rattle.capture_text.specs.Steps.{parts_left};
-ghost use Rattle.capture_text.specs.Reading.{IsRow, pdu_of, event_of, codes_of_text, code_of_number, codes_of_level, codes_of_code, count_of, tlv_of, behind_of, fields_of};
+ghost use Rattle.capture_text.specs.Lines.{parts_left};
+ghost use Rattle.capture_text.specs.Steps.{kind_and_rest};
+ghost use Rattle.capture_text.specs.Reading.{IsRow, pdu_of, codes_of_text, code_of_number, codes_of_level, codes_of_code, count_of, tlv_of, behind_of, fields_of};
 
 use crate::cutting::cut_at;
 use esmc_frame::{Extended, Pdu};
@@ -14,6 +14,8 @@ use hex::FromHex;
 use sync_edge::read_number;
 use sync_ql::{NetOption, code_of, enhanced_of, level_of_code, level_of_name};
 
+/// How many digits a source has.
+const SOURCE_DIGITS: usize = 12;
 /// The enhanced code of a level that its four-bit code alone names.
 const NOT_ENHANCED: u8 = 0xff;
 
@@ -26,23 +28,22 @@ pub(crate) struct Codes {
 
 /// What a line says that is a row, as `put_row` writes it.
 ///
-/// A row of three fields has a level whose enhanced code is ff, or `code-N`, and says no extended QL
-/// TLV; a row of seven fields has any level, or `code-N`, and says one whose enhanced code is that of
-/// the level, or ff. Hexadecimal digits may be of either case, and counts are numbers up to 255.
-/// `code-N` is taken exactly for a code from 0 to 15 that the option's table hasn't. `None` exactly
-/// where the line is no row.
+/// A row of three fields has a level whose enhanced code is ff, or `code-N`, and says no extended
+/// QL TLV; a row of seven fields has any level, or `code-N`, and says one whose enhanced code is
+/// that of the level, or ff. Hexadecimal digits may be of either case, and counts are numbers up to
+/// 255. `code-N` is taken exactly for a code from 0 to 15 that the option's table hasn't. `None`
+/// exactly where the line is no row.
 /// This project's own.
-#[tactic(auto, unfolding(crate::specs::Reading::said_by), using(crate::proofs::ReadingLemmas::read_is_row))]
+#[tactic(auto, using(crate::proofs::StepLemmas::pdu_by_steps, crate::proofs::ReadingLemmas::read_is_row))]
 pub fn read_row(line: &[u8], option: NetOption) -> Option<Pdu>
     ensures row { (pdu : Pdu) → (result ≡ Some pdu) ↔ IsRow option line.now pdu }
     ensures exact { result ≡ pdu_of option line.now }
     ensures code { IfSome result (λ pdu. pdu.code < 16) }
 {
-    let (source, rest) = cut_at(line, b',');
-    let (kind, rest) = cut_at(rest?, b',');
-    let (level, behind) = cut_at(rest?, b',');
+    let (source, rest) = line.split_at_checked(SOURCE_DIGITS)?;
     let source = <[u8; 6] as FromHex>::from_hex(source).ok()?;
-    let event = event_of(kind)?;
+    let (event, rest) = kind_and_rest(rest)?;
+    let (level, behind) = level_and_behind(rest);
     let both = codes_of_text(option, level)?;
     let extended = behind_of(both.enhanced, behind)?;
     Some(Pdu {
@@ -53,16 +54,28 @@ pub fn read_row(line: &[u8], option: NetOption) -> Option<Pdu>
     })
 }
 
-/// Whether a kind is that of an event message.
-fn event_of(kind: &[u8]) -> Option<bool>
-    ensures { result ≡ event_of kind.now }
+/// Whether the kind between the first two commas is that of an event message, and what stands
+/// behind them.
+fn kind_and_rest(text: &[u8]) -> Option<(bool, &[u8])>
+    ensures { option_map (λ kind. (kind.0, kind.1.now)) result ≡ kind_and_rest text.now }
 {
-    if kind == b"info".as_slice() {
-        Some(false)
-    } else if kind == b"event".as_slice() {
-        Some(true)
+    if let Some(rest) = text.strip_prefix(b",info,") {
+        return Some((false, rest));
+    }
+    let rest = text.strip_prefix(b",event,")?;
+    Some((true, rest))
+}
+
+/// The first field, which is the level's, and what stands behind its comma if it has one.
+#[tactic(auto, using(crate::proofs::LineLemmas::split_unless_any))]
+fn level_and_behind(text: &[u8]) -> (&[u8], Option<&[u8]>)
+    ensures { fields_of text.now ≡ result.0.now ∷ parts_left 44 result.1 }
+{
+    // Most rows end with the level, and `contains` looks at many bytes at once.
+    if text.contains(&b',') {
+        cut_at(text, b',')
     } else {
-        None
+        (text, None)
     }
 }
 

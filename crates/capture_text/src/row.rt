@@ -13,7 +13,7 @@ use sync_edge::{NoMemory, Text};
 use sync_ql::{NetOption, level_of_codes, name_of};
 
 /// The most octets that a row has, with its line feed: twelve digits, `,event,`, a name of eight
-/// letters, and behind it three commas with sixteen and two digits and two counts of three digits.
+/// letters, and behind it four commas with sixteen and two digits and two counts of three digits.
 const LONGEST_ROW: usize = 56;
 
 /// Puts the row of what a frame carries at the end, without a line feed: `SOURCE,KIND,LEVEL`, and
@@ -28,8 +28,8 @@ pub fn put_row(out: &mut Text, pdu: &Pdu, option: NetOption) -> Result<(), NoMem
     ensures ok { OnOk result (out.new ≡ out.old ++ row_of option pdu.now) }
     ensures err { OnErr result (out.new ≡ out.old) }
 
-    // What `read_row` answers of the row is the value, but for an enhanced code that isn't the one of
-    // the level which is named, or ff where none is.
+    // What `read_row` answers of the row is the value, but for an enhanced code that isn't the one
+    // of the level which is named, or ff where none is.
     ensures read_back { pdu_of option (row_of option pdu.now) ≡ Some (as_named option pdu.now) }
     ensures same { (as_named option pdu.now ≡ pdu.now) ↔ HasNamedCode option pdu.now }
 {

@@ -49,9 +49,9 @@ pub struct Extended {
 /// What a frame carries, given without its frame check sequence.
 ///
 /// The error names the first part that is wrong. Source, event flag and SSM code may be anything.
-/// There is an extended QL TLV exactly where its type and length stand behind the QL TLV, and then its
-/// fields may be anything. Reserved bits and octets, the high bits of the code's octet, and all else
-/// that stands behind the QL TLV aren't looked at.
+/// There is an extended QL TLV exactly where its type and length stand behind the QL TLV, and then
+/// its fields may be anything. Reserved bits and octets, the high bits of the code's octet, and all
+/// else that stands behind the QL TLV aren't looked at.
 /// After G.8264, ESMC PDU format.
 pub fn decode(frame: &[u8]) -> Result<Pdu, FrameErr>
     ensures spelled { (pdu : Pdu) → (result ≡ Ok pdu) ↔ Spells frame.now pdu }

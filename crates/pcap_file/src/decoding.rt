@@ -53,7 +53,8 @@ fn text_of(
     Ok(text)
 }
 
-/// Puts the row of a packet with these octets, if it is a frame. Gives how many packets are passed over.
+/// Puts the row of a packet with these octets, if it is a frame. Gives how many packets are passed
+/// over.
 fn put_row_of(
     text: &mut Text,
     octets: &[u8],

@@ -5,10 +5,8 @@ ghost use Rattle.capture_text.specs.Gives.{Gives};
 ghost use Rattle.capture_text.specs.Steps.{GivesThat, with_front};
 ghost use Rattle.pcap_file.specs.Timed.{word_of, timed_of, record_of_line, encoded_pcap};
 
-use crate::cutting::cut_at;
-use crate::lines::Lines;
 use crate::writing::{put_head, put_packet};
-use capture_text::{CaptureErr, read_row};
+use capture_text::{CaptureErr, Lines, cut_at, read_row};
 use esmc_frame::{Pdu, encode};
 use std::alloc::Global;
 use sync_edge::{Text, read_number};
@@ -24,8 +22,9 @@ pub(crate) struct Timed {
 
 /// The capture of the frames of rows, each with its time: `SEC,USEC,` and a row of a frame.
 ///
-/// Seconds and microseconds are numbers up to 4,294,967,295. Lines are cut as in `encode_rows`, with
-/// empty ones passed over. `Row` names the first line that is no such row; no other line is refused.
+/// Seconds and microseconds are numbers up to 4,294,967,295. Lines are cut as in `encode_rows`,
+/// with empty ones passed over. `Row` names the first line that is no such row; no other line is
+/// refused.
 /// This project's own; the capture after the file format of libpcap.
 pub fn encode_pcap(alloc: Global, bytes: &[u8], option: NetOption) -> Result<Text, CaptureErr>
     ensures exact { Gives result (encoded_pcap option bytes.now) }

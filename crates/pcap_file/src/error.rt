@@ -11,7 +11,8 @@ use thiserror::Error;
 /// This project's own.
 #[derive(Clone, Copy, Debug, PartialEq, Eq, Error)]
 pub enum PcapErr {
-    /// There are fewer than 24 octets, or the first eight begin no classic pcap file of version 2.4.
+    /// There are fewer than 24 octets, or the first eight begin no classic pcap file of version
+    /// 2.4.
     #[error("no header of a classic pcap file")]
     Header,
     /// The link type isn't 1, that of Ethernet.

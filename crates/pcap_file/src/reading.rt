@@ -47,9 +47,10 @@ pub(crate) enum ByteOrder {
 
 /// The packets of a capture, in the order of their records.
 ///
-/// A capture is a file header of 24 octets, of version 2.4 and in either order of octets, and records
-/// back to back to the end. `Header` exactly where the bytes don't begin so, else `Link` exactly where
-/// the link type isn't Ethernet's, else `Record` with the first record that isn't whole.
+/// A capture is a file header of 24 octets, of version 2.4 and in either order of octets, and
+/// records back to back to the end. `Header` exactly where the bytes don't begin so, else `Link`
+/// exactly where the link type isn't Ethernet's, else `Record` with the first record that isn't
+/// whole.
 /// After the file format of libpcap.
 pub fn read_pcap(alloc: Global, bytes: &[u8]) -> Result<Rows<Packet>, PcapErr>
     ensures exact { Gives result (packets_of bytes.now) }

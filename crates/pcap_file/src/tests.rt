@@ -24,7 +24,8 @@ const SHORT_RECORD: [u8; 30] = [
     2, 0, 0, 0, 0, 0, 0, 0, 14, 0, 0, 0, 14, 0, 0, 0, 1, 2, 3, 4, 5, 6, 7, 8, 9, 10, 11, 12, 13, 14,
 ];
 
-/// A big-endian header, and the head of a record of 60 octets out of 64 at microsecond 4,294,967,295.
+/// A big-endian header, and the head of a record of 60 octets out of 64 at microsecond
+/// 4,294,967,295.
 const BIG: [u8; 40] = [
     0xa1, 0xb2, 0xc3, 0xd4, 0, 2, 0, 4, 0, 0, 0, 0, 0, 0, 0, 0, 0, 0, 0xff, 0xff, 0, 0, 0, 1, 0, 0,
     1, 0, 0xff, 0xff, 0xff, 0xff, 0, 0, 0, 60, 0, 0, 0, 64,
