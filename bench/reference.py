@@ -2,16 +2,24 @@
 """The rules once more, plain and slow: an independent model, with which the proved crates are compared.
 
 usage: reference.py [--histories N] [--seed N] [--keep FOLDER]
+       reference.py --rows
+       reference.py --sim PLAN EVENTS UNTIL
+       reference.py --sweep PLAN AT UNTIL
 
 Written from the rules alone, and no code of the program is called. It goes through every millisecond and counts.
-Today it has levels, the condition of an input, operator commands, the choice of an input and one element. It grows
-with the program.
+reference_element.py has levels, the condition of an input, operator commands, the choice of an input and one
+element; reference_plan.py plans, events, hops and ranks; reference_network.py the network over time, settled
+milliseconds, closed walks and traces; reference_report.py the texts of a simulation and of a sweep. It grows with
+the program.
 
 For each of N random histories (300 where it isn't given) it says what an element gives at each of its steps: the
 input that is taken, the level, the mode, the state, when it is due, what is sent back on each input and each input's
 condition. A small program over the crate sync_element, which is made in a temporary repository beside copies of the
 crates, is run on the same histories by `rt try --cases`, which compares its texts with these. It wants the toolchain
 and Python 3.11.
+
+The other forms need Python 3.11 alone. --rows compares the reference with runs worked out by hand
+(reference_rows.py). --sim and --sweep print what the program is to print of accepted files.
 """
 import argparse
 import os
@@ -22,7 +30,10 @@ import subprocess
 import sys
 import tempfile
 
+import reference_rows
 from reference_element import LEVELS, Element
+from reference_plan import read_events, read_plan
+from reference_report import sim_text, sweep_text
 
 
 def run(case):
@@ -253,12 +264,8 @@ def make_repository(folder):
         out.writelines(f"{crate}: {' '.join(lines[crate])}\n" for crate in kept)
 
 
-def main():
-    words = argparse.ArgumentParser(description=__doc__, formatter_class=argparse.RawDescriptionHelpFormatter)
-    words.add_argument("--histories", type=int, default=300)
-    words.add_argument("--seed", type=int, default=1)
-    words.add_argument("--keep", help="make the repository and the cases in this folder, and leave them there")
-    given = words.parse_args()
+def compare_histories(given):
+    """Compares random histories of one element with the crate; gives the status of `rt try`."""
     chance = random.Random(given.seed)
     cases = [random_case(chance) for _ in range(given.histories)]
     folder = given.keep or tempfile.mkdtemp(prefix="reference-")
@@ -275,6 +282,32 @@ def main():
     finally:
         if not given.keep:
             shutil.rmtree(folder)
+
+
+def read(path):
+    with open(path, encoding="utf-8-sig", newline="") as file:
+        return file.read()
+
+
+def main():
+    words = argparse.ArgumentParser(description=__doc__, formatter_class=argparse.RawDescriptionHelpFormatter)
+    words.add_argument("--histories", type=int, default=300)
+    words.add_argument("--seed", type=int, default=1)
+    words.add_argument("--keep", help="make the repository and the cases in this folder, and leave them there")
+    words.add_argument("--rows", action="store_true")
+    words.add_argument("--sim", nargs=3, metavar=("PLAN", "EVENTS", "UNTIL"))
+    words.add_argument("--sweep", nargs=3, metavar=("PLAN", "AT", "UNTIL"))
+    given = words.parse_args()
+    if given.sim:
+        plan = read_plan(read(given.sim[0]))
+        print(sim_text(plan, read_events(plan, read(given.sim[1])), int(given.sim[2])), end="")
+        return 0
+    if given.sweep:
+        print(sweep_text(read_plan(read(given.sweep[0])), int(given.sweep[1]), int(given.sweep[2])), end="")
+        return 0
+    if given.rows:
+        return 1 if reference_rows.compare() else 0
+    return compare_histories(given)
 
 
 if __name__ == "__main__":
