@@ -3,6 +3,7 @@
 
 usage: reference.py [--histories N] [--seed N] [--keep FOLDER]
        reference.py --rows
+       reference.py --theorems N [--seed N]
        reference.py --sim PLAN EVENTS UNTIL
        reference.py --sweep PLAN AT UNTIL
 
@@ -19,7 +20,8 @@ crates, is run on the same histories by `rt try --cases`, which compares its tex
 and Python 3.11.
 
 The other forms need Python 3.11 alone. --rows compares the reference with runs worked out by hand
-(reference_rows.py). --sim and --sweep print what the program is to print of accepted files.
+(reference_rows.py). --theorems tries the promises on a running network on N random plans and on some by hand, and
+wrong texts of them (reference_laws.py). --sim and --sweep print what the program is to print of accepted files.
 """
 import argparse
 import os
@@ -30,6 +32,7 @@ import subprocess
 import sys
 import tempfile
 
+import reference_laws
 import reference_rows
 from reference_element import LEVELS, Element
 from reference_plan import read_events, read_plan
@@ -295,6 +298,7 @@ def main():
     words.add_argument("--seed", type=int, default=1)
     words.add_argument("--keep", help="make the repository and the cases in this folder, and leave them there")
     words.add_argument("--rows", action="store_true")
+    words.add_argument("--theorems", type=int, metavar="N")
     words.add_argument("--sim", nargs=3, metavar=("PLAN", "EVENTS", "UNTIL"))
     words.add_argument("--sweep", nargs=3, metavar=("PLAN", "AT", "UNTIL"))
     given = words.parse_args()
@@ -307,6 +311,8 @@ def main():
         return 0
     if given.rows:
         return 1 if reference_rows.compare() else 0
+    if given.theorems is not None:
+        return 1 if reference_laws.try_laws(given.theorems, given.seed) else 0
     return compare_histories(given)
 
 

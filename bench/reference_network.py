@@ -153,12 +153,12 @@ class Network:
         sent = times[first : bisect.bisect_right(times, t)]
         return [s for s in sent if all(self.up[line][s : t + 1])]
 
-    def settled_parts(self, t):
-        """The parts of being settled, by name, and whether each holds."""
+    def settled_parts(self, t, news_alone=False):
+        """The parts of being settled, by name, and whether each holds; of messages all count, or news alone."""
         inputs, lines = self.plan.nominated, [line for line in self.plan.nominated_lines if self.up[line][t]]
         silent = [line for line in lines if not self.speaks[line][t]]
         heard = {line: self.input_level[line][t] for line in lines}
-        on_way = {line: self.on_way(line, t) for line in lines}
+        on_way = {line: [s for s in self.on_way(line, t) if not news_alone or self.is_news(line, s)] for line in lines}
         return {
             "each input is good or failed": all(self.up[i][t] != self.failed[i][t] for i in inputs),
             "messages on their way are heard already": all(
@@ -175,6 +175,11 @@ class Network:
     def taken_at(self, t):
         """What each element takes."""
         return tuple(taken[t] for taken in self.taken)
+
+    def conditions(self, e):
+        """The conditions of an element's inputs in the last millisecond, with what is left of running times."""
+        element = self.elements[e]
+        return [each.condition(element.holdoff, element.wtr) for each in element.inputs]
 
     def gives(self, e, t):
         """What an element gives at a millisecond."""

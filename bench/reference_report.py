@@ -43,8 +43,7 @@ def state_text(network):
     taken = network.taken_at(t)
     text = "inputs\n"
     for e, element in enumerate(plan.elements):
-        for place, i in enumerate(plan.inputs_of[e]):
-            condition = network.elements[e].inputs[place].condition(element.holdoff, element.wtr)
+        for i, condition in zip(plan.inputs_of[e], network.conditions(e)):
             word, _, left = condition.partition(":")
             text += f"{element.name},{plan.input_name(i)},{word},{left or 0}\n"
     text += "traces\n"
