@@ -60,7 +60,7 @@ def random_links(chance, count, shape):
 
 def random_events(chance, plan, until):
     """Up to 40 events of every word, some in one millisecond, some where a time just ends."""
-    times = [chance.randint(0, until) for _ in range(chance.choice([0, 1, 2, 5, 10, 19]))]
+    times = [chance.randint(0, until) for _ in range(chance.choice([0, 1, 2, 5, 10, 17]))]
     offsets = [0, 0, 1, 2, 10, 299, 300, 301, 500, 501]
     times += [min(until, at + chance.choice(offsets)) for at in times]
     lines = [("line", line) for line in range(plan.lines)]
@@ -91,12 +91,17 @@ def rare_events(chance, plan, until):
     if kind in ("silence", "just in time") and plan.nominated_lines:
         line, at = chance.choice(plan.nominated_lines), chance.randint(1, until)
         if kind == "silence":
-            # Both lines of a link at once: only what they said last is heard.
-            return [Event(at, "esmc-off", ("line", end)) for end in (line, line ^ 1)]
+            return silence(("line", line), ("line", line ^ 1), chance.choice([at, at - at % 1000 + 1]))
         # The line speaks again in the last millisecond in which its message of the last whole second is heard.
         back = at - at % 1000 + plan.delay_of[line] + 4999
         return [Event(at, "esmc-off", ("line", line)), Event(back, "esmc-on", ("line", line))]
     return []
+
+
+def silence(line, back, at):
+    """Both lines of a link fall silent and are free to be taken after that: only what they said last is heard."""
+    words = [(0, "lockout"), (at, "esmc-off"), (at + 1, "unlock")]
+    return [Event(when, word, target) for when, word in words for target in (line, back)]
 
 
 def plan_text(plan):
