@@ -25,7 +25,8 @@ class Network:
     """A plan under a list of events. All that is kept is a list by millisecond, for each nominated input or element.
 
     By input number: `up`, `failed`, `input_level` (what a line has heard, or a source has); by line: `speaks`, `out`
-    (the level that it is given by its sender) and `is_sent`; by element: `taken`, `level`, `mode` and `state`.
+    (the level that it is given by its sender) and `is_sent`; by element: `taken`, `level`, `mode` and `state`. Beside
+    these it counts along, for each line, when messages were sent and when the last one arrived.
     """
 
     def __init__(self, plan, events):
@@ -46,7 +47,7 @@ class Network:
         """The element before 0: every input is up, and no line has heard anything."""
         row, plan = self.plan.elements[e], self.plan
         inputs = [
-            (plan.priority_of[i], None, plan.bundle_of[i // 2] if plan.is_line(i) else i) for i in plan.inputs_of[e]
+            (plan.priority_of[i], None, plan.bundle_of[i] if plan.is_line(i) else i) for i in plan.inputs_of[e]
         ]
         return Element(plan.option, row.own, row.floor, row.holdoff, row.wtr, inputs)
 
