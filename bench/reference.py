@@ -2,16 +2,26 @@
 """The rules once more, plain and slow: an independent model, with which the proved crates are compared.
 
 usage: reference.py [--histories N] [--seed N] [--keep FOLDER]
+       reference.py --rows
+       reference.py --theorems N [--seed N]
+       reference.py --sim PLAN EVENTS UNTIL
+       reference.py --sweep PLAN AT UNTIL
 
 Written from the rules alone, and no code of the program is called. It goes through every millisecond and counts.
-Today it has levels, the condition of an input, operator commands, the choice of an input and one element. It grows
-with the program.
+reference_element.py has levels, the condition of an input, operator commands, the choice of an input and one
+element; reference_plan.py plans, events, hops and ranks; reference_network.py the network over time, settled
+milliseconds, closed walks and traces; reference_report.py the texts of a simulation and of a sweep. It grows with
+the program.
 
 For each of N random histories (300 where it isn't given) it says what an element gives at each of its steps: the
 input that is taken, the level, the mode, the state, when it is due, what is sent back on each input and each input's
 condition. A small program over the crate sync_element, which is made in a temporary repository beside copies of the
 crates, is run on the same histories by `rt try --cases`, which compares its texts with these. It wants the toolchain
 and Python 3.11.
+
+The other forms need Python 3.11 alone. --rows compares the reference with runs worked out by hand
+(reference_rows.py). --theorems tries the promises on a running network on N random plans and on some by hand, and
+wrong texts of them (reference_laws.py). --sim and --sweep print what the program is to print of accepted files.
 """
 import argparse
 import os
@@ -22,127 +32,11 @@ import subprocess
 import sys
 import tempfile
 
-LEVELS = {
-    "I": "QL-ePRTC QL-PRTC QL-ePRC QL-PRC QL-SSU-A QL-SSU-B QL-eEEC QL-SEC QL-DNU".split(),
-    "II": (
-        "QL-ePRTC QL-PRTC QL-ePRC QL-PRS QL-STU QL-ST2 QL-TNC QL-ST3E QL-eEEC QL-ST3 QL-SMC QL-PROV QL-DUS".split()
-    ),
-}
-
-
-class Input:
-    """One input of an element: its signal and its level, and for how long it has been up or down."""
-
-    def __init__(self, priority, first, bundle):
-        self.priority, self.level, self.bundle = priority, first, bundle
-        self.up, self.run, self.failed = True, 0, False
-
-    def pass_millisecond(self, up, cleared, holdoff, wtr):
-        self.run = self.run + 1 if up == self.up else 1
-        self.up = up
-        if not up and self.run > holdoff:
-            self.failed = True
-        elif up and (self.run > wtr or cleared):
-            self.failed = False
-
-    def left(self, holdoff, wtr):
-        return (wtr if self.up else holdoff) + 1 - self.run
-
-    def condition(self, holdoff, wtr):
-        if self.up and not self.failed:
-            return "good"
-        if not self.up and self.failed:
-            return "failed"
-        return f"{'restoring' if self.up else 'holdoff'}:{self.left(holdoff, wtr)}"
-
-
-class Element:
-    """An element over time. `millisecond` is called once for each millisecond from 0 on."""
-
-    def __init__(self, option, own, floor, holdoff, wtr, inputs):
-        self.places = {name: place for place, name in enumerate(LEVELS[option])}
-        self.worst = LEVELS[option][-1]
-        self.own, self.floor, self.holdoff, self.wtr = own, floor, holdoff, wtr
-        self.inputs = [Input(*each) for each in inputs]
-        self.locked, self.forced, self.manual = set(), None, None
-        self.taken, self.was_locked = None, False
-
-    def is_eligible(self, i):
-        each = self.inputs[i]
-        if i in self.locked or each.failed or each.level is None or each.level == self.worst:
-            return False
-        return self.floor is None or self.places[each.level] <= self.places[self.floor]
-
-    def place(self, i):
-        return self.places[self.inputs[i].level]
-
-    def command(self, word, i):
-        if word == "lockout":
-            self.locked.add(i)
-            if self.forced == i:
-                self.forced = None
-        elif word == "unlock":
-            self.locked.discard(i)
-        elif word == "forced" and i not in self.locked:
-            self.forced, self.manual = i, None
-        elif word == "manual" and i not in self.locked and self.forced is None:
-            self.manual = i
-        elif word == "clear":
-            self.forced, self.manual = None, None
-
-    def millisecond(self, told):
-        """What is told in it: a list of (word, input, level)."""
-        ups = [each.up for each in self.inputs]
-        cleared = set()
-        for word, i, level in told:
-            if word in ("up", "down"):
-                ups[i] = word == "up"
-            elif word == "has":
-                self.inputs[i].level = level
-            elif word == "clear-wtr":
-                cleared.add(i)
-            else:
-                self.command(word, i)
-        for i, each in enumerate(self.inputs):
-            each.pass_millisecond(ups[i], i in cleared, self.holdoff, self.wtr)
-        eligible = [i for i in range(len(self.inputs)) if self.is_eligible(i)]
-        best_level = min((self.place(i) for i in eligible), default=None)
-        if self.manual is not None and (self.manual not in eligible or self.place(self.manual) > best_level):
-            self.manual = None
-        self.taken = self.choice(eligible, best_level)
-        self.was_locked = self.was_locked or self.taken is not None
-
-    def choice(self, eligible, best_level):
-        if self.forced is not None:
-            return self.forced if self.forced in eligible else None
-        if self.manual is not None:
-            return self.manual
-        if not eligible:
-            return None
-        of_best_level = [i for i in eligible if self.place(i) == best_level]
-        first = min(self.inputs[i].priority for i in of_best_level)
-        best = [i for i in of_best_level if self.inputs[i].priority == first]
-        return self.taken if self.taken in best else best[0]
-
-    def level(self):
-        return self.own if self.taken is None else self.inputs[self.taken].level
-
-    def sent_back(self, i):
-        if self.taken is not None and self.inputs[self.taken].bundle == self.inputs[i].bundle:
-            return self.worst
-        return self.level()
-
-    def mode(self):
-        return "forced" if self.forced is not None else "manual" if self.manual is not None else "auto"
-
-    def state(self):
-        return "locked" if self.taken is not None else "holdover" if self.was_locked else "freerun"
-
-    def answer(self):
-        """What stays while nothing is told and no input's "failed" changes."""
-        sent = [self.sent_back(i) for i in range(len(self.inputs))]
-        taken = "none" if self.taken is None else str(self.taken)
-        return [taken, self.level(), self.mode(), self.state()] + sent
+import reference_laws
+import reference_rows
+from reference_element import LEVELS, Element
+from reference_plan import read_events, read_plan
+from reference_report import sim_text, sweep_text
 
 
 def run(case):
@@ -373,12 +267,8 @@ def make_repository(folder):
         out.writelines(f"{crate}: {' '.join(lines[crate])}\n" for crate in kept)
 
 
-def main():
-    words = argparse.ArgumentParser(description=__doc__, formatter_class=argparse.RawDescriptionHelpFormatter)
-    words.add_argument("--histories", type=int, default=300)
-    words.add_argument("--seed", type=int, default=1)
-    words.add_argument("--keep", help="make the repository and the cases in this folder, and leave them there")
-    given = words.parse_args()
+def compare_histories(given):
+    """Compares random histories of one element with the crate; gives the status of `rt try`."""
     chance = random.Random(given.seed)
     cases = [random_case(chance) for _ in range(given.histories)]
     folder = given.keep or tempfile.mkdtemp(prefix="reference-")
@@ -395,6 +285,35 @@ def main():
     finally:
         if not given.keep:
             shutil.rmtree(folder)
+
+
+def read(path):
+    with open(path, encoding="utf-8-sig", newline="") as file:
+        return file.read()
+
+
+def main():
+    words = argparse.ArgumentParser(description=__doc__, formatter_class=argparse.RawDescriptionHelpFormatter)
+    words.add_argument("--histories", type=int, default=300)
+    words.add_argument("--seed", type=int, default=1)
+    words.add_argument("--keep", help="make the repository and the cases in this folder, and leave them there")
+    words.add_argument("--rows", action="store_true")
+    words.add_argument("--theorems", type=int, metavar="N")
+    words.add_argument("--sim", nargs=3, metavar=("PLAN", "EVENTS", "UNTIL"))
+    words.add_argument("--sweep", nargs=3, metavar=("PLAN", "AT", "UNTIL"))
+    given = words.parse_args()
+    if given.sim:
+        plan = read_plan(read(given.sim[0]))
+        print(sim_text(plan, read_events(plan, read(given.sim[1])), int(given.sim[2])), end="")
+        return 0
+    if given.sweep:
+        print(sweep_text(read_plan(read(given.sweep[0])), int(given.sweep[1]), int(given.sweep[2])), end="")
+        return 0
+    if given.rows:
+        return 1 if reference_rows.compare() else 0
+    if given.theorems is not None:
+        return 1 if reference_laws.try_laws(given.theorems, given.seed) else 0
+    return compare_histories(given)
 
 
 if __name__ == "__main__":
