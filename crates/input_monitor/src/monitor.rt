@@ -2,8 +2,9 @@ ghost use Rattle.std.specs.Prelude.{◌≡◌, ◌≤◌, ◌<◌, ◌+◌, ◌-
 ghost use Rattle.sync_ql.specs.Condition.{Signal, condition_at, failed_at, continued, IsSameKind, IsDue};
 ghost use Rattle.input_monitor.specs.StandsFor.{StandsFor};
 ghost use Rattle.input_monitor.specs.Ending.{IsEnd};
-ghost use Rattle.input_monitor.specs.Running.{IsRunning};
+ghost use Rattle.input_monitor.specs.Running.{IsRunning, IsAtMost};
 
+use crate::limits::{LAST_MILLISECOND, LONGEST_HOLDOFF, LONGEST_WTR, SHORTEST_HOLDOFF};
 use std::marker::Model;
 use sync_ql::rules::Cond;
 
@@ -38,9 +39,9 @@ impl Monitor {
     ///
     /// After G.781, hold-off time and wait-to-restore time.
     pub fn new(holdoff: u32, wtr: u32) -> Monitor
-        requires not_short { 300 ≤ holdoff }
-        requires not_long { holdoff ≤ 1800 }
-        requires minutes { wtr ≤ 12 * 60 * 1000 }
+        requires not_short { SHORTEST_HOLDOFF ≤ holdoff }
+        requires not_long { holdoff ≤ LONGEST_HOLDOFF }
+        requires minutes { wtr ≤ LONGEST_WTR }
         ensures holdoff { result.timers.holdoff ≡ holdoff }
         ensures wtr { result.timers.wtr ≡ wtr }
         ensures next { result.next ≡ 0 }
@@ -65,7 +66,7 @@ impl Monitor {
     pub fn step(&mut self, now: u64, up: bool, clear_wtr: bool)
         requires later { self.old.next ≤ now }
         requires in_time { IfSome self.old.due (λ due. now ≤ due) }
-        requires in_range { now ≤ 24 * 60 * 60 * 1000 }
+        requires in_range { now ≤ LAST_MILLISECOND }
         ensures next { self.new.next ≡ now + 1 }
         ensures kept { self.new.timers ≡ self.old.timers }
         ensures stands { (past : List Signal) → StandsFor self.old past →
@@ -105,7 +106,8 @@ impl Monitor {
 
     /// The first later millisecond at which `failed` changes, if nothing happens.
     ///
-    /// `None` exactly where the condition is good or failed, since no time runs then.
+    /// `None` exactly where the condition is good or failed, since no time runs then; else at most
+    /// the longest time after the last step.
     /// After G.781, hold-off time and wait-to-restore time; the exact millisecond is this project's
     /// own.
     pub fn due(&self) -> Option<u64>
@@ -113,6 +115,7 @@ impl Monitor {
         ensures none { IsNone result ↔
             ((self.now.condition ≡ Cond.Good) ⊎ (self.now.condition ≡ Cond.Failed)) }
         ensures end { IsEnd self.now.next self.now.condition result }
+        ensures soon { IfSome result (λ due. due < self.now.next + LONGEST_WTR) }
         ensures due { (past : List Signal) → StandsFor self.now past →
             IsDue self.now.timers past result }
     {
@@ -127,11 +130,12 @@ impl Monitor {
     fn next_condition(&self, now: u64, up: bool, clear_wtr: bool) -> Cond
         requires later { self.now.next ≤ now }
         requires in_time { IfSome self.now.due (λ due. now ≤ due) }
-        requires in_range { now ≤ 24 * 60 * 60 * 1000 }
+        requires in_range { now ≤ LAST_MILLISECOND }
         ensures condition { (past : List Signal) → StandsFor self.now past →
             result ≡ condition_at self.now.timers
             (record { up = up; clear = clear_wtr } ∷ continued now past) }
         ensures running { IsRunning result }
+        ensures at_most { IsAtMost LONGEST_WTR result }
     {
         let passed = now + 1 - self.next;
         match (self.condition, up) {

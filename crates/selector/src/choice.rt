@@ -5,6 +5,11 @@ ghost use Rattle.selector.specs.Scanned.{IsFirstBest};
 use crate::best::{beats, first_best, has_better_level, is_eligible};
 use sync_ql::rules::Candidate;
 
+/// The most inputs that an element has.
+///
+/// This project's own.
+pub const MOST_INPUTS: usize = 64;
+
 /// The input that is taken, and whether the manual switch stands.
 ///
 /// After G.781, the selected input and manual switch.
@@ -30,7 +35,7 @@ pub fn choose(
     manual: Option<u32>,
     current: Option<u32>,
 ) -> Choice
-    requires few { length inputs.now ≤ 64 }
+    requires few { length inputs.now ≤ MOST_INPUTS }
     requires one_option { AreOfOneOption inputs.now }
     requires forced_place { IfSome forced (λ i. i < length inputs.now) }
     requires manual_place { IfSome manual (λ i. i < length inputs.now) }

@@ -15,5 +15,5 @@ mod choice;
 #[cfg(test)]
 mod tests;
 
-pub use choice::{Choice, choose};
+pub use choice::{Choice, MOST_INPUTS, choose};
 pub use sync_ql::rules::Candidate;

@@ -6,15 +6,18 @@ use Rattle.std.proofs.lemmas.Option.{same_Some}
 use Rattle.sync_ql.specs.declared.rules.Cond.{Cond}
 use Rattle.sync_ql.specs.declared.rules.Cond.TheVariants.{Good, HoldOff, Failed, Restoring}
 use Rattle.sync_ql.specs.Condition.{failed_at, condition_at, IsDue, IsFirstChange}
-use Rattle.sync_ql.specs.Moment.{Moment, signals_of}
+use Rattle.sync_ql.specs.Moment.{Moment, Settings, signals_of}
 use Rattle.sync_ql.specs.Told.{moments_until}
 use Rattle.input_monitor.specs.Ending.{EndsWith, IsEnd}
 use Rattle.input_monitor.proofs.Stepping.{aged}
 use Rattle.input_monitor.proofs.Conditions.{Lasts, condition_at-after_quiet}
-use Rattle.sync_element.specs.ElementState.{ElementState, inputs_of, monitor_of, IsFirstDue, IsFirstDueAt, IsInTime, IsWhole}
-use Rattle.sync_element.specs.StandsFor.{StandsFor}
+use Rattle.sync_element.specs.Kept.{IsFirstDue, IsFirstDueAt}
+use Rattle.sync_element.specs.ElementState.{ElementState, inputs_of, IsInTime}
+use Rattle.sync_element.specs.Whole.{monitor_of, IsWhole}
+use Rattle.sync_element.specs.StandsFor.{IsAfter}
 use Rattle.sync_ql.specs.Quiet.{IsFirstFailedChange, IsElementDue}
-use Rattle.sync_element.specs.Due.{left_of, left_in, later_by, IsLastStepPlusLeast, NoneEnds}
+use Rattle.sync_element.specs.Due.{left_of, left_in, later_by, IsLastPlusLeast, NoneEnds}
+use Rattle.input_monitor.specs.declared.limits.TheConstants.{LAST_MILLISECOND, LONGEST_WTR}
 use Rattle.sync_ql.proofs.Staying.{length-signals_of, signals_of-moments_until}
 use Rattle.sync_element.proofs.Waiting.{until_first}
 
@@ -53,49 +56,94 @@ none_left next Failed o ends is = refl
 none_left next (HoldOff left) o ends is = absurd (never_ends next left o ends is)
 none_left next (Restoring left) o ends is = absurd (never_ends next left o ends is)
 
--- the due time of the monitor at a place, by its condition and the element's next millisecond
-end_in : (e : ElementState) → IsWhole e → (i : ℕ) → i < inputs_of e → IsEnd e.next (monitor_of e i).condition (monitor_of e i).due
-end_in e whole i within = subst (λ n. IsEnd n (monitor_of e i).condition (monitor_of e i).due) (whole.same_next i within) (whole.ends i within)
+-- the condition of the monitor at a place is that of the rules
+pub condition_is : (e : ElementState) (past : List Moment) → IsWhole e → IsAfter e past → (i : ℕ) → i < inputs_of e → (monitor_of e i).condition ≡ condition_at e.settings.timers (signals_of i past)
+condition_is e past whole stands i within =
+    subst (λ timers. (monitor_of e i).condition ≡ condition_at timers (signals_of i past)) (whole.timers i within) (stands.kept.monitors i within).condition
 
-last_step_plus_least : (e : ElementState) (due : ℕ) → IsWhole e → IsFirstDueAt e.monitors (inputs_of e) due → IsLastStepPlusLeast e due
-last_step_plus_least e due whole first =
+-- its due time, by that condition and the element's next millisecond
+end_in : (e : ElementState) (past : List Moment) → IsWhole e → IsAfter e past → (i : ℕ) → i < inputs_of e → IsEnd (length past) (condition_at e.settings.timers (signals_of i past)) (monitor_of e i).due
+end_in e past whole stands i within =
+    subst (λ n. IsEnd n (condition_at e.settings.timers (signals_of i past)) (monitor_of e i).due) (whole.same_next i within ∙ stands.next)
+    (subst (λ c. IsEnd (monitor_of e i).next c (monitor_of e i).due) (condition_is e past whole stands i within) (whole.ends i within).ends)
+
+last_plus_least : (e : ElementState) (past : List Moment) (due : ℕ) → IsWhole e → IsAfter e past → IsFirstDueAt e.kept.monitors (inputs_of e) due → IsLastPlusLeast e.settings past due
+last_plus_least e past due whole stands first =
     let i = first.some.0 in
-    let ends = ends_at e.next due (monitor_of e i).condition (monitor_of e i).due (end_in e whole i first.some.1) first.some.2 in
+    let condition : ℕ → Cond = λ k. condition_at e.settings.timers (signals_of k past) in
+    let ends = ends_at (length past) due (condition i) (monitor_of e i).due (end_in e past whole stands i first.some.1) first.some.2 in
     record {
       left = ends.0;
       least = record {
         some = (i, first.some.1, ends.1);
-        least = λ k inside. no_less e.next due ends.0 (monitor_of e k).condition (monitor_of e k).due (end_in e whole k inside) ends.2 (first.first k inside);
+        least = λ k inside. no_less (length past) due ends.0 (condition k) (monitor_of e k).due (end_in e past whole stands k inside) ends.2 (first.first k inside);
       };
       due_is = ends.2;
       later = ends.3;
     }
 
 -- with a least that is left, there is a condition that ends
-some_ends : (e : ElementState) (due : ℕ) → IsLastStepPlusLeast e due → NoneEnds e → ⊥
-some_ends e due last none = none_is_some (left_in e last.least.some.0) last.left (none last.least.some.0 last.least.some.1) last.least.some.2
+some_ends : (settings : Settings) (past : List Moment) (due : ℕ) → IsLastPlusLeast settings past due → NoneEnds settings past → ⊥
+some_ends settings past due last none = none_is_some (left_in settings past last.least.some.0) last.left (none last.least.some.0 last.least.some.1) last.least.some.2
   where
     none_is_some : (o : Option ℕ) (left : ℕ) → o ≡ None → o ≡ Some left → ⊥
     none_is_some None left is_none is_some = cc
     none_is_some (Some x) left is_none is_some = cc
 
-pub none_where_none_ends : (e : ElementState) (due : Option ℕ) → MatchOption due (NoneEnds e) (IsLastStepPlusLeast e) → IsNone due ↔ NoneEnds e
-none_where_none_ends e None none = (λ _. none, λ _. refl)
-none_where_none_ends e (Some due) last = (λ never. absurd (cc), λ none. absurd (some_ends e due last none))
-
-pub some_where_one_ends : (e : ElementState) (due : Option ℕ) → MatchOption due (NoneEnds e) (IsLastStepPlusLeast e) → IfSome due (IsLastStepPlusLeast e)
-some_where_one_ends e None none = tt
-some_where_one_ends e (Some due) last = last
-
 -- the due time is the last step plus the least that was left
-pub due_is_least : (e : ElementState) → IsWhole e → (due : Option ℕ) → IsFirstDue e.monitors (inputs_of e) due → MatchOption due (NoneEnds e) (IsLastStepPlusLeast e)
-due_is_least e whole None none = λ i within. none_left e.next (monitor_of e i).condition (monitor_of e i).due (end_in e whole i within) (none i within)
-due_is_least e whole (Some due) first = last_step_plus_least e due whole first
+due_is_least : (e : ElementState) (past : List Moment) → IsWhole e → IsAfter e past → (due : Option ℕ) → IsFirstDue e.kept.monitors (inputs_of e) due → MatchOption due (NoneEnds e.settings past) (IsLastPlusLeast e.settings past)
+due_is_least e past whole stands None none = λ i within. none_left (length past) (condition_at e.settings.timers (signals_of i past)) (monitor_of e i).due (end_in e past whole stands i within) (none i within)
+due_is_least e past whole stands (Some due) first = last_plus_least e past due whole stands first
+
+none_or_least : (settings : Settings) (past : List Moment) (due : Option ℕ) → MatchOption due (NoneEnds settings past) (IsLastPlusLeast settings past) → (IsNone due ↔ NoneEnds settings past) × IfSome due (IsLastPlusLeast settings past)
+none_or_least settings past None none = ((λ _. none, λ _. refl), tt)
+none_or_least settings past (Some due) last = ((λ never. absurd (cc), λ none. absurd (some_ends settings past due last none)), last)
+
+pub none_where_none_ends : (e : ElementState) → IsWhole e → (past : List Moment) → IsAfter e past → IsNone e.due ↔ NoneEnds e.settings past
+none_where_none_ends e whole past stands = (none_or_least e.settings past e.due (due_is_least e past whole stands e.due whole.first_due)).0
+
+pub some_where_one_ends : (e : ElementState) → IsWhole e → (past : List Moment) → IsAfter e past → IfSome e.due (IsLastPlusLeast e.settings past)
+some_where_one_ends e whole past stands = (none_or_least e.settings past e.due (due_is_least e past whole stands e.due whole.first_due)).1
+
+-- whatever the past, the due time is later than the last step, and not long after it
+end_after : (next : ℕ) (c : Cond) (o : Option ℕ) → IsEnd next c o → IfSome o (λ due. next ≤ due)
+end_after next c None ends = tt
+end_after next Good (Some due) ends = absurd (cc)
+end_after next (HoldOff left) (Some due) ends = ends.1
+end_after next Failed (Some due) ends = absurd (cc)
+end_after next (Restoring left) (Some due) ends = ends.1
+
+pub due_later : (e : ElementState) → IsWhole e → IfSome e.due (λ due. e.next ≤ due)
+due_later e whole = of e.due whole.first_due
+  where
+    of : (due : Option ℕ) → IsFirstDue e.kept.monitors (inputs_of e) due → IfSome due (λ d. e.next ≤ d)
+    of None none = tt
+    of (Some due) first =
+        let m = monitor_of e first.some.0 in
+        subst (λ n. n ≤ due) (whole.same_next first.some.0 first.some.1)
+        (subst (λ o. IfSome o (λ d. m.next ≤ d)) first.some.2 (end_after m.next m.condition m.due (whole.ends first.some.0 first.some.1).ends))
+
+pub due_soon : (e : ElementState) → IsWhole e → IfSome e.due (λ due. due < e.next + LONGEST_WTR)
+due_soon e whole = of e.due whole.first_due
+  where
+    of : (due : Option ℕ) → IsFirstDue e.kept.monitors (inputs_of e) due → IfSome due (λ d. d < e.next + LONGEST_WTR)
+    of None none = tt
+    of (Some due) first =
+        let m = monitor_of e first.some.0 in
+        subst (λ n. due < n + LONGEST_WTR) (whole.same_next first.some.0 first.some.1)
+        (subst (λ o. IfSome o (λ d. d < m.next + LONGEST_WTR)) first.some.2 (whole.ends first.some.0 first.some.1).soon)
+
+pub due_in_range : (e : ElementState) → IsWhole e → IfSome e.due (λ due. due ≤ LAST_MILLISECOND + LONGEST_WTR)
+due_in_range e whole = of e.due (due_soon e whole)
+  where
+    of : (o : Option ℕ) → IfSome o (λ d. d < e.next + LONGEST_WTR) → IfSome o (λ d. d ≤ LAST_MILLISECOND + LONGEST_WTR)
+    of None soon = tt
+    of (Some due) soon = let limit : e.next ≤ LAST_MILLISECOND + 1 = whole.in_range in omega arith
 
 -- a monitor's due time in the element's words
-due_of : (e : ElementState) (past : List Moment) → IsWhole e → StandsFor e past → (i : ℕ) → i < inputs_of e → IsDue e.settings.timers (signals_of i past) (monitor_of e i).due
+due_of : (e : ElementState) (past : List Moment) → IsWhole e → IsAfter e past → (i : ℕ) → i < inputs_of e → IsDue e.settings.timers (signals_of i past) (monitor_of e i).due
 due_of e past whole stands i within =
-    subst (λ timers. IsDue timers (signals_of i past) (monitor_of e i).due) (whole.timers i within) (stands.monitors i within).due
+    subst (λ timers. IsDue timers (signals_of i past) (monitor_of e i).due) (whole.timers i within) (stands.kept.monitors i within).due
 
 -- until then an input stays failed, or not failed
 same_failed_until : (e : ElementState) (past : List Moment) (i n : ℕ) (due : Option ℕ) → i < inputs_of e → IsDue e.settings.timers (signals_of i past) due → IfSome due (λ d. n ≤ d) → length past ≤ n → failed_at e.settings.timers (signals_of i (moments_until e.settings n past)) ≡ failed_at e.settings.timers (signals_of i past)
@@ -106,18 +154,18 @@ same_failed_until e past i n (Some due) within first in_time later =
     ap (failed_at e.settings.timers) (signals_of-moments_until e.settings i n past within)
     ∙ first.same_before n (omega (arith, length-signals_of i past, later)) in_time
 
-first_failed_change : (e : ElementState) (past : List Moment) (due : ℕ) → IsWhole e → StandsFor e past → IsFirstDueAt e.monitors (inputs_of e) due → IsFirstFailedChange e.settings past due
+first_failed_change : (e : ElementState) (past : List Moment) (due : ℕ) → IsWhole e → IsAfter e past → IsFirstDueAt e.kept.monitors (inputs_of e) due → IsFirstFailedChange e.settings past due
 first_failed_change e past due whole stands first =
     let i = first.some.0 in
     let change : IsFirstChange e.settings.timers (signals_of i past) due = subst (IsDue e.settings.timers (signals_of i past)) first.some.2 (due_of e past whole stands i first.some.1) in
     record {
       later = omega (arith, length-signals_of i past, change.later);
       changed = (i, first.some.1, ap (failed_at e.settings.timers) (signals_of-moments_until e.settings i (due + 1) past first.some.1) ∙ change.changed);
-      same_before = λ n later in_time k inside. same_failed_until e past k n (monitor_of e k).due inside (due_of e past whole stands k inside) (until_first e.monitors (inputs_of e) n k (Some due) first in_time inside) later;
+      same_before = λ n later in_time k inside. same_failed_until e past k n (monitor_of e k).due inside (due_of e past whole stands k inside) (until_first e.kept.monitors (inputs_of e) n k (Some due) first in_time inside) later;
     }
 
 -- the due time is that of the first input's "failed" that changes
-pub due_is_first_change : (e : ElementState) (past : List Moment) → IsWhole e → StandsFor e past → (due : Option ℕ) → IsFirstDue e.monitors (inputs_of e) due → IsElementDue e.settings past due
+pub due_is_first_change : (e : ElementState) (past : List Moment) → IsWhole e → IsAfter e past → (due : Option ℕ) → IsFirstDue e.kept.monitors (inputs_of e) due → IsElementDue e.settings past due
 due_is_first_change e past whole stands None none = λ n later i within.
     same_failed_until e past i n None within (subst (IsDue e.settings.timers (signals_of i past)) (none i within) (due_of e past whole stands i within)) tt later
 due_is_first_change e past whole stands (Some due) first = first_failed_change e past due whole stands first
@@ -140,13 +188,14 @@ aged_is k Failed = refl
 aged_is k (Restoring left) = refl
 
 -- until the due time, of a running time that much less is left
-pub left_until : (e : ElementState) → IsWhole e → (i : ℕ) → i < inputs_of e → (past : List Moment) (n : ℕ) → StandsFor e past → IsInTime e n → condition_at e.settings.timers (signals_of i (moments_until e.settings n past)) ≡ later_by (n - e.next) (monitor_of e i).condition
+pub left_until : (e : ElementState) → IsWhole e → (i : ℕ) → i < inputs_of e → (past : List Moment) (n : ℕ) → IsAfter e past → IsInTime e n → condition_at e.settings.timers (signals_of i (moments_until e.settings n past)) ≡ later_by (n - e.next) (monitor_of e i).condition
 left_until e whole i within past n stands in_time =
     let c = (monitor_of e i).condition in
     let signals = signals_of i past in
-    let is : c ≡ condition_at e.settings.timers signals = subst (λ timers. c ≡ condition_at timers signals) (whole.timers i within) (stands.monitors i within).condition in
+    let is : c ≡ condition_at e.settings.timers signals = condition_is e past whole stands i within in
     let passed : n - length signals ≡ n - e.next = ap (λ k. n - k) (length-signals_of i past ∙ sym stands.next) in
-    let still : Lasts (n - e.next) c = lasts e.next n c (monitor_of e i).due (end_in e whole i within) (until_first e.monitors (inputs_of e) n i e.due whole.first_due in_time.until_due within) in
+    let end : IsEnd e.next c (monitor_of e i).due = subst (λ k. IsEnd k c (monitor_of e i).due) (whole.same_next i within) (whole.ends i within).ends in
+    let still : Lasts (n - e.next) c = lasts e.next n c (monitor_of e i).due end (until_first e.kept.monitors (inputs_of e) n i e.due whole.first_due in_time.until_due within) in
     let also : Lasts (n - length signals) (condition_at e.settings.timers signals) = subst (Lasts (n - length signals)) is (subst (λ k. Lasts k c) (sym passed) still) in
     ap (condition_at e.settings.timers) (signals_of-moments_until e.settings i n past within)
     ∙ condition_at-after_quiet e.settings.timers whole.holdoff (n - length signals) signals also

@@ -14,22 +14,26 @@ use Rattle.input_monitor.specs.Ending.{IsEnd}
 use Rattle.sync_element.specs.declared.config.Config.{Config}
 use Rattle.sync_element.specs.declared.config.InputConfig.{InputConfig}
 use Rattle.sync_element.specs.Configured.{settings_of}
-use Rattle.sync_element.specs.ElementState.{ElementState, monitor_in, HasEnd, IsWhole}
-use Rattle.sync_element.specs.StandsFor.{StandsFor}
+use Rattle.sync_element.specs.Kept.{monitor_in, HasEnd}
+use Rattle.sync_element.specs.ElementState.{ElementState}
+use Rattle.sync_element.specs.Whole.{IsWhole}
+use Rattle.sync_element.specs.StandsFor.{IsAfter}
 use Rattle.sync_element.specs.Starting.{IsNew, first_candidate}
 
 abbrev pub new_state : Config → List Monitored → List Bool → List Candidate → Switches → ElementState
 new_state config monitors ups candidates switches = record {
   settings = settings_of config;
   next = 0;
-  monitors = monitors;
-  ups = ups;
-  candidates = candidates;
-  switches = switches;
-  selection = None;
-  was_locked = false;
   due = None;
   later_steps = 0;
+  kept = record {
+    monitors = monitors;
+    ups = ups;
+    candidates = candidates;
+    switches = switches;
+    selection = None;
+    was_locked = false;
+  };
 }
 
 -- what a new element is made of
@@ -68,7 +72,10 @@ length-priorities config = length-map config.inputs (λ input. input.priority)
 
 -- a monitor that was told nothing has no condition that ends
 HasEnd-new : (timers : Timers) (m : Monitored) → IsNew timers m → HasEnd m
-HasEnd-new timers m new = subst (λ condition. IsEnd m.next condition m.due) (sym new.condition) new.due
+HasEnd-new timers m new = record {
+  ends = subst (λ condition. IsEnd m.next condition m.due) (sym new.condition) new.due;
+  soon = rw new.due tt;
+}
 
 pub IsWhole-new : (config : Config) (monitors : List Monitored) (ups : List Bool) (candidates : List Candidate) (switches : Switches) → IsNewState config monitors ups candidates switches → IsWhole (new_state config monitors ups candidates switches)
 IsWhole-new config monitors ups candidates switches new =
@@ -104,15 +111,17 @@ pub level_first : (inputs : List InputConfig) (i : ℕ) → (get_or inputs i no_
 unfolding no_input
 level_first inputs i = sym (get_or-map (λ input. input.first) inputs i no_input)
 
-pub StandsFor-new : (config : Config) (monitors : List Monitored) (ups : List Bool) (candidates : List Candidate) (switches : Switches) → IsNewState config monitors ups candidates switches → StandsFor (new_state config monitors ups candidates switches) []
-StandsFor-new config monitors ups candidates switches new =
+pub IsAfter-new : (config : Config) (monitors : List Monitored) (ups : List Bool) (candidates : List Candidate) (switches : Switches) → IsNewState config monitors ups candidates switches → IsAfter (new_state config monitors ups candidates switches) []
+IsAfter-new config monitors ups candidates switches new =
     let count = length-priorities config in
     record {
       next = refl;
-      monitors = λ i within. (new.new i (omega (arith, within, count))).stands;
-      ups = λ i within. rw new.ups_are (get_or-replicate (length config.inputs) i true true (omega (arith, within, count)));
-      levels = λ i within. rw (new.candidates_are, candidate_first config.inputs i) (level_first config.inputs i);
-      switches = new.switches_are ∙ switches_first (settings_of config) (length config.inputs) (sym count);
-      selection = selection_first (settings_of config);
-      was_locked = refl;
+      kept = record {
+        monitors = λ i within. (new.new i (omega (arith, within, count))).stands;
+        ups = λ i within. rw new.ups_are (get_or-replicate (length config.inputs) i true true (omega (arith, within, count)));
+        levels = λ i within. rw (new.candidates_are, candidate_first config.inputs i) (level_first config.inputs i);
+        switches = new.switches_are ∙ switches_first (settings_of config) (length config.inputs) (sym count);
+        selection = selection_first (settings_of config);
+        was_locked = refl;
+      };
     }

@@ -7,7 +7,7 @@ use Rattle.sync_ql.specs.declared.rules.Candidate.{Candidate}
 use Rattle.sync_ql.specs.Switches.{Switches, is_locked}
 use Rattle.sync_ql.specs.Selection.{candidate}
 use Rattle.input_monitor.specs.Monitored.{Monitored}
-use Rattle.sync_element.specs.ElementState.{monitor_in, unused, up_in}
+use Rattle.sync_element.specs.Kept.{monitor_in, unused, up_in}
 use Rattle.sync_element.specs.Telling.{clear_in}
 use Rattle.sync_element.specs.Stepping.{IsStepped, AreStepped}
 use Rattle.sync_ql.proofs.Eligible.{nobody}

@@ -19,8 +19,10 @@ use Rattle.sync_ql.specs.Told.{last_said, says_up, says_level, clears, commands_
 use Rattle.input_monitor.specs.Monitored.{Monitored}
 use Rattle.input_monitor.specs.StandsFor as Monitor
 use Rattle.sync_ql.proofs.Eligible.{nobody}
-use Rattle.sync_element.specs.ElementState.{ElementState, inputs_of, monitor_in, up_in, HasEnd, IsFirstDue, IsInTime, IsWhole}
-use Rattle.sync_element.specs.StandsFor.{StandsFor}
+use Rattle.sync_element.specs.Kept.{monitor_in, up_in, HasEnd, IsFirstDue}
+use Rattle.sync_element.specs.ElementState.{ElementState, inputs_of, IsInTime}
+use Rattle.sync_element.specs.Whole.{IsWhole}
+use Rattle.sync_element.specs.StandsFor.{IsAfter}
 use Rattle.sync_element.specs.Telling.{clear_in, IsToldSoFar, IsSameInputs}
 use Rattle.sync_element.specs.Stepping.{IsStepped, AreStepped}
 use Rattle.sync_element.proofs.TellingLemmas.{unwrap_or-option_or}
@@ -48,24 +50,26 @@ abbrev pub after : ElementState → ℕ → Taken → ElementState
 after e now t = record {
   settings = e.settings;
   next = now + 1;
-  monitors = t.monitors;
-  ups = t.ups;
-  candidates = t.candidates;
-  switches = t.switches;
-  selection = t.selection;
-  was_locked = t.was_locked;
   due = t.due;
   later_steps = t.later_steps;
+  kept = record {
+    monitors = t.monitors;
+    ups = t.ups;
+    candidates = t.candidates;
+    switches = t.switches;
+    selection = t.selection;
+    was_locked = t.was_locked;
+  };
 }
 
 -- what the parts of a step say of it
 pub record IsTaken (e : ElementState) (now : ℕ) (events : List InputEvent) (t : Taken) : Type 0 where
-  pub is_told : IsToldSoFar events [] e.ups t.ups (replicate 64 false) t.clear e.candidates t.told e.switches t.commands
-  pub is_same : IsSameInputs e.ups t.ups (replicate 64 false) t.clear e.candidates t.told e.switches t.commands
-  pub are_stepped : AreStepped (length e.monitors) now t.ups t.clear t.commands e.settings.floor e.monitors t.monitors t.told t.candidates
+  pub is_told : IsToldSoFar events [] e.kept.ups t.ups (replicate 64 false) t.clear e.kept.candidates t.told e.kept.switches t.commands
+  pub is_same : IsSameInputs e.kept.ups t.ups (replicate 64 false) t.clear e.kept.candidates t.told e.kept.switches t.commands
+  pub are_stepped : AreStepped (length e.kept.monitors) now t.ups t.clear t.commands e.settings.floor e.kept.monitors t.monitors t.told t.candidates
   pub ended : t.switches ≡ at_end t.candidates t.commands
-  pub chosen : t.selection ≡ choice t.candidates t.switches.forced t.switches.manual e.selection
-  pub ever_locked : t.was_locked ≡ (is_some t.selection || e.was_locked)
+  pub chosen : t.selection ≡ choice t.candidates t.switches.forced t.switches.manual e.kept.selection
+  pub ever_locked : t.was_locked ≡ (is_some t.selection || e.kept.was_locked)
 
 pub or-false : (b : Bool) → (b || false) ≡ b
 or-false true = refl
@@ -88,14 +92,14 @@ waited e past now = moments_until e.settings now past
 abbrev pub told_now : ElementState → List Moment → ℕ → List InputEvent → Moment
 told_now e past now events = moment_after e.settings (moments_until e.settings now past) events
 
-length-waited : (e : ElementState) (past : List Moment) (now : ℕ) → StandsFor e past → IsInTime e now → length (waited e past now) ≡ now
+length-waited : (e : ElementState) (past : List Moment) (now : ℕ) → IsAfter e past → IsInTime e now → length (waited e past now) ≡ now
 length-waited e past now stands in_time = omega (arith, length-quiet_moments e.settings (now - length past) past, in_time.later, stands.next)
 
 -- whether an input is up, whether it is cleared, and its level, are as they are told
-up_taken : (e : ElementState) (past : List Moment) (now : ℕ) (events : List InputEvent) (t : Taken) → StandsFor e past → IsTaken e now events t → (i : ℕ) → i < inputs_of e → up_in t.ups i ≡ (input_of i (told_now e past now events)).signal.up
+up_taken : (e : ElementState) (past : List Moment) (now : ℕ) (events : List InputEvent) (t : Taken) → IsAfter e past → IsTaken e now events t → (i : ℕ) → i < inputs_of e → up_in t.ups i ≡ (input_of i (told_now e past now events)).signal.up
 up_taken e past now events t stands taken i within =
     taken.is_told.is_up i
-    ∙ ap (unwrap_or (last_said (says_up i) events)) (stands.ups i within ∙ sym (is_up-after_quiet (now - length past) (signals_of i past)) ∙ sym (ap is_up (signals_of-quiet_moments e.settings i (now - length past) past within)))
+    ∙ ap (unwrap_or (last_said (says_up i) events)) (stands.kept.ups i within ∙ sym (is_up-after_quiet (now - length past) (signals_of i past)) ∙ sym (ap is_up (signals_of-quiet_moments e.settings i (now - length past) past within)))
     ∙ sym (ap (λ input. input.signal.up) (input_of-moment_after e.settings (waited e past now) events i within))
 
 clear_taken : (e : ElementState) (past : List Moment) (now : ℕ) (events : List InputEvent) (t : Taken) → IsWhole e → IsTaken e now events t → (i : ℕ) → i < inputs_of e → clear_in t.clear i ≡ (input_of i (told_now e past now events)).signal.clear
@@ -105,17 +109,17 @@ clear_taken e past now events t whole taken i within =
     ∙ or-false (list_any (clears i) events)
     ∙ sym (ap (λ input. input.signal.clear) (input_of-moment_after e.settings (waited e past now) events i within))
 
-level_told : (e : ElementState) (past : List Moment) (now : ℕ) (events : List InputEvent) (t : Taken) → StandsFor e past → IsTaken e now events t → (i : ℕ) → i < inputs_of e → (candidate t.told i).level ≡ (input_of i (told_now e past now events)).level
+level_told : (e : ElementState) (past : List Moment) (now : ℕ) (events : List InputEvent) (t : Taken) → IsAfter e past → IsTaken e now events t → (i : ℕ) → i < inputs_of e → (candidate t.told i).level ≡ (input_of i (told_now e past now events)).level
 level_told e past now events t stands taken i within =
     taken.is_told.has_level i
-    ∙ ap (unwrap_or (last_said (says_level i) events)) (stands.levels i within ∙ sym (last_level-quiet_moments e.settings i (now - length past) past within))
+    ∙ ap (unwrap_or (last_said (says_level i) events)) (stands.kept.levels i within ∙ sym (last_level-quiet_moments e.settings i (now - length past) past within))
     ∙ sym (ap (λ input. input.level) (input_of-moment_after e.settings (waited e past now) events i within))
 
 -- the input at a place is one step on
-stepped_at : (e : ElementState) (now : ℕ) (events : List InputEvent) (t : Taken) → IsWhole e → IsTaken e now events t → (i : ℕ) → i < inputs_of e → IsStepped now (up_in t.ups i) (clear_in t.clear i) (is_locked t.commands i) e.settings.floor (monitor_in e.monitors i) (monitor_in t.monitors i) (candidate t.told i) (candidate t.candidates i)
+stepped_at : (e : ElementState) (now : ℕ) (events : List InputEvent) (t : Taken) → IsWhole e → IsTaken e now events t → (i : ℕ) → i < inputs_of e → IsStepped now (up_in t.ups i) (clear_in t.clear i) (is_locked t.commands i) e.settings.floor (monitor_in e.kept.monitors i) (monitor_in t.monitors i) (candidate t.told i) (candidate t.candidates i)
 stepped_at e now events t whole taken i within = taken.are_stepped.first i (omega (arith, within, whole.monitors_length))
 
-monitor_taken : (e : ElementState) (past : List Moment) (now : ℕ) (events : List InputEvent) (t : Taken) → IsWhole e → StandsFor e past → IsTaken e now events t → (i : ℕ) → i < inputs_of e → Monitor.StandsFor (monitor_in t.monitors i) (signals_of i (told_now e past now events ∷ waited e past now))
+monitor_taken : (e : ElementState) (past : List Moment) (now : ℕ) (events : List InputEvent) (t : Taken) → IsWhole e → IsAfter e past → IsTaken e now events t → (i : ℕ) → i < inputs_of e → Monitor.StandsFor (monitor_in t.monitors i) (signals_of i (told_now e past now events ∷ waited e past now))
 monitor_taken e past now events t whole stands taken i within =
     let m = monitor_in t.monitors i in
     let one = stepped_at e now events t whole taken i within in
@@ -123,9 +127,9 @@ monitor_taken e past now events t whole stands taken i within =
     same_signal (up_in t.ups i) (input_of i (told_now e past now events)).signal.up (clear_in t.clear i) (input_of i (told_now e past now events)).signal.clear
     (up_taken e past now events t stands taken i within) (clear_taken e past now events t whole taken i within) in
     subst (λ rest. Monitor.StandsFor m ((input_of i (told_now e past now events)).signal ∷ rest)) (sym (signals_of-moments_until e.settings i now past within))
-    (subst (λ s. Monitor.StandsFor m (s ∷ continued now (signals_of i past))) signal (one.stands (signals_of i past) (stands.monitors i within)))
+    (subst (λ s. Monitor.StandsFor m (s ∷ continued now (signals_of i past))) signal (one.stands (signals_of i past) (stands.kept.monitors i within)))
 
-failed_taken : (e : ElementState) (past : List Moment) (now : ℕ) (events : List InputEvent) (t : Taken) → IsWhole e → StandsFor e past → IsTaken e now events t → (i : ℕ) → i < inputs_of e → (monitor_in t.monitors i).failed ≡ failed_at e.settings.timers (signals_of i (told_now e past now events ∷ waited e past now))
+failed_taken : (e : ElementState) (past : List Moment) (now : ℕ) (events : List InputEvent) (t : Taken) → IsWhole e → IsAfter e past → IsTaken e now events t → (i : ℕ) → i < inputs_of e → (monitor_in t.monitors i).failed ≡ failed_at e.settings.timers (signals_of i (told_now e past now events ∷ waited e past now))
 failed_taken e past now events t whole stands taken i within =
     (monitor_taken e past now events t whole stands taken i within).failed
     ∙ ap (λ timers. failed_at timers (signals_of i (told_now e past now events ∷ waited e past now))) ((stepped_at e now events t whole taken i within).timers ∙ whole.timers i within)
@@ -139,7 +143,7 @@ priority_taken e now events t whole taken i within =
 usable_same : (locked failed failed_then : Bool) (floor level level_then : Option Level) → failed ≡ failed_then → level ≡ level_then → (not locked && not failed && not (is_better floor level)) ≡ (not locked && not failed_then && not (is_better floor level_then))
 usable_same locked failed failed_then floor level level_then f l = rw (f, l) refl
 
-candidate_taken : (e : ElementState) (past : List Moment) (now : ℕ) (events : List InputEvent) (t : Taken) → IsWhole e → StandsFor e past → IsTaken e now events t → (i : ℕ) → i < inputs_of e → candidate t.candidates i ≡ seen e.settings t.commands (told_now e past now events ∷ waited e past now) i
+candidate_taken : (e : ElementState) (past : List Moment) (now : ℕ) (events : List InputEvent) (t : Taken) → IsWhole e → IsAfter e past → IsTaken e now events t → (i : ℕ) → i < inputs_of e → candidate t.candidates i ≡ seen e.settings t.commands (told_now e past now events ∷ waited e past now) i
 candidate_taken e past now events t whole stands taken i within =
     let c = candidate t.candidates i in
     let d = seen e.settings t.commands (told_now e past now events ∷ waited e past now) i in
@@ -154,32 +158,34 @@ length-candidates : (e : ElementState) (now : ℕ) (events : List InputEvent) (t
 length-candidates e now events t whole taken = taken.are_stepped.inputs_length ∙ taken.is_same.inputs_length ∙ whole.candidates_length
 
 -- what is decided at the end of the step
-evaluated : (e : ElementState) (past : List Moment) (now : ℕ) (events : List InputEvent) (t : Taken) → IsWhole e → StandsFor e past → IsInTime e now → IsTaken e now events t → IsEvaluated e.settings (told_now e past now events) (waited e past now) t.candidates t.commands t.switches e.selection t.selection e.was_locked t.was_locked
+evaluated : (e : ElementState) (past : List Moment) (now : ℕ) (events : List InputEvent) (t : Taken) → IsWhole e → IsAfter e past → IsInTime e now → IsTaken e now events t → IsEvaluated e.settings (told_now e past now events) (waited e past now) t.candidates t.commands t.switches e.kept.selection t.selection e.kept.was_locked t.was_locked
 evaluated e past now events t whole stands in_time taken =
     let stays = stays_until e past now whole stands in_time in
     record {
       seen_is = candidates_seen e.settings t.commands (told_now e past now events ∷ waited e past now) t.candidates (length-candidates e now events t whole taken) (candidate_taken e past now events t whole stands taken);
       commanded_is =
           taken.is_told.commands
-          ∙ ap (λ s. after_commands s (commands_in events)) (stands.switches ∙ sym stays.switches)
+          ∙ ap (λ s. after_commands s (commands_in events)) (stands.kept.switches ∙ sym stays.switches)
           ∙ ap (after_commands (switches_at e.settings (waited e past now))) (sym (commands_after e.settings (waited e past now) events));
       ended = taken.ended;
       chosen = taken.chosen;
-      current_is = stands.selection ∙ sym stays.selection;
-      was_is = stands.was_locked ∙ sym stays.was_locked;
+      current_is = stands.kept.selection ∙ sym stays.selection;
+      was_is = stands.kept.was_locked ∙ sym stays.was_locked;
       ever = taken.ever_locked;
     }
 
 -- a step makes the past longer by its millisecond, and by those before in which nothing is told
-pub StandsFor-after : (e : ElementState) (now : ℕ) (events : List InputEvent) (t : Taken) → IsWhole e → IsInTime e now → IsTaken e now events t → (past : List Moment) → StandsFor e past → StandsFor (after e now t) (told_now e past now events ∷ waited e past now)
-StandsFor-after e now events t whole in_time taken past stands = record {
+pub IsAfter-after : (e : ElementState) (now : ℕ) (events : List InputEvent) (t : Taken) → IsWhole e → IsInTime e now → IsTaken e now events t → (past : List Moment) → IsAfter e past → IsAfter (after e now t) (told_now e past now events ∷ waited e past now)
+IsAfter-after e now events t whole in_time taken past stands = record {
   next = omega (arith, length-waited e past now stands in_time);
-  monitors = monitor_taken e past now events t whole stands taken;
-  ups = up_taken e past now events t stands taken;
-  levels = λ i within. (stepped_at e now events t whole taken i within).level ∙ level_told e past now events t stands taken i within;
-  switches = switches_evaluated e.settings (told_now e past now events) (waited e past now) t.candidates t.commands t.switches e.selection t.selection e.was_locked t.was_locked (evaluated e past now events t whole stands in_time taken);
-  selection = selection_evaluated e.settings (told_now e past now events) (waited e past now) t.candidates t.commands t.switches e.selection t.selection e.was_locked t.was_locked (evaluated e past now events t whole stands in_time taken);
-  was_locked = was_locked_evaluated e.settings (told_now e past now events) (waited e past now) t.candidates t.commands t.switches e.selection t.selection e.was_locked t.was_locked (evaluated e past now events t whole stands in_time taken);
+  kept = record {
+    monitors = monitor_taken e past now events t whole stands taken;
+    ups = up_taken e past now events t stands taken;
+    levels = λ i within. (stepped_at e now events t whole taken i within).level ∙ level_told e past now events t stands taken i within;
+    switches = switches_evaluated e.settings (told_now e past now events) (waited e past now) t.candidates t.commands t.switches e.kept.selection t.selection e.kept.was_locked t.was_locked (evaluated e past now events t whole stands in_time taken);
+    selection = selection_evaluated e.settings (told_now e past now events) (waited e past now) t.candidates t.commands t.switches e.kept.selection t.selection e.kept.was_locked t.was_locked (evaluated e past now events t whole stands in_time taken);
+    was_locked = was_locked_evaluated e.settings (told_now e past now events) (waited e past now) t.candidates t.commands t.switches e.kept.selection t.selection e.kept.was_locked t.was_locked (evaluated e past now events t whole stands in_time taken);
+  };
 }
 
 -- a level that is told is of the element's option
@@ -200,9 +206,9 @@ said_levels option settings own i (first ∷ events) before fits is =
     (said_levels option settings own i events (unwrap_or (says_level i first) before) (All-tail (FitsElement settings) first events fits) (said_level option settings own i first before (All-head (FitsElement settings) first events fits) is))
 
 -- the level of each input is of the element's option, after the events and after the step
-pub told_option : (e : ElementState) (events : List InputEvent) (ups ups_now clear clear_now : List Bool) (told : List Candidate) (s s_now : Switches) → IsWhole e → All (FitsElement e.settings) events → IsToldSoFar events [] ups ups_now clear clear_now e.candidates told s s_now → (i : ℕ) → IsOfOption e.settings.own.option (candidate told i).level
+pub told_option : (e : ElementState) (events : List InputEvent) (ups ups_now clear clear_now : List Bool) (told : List Candidate) (s s_now : Switches) → IsWhole e → All (FitsElement e.settings) events → IsToldSoFar events [] ups ups_now clear clear_now e.kept.candidates told s s_now → (i : ℕ) → IsOfOption e.settings.own.option (candidate told i).level
 told_option e events ups ups_now clear clear_now told s s_now whole fits so_far i =
-    subst (IsOfOption e.settings.own.option) (sym (so_far.has_level i)) (said_levels e.settings.own.option e.settings refl i events (candidate e.candidates i).level fits (whole.option i))
+    subst (IsOfOption e.settings.own.option) (sym (so_far.has_level i)) (said_levels e.settings.own.option e.settings refl i events (candidate e.kept.candidates i).level fits (whole.option i))
 
 pub stepped_option : (option : NetOption) (n now : ℕ) (ups clear : List Bool) (s : Switches) (floor : Option Level) (monitors monitors_then : List Monitored) (inputs inputs_then : List Candidate) → AreStepped n now ups clear s floor monitors monitors_then inputs inputs_then → ((i : ℕ) → IsOfOption option (candidate inputs i).level) → (i : ℕ) → IsOfOption option (candidate inputs_then i).level
 stepped_option option n now ups clear s floor monitors monitors_then inputs inputs_then stepped all i =
@@ -239,7 +245,7 @@ IsWhole-after e now events t whole in_time in_range fits taken end =
       same_next = λ i within. (stepped_at e now events t whole taken i within).next;
       ends = λ i within. end.are_ended i (omega (arith, within, monitors_length));
       floor = whole.floor;
-      option = stepped_option e.settings.own.option (length e.monitors) now t.ups t.clear t.commands e.settings.floor e.monitors t.monitors t.told t.candidates taken.are_stepped (told_option e events e.ups t.ups (replicate 64 false) t.clear t.told e.switches t.commands whole fits taken.is_told);
+      option = stepped_option e.settings.own.option (length e.kept.monitors) now t.ups t.clear t.commands e.settings.floor e.kept.monitors t.monitors t.told t.candidates taken.are_stepped (told_option e events e.kept.ups t.ups (replicate 64 false) t.clear t.told e.kept.switches t.commands whole fits taken.is_told);
       priorities =
           ext_get_or 0 (map (λ c. c.priority) t.candidates) e.settings.priorities (length-map t.candidates (λ c. c.priority) ∙ long)
           (λ i inside.

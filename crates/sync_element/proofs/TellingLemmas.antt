@@ -9,7 +9,7 @@ use Rattle.sync_ql.specs.declared.rules.InputEvent.TheVariants.{Signal, Heard, C
 use Rattle.sync_ql.specs.Switches.{Switches, after_commands}
 use Rattle.sync_ql.specs.Selection.{candidate}
 use Rattle.sync_ql.specs.Told.{last_said, says_up, says_level, clears, commands_in}
-use Rattle.sync_element.specs.ElementState.{up_in}
+use Rattle.sync_element.specs.Kept.{up_in}
 use Rattle.sync_element.specs.Telling.{clear_in, IsTold, IsToldSoFar}
 
 pub unwrap_or-option_or : {A : Type 0} (later now : Option A) (before : A) → unwrap_or (option_or later now) before ≡ unwrap_or later (unwrap_or now before)

@@ -2,6 +2,8 @@ pub mod Configured
 pub mod ElementState
 pub mod StandsFor
 pub mod Due
+pub mod Kept
+pub mod Whole
 pub mod Starting
 pub mod Telling
 pub mod Fitting

@@ -7,7 +7,7 @@ use Rattle.sync_ql.specs.Switches.{Switches, is_locked}
 use Rattle.sync_ql.specs.Selection.{candidate, is_better}
 use Rattle.input_monitor.specs.Monitored.{Monitored}
 use Rattle.input_monitor.specs.StandsFor.{StandsFor}
-use Rattle.sync_element.specs.ElementState.{monitor_in, up_in}
+use Rattle.sync_element.specs.Kept.{monitor_in, up_in}
 use Rattle.sync_element.specs.Telling.{clear_in}
 
 -- a monitor may be told of a millisecond

@@ -7,7 +7,7 @@ use Rattle.sync_ql.specs.declared.rules.InputEvent.TheVariants.{Signal, Heard, C
 use Rattle.sync_ql.specs.Switches.{Switches, after_commands, NamesInput}
 use Rattle.sync_ql.specs.Selection.{candidate}
 use Rattle.sync_ql.specs.Told.{last_said, says_up, says_level, clears, commands_in}
-use Rattle.sync_element.specs.ElementState.{up_in}
+use Rattle.sync_element.specs.Kept.{up_in}
 
 abbrev pub clear_in : List Bool → ℕ → Bool
 clear_in clears i = slice_index_or clears i false

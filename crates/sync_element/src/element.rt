@@ -8,16 +8,17 @@ ghost use Rattle.sync_ql.specs.Output.{clock_level_at, sent_back_at, mode_at, st
 ghost use Rattle.sync_element.specs.Configured.{settings_of};
 ghost use Rattle.sync_element.specs.StandsFor.{StandsFor};
 ghost use Rattle.sync_ql.specs.Quiet.{IsElementDue};
-ghost use Rattle.sync_element.specs.Due.{IsLastStepPlusLeast, NoneEnds, later_by};
-ghost use Rattle.sync_element.specs.ElementState.{inputs_of, monitor_of, level_of, level_back_of, IsInTime};
+ghost use Rattle.sync_element.specs.Due.{IsLastPlusLeast, NoneEnds, later_by};
+ghost use Rattle.sync_element.specs.ElementState.{inputs_of, IsInTime};
 
 use crate::config::Config;
 use crate::inputs::{
-    MOST, all_up, first_candidates, first_due, new_monitors, step_all, steps_after, tell_all,
+    all_up, first_candidates, first_due, new_monitors, step_all, steps_after, tell_all,
 };
 use crate::selection::{evaluate, level_back, level_of, mode_of, state_of, was_ever_locked};
-use input_monitor::Monitor;
+use input_monitor::{LAST_MILLISECOND, LONGEST_HOLDOFF, LONGEST_WTR, Monitor, SHORTEST_HOLDOFF};
 use operator_cmds::Cmds;
+use selector::MOST_INPUTS;
 use std::alloc::Global;
 use std::marker::Model;
 use std::sync::ledger::Ledger;
@@ -49,9 +50,11 @@ pub struct Element {
 }
 
 impl Model for Element {
-    ghost use Rattle.sync_element.specs.ElementState.{ElementState, element_state, IsKept};
+    ghost use Rattle.sync_element.specs.ElementState.{ElementState};
 
     ghost Value = { ElementState };
+
+    ghost use Rattle.sync_element.specs.Whole.{element_state, IsKept};
 
     ghost view = { element_state };
 
@@ -65,10 +68,10 @@ impl Element {
     /// one network option.
     /// After G.781, hold-off time, wait-to-restore time, priority and quality level.
     pub fn new(alloc: Global, config: Config) -> Result<Element, NoMemory>
-        requires not_short { 300 ≤ config.holdoff }
-        requires not_long { config.holdoff ≤ 1800 }
-        requires minutes { config.wtr ≤ 12 * 60 * 1000 }
-        requires few { length config.inputs ≤ 64 }
+        requires not_short { SHORTEST_HOLDOFF ≤ config.holdoff }
+        requires not_long { config.holdoff ≤ LONGEST_HOLDOFF }
+        requires minutes { config.wtr ≤ LONGEST_WTR }
+        requires few { length config.inputs ≤ MOST_INPUTS }
         requires priorities { All (λ input. 1 ≤ input.priority) config.inputs }
         requires floor { IsOfOption config.own.option config.floor }
         requires first { All (λ input. IsOfOption config.own.option input.first) config.inputs }
@@ -106,7 +109,7 @@ impl Element {
     /// After G.781, selection and external commands.
     pub fn step<L: Ledger>(&mut self, now: u64, changes: &[InputEvent], steps: &mut Steps<L>)
         requires in_time { IsInTime self.old now }
-        requires in_range { now ≤ 24 * 60 * 60 * 1000 }
+        requires in_range { now ≤ LAST_MILLISECOND }
         requires fits { All (FitsElement self.old.settings) changes.now }
         ensures next { self.new.next ≡ now + 1 }
         ensures kept { self.new.settings ≡ self.old.settings }
@@ -114,6 +117,8 @@ impl Element {
             StandsFor self.new
             (moment_after self.old.settings (moments_until self.old.settings now past) changes.now
             ∷ moments_until self.old.settings now past) }
+        ensures due_later { IfSome self.new.due (λ due. now < due) }
+        ensures due_soon { IfSome self.new.due (λ due. due ≤ now + LONGEST_WTR) }
         ensures ticks { steps.new ≡ steps.old + 1 }
         ensures counts { self.new.later_steps ≡
             (if nat_eq self.old.next 0 then 0 else self.old.later_steps + 1) }
@@ -128,7 +133,6 @@ impl Element {
     /// `None` exactly where no input is taken.
     /// After G.781, selected input.
     pub fn selected(&self) -> Option<u32>
-        ensures value { result ≡ self.now.selection }
         ensures place { IfSome result (λ i. i < inputs_of self.now) }
         ensures selected { (past : List Moment) (n : ℕ) → StandsFor self.now past →
             IsInTime self.now n →
@@ -142,7 +146,6 @@ impl Element {
     ///
     /// After G.781, quality level of a clock.
     pub fn level(&self) -> Level
-        ensures value { result ≡ level_of self.now }
         ensures option { result.option ≡ self.now.settings.own.option }
         ensures level { (past : List Moment) (n : ℕ) → StandsFor self.now past →
             IsInTime self.now n →
@@ -155,7 +158,6 @@ impl Element {
     ///
     /// After G.781, forced, manual and automatic selection.
     pub fn mode(&self) -> Mode
-        ensures value { result ≡ mode_of self.now.switches.forced self.now.switches.manual }
         ensures mode { (past : List Moment) (n : ℕ) → StandsFor self.now past →
             IsInTime self.now n →
             result ≡ mode_at self.now.settings (moments_until self.now.settings n past) }
@@ -168,7 +170,6 @@ impl Element {
     ///
     /// After G.781 and G.810, locked, holdover and free-running mode.
     pub fn state(&self) -> ClockState
-        ensures value { result ≡ state_of self.now.selection self.now.was_locked }
         ensures state { (past : List Moment) (n : ℕ) → StandsFor self.now past →
             IsInTime self.now n →
             result ≡ state_at self.now.settings (moments_until self.now.settings n past) }
@@ -184,7 +185,6 @@ impl Element {
     /// project's own.
     pub fn out_to(&self, i: u32) -> Level
         requires place { i < inputs_of self.now }
-        ensures value { result ≡ level_back_of self.now i }
         ensures option { result.option ≡ self.now.settings.own.option }
         ensures sent { (past : List Moment) (n : ℕ) → StandsFor self.now past →
             IsInTime self.now n →
@@ -201,7 +201,6 @@ impl Element {
     /// After G.781, signal fail, hold-off and wait-to-restore.
     pub fn cond(&self, i: u32) -> Cond
         requires place { i < inputs_of self.now }
-        ensures value { result ≡ (monitor_of self.now i).condition }
         ensures last { (past : List Moment) → StandsFor self.now past →
             result ≡ condition_at self.now.settings.timers (signals_of i past) }
         ensures kind { (past : List Moment) (n : ℕ) → StandsFor self.now past →
@@ -222,13 +221,19 @@ impl Element {
     ///
     /// It is the first in which an input is failed where it wasn't, or isn't where it was, if
     /// nothing is told.
-    /// `None` exactly where every condition is good or failed.
+    /// `None` exactly where every condition is good or failed. Else it is after the last step, and at
+    /// most the longest wait-to-restore time after it.
     /// After G.781, hold-off time and wait-to-restore time; the exact millisecond is this project's
     /// own.
     pub fn due(&self) -> Option<u64>
         ensures value { result ≡ self.now.due }
-        ensures none { IsNone result ↔ NoneEnds self.now }
-        ensures least { IfSome result (IsLastStepPlusLeast self.now) }
+        ensures later { IfSome result (λ due. self.now.next ≤ due) }
+        ensures soon { IfSome result (λ due. due < self.now.next + LONGEST_WTR) }
+        ensures in_range { IfSome result (λ due. due ≤ LAST_MILLISECOND + LONGEST_WTR) }
+        ensures none { (past : List Moment) → StandsFor self.now past →
+            IsNone result ↔ NoneEnds self.now.settings past }
+        ensures least { (past : List Moment) → StandsFor self.now past →
+            IfSome result (IsLastPlusLeast self.now.settings past) }
         ensures changes { (past : List Moment) → StandsFor self.now past →
             IsElementDue self.now.settings past result }
     {
@@ -247,7 +252,7 @@ impl Element {
     // A step, but for the count of the caller.
     fn advance(&mut self, now: u64, changes: &[InputEvent])
         requires in_time { IsInTime self.old now }
-        requires in_range { now ≤ 24 * 60 * 60 * 1000 }
+        requires in_range { now ≤ LAST_MILLISECOND }
         requires fits { All (FitsElement self.old.settings) changes.now }
         ensures next { self.new.next ≡ now + 1 }
         ensures kept { self.new.settings ≡ self.old.settings }
@@ -255,10 +260,12 @@ impl Element {
             StandsFor self.new
             (moment_after self.old.settings (moments_until self.old.settings now past) changes.now
             ∷ moments_until self.old.settings now past) }
+        ensures due_later { IfSome self.new.due (λ due. now < due) }
+        ensures due_soon { IfSome self.new.due (λ due. due ≤ now + LONGEST_WTR) }
         ensures counts { self.new.later_steps ≡
             (if nat_eq self.old.next 0 then 0 else self.old.later_steps + 1) }
     {
-        let mut clear = [false; MOST];
+        let mut clear = [false; MOST_INPUTS];
         tell_all(
             self.ups.as_mut_slice(),
             &mut clear,

@@ -2,21 +2,19 @@
 
 ghost use Rattle.std.specs.Prelude.{◌≡◌, ◌≤◌, ◌<◌, ◌+◌, ◌*◌, ℕ, true, [], length, map, replicate, All, IfOk, if◌then◌else◌, nat_eq};
 ghost use Rattle.sync_ql.specs.Selection.{candidate, is_better, SameOption};
-ghost use Rattle.sync_element.specs.ElementState.{monitor_in, HasEnd, IsFirstDue};
+ghost use Rattle.sync_element.specs.Kept.{monitor_in, HasEnd, IsFirstDue};
 ghost use Rattle.sync_element.specs.Telling.{IsTold, IsToldSoFar, IsSameInputs, Fits};
 ghost use Rattle.sync_element.specs.Stepping.{IsReady, IsStepped, AreStepped, earlier};
 ghost use Rattle.sync_element.specs.Starting.{IsNew, first_candidate};
 
 use crate::config::InputConfig;
-use input_monitor::Monitor;
+use input_monitor::{LAST_MILLISECOND, LONGEST_HOLDOFF, LONGEST_WTR, Monitor, SHORTEST_HOLDOFF};
 use operator_cmds::Cmds;
+use selector::MOST_INPUTS;
 use std::alloc::Global;
 use sync_edge::NoMemory;
 use sync_ql::rules::{Candidate, InputEvent};
 use sync_ql::{Level, better};
-
-// The most inputs that an element has.
-pub const MOST: usize = 64;
 
 // So many monitors that were told nothing.
 pub fn new_monitors(
@@ -25,9 +23,9 @@ pub fn new_monitors(
     wtr: u32,
     count: usize,
 ) -> Result<Vec<Monitor>, NoMemory>
-    requires not_short { 300 ≤ holdoff }
-    requires not_long { holdoff ≤ 1800 }
-    requires minutes { wtr ≤ 12 * 60 * 1000 }
+    requires not_short { SHORTEST_HOLDOFF ≤ holdoff }
+    requires not_long { holdoff ≤ LONGEST_HOLDOFF }
+    requires minutes { wtr ≤ LONGEST_WTR }
     ensures len { IfOk result (λ monitors. length monitors.items ≡ count) }
     ensures new { IfOk result (λ monitors. (i : ℕ) → i < count →
         IsNew (record { holdoff = holdoff; wtr = wtr }) (monitor_in monitors.items i)) }
@@ -75,7 +73,7 @@ pub fn first_candidates(alloc: Global, inputs: &[InputConfig]) -> Result<Vec<Can
 // The number of steps after the first, where there is one more.
 pub fn steps_after(next: u64, later_steps: u64) -> u64
     requires few { later_steps ≤ next }
-    requires in_range { next ≤ 86400001 }
+    requires in_range { next ≤ LAST_MILLISECOND + 1 }
     ensures { result ≡ (if nat_eq next 0 then 0 else later_steps + 1) }
 {
     if next == 0 { 0 } else { later_steps + 1 }
@@ -139,9 +137,9 @@ pub fn step_all(
     requires ups_length { length ups.now ≡ length monitors.old }
     requires clear_length { length monitors.old ≤ length clear.now }
     requires locked_length { length commands.now.locked ≡ length monitors.old }
-    requires few { length monitors.old ≤ 64 }
+    requires few { length monitors.old ≤ MOST_INPUTS }
     requires ready { (i : ℕ) → i < length monitors.old → IsReady now (monitor_in monitors.old i) }
-    requires in_range { now ≤ 24 * 60 * 60 * 1000 }
+    requires in_range { now ≤ LAST_MILLISECOND }
     requires option { (i : ℕ) → SameOption floor (candidate inputs.old i).level }
     ensures stepped { AreStepped (length monitors.old) now ups.now clear.now commands.now floor monitors.old monitors.new inputs.old inputs.new }
 {
@@ -168,7 +166,7 @@ fn step_one(
     now: u64,
 )
     requires ready { IsReady now monitor.old }
-    requires in_range { now ≤ 24 * 60 * 60 * 1000 }
+    requires in_range { now ≤ LAST_MILLISECOND }
     requires option { SameOption floor input.old.level }
     ensures { IsStepped now up clear locked floor monitor.old monitor.new input.old input.new }
 {

@@ -9,13 +9,13 @@ ghost use Rattle.sync_element.specs.Configured.{settings_of};
 
 use crate::config::Config;
 use operator_cmds::Cmds;
-use selector::choose;
+use selector::{MOST_INPUTS, choose};
 use sync_ql::rules::{Candidate, ClockState, Mode};
 use sync_ql::{Level, do_not_use};
 
 // Chooses an input, and ends a manual switch that does not stand.
 pub fn evaluate(inputs: &[Candidate], commands: &mut Cmds, current: Option<u32>) -> Option<u32>
-    requires few { length inputs.now ≤ 64 }
+    requires few { length inputs.now ≤ MOST_INPUTS }
     requires locked_length { length commands.old.locked ≡ length inputs.now }
     requires one_option { AreOfOneOption inputs.now }
     requires current_place { IfSome current (λ i. i < length inputs.now) }

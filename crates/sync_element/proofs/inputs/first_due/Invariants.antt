@@ -1,5 +1,5 @@
 use Rattle.std.proofs.Common.{◌<◌, ℕ}
-use Rattle.sync_element.specs.ElementState.{monitor_in, HasEnd, IsFirstDue}
+use Rattle.sync_element.specs.Kept.{monitor_in, HasEnd, IsFirstDue}
 use Rattle.sync_element.proofs.inputs.first_due.Given as goal
 
 -- the first of those up to here, each of which ends then

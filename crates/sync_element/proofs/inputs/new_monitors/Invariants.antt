@@ -1,5 +1,5 @@
 use Rattle.std.proofs.Common.{◌≡◌, ◌<◌, ℕ, length}
-use Rattle.sync_element.specs.ElementState.{monitor_in}
+use Rattle.sync_element.specs.Kept.{monitor_in}
 use Rattle.sync_element.specs.Starting.{IsNew}
 use Rattle.sync_element.proofs.inputs.new_monitors.Given as goal
 

@@ -1,7 +1,7 @@
 use Rattle.std.proofs.Common.{◌<◌, false, true, length, arith}
 use Rattle.std.proofs.lemmas.List.{get_or_default}
 use Rattle.sync_ql.proofs.Eligible.{nobody}
-use Rattle.sync_element.specs.ElementState.{unused}
+use Rattle.sync_element.specs.Kept.{unused}
 use Rattle.sync_element.proofs.SteppingLemmas.{stepped_more}
 use Rattle.sync_element.proofs.inputs.step_all.Goals as goal
 

@@ -1,11 +1,13 @@
+use Rattle.sync_element.specs.StandsFor.{StandsFor}
 use Rattle.std.proofs.Common.{◌≡◌, false, [], length, replicate, sym, ◌∙◌, arith}
 use Rattle.std.specs.Vec.{with_items}
 use Rattle.std.proofs.lemmas.List.{with_items_is}
 use Rattle.sync_ql.specs.Selection.{candidate}
-use Rattle.sync_element.specs.ElementState.{ElementState, element_state, IsInTime}
+use Rattle.sync_element.specs.ElementState.{ElementState, IsInTime}
+use Rattle.sync_element.specs.Whole.{element_state}
 use Rattle.sync_element.specs.Telling.{IsToldSoFar, IsSameInputs}
 use Rattle.sync_element.specs.Stepping.{AreStepped}
-use Rattle.sync_element.proofs.Taking.{Taken, IsTaken, IsTakenWhole, StandsFor-after, IsWhole-after, told_option, stepped_option, same_option}
+use Rattle.sync_element.proofs.Taking.{Taken, IsTaken, IsTakenWhole, IsAfter-after, IsWhole-after, told_option, stepped_option, same_option}
 use Rattle.sync_element.proofs.element.Element.advance.Goals as goal
 
 abbrev state : goal.After-self-8-1 → ElementState
@@ -105,6 +107,7 @@ invariant_of-self c =
     (IsWhole-after (state c) c.args.now c.args.changes.now (taken c) c.self.invariant (in_time c) (let limit = c.requires.in_range in omega arith) fits (is_taken c) (is_taken_whole c))
 
 pub returns-clause-stands : goal.returns-clause-stands
+unfolding StandsFor
 returns-clause-stands c =
     rw (← c.self.view_is, ups_are c, monitors_are c, candidates_are c)
-    (StandsFor-after (state c) c.args.now c.args.changes.now (taken c) c.self.invariant (in_time c) (is_taken c))
+    (IsAfter-after (state c) c.args.now c.args.changes.now (taken c) c.self.invariant (in_time c) (is_taken c))

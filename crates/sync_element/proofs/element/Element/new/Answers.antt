@@ -1,4 +1,5 @@
-use Rattle.sync_element.proofs.Starting.{IsNewState, IsWhole-new, StandsFor-new}
+use Rattle.sync_element.specs.StandsFor.{StandsFor}
+use Rattle.sync_element.proofs.Starting.{IsNewState, IsWhole-new, IsAfter-new}
 use Rattle.sync_element.proofs.element.Element.new.Goals as goal
 
 pub invariant_of-result : goal.invariant_of-result
@@ -17,6 +18,7 @@ invariant_of-result c =
     IsWhole-new c.args.config c.in_ok-monitors.monitors.items c.in_ok-ups.ups.items c.in_ok-candidates.candidates.items c.new-commands.result new
 
 pub returns-clause-stands : goal.returns-clause-stands
+unfolding StandsFor
 returns-clause-stands c =
     let new : IsNewState c.args.config c.in_ok-monitors.monitors.items c.in_ok-ups.ups.items c.in_ok-candidates.candidates.items c.new-commands.result = record {
       holdoff = c.requires.not_short;
@@ -29,4 +31,4 @@ returns-clause-stands c =
       candidates_are = rw c.as_slice-inputs.ensures at c.in_ok-candidates.ensures;
       switches_are = rw c.as_slice-inputs.ensures at c.new-commands.ensures.empty;
     } in
-    StandsFor-new c.args.config c.in_ok-monitors.monitors.items c.in_ok-ups.ups.items c.in_ok-candidates.candidates.items c.new-commands.result new
+    IsAfter-new c.args.config c.in_ok-monitors.monitors.items c.in_ok-ups.ups.items c.in_ok-candidates.candidates.items c.new-commands.result new
