@@ -23,6 +23,13 @@ is_failed (HoldOff left) = false
 is_failed Failed = true
 is_failed (Restoring left) = true
 
+-- whether an input in a condition is up
+abbrev pub up_of : Cond → Bool
+up_of Good = true
+up_of (HoldOff left) = false
+up_of Failed = false
+up_of (Restoring left) = true
+
 -- the millisecond in which a running time ends, by what is left of it just before the next one
 abbrev pub end_of : ℕ → Cond → Option ℕ
 end_of next Good = None

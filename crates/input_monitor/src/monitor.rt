@@ -1,7 +1,8 @@
 ghost use Rattle.std.specs.Prelude.{◌≡◌, ◌≤◌, ◌<◌, ◌+◌, ◌-◌, ◌*◌, ◌⊎◌, ◌↔◌, ◌∷◌, [], ℕ, List, IfSome, IsNone, None, length};
-ghost use Rattle.sync_ql.specs.Condition.{Signal, condition_at, failed_at, continued, IsSameKind, IsDue};
+ghost use Rattle.sync_ql.specs.Condition.{Signal, is_up, condition_at, failed_at, continued, IsSameKind, IsDue};
 ghost use Rattle.input_monitor.specs.StandsFor.{StandsFor};
-ghost use Rattle.input_monitor.specs.Ending.{IsEnd};
+ghost use Rattle.input_monitor.specs.Ending.{IsEnd, later_by};
+ghost use Rattle.input_monitor.specs.Monitored.{up_of};
 ghost use Rattle.input_monitor.specs.Running.{IsRunning, IsAtMost};
 
 use crate::limits::{LAST_MILLISECOND, LONGEST_HOLDOFF, LONGEST_WTR, SHORTEST_HOLDOFF};
@@ -71,6 +72,7 @@ impl Monitor {
         ensures kept { self.new.timers ≡ self.old.timers }
         ensures stands { (past : List Signal) → StandsFor self.old past →
             StandsFor self.new (record { up = up; clear = clear_wtr } ∷ continued now past) }
+        ensures up { up_of self.new.condition ≡ up }
     {
         self.condition = self.next_condition(now, up, clear_wtr);
         self.next = now + 1;
@@ -90,6 +92,37 @@ impl Monitor {
             IsSameKind result (condition_at self.now.timers (continued n past)) }
     {
         self.condition
+    }
+
+    /// The condition in the millisecond before `next`, where nothing has happened since the last step:
+    /// of a running time so much less is left.
+    ///
+    /// `next` is at `due` at the latest.
+    /// After G.781, signal fail, hold-off and wait-to-restore.
+    pub fn condition_before(&self, next: u64) -> Cond
+        requires later { self.now.next ≤ next }
+        requires in_time { IfSome self.now.due (λ due. next ≤ due) }
+        ensures value { result ≡ later_by (next - self.now.next) self.now.condition }
+        ensures condition { (past : List Signal) → StandsFor self.now past →
+            result ≡ condition_at self.now.timers (continued next past) }
+    {
+        let passed = next - self.next;
+        match self.condition {
+            Cond::HoldOff(left) => Cond::HoldOff(left - passed as u32),
+            Cond::Restoring(left) => Cond::Restoring(left - passed as u32),
+            Cond::Good => Cond::Good,
+            Cond::Failed => Cond::Failed,
+        }
+    }
+
+    /// Whether the input is up, as told at the last step.
+    ///
+    /// After G.781, signal fail.
+    pub fn up(&self) -> bool
+        ensures value { result ≡ up_of self.now.condition }
+        ensures up { (past : List Signal) → StandsFor self.now past → result ≡ is_up past }
+    {
+        matches!(self.condition, Cond::Good | Cond::Restoring(_))
     }
 
     /// Whether the input is failed: from the last step up to but not at `due`, if nothing happens.
@@ -136,6 +169,7 @@ impl Monitor {
             (record { up = up; clear = clear_wtr } ∷ continued now past) }
         ensures running { IsRunning result }
         ensures at_most { IsAtMost LONGEST_WTR result }
+        ensures up { up_of result ≡ up }
     {
         let passed = now + 1 - self.next;
         match (self.condition, up) {

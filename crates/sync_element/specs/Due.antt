@@ -1,5 +1,5 @@
 -- When a condition of an element's input ends, if nothing happens.
-use Rattle.std.specs.Prelude.{◌≡◌, ◌≤◌, ◌<◌, ◌+◌, ◌-◌, ℕ, List, length, Option, None, Some, IfSome}
+use Rattle.std.specs.Prelude.{◌≡◌, ◌≤◌, ◌<◌, ◌+◌, ℕ, List, length, Option, None, Some, IfSome}
 use Rattle.sync_ql.specs.declared.rules.Cond.{Cond}
 use Rattle.sync_ql.specs.declared.rules.Cond.TheVariants.{Good, HoldOff, Failed, Restoring}
 use Rattle.sync_ql.specs.Condition.{condition_at}
@@ -11,13 +11,6 @@ left_of Good = None
 left_of (HoldOff left) = Some left
 left_of Failed = None
 left_of (Restoring left) = Some left
-
--- a condition k milliseconds later, before it ends: that much less is left of it
-abbrev pub later_by : ℕ → Cond → Cond
-later_by k Good = Good
-later_by k (HoldOff left) = HoldOff (left - k)
-later_by k Failed = Failed
-later_by k (Restoring left) = Restoring (left - k)
 
 -- what is left after a past of the condition of the input at a place
 abbrev pub left_in : Settings → List Moment → ℕ → Option ℕ

@@ -1,19 +1,15 @@
 -- What an element has to do with the milliseconds that were.
 use Rattle.std.specs.Prelude.{◌≡◌, ◌<◌, ℕ, List, length}
-use Rattle.sync_ql.specs.Condition.{is_up}
-use Rattle.sync_ql.specs.Selection.{candidate}
 use Rattle.sync_ql.specs.Moment.{Moment, Settings, signals_of, switches_at, selection_at}
 use Rattle.sync_ql.specs.Told.{last_level}
 use Rattle.sync_ql.specs.Output.{was_locked}
-use Rattle.input_monitor.specs.StandsFor as Monitor
-use Rattle.sync_element.specs.Kept.{Kept, monitor_in, up_in}
+use Rattle.sync_element.specs.Kept.{Kept, watched_in, Follows}
 use Rattle.sync_element.specs.ElementState.{ElementState}
 
 -- Private: what is kept of the inputs is what the rules say of a past
 pub record IsOfPast (settings : Settings) (kept : Kept) (past : List Moment) : Type 0 where
-  pub monitors : (i : ℕ) → i < length settings.priorities → Monitor.StandsFor (monitor_in kept.monitors i) (signals_of i past)
-  pub ups : (i : ℕ) → i < length settings.priorities → up_in kept.ups i ≡ is_up (signals_of i past)
-  pub levels : (i : ℕ) → i < length settings.priorities → (candidate kept.candidates i).level ≡ last_level settings i past
+  pub monitors : (i : ℕ) → i < length settings.priorities → Follows (watched_in kept.inputs.watched i).monitor (signals_of i past)
+  pub levels : (i : ℕ) → i < length settings.priorities → (watched_in kept.inputs.watched i).level ≡ last_level settings i past
   pub switches : kept.switches ≡ switches_at settings past
   pub selection : kept.selection ≡ selection_at settings past
   pub was_locked : kept.was_locked ≡ was_locked settings past

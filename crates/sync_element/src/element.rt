@@ -8,15 +8,18 @@ ghost use Rattle.sync_ql.specs.Output.{clock_level_at, sent_back_at, mode_at, st
 ghost use Rattle.sync_element.specs.Configured.{settings_of};
 ghost use Rattle.sync_element.specs.StandsFor.{StandsFor};
 ghost use Rattle.sync_ql.specs.Quiet.{IsElementDue};
-ghost use Rattle.sync_element.specs.Due.{IsLastPlusLeast, NoneEnds, later_by};
+ghost use Rattle.input_monitor.specs.Ending.{later_by};
+ghost use Rattle.sync_element.specs.Due.{IsLastPlusLeast, NoneEnds};
 ghost use Rattle.sync_element.specs.ElementState.{inputs_of, IsInTime};
 
 use crate::config::Config;
-use crate::inputs::{
-    all_up, first_candidates, first_due, new_monitors, step_all, steps_after, tell_all,
+use crate::inputs::{Inputs, tell_all};
+use crate::renewing::{renew_due, renew_told};
+use crate::selection::{
+    evaluate, first_due, level_back, level_of, mode_of, state_of, steps_after, was_ever_locked,
 };
-use crate::selection::{evaluate, level_back, level_of, mode_of, state_of, was_ever_locked};
-use input_monitor::{LAST_MILLISECOND, LONGEST_HOLDOFF, LONGEST_WTR, Monitor, SHORTEST_HOLDOFF};
+use crate::starting::new_inputs;
+use input_monitor::{LAST_MILLISECOND, LONGEST_HOLDOFF, LONGEST_WTR, SHORTEST_HOLDOFF};
 use operator_cmds::Cmds;
 use selector::MOST_INPUTS;
 use std::alloc::Global;
@@ -24,7 +27,7 @@ use std::marker::Model;
 use std::sync::ledger::Ledger;
 use sync_edge::{NoMemory, Steps};
 use sync_ql::Level;
-use sync_ql::rules::{Candidate, ClockState, Cond, InputEvent, Mode};
+use sync_ql::rules::{ClockState, Cond, InputEvent, Mode};
 
 /// One network element: it takes one of its inputs, or none, and has a level by it.
 ///
@@ -35,10 +38,7 @@ use sync_ql::rules::{Candidate, ClockState, Cond, InputEvent, Mode};
 #[derive(Debug, Drop)]
 pub struct Element {
     config: Config,
-    /// Of each input the monitor, whether it is up, and what the choice looks at.
-    monitors: Vec<Monitor>,
-    ups: Vec<bool>,
-    candidates: Vec<Candidate>,
+    inputs: Inputs,
     commands: Cmds,
     selected: Option<u32>,
     /// Whether an input was taken in any millisecond.
@@ -81,16 +81,11 @@ impl Element {
         ensures later_steps { IfOk result (λ e. e.later_steps ≡ 0) }
         ensures stands { IfOk result (λ e. StandsFor e []) }
     {
-        let inputs = config.inputs.as_slice();
-        let monitors = new_monitors(alloc, config.holdoff, config.wtr, inputs.len())?;
-        let ups = all_up(alloc, inputs.len())?;
-        let candidates = first_candidates(alloc, inputs)?;
-        let commands = Cmds::new(inputs.len() as u32);
+        let commands = Cmds::new(config.inputs.as_slice().len() as u32);
+        let inputs = new_inputs(alloc, &config)?;
         Ok(Element {
             config,
-            monitors,
-            ups,
-            candidates,
+            inputs,
             commands,
             selected: None,
             was_locked: false,
@@ -151,7 +146,7 @@ impl Element {
             IsInTime self.now n →
             result ≡ clock_level_at self.now.settings (moments_until self.now.settings n past) }
     {
-        level_of(self.candidates.as_slice(), self.selected, self.config.own)
+        level_of(self.inputs.table.inputs(), self.selected, self.config.own)
     }
 
     /// How the input is chosen, as from the last step up to but not at `due`, if nothing is told.
@@ -190,7 +185,7 @@ impl Element {
             IsInTime self.now n →
             result ≡ sent_back_at self.now.settings (moments_until self.now.settings n past) i }
     {
-        let level = level_of(self.candidates.as_slice(), self.selected, self.config.own);
+        let level = level_of(self.inputs.table.inputs(), self.selected, self.config.own);
         level_back(&self.config, self.selected, i, level)
     }
 
@@ -213,7 +208,8 @@ impl Element {
             (signals_of i (moments_until self.now.settings n past))
             ≡ later_by (n - self.now.next) result }
     {
-        self.monitors[i as usize].condition()
+        let input = &self.inputs.watched[i as usize];
+        input.monitor.condition_before(self.next)
     }
 
     /// The first later millisecond at which a step has to be made: that of the last step plus the
@@ -265,29 +261,15 @@ impl Element {
         ensures counts { self.new.later_steps ≡
             (if nat_eq self.old.next 0 then 0 else self.old.later_steps + 1) }
     {
-        let mut clear = [false; MOST_INPUTS];
         tell_all(
-            self.ups.as_mut_slice(),
-            &mut clear,
-            self.candidates.as_mut_slice(),
+            self.inputs.watched.as_mut_slice(),
             &mut self.commands,
             changes,
         );
-        step_all(
-            self.monitors.as_mut_slice(),
-            self.candidates.as_mut_slice(),
-            self.ups.as_slice(),
-            &clear,
-            &self.commands,
-            self.config.floor,
-            now,
-        );
-        self.due = first_due(self.monitors.as_slice());
-        self.selected = evaluate(
-            self.candidates.as_slice(),
-            &mut self.commands,
-            self.selected,
-        );
+        renew_told(&mut self.inputs, changes, now, &self.commands, &self.config);
+        renew_due(&mut self.inputs, now, &self.commands, &self.config);
+        self.due = first_due(&self.inputs.dues);
+        self.selected = evaluate(&self.inputs.table, &mut self.commands, self.selected);
         self.was_locked = was_ever_locked(self.selected, self.was_locked);
         self.later_steps = steps_after(self.next, self.later_steps);
         self.next = now + 1;
