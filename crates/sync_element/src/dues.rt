@@ -49,11 +49,14 @@ impl Dues {
         Ok(Dues { times, rounds })
     }
 
-    // Renews when the running time of an input ends.
+    // Renews when the running time of an input ends, unless it ends then already.
     pub fn set(&mut self, i: u32, due: Option<u64>)
         requires place { i < length self.old }
         ensures { self.new ≡ slice_set self.old i due }
     {
+        if self.times[i as usize] == due {
+            return;
+        }
         let count = self.times.len();
         self.times[i as usize] = due;
         renew(

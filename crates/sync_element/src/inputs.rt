@@ -7,6 +7,7 @@ ghost use Rattle.sync_element.specs.Telling.{Fits, IsTold, IsToldSoFar};
 ghost use Rattle.sync_element.specs.Renewing.{IsRenewed, CanRenew};
 ghost use Rattle.sync_element.specs.Whole.{inputs_kept};
 
+use crate::candidates::set_if_other;
 use crate::config::Config;
 use crate::dues::Dues;
 use crate::watched::{Watched, step_if_told};
@@ -77,7 +78,7 @@ pub fn renew(inputs: &mut Inputs, i: u32, now: u64, commands: &Cmds, config: &Co
         usable,
     };
     inputs.dues.set(i, due);
-    inputs.table.set(i, candidate);
+    set_if_other(&mut inputs.table, i, candidate);
 }
 
 // Whether the floor is better than the level; a level equal to it is not below.

@@ -12,6 +12,7 @@
 //! histories whose answers, times and levels sent back are written by hand.
 #![tactic(auto)]
 
+mod candidates;
 mod config;
 mod dues;
 mod element;
