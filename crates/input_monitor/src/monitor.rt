@@ -94,8 +94,8 @@ impl Monitor {
         self.condition
     }
 
-    /// The condition in the millisecond before `next`, where nothing has happened since the last step:
-    /// of a running time so much less is left.
+    /// The condition in the millisecond before `next`, where nothing has happened since the last
+    /// step: of a running time so much less is left.
     ///
     /// `next` is at `due` at the latest.
     /// After G.781, signal fail, hold-off and wait-to-restore.

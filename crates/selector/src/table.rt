@@ -17,8 +17,8 @@ use sync_ql::rules::Candidate;
 #[derive(Debug, Drop)]
 pub struct Table {
     inputs: Vec<Candidate>,
-    /// A tournament among the inputs: their standings in the second half, and before each two the one
-    /// that is ahead; at place 1 the best.
+    /// A tournament among the inputs: their standings in the second half, and before each two the
+    /// one that is ahead; at place 1 the best.
     standings: Vec<Option<Standing>>,
 }
 
@@ -77,11 +77,11 @@ impl Table {
         self.inputs.as_slice()
     }
 
-    /// The input to take without a switch: what `choose` gives without a forced and a manual one. It
-    /// takes the same time for any number of inputs, and no memory.
+    /// The input to take without a switch: what `choose` gives without a forced and a manual one.
+    /// It takes the same time for any number of inputs, and no memory.
     ///
-    /// `None` exactly where no input may be taken. The current input stays where none beats it; else
-    /// the first of the best is taken.
+    /// `None` exactly where no input may be taken. The current input stays where none beats it;
+    /// else the first of the best is taken.
     /// After G.781, selection by quality level and priority; the least place is this project's own.
     pub fn best(&self, current: Option<u32>) -> Option<u32>
         requires current_place { IfSome current (λ i. i < length self.now) }
@@ -93,8 +93,8 @@ impl Table {
         stay_or_take(self.inputs.as_slice(), best, current)
     }
 
-    /// The input to take with a forced or manual switch, exactly as `choose` does, in the same time for
-    /// any number of inputs.
+    /// The input to take with a forced or manual switch, exactly as `choose` does, in the same time
+    /// for any number of inputs.
     ///
     /// After G.781, selection by quality level and priority, forced switch and manual switch.
     pub fn choose(&self, forced: Option<u32>, manual: Option<u32>, current: Option<u32>) -> Choice

@@ -17,6 +17,7 @@ use Rattle.sync_ql.specs.Told.{last_said, says_up, says_level, clears, commands_
 use Rattle.sync_ql.proofs.QuietMoments.{input_of-moment_after, seen}
 use Rattle.sync_ql.proofs.Staying.{length-signals_of, length-quiet_moments, signals_of-quiet_moments, signals_of-moments_until, is_up-after_quiet, last_level-quiet_moments}
 use Rattle.input_monitor.specs.Monitored.{up_of}
+use Rattle.input_monitor.specs.declared.limits.TheConstants.{LAST_MILLISECOND}
 use Rattle.sync_element.specs.declared.watched.Watched.{Watched}
 use Rattle.sync_element.specs.Dues.{due_in, IsFirstTime}
 use Rattle.sync_element.specs.Kept.{InputsKept, watched_in, Follows, HasEnd}
@@ -30,7 +31,7 @@ use Rattle.sync_element.proofs.Following.{follows-up, follows-failed}
 use Rattle.sync_element.proofs.Renewed.{quiet_is, quiet_back, not_now, done_unstepped}
 use Rattle.sync_element.proofs.Untouched.{up-untouched, level-untouched, clear-untouched, locked-untouched}
 use Rattle.sync_element.proofs.TellingLemmas.{unwrap_or-option_or}
-use Rattle.sync_element.proofs.Evaluating.{candidates_seen, IsEvaluated, switches_evaluated, selection_evaluated, was_locked_evaluated}
+use Rattle.sync_element.proofs.Evaluating.{candidates_seen, Evaluation, IsEvaluated, switches_evaluated, selection_evaluated, was_locked_evaluated}
 use Rattle.sync_element.proofs.Waiting.{stays_until, until_due, length-input}
 
 -- what a step makes on its way: the inputs and switches as they are told, and the inputs after those
@@ -224,8 +225,19 @@ candidate_taken e past now events t whole stands in_time taken i within =
 count_taken : (e : ElementState) (now : ℕ) (events : List InputEvent) (t : Taken) → IsWhole e → IsTaken e now events t → length t.told ≡ inputs_of e
 count_taken e now events t whole taken = taken.is_told.count ∙ whole.watched_length
 
+abbrev evaluation : ElementState → Taken → Evaluation
+evaluation e t = record {
+  inputs = t.inputs.candidates;
+  commands = t.commands;
+  switches = t.switches;
+  current = e.kept.selection;
+  selection = t.selection;
+  was = e.kept.was_locked;
+  was_then = t.was_locked;
+}
+
 -- what is decided at the end of the step
-evaluated : (e : ElementState) (past : List Moment) (now : ℕ) (events : List InputEvent) (t : Taken) → IsWhole e → IsAfter e past → IsInTime e now → IsTaken e now events t → IsEvaluated e.settings (told_now e past now events) (waited e past now) t.inputs.candidates t.commands t.switches e.kept.selection t.selection e.kept.was_locked t.was_locked
+evaluated : (e : ElementState) (past : List Moment) (now : ℕ) (events : List InputEvent) (t : Taken) → IsWhole e → IsAfter e past → IsInTime e now → IsTaken e now events t → IsEvaluated e.settings (told_now e past now events) (waited e past now) (evaluation e t)
 evaluated e past now events t whole stands in_time taken =
     let stays = stays_until e past now whole stands in_time in
     record {
@@ -250,9 +262,9 @@ IsAfter-after e now events t whole in_time taken past stands =
       kept = record {
         monitors = monitor_taken e past now events t whole stands in_time taken;
         levels = level_taken e past now events t whole stands in_time taken;
-        switches = switches_evaluated e.settings (told_now e past now events) (waited e past now) t.inputs.candidates t.commands t.switches e.kept.selection t.selection e.kept.was_locked t.was_locked is;
-        selection = selection_evaluated e.settings (told_now e past now events) (waited e past now) t.inputs.candidates t.commands t.switches e.kept.selection t.selection e.kept.was_locked t.was_locked is;
-        was_locked = was_locked_evaluated e.settings (told_now e past now events) (waited e past now) t.inputs.candidates t.commands t.switches e.kept.selection t.selection e.kept.was_locked t.was_locked is;
+        switches = switches_evaluated e.settings (told_now e past now events) (waited e past now) (evaluation e t) is;
+        selection = selection_evaluated e.settings (told_now e past now events) (waited e past now) (evaluation e t) is;
+        was_locked = was_locked_evaluated e.settings (told_now e past now events) (waited e past now) (evaluation e t) is;
       };
     }
 
@@ -331,7 +343,7 @@ at_rest_after e now events t whole in_time taken i within =
     }
 
 -- an element stays whole
-pub IsWhole-after : (e : ElementState) (now : ℕ) (events : List InputEvent) (t : Taken) → IsWhole e → IsInTime e now → now ≤ 86400000 → IsTaken e now events t → IsTakenWhole e now t → IsWhole (after e now t)
+pub IsWhole-after : (e : ElementState) (now : ℕ) (events : List InputEvent) (t : Taken) → IsWhole e → IsInTime e now → now ≤ LAST_MILLISECOND → IsTaken e now events t → IsTakenWhole e now t → IsWhole (after e now t)
 IsWhole-after e now events t whole in_time in_range taken end =
     let count = count_taken e now events t whole taken in
     record {

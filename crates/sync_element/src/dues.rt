@@ -21,8 +21,8 @@ pub struct Due {
 #[derive(Debug, Drop)]
 pub struct Dues {
     times: Vec<Option<u64>>,
-    // A tournament among the inputs: their times in the second half, and before each two the earlier
-    // one; at place 1 the first.
+    /// A tournament among the inputs: their times in the second half, and before each two the
+    /// earlier one; at place 1 the first.
     rounds: Vec<Option<Due>>,
 }
 

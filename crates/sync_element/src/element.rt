@@ -217,8 +217,8 @@ impl Element {
     ///
     /// It is the first in which an input is failed where it wasn't, or isn't where it was, if
     /// nothing is told.
-    /// `None` exactly where every condition is good or failed. Else it is after the last step, and at
-    /// most the longest wait-to-restore time after it.
+    /// `None` exactly where every condition is good or failed. Else it is after the last step, and
+    /// at most the longest wait-to-restore time after it.
     /// After G.781, hold-off time and wait-to-restore time; the exact millisecond is this project's
     /// own.
     pub fn due(&self) -> Option<u64>

@@ -55,8 +55,8 @@ fn tell(watched: &mut [Watched], commands: &mut Cmds, event: InputEvent)
     }
 }
 
-// Renews an input: its monitor where something happens to it, when its running time ends, and what the
-// choice looks at.
+// Renews an input: its monitor where something happens to it, when its running time ends, and what
+// the choice looks at.
 pub fn renew(inputs: &mut Inputs, i: u32, now: u64, commands: &Cmds, config: &Config)
     requires place { i < length inputs.old.watched.items }
     requires can { CanRenew now config.now.own.option (inputs_kept inputs.old) }

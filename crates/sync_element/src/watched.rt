@@ -11,10 +11,10 @@ use sync_ql::Level;
 #[derive(Debug, Drop)]
 pub struct Watched {
     pub monitor: Monitor,
-    // Whether it is up, and which level it has, as told last.
+    /// Whether it is up, and which level it has, as told last.
     pub up: bool,
     pub level: Option<Level>,
-    // Whether its wait-to-restore time is cleared in the millisecond that is told of.
+    /// Whether its wait-to-restore time is cleared in the millisecond that is told of.
     pub cleared: bool,
 }
 
@@ -26,7 +26,8 @@ fn must_step(input: &Watched, now: u64) -> bool
     input.cleared || input.up != input.monitor.up() || input.monitor.due() == Some(now)
 }
 
-// Tells the monitor of a millisecond in which something happens. It gives when the running time ends.
+// Tells the monitor of a millisecond in which something happens. It gives when the running time
+// ends.
 pub fn step_if_told(input: &mut Watched, now: u64) -> Option<u64>
     requires ready { must_step now input.old ≡ true → IsReady now input.old.monitor }
     requires in_range { now ≤ LAST_MILLISECOND }
