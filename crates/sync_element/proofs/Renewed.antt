@@ -15,7 +15,7 @@ use Rattle.input_monitor.specs.Monitored.{up_of}
 use Rattle.sync_element.specs.declared.watched.Watched.{Watched}
 use Rattle.sync_element.specs.Dues.{due_in}
 use Rattle.sync_element.specs.Kept.{InputsKept, unused, watched_in, Follows, HasEnd}
-use Rattle.sync_element.specs.Renewing.{Moment, differs, ends_at, must_step, signal_of, candidate_of, touches, IsReady, IsStepped, IsRenewed, CanRenew, IsDone, IsPending, IsDoneAt, IsPendingAt, AreRenewed, AreTaken, AreKept}
+use Rattle.sync_element.specs.Renewing.{Renewal, differs, ends_at, must_step, signal_of, candidate_of, touches, IsReady, IsStepped, IsRenewed, CanRenew, IsDone, IsPending, IsDoneAt, IsPendingAt, AreRenewed, AreTaken, AreKept}
 use Rattle.sync_element.proofs.Following.{follows-quiet, follows-told, follows-up, ends_after}
 
 -- two places are one, or they aren't
@@ -121,7 +121,7 @@ stepped_timers now w w_then stepped = of (must_step now w) refl
     of false is = ap (λ m. m.timers) (stepped.quiet is)
 
 -- an input that was only told is done by a step of its own
-pub done_first : (at : Moment) (i : ℕ) (told w : Watched) (before : Candidate) → IsStepped at.now told w → told.monitor.next ≤ at.now + 1 → IfSome told.monitor.due (λ d. at.now ≤ d) → IsDone at i told before w w.monitor.due (candidate_of at i before.priority w)
+pub done_first : (at : Renewal) (i : ℕ) (told w : Watched) (before : Candidate) → IsStepped at.now told w → told.monitor.next ≤ at.now + 1 → IfSome told.monitor.due (λ d. at.now ≤ d) → IsDone at i told before w w.monitor.due (candidate_of at i before.priority w)
 done_first at i told w before stepped next in_time =
     let settled = stepped_settled at.now told w stepped next in_time in
     record {
@@ -139,7 +139,7 @@ done_first at i told w before stepped next in_time =
     }
 
 -- and stays done by another
-pub done_again : (at : Moment) (i : ℕ) (told w w_then : Watched) (before c : Candidate) (due : Option ℕ) → IsDone at i told before w due c → IsStepped at.now w w_then → IsDone at i told before w_then w_then.monitor.due (candidate_of at i c.priority w_then)
+pub done_again : (at : Renewal) (i : ℕ) (told w w_then : Watched) (before c : Candidate) (due : Option ℕ) → IsDone at i told before w due c → IsStepped at.now w w_then → IsDone at i told before w_then w_then.monitor.due (candidate_of at i c.priority w_then)
 done_again at i told w w_then before c due done stepped =
     let same = stepped.quiet done.settled in
     let settled = stepped_settled at.now w w_then stepped done.next (weaker at.now w.monitor.due done.later) in
@@ -158,7 +158,7 @@ done_again at i told w w_then before c due done stepped =
     }
 
 -- an input to which nothing happens, and which the choice sees as it is, is done without a step
-pub done_unstepped : (at : Moment) (i : ℕ) (told w : Watched) (before c : Candidate) (due : Option ℕ) → IsPending told before w due c → must_step at.now told ≡ false → told.monitor.next ≤ at.now + 1 → HasEnd told.monitor → IfSome told.monitor.due (λ d. at.now < d) → before ≡ candidate_of at i before.priority told → IsDone at i told before w due c
+pub done_unstepped : (at : Renewal) (i : ℕ) (told w : Watched) (before c : Candidate) (due : Option ℕ) → IsPending told before w due c → must_step at.now told ≡ false → told.monitor.next ≤ at.now + 1 → HasEnd told.monitor → IfSome told.monitor.due (λ d. at.now < d) → before ≡ candidate_of at i before.priority told → IsDone at i told before w due c
 done_unstepped at i told w before c due pending none next ends later seen =
     let was = quiet_is at.now told none in
     rw (pending.watched, pending.due_is, pending.candidate_is) (record {
@@ -179,14 +179,14 @@ done_unstepped at i told w before c due pending none next ends later seen =
     })
 
 -- the input at a place, in the three lists, after it or another is renewed
-same_place : (at : Moment) (i k : ℕ) (x x_then : InputsKept) → IsRenewed at i x x_then → ¬ (k ≡ i) → (watched_in x_then.watched k ≡ watched_in x.watched k) × (due_in x_then.dues k ≡ due_in x.dues k) × (candidate x_then.candidates k ≡ candidate x.candidates k)
+same_place : (at : Renewal) (i k : ℕ) (x x_then : InputsKept) → IsRenewed at i x x_then → ¬ (k ≡ i) → (watched_in x_then.watched k ≡ watched_in x.watched k) × (due_in x_then.dues k ≡ due_in x.dues k) × (candidate x_then.candidates k ≡ candidate x.candidates k)
 same_place at i k x x_then renewed apart = (
   ap (λ l. watched_in l k) renewed.watched ∙ get_or-set_other x.watched i k renewed.input unused apart,
   ap (λ l. due_in l k) renewed.dues ∙ get_or-set_other x.dues i k renewed.input.monitor.due None apart,
   ap (λ l. candidate l k) renewed.candidates ∙ get_or-set_other x.candidates i k (candidate_of at i (candidate x.candidates i).priority renewed.input) nobody apart,
 )
 
-new_place : (at : Moment) (i : ℕ) (x x_then : InputsKept) → (renewed : IsRenewed at i x x_then) → i < length x.watched → i < length x.dues → i < length x.candidates → (watched_in x_then.watched i ≡ renewed.input) × (due_in x_then.dues i ≡ renewed.input.monitor.due) × (candidate x_then.candidates i ≡ candidate_of at i (candidate x.candidates i).priority renewed.input)
+new_place : (at : Renewal) (i : ℕ) (x x_then : InputsKept) → (renewed : IsRenewed at i x x_then) → i < length x.watched → i < length x.dues → i < length x.candidates → (watched_in x_then.watched i ≡ renewed.input) × (due_in x_then.dues i ≡ renewed.input.monitor.due) × (candidate x_then.candidates i ≡ candidate_of at i (candidate x.candidates i).priority renewed.input)
 new_place at i x x_then renewed first second third = (
   ap (λ l. watched_in l i) renewed.watched ∙ get_or-set_same x.watched i renewed.input unused first,
   ap (λ l. due_in l i) renewed.dues ∙ get_or-set_same x.dues i renewed.input.monitor.due None second,
@@ -194,7 +194,7 @@ new_place at i x x_then renewed first second third = (
 )
 
 -- what is renewed at one place can be renewed further
-pub can_one : (at : Moment) (option : NetOption) (i : ℕ) (x x_then : InputsKept) → CanRenew at.now option x → i < length x.watched → IsRenewed at i x x_then → CanRenew at.now option x_then
+pub can_one : (at : Renewal) (option : NetOption) (i : ℕ) (x x_then : InputsKept) → CanRenew at.now option x → i < length x.watched → IsRenewed at i x x_then → CanRenew at.now option x_then
 can_one at option i x x_then can within renewed = record {
   few = omega (arith, count, can.few);
   dues_length = ap length renewed.dues ∙ length-set x.dues i renewed.input.monitor.due ∙ can.dues_length ∙ sym count;
@@ -269,7 +269,7 @@ can_one at option i x x_then can within renewed = record {
     ]
 
 -- the three that are kept of one input
-Holds : Moment → List Watched → List Candidate → ℕ → Watched → Option ℕ → Candidate → Type 0
+Holds : Renewal → List Watched → List Candidate → ℕ → Watched → Option ℕ → Candidate → Type 0
 Holds at told before i w due c = IsDone at i (watched_in told i) (candidate before i) w due c
 
 moved : (P : Watched → Option ℕ → Candidate → Type 0) (w w_then : Watched) (due due_then : Option ℕ) (c c_then : Candidate) → w_then ≡ w → due_then ≡ due → c_then ≡ c → P w due c → P w_then due_then c_then
@@ -277,7 +277,7 @@ moved P w w_then due due_then c c_then first second third holds =
     subst (λ v. P v due_then c_then) (sym first) (subst (λ d. P w d c_then) (sym second) (subst (λ e. P w due e) (sym third) holds))
 
 -- the input that is renewed is done
-pub done_here : (at : Moment) (option : NetOption) (told : List Watched) (before : List Candidate) (i : ℕ) (x x_then : InputsKept) → CanRenew at.now option x → AreRenewed at told before x → i < length told → IsRenewed at i x x_then → IsDoneAt at told before i x_then
+pub done_here : (at : Renewal) (option : NetOption) (told : List Watched) (before : List Candidate) (i : ℕ) (x x_then : InputsKept) → CanRenew at.now option x → AreRenewed at told before x → i < length told → IsRenewed at i x x_then → IsDoneAt at told before i x_then
 done_here at option told before i x x_then can all within renewed =
     let inside : i < length x.watched = omega (arith, all.watched_length) in
     let new = new_place at i x x_then renewed inside (omega (arith, all.dues_length)) (omega (arith, all.candidates_length)) in
@@ -293,7 +293,7 @@ done_here at option told before i x x_then can all within renewed =
     ])
 
 -- and each that was done still is
-pub done_there : (at : Moment) (option : NetOption) (told : List Watched) (before : List Candidate) (i k : ℕ) (x x_then : InputsKept) → CanRenew at.now option x → AreRenewed at told before x → i < length told → IsRenewed at i x x_then → IsDoneAt at told before k x → IsDoneAt at told before k x_then
+pub done_there : (at : Renewal) (option : NetOption) (told : List Watched) (before : List Candidate) (i k : ℕ) (x x_then : InputsKept) → CanRenew at.now option x → AreRenewed at told before x → i < length told → IsRenewed at i x x_then → IsDoneAt at told before k x → IsDoneAt at told before k x_then
 done_there at option told before i k x x_then can all within renewed done = elim (same_or_not k i) [
   | inl here ↦ subst (λ j. IsDoneAt at told before j x_then) (sym here) (done_here at option told before i x x_then can all within renewed)
   | inr apart ↦
@@ -301,7 +301,7 @@ done_there at option told before i k x x_then can all within renewed done = elim
       moved (λ w due c. IsDone at k (watched_in told k) (candidate before k) w due c) (watched_in x.watched k) (watched_in x_then.watched k) (due_in x.dues k) (due_in x_then.dues k) (candidate x.candidates k) (candidate x_then.candidates k) same.0 same.1 same.2 done
 ]
 
-pub kept_one : (at : Moment) (option : NetOption) (told : List Watched) (before : List Candidate) (i : ℕ) (x x_then : InputsKept) → CanRenew at.now option x → AreRenewed at told before x → i < length told → IsRenewed at i x x_then → AreKept at told before x x_then
+pub kept_one : (at : Renewal) (option : NetOption) (told : List Watched) (before : List Candidate) (i : ℕ) (x x_then : InputsKept) → CanRenew at.now option x → AreRenewed at told before x → i < length told → IsRenewed at i x x_then → AreKept at told before x x_then
 kept_one at option told before i x x_then can all within renewed = record {
   renewed = record {
     watched_length = ap length renewed.watched ∙ length-set x.watched i renewed.input ∙ all.watched_length;
@@ -324,11 +324,11 @@ kept_one at option told before i x x_then can all within renewed = record {
     ]
 
 -- of inputs that stay as they are, all stays
-pub kept_same : (at : Moment) (told : List Watched) (before : List Candidate) (x : InputsKept) → AreRenewed at told before x → AreKept at told before x x
+pub kept_same : (at : Renewal) (told : List Watched) (before : List Candidate) (x : InputsKept) → AreRenewed at told before x → AreKept at told before x x
 kept_same at told before x all = record { renewed = all; done = λ k inside done. done }
 
 -- one event more is taken
-pub taken_more : (at : Moment) (told : List Watched) (before : List Candidate) (all left : List InputEvent) (event : InputEvent) (x x_then : InputsKept) → AreTaken at told before all (event ∷ left) x → AreKept at told before x x_then → ((i : ℕ) → i < length told → touches i event ≡ true → IsDoneAt at told before i x_then) → AreTaken at told before all left x_then
+pub taken_more : (at : Renewal) (told : List Watched) (before : List Candidate) (all left : List InputEvent) (event : InputEvent) (x x_then : InputsKept) → AreTaken at told before all (event ∷ left) x → AreKept at told before x x_then → ((i : ℕ) → i < length told → touches i event ≡ true → IsDoneAt at told before i x_then) → AreTaken at told before all left x_then
 taken_more at told before all left event x x_then taken kept touched = record {
   renewed = kept.renewed;
   touched = λ i within is. elim (taken.touched i within is) [

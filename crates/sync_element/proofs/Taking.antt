@@ -61,14 +61,14 @@ after e now t = record {
   };
 }
 
-abbrev pub moment_of : ElementState → ℕ → Taken → renewing.Moment
-moment_of e now t = record { now = now; switches = t.commands; floor = e.settings.floor }
+abbrev pub renewal_of : ElementState → ℕ → Taken → renewing.Renewal
+renewal_of e now t = record { now = now; switches = t.commands; floor = e.settings.floor }
 
 -- what the parts of a step say of it
 pub record IsTaken (e : ElementState) (now : ℕ) (events : List InputEvent) (t : Taken) : Type 0 where
   pub is_told : IsToldSoFar events [] (record { watched = e.kept.inputs.watched; switches = e.kept.switches }) (record { watched = t.told; switches = t.commands })
-  pub taken : AreTaken (moment_of e now t) t.told e.kept.inputs.candidates events [] t.touched
-  pub kept : AreKept (moment_of e now t) t.told e.kept.inputs.candidates t.touched t.inputs
+  pub taken : AreTaken (renewal_of e now t) t.told e.kept.inputs.candidates events [] t.touched
+  pub kept : AreKept (renewal_of e now t) t.told e.kept.inputs.candidates t.touched t.inputs
   pub later : (i : ℕ) → i < length t.inputs.watched → IfSome (due_in t.inputs.dues i) (λ due. now < due)
   pub ended : t.switches ≡ at_end t.inputs.candidates t.commands
   pub chosen : t.selection ≡ choice t.inputs.candidates t.switches.forced t.switches.manual e.kept.selection
@@ -132,7 +132,7 @@ level_told e past now events t stands taken i within =
     ∙ sym (ap (λ input. input.level) (input_of-moment_after e.settings (waited e past now) events i within))
 
 -- an input that no event touches, and whose running time doesn't end, is done
-untouched_done : (e : ElementState) (now : ℕ) (events : List InputEvent) (t : Taken) → IsWhole e → IsInTime e now → IsTaken e now events t → (i : ℕ) → i < inputs_of e → list_any (touches i) events ≡ false → IsPending (watched_in t.told i) (candidate e.kept.inputs.candidates i) (watched_in t.inputs.watched i) (due_in t.inputs.dues i) (candidate t.inputs.candidates i) → IfSome (due_in t.inputs.dues i) (λ d. now < d) → IsDoneAt (moment_of e now t) t.told e.kept.inputs.candidates i t.inputs
+untouched_done : (e : ElementState) (now : ℕ) (events : List InputEvent) (t : Taken) → IsWhole e → IsInTime e now → IsTaken e now events t → (i : ℕ) → i < inputs_of e → list_any (touches i) events ≡ false → IsPending (watched_in t.told i) (candidate e.kept.inputs.candidates i) (watched_in t.inputs.watched i) (due_in t.inputs.dues i) (candidate t.inputs.candidates i) → IfSome (due_in t.inputs.dues i) (λ d. now < d) → IsDoneAt (renewal_of e now t) t.told e.kept.inputs.candidates i t.inputs
 untouched_done e now events t whole in_time taken i within none pending later =
     let w = watched_of e i in
     let told = watched_in t.told i in
@@ -146,18 +146,18 @@ untouched_done e now events t whole in_time taken i within none pending later =
     let after_now : IfSome told.monitor.due (λ d. now < d) = subst (λ o. IfSome o (λ d. now < d)) pending.due_is later in
     let still : must_step now told ≡ false = quiet_back now told (record { cleared = cleared; up = up ∙ rest.up ∙ sym (ap (λ m. up_of m.condition) same); not_due = not_now now told.monitor.due after_now }) in
     let next : told.monitor.next ≤ now + 1 = subst (λ m. m.next ≤ now + 1) (sym same) (omega (arith, rest.not_later, in_time.later)) in
-    let seen_as : before ≡ renewing.candidate_of (moment_of e now t) i before.priority told =
+    let seen_as : before ≡ renewing.candidate_of (renewal_of e now t) i before.priority told =
     rest.candidate_is
     ∙ same_candidate w.level told.level (slice_index e.settings.priorities i) before.priority (not (is_locked e.kept.switches i) && not w.monitor.failed && not (is_better e.settings.floor w.level)) (not (is_locked t.commands i) && not told.monitor.failed && not (is_better e.settings.floor told.level))
     (sym level) (sym (ap (λ c. c.priority) rest.candidate_is))
     (usable_same (is_locked e.kept.switches i) (is_locked t.commands i) w.monitor.failed told.monitor.failed e.settings.floor w.level told.level (sym locked) (sym (ap (λ m. m.failed) same)) (sym level)) in
-    done_unstepped (moment_of e now t) i told (watched_in t.inputs.watched i) before (candidate t.inputs.candidates i) (due_in t.inputs.dues i) pending still next (subst HasEnd (sym same) rest.ends) after_now seen_as
+    done_unstepped (renewal_of e now t) i told (watched_in t.inputs.watched i) before (candidate t.inputs.candidates i) (due_in t.inputs.dues i) pending still next (subst HasEnd (sym same) rest.ends) after_now seen_as
   where
     usable_same : (locked locked_then failed failed_then : Bool) (floor level level_then : Option Level) → locked ≡ locked_then → failed ≡ failed_then → level ≡ level_then → (not locked && not failed && not (is_better floor level)) ≡ (not locked_then && not failed_then && not (is_better floor level_then))
     usable_same locked locked_then failed failed_then floor level level_then s f l = rw (s, f, l) refl
 
 -- each input is done at the end of the step
-pub all_done : (e : ElementState) (now : ℕ) (events : List InputEvent) (t : Taken) → IsWhole e → IsInTime e now → IsTaken e now events t → (i : ℕ) → i < inputs_of e → IsDoneAt (moment_of e now t) t.told e.kept.inputs.candidates i t.inputs
+pub all_done : (e : ElementState) (now : ℕ) (events : List InputEvent) (t : Taken) → IsWhole e → IsInTime e now → IsTaken e now events t → (i : ℕ) → i < inputs_of e → IsDoneAt (renewal_of e now t) t.told e.kept.inputs.candidates i t.inputs
 all_done e now events t whole in_time taken i within =
     let inside : i < length t.told = omega (arith, within, taken.is_told.count, whole.watched_length) in
     elim (taken.kept.renewed.each i inside) [
@@ -165,7 +165,7 @@ all_done e now events t whole in_time taken i within =
       | inr pending ↦ of inside pending (list_any (touches i) events) refl
     ]
   where
-    of : i < length t.told → IsPending (watched_in t.told i) (candidate e.kept.inputs.candidates i) (watched_in t.inputs.watched i) (due_in t.inputs.dues i) (candidate t.inputs.candidates i) → (b : Bool) → list_any (touches i) events ≡ b → IsDoneAt (moment_of e now t) t.told e.kept.inputs.candidates i t.inputs
+    of : i < length t.told → IsPending (watched_in t.told i) (candidate e.kept.inputs.candidates i) (watched_in t.inputs.watched i) (due_in t.inputs.dues i) (candidate t.inputs.candidates i) → (b : Bool) → list_any (touches i) events ≡ b → IsDoneAt (renewal_of e now t) t.told e.kept.inputs.candidates i t.inputs
     of inside pending true is = elim (taken.taken.touched i inside is) [
       | inl never ↦ absurd (cc)
       | inr done ↦ taken.kept.done i inside done
@@ -337,7 +337,7 @@ at_rest_after e now events t whole in_time taken i within =
       due_later = until_now now (now + 1) w.monitor.due refl one.later;
       candidate_is =
           one.candidate_is
-          ∙ ap (λ p. renewing.candidate_of (moment_of e now t) i p w) (priority_taken e now events t whole in_time taken i within)
+          ∙ ap (λ p. renewing.candidate_of (renewal_of e now t) i p w) (priority_taken e now events t whole in_time taken i within)
           ∙ same_candidate w.level w.level (slice_index e.settings.priorities i) (slice_index e.settings.priorities i) (not (is_locked t.commands i) && not w.monitor.failed && not (is_better e.settings.floor w.level)) (not (is_locked t.switches i) && not w.monitor.failed && not (is_better e.settings.floor w.level)) refl refl
           (ap (λ b. not b && not w.monitor.failed && not (is_better e.settings.floor w.level)) (sym (ap (λ s. is_locked s i) taken.ended)));
     }

@@ -56,13 +56,13 @@ pub record IsStepped (now : ℕ) (w w_then : Watched) : Type 0 where
   pub ends : HasEnd w_then.monitor
 
 -- the millisecond of a step, and by what inputs may be taken then: the switches and the floor
-pub record Moment : Type 0 where
+pub record Renewal : Type 0 where
   pub now : ℕ
   pub switches : Switches
   pub floor : Option Level
 
 -- what the choice looks at in an input
-abbrev pub candidate_of : Moment → ℕ → ℕ → Watched → Candidate
+abbrev pub candidate_of : Renewal → ℕ → ℕ → Watched → Candidate
 candidate_of at i priority w = record {
   level = w.level;
   priority = priority;
@@ -70,7 +70,7 @@ candidate_of at i priority w = record {
 }
 
 -- the input at a place is renewed, and no other
-pub record IsRenewed (at : Moment) (i : ℕ) (x x_then : InputsKept) : Type 0 where
+pub record IsRenewed (at : Renewal) (i : ℕ) (x x_then : InputsKept) : Type 0 where
   pub input : Watched
   pub stepped : IsStepped at.now (watched_in x.watched i) input
   pub watched : x_then.watched ≡ set x.watched i input
@@ -91,7 +91,7 @@ pub record CanRenew (now : ℕ) (option : NetOption) (x : InputsKept) : Type 0 w
   pub candidate_levels : (i : ℕ) → IsOfOption option (candidate x.candidates i).level
 
 -- an input is as the rules have it at the end of the millisecond, by what it was told
-pub record IsDone (at : Moment) (i : ℕ) (told : Watched) (before : Candidate) (w : Watched) (due : Option ℕ) (c : Candidate) : Type 0 where
+pub record IsDone (at : Renewal) (i : ℕ) (told : Watched) (before : Candidate) (w : Watched) (due : Option ℕ) (c : Candidate) : Type 0 where
   pub up : w.up ≡ told.up
   pub level : w.level ≡ told.level
   pub cleared : w.cleared ≡ false
@@ -110,14 +110,14 @@ pub record IsPending (told : Watched) (before : Candidate) (w : Watched) (due : 
   pub due_is : due ≡ told.monitor.due
   pub candidate_is : c ≡ before
 
-abbrev pub IsDoneAt : Moment → List Watched → List Candidate → ℕ → InputsKept → Type 0
+abbrev pub IsDoneAt : Renewal → List Watched → List Candidate → ℕ → InputsKept → Type 0
 IsDoneAt at told before i x = IsDone at i (watched_in told i) (candidate before i) (watched_in x.watched i) (due_in x.dues i) (candidate x.candidates i)
 
 abbrev pub IsPendingAt : List Watched → List Candidate → ℕ → InputsKept → Type 0
 IsPendingAt told before i x = IsPending (watched_in told i) (candidate before i) (watched_in x.watched i) (due_in x.dues i) (candidate x.candidates i)
 
 -- so is each input
-pub record AreRenewed (at : Moment) (told : List Watched) (before : List Candidate) (x : InputsKept) : Type 0 where
+pub record AreRenewed (at : Renewal) (told : List Watched) (before : List Candidate) (x : InputsKept) : Type 0 where
   pub watched_length : length x.watched ≡ length told
   pub dues_length : length x.dues ≡ length told
   pub candidates_length : length x.candidates ≡ length told
@@ -136,17 +136,17 @@ abbrev pub touches : ℕ → InputEvent → Bool
 touches i event = ends_at i (touched_by event)
 
 -- each input that some of all events touch is done, or is touched by one of those that are left
-pub record AreTaken (at : Moment) (told : List Watched) (before : List Candidate) (all left : List InputEvent) (x : InputsKept) : Type 0 where
+pub record AreTaken (at : Renewal) (told : List Watched) (before : List Candidate) (all left : List InputEvent) (x : InputsKept) : Type 0 where
   pub renewed : AreRenewed at told before x
   pub touched : (i : ℕ) → i < length told → list_any (touches i) all ≡ true → (list_any (touches i) left ≡ true) ⊎ IsDoneAt at told before i x
 
 -- an input that was done still is, and the inputs are renewed as before or more of them
-pub record AreKept (at : Moment) (told : List Watched) (before : List Candidate) (x x_then : InputsKept) : Type 0 where
+pub record AreKept (at : Renewal) (told : List Watched) (before : List Candidate) (x x_then : InputsKept) : Type 0 where
   pub renewed : AreRenewed at told before x_then
   pub done : (i : ℕ) → i < length told → IsDoneAt at told before i x → IsDoneAt at told before i x_then
 
 -- the input that an event touches is renewed, if it touches one
-pub record IsTouched (at : Moment) (option : NetOption) (event : InputEvent) (x x_then : InputsKept) : Type 0 where
+pub record IsTouched (at : Renewal) (option : NetOption) (event : InputEvent) (x x_then : InputsKept) : Type 0 where
   pub can : CanRenew at.now option x_then
   pub count : length x_then.watched ≡ length x.watched
   pub kept : (told : List Watched) (before : List Candidate) → AreRenewed at told before x → AreKept at told before x x_then

@@ -1,12 +1,12 @@
 use Rattle.std.proofs.Common.{◌<◌, length, ap, ◌∙◌, arith, length-set}
-use Rattle.sync_element.specs.Renewing.{Moment}
+use Rattle.sync_element.specs.Renewing.{Renewal}
 use Rattle.sync_element.specs.Whole.{inputs_kept}
 use Rattle.sync_element.proofs.Renewed.{can_one, kept_one}
 use Rattle.sync_element.proofs.renewing.renew_due.Goals as goal
 
 pub loop-i-preserved : goal.loop-i-preserved
 loop-i-preserved c =
-    let at : Moment = record { now = c.args.now; switches = c.args.commands.now; floor = c.args.config.now.floor } in
+    let at : Renewal = record { now = c.args.now; switches = c.args.commands.now; floor = c.args.config.now.floor } in
     let option = c.args.config.now.own.option in
     let x = inputs_kept c.loop-i.inputs in
     let x_then = inputs_kept c.renew.new.inputs in

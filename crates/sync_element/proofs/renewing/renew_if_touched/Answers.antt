@@ -5,7 +5,7 @@ use Rattle.sync_ql.specs.declared.rules.Cmd.TheVariants.{Lockout, Unlock, Forced
 use Rattle.sync_ql.specs.declared.rules.InputEvent.{InputEvent}
 use Rattle.sync_ql.specs.declared.rules.InputEvent.TheVariants.{Signal, Heard, ClearWtr, Command}
 use Rattle.sync_element.specs.Telling.{Fits}
-use Rattle.sync_element.specs.Renewing.{Moment, touched_by, ends_at, IsDoneAt}
+use Rattle.sync_element.specs.Renewing.{Renewal, touched_by, ends_at, IsDoneAt}
 use Rattle.sync_element.specs.Whole.{inputs_kept}
 use Rattle.sync_element.proofs.Renewed.{can_one, kept_one, done_here}
 use Rattle.sync_element.proofs.renewing.renew_if_touched.Goals as goal
@@ -26,7 +26,7 @@ same_place i k (Some j) is touched = let same : j ≡ i = same_Some j i is in gr
 
 pub returns-in-Some : goal.returns-in-Some
 returns-in-Some c =
-    let at : Moment = record { now = c.args.now; switches = c.args.commands.now; floor = c.args.config.now.floor } in
+    let at : Renewal = record { now = c.args.now; switches = c.args.commands.now; floor = c.args.config.now.floor } in
     let option = c.args.config.now.own.option in
     let x = inputs_kept c.args.inputs.now in
     let x_then = inputs_kept c.renew.new.inputs in
