@@ -5,9 +5,10 @@ use Rattle.std.proofs.lemmas.Bool.Decides.{nat_tests}
 use Rattle.sync_ql.specs.declared.rules.Cond.{Cond}
 use Rattle.sync_ql.specs.declared.rules.Cond.TheVariants.{Good, HoldOff, Failed, Restoring}
 use Rattle.sync_ql.specs.Condition.{Signal, Timers, is_up, down_for, up_for, failed_at, left_at, condition_of, condition_at, quiet, after_quiet, continued, IsDue}
-use Rattle.input_monitor.specs.Monitored.{is_failed, end_of}
+use Rattle.input_monitor.specs.Monitored.{is_failed, up_of, end_of}
+use Rattle.input_monitor.specs.Ending.{later_by}
 use Rattle.input_monitor.specs.Running.{IsRunning}
-use Rattle.input_monitor.proofs.Stepping.{aged, next_condition}
+use Rattle.input_monitor.proofs.Stepping.{next_condition}
 
 -- what is up is not down, and the other way round
 down_for-up : (past : List Signal) → is_up past ≡ true → down_for past ≡ 0
@@ -44,14 +45,8 @@ condition_at-cons timers some now past =
     let restoring = up_for-bound timers past in
     grind (arith, nat_tests)
 
--- whether an input in a condition is up
-abbrev up_of : Cond → Bool
-up_of Good = true
-up_of (HoldOff left) = false
-up_of Failed = false
-up_of (Restoring left) = true
-
-up_of-condition_at : (timers : Timers) (past : List Signal) → up_of (condition_at timers past) ≡ is_up past
+-- an input is up in the condition of its past exactly where it is at its end
+pub up_of-condition_at : (timers : Timers) (past : List Signal) → up_of (condition_at timers past) ≡ is_up past
 unfolding condition_at
 up_of-condition_at timers past = of (is_up past) (failed_at timers past) (left_at timers past)
   where
@@ -90,11 +85,11 @@ Lasts k (HoldOff left) = k < left
 Lasts k Failed = ⊤
 Lasts k (Restoring left) = k < left
 
-aged-zero : (c : Cond) → aged 0 c ≡ c
-aged-zero Good = refl
-aged-zero (HoldOff left) = ap HoldOff (omega arith)
-aged-zero Failed = refl
-aged-zero (Restoring left) = ap Restoring (omega arith)
+later_by-zero : (c : Cond) → later_by 0 c ≡ c
+later_by-zero Good = refl
+later_by-zero (HoldOff left) = ap HoldOff (omega arith)
+later_by-zero Failed = refl
+later_by-zero (Restoring left) = ap Restoring (omega arith)
 
 lasts_less : (k : ℕ) (c : Cond) → Lasts (suc k) c → Lasts k c
 lasts_less k Good lasts = tt
@@ -102,25 +97,25 @@ lasts_less k (HoldOff left) lasts = omega arith
 lasts_less k Failed lasts = tt
 lasts_less k (Restoring left) lasts = omega arith
 
-aged-suc : (timers : Timers) (k : ℕ) (c : Cond) → Lasts (suc k) c → next_condition timers (aged k c) (record { up = up_of c; clear = false }) ≡ aged (suc k) c
-aged-suc timers k Good lasts = refl
-aged-suc timers k (HoldOff left) lasts = grind (arith, nat_tests)
-aged-suc timers k Failed lasts = refl
-aged-suc timers k (Restoring left) lasts = grind (arith, nat_tests)
+later_by-suc : (timers : Timers) (k : ℕ) (c : Cond) → Lasts (suc k) c → next_condition timers (later_by k c) (record { up = up_of c; clear = false }) ≡ later_by (suc k) c
+later_by-suc timers k Good lasts = refl
+later_by-suc timers k (HoldOff left) lasts = grind (arith, nat_tests)
+later_by-suc timers k Failed lasts = refl
+later_by-suc timers k (Restoring left) lasts = grind (arith, nat_tests)
 
 -- one more millisecond in which nothing happens
-condition_at-after_quiet_suc : (timers : Timers) → 0 < timers.holdoff → (k : ℕ) (past : List Signal) → condition_at timers (after_quiet k past) ≡ aged k (condition_at timers past) → condition_at timers (after_quiet (suc k) past) ≡ next_condition timers (aged k (condition_at timers past)) (record { up = up_of (condition_at timers past); clear = false })
+condition_at-after_quiet_suc : (timers : Timers) → 0 < timers.holdoff → (k : ℕ) (past : List Signal) → condition_at timers (after_quiet k past) ≡ later_by k (condition_at timers past) → condition_at timers (after_quiet (suc k) past) ≡ next_condition timers (later_by k (condition_at timers past)) (record { up = up_of (condition_at timers past); clear = false })
 condition_at-after_quiet_suc timers some k past before =
     condition_at-cons timers some (quiet past) (after_quiet k past)
     ∙ ap (λ c. next_condition timers c (quiet past)) before
-    ∙ ap (λ u. next_condition timers (aged k (condition_at timers past)) (record { up = u; clear = false })) (sym (up_of-condition_at timers past))
+    ∙ ap (λ u. next_condition timers (later_by k (condition_at timers past)) (record { up = u; clear = false })) (sym (up_of-condition_at timers past))
 
 -- where nothing happens, a running time runs on
-pub condition_at-after_quiet : (timers : Timers) → 0 < timers.holdoff → (k : ℕ) (past : List Signal) → Lasts k (condition_at timers past) → condition_at timers (after_quiet k past) ≡ aged k (condition_at timers past)
-condition_at-after_quiet timers some zero past lasts = sym (aged-zero (condition_at timers past))
+pub condition_at-after_quiet : (timers : Timers) → 0 < timers.holdoff → (k : ℕ) (past : List Signal) → Lasts k (condition_at timers past) → condition_at timers (after_quiet k past) ≡ later_by k (condition_at timers past)
+condition_at-after_quiet timers some zero past lasts = sym (later_by-zero (condition_at timers past))
 condition_at-after_quiet timers some (suc k) past lasts =
     condition_at-after_quiet_suc timers some k past (condition_at-after_quiet timers some k past (lasts_less k (condition_at timers past) lasts))
-    ∙ aged-suc timers k (condition_at timers past) lasts
+    ∙ later_by-suc timers k (condition_at timers past) lasts
 
 length-after_quiet : (k : ℕ) (past : List Signal) → length (after_quiet k past) ≡ k + length past
 length-after_quiet zero past = omega arith
@@ -129,28 +124,28 @@ length-after_quiet (suc k) past = omega (arith, length-after_quiet k past)
 pub length-continued : (n : ℕ) (past : List Signal) → length past ≤ n → length (continued n past) ≡ n
 length-continued n past long = omega (arith, length-after_quiet (n - length past) past)
 
-is_failed-aged : (k : ℕ) (c : Cond) → is_failed (aged k c) ≡ is_failed c
-is_failed-aged k Good = refl
-is_failed-aged k (HoldOff left) = refl
-is_failed-aged k Failed = refl
-is_failed-aged k (Restoring left) = refl
+is_failed-later_by : (k : ℕ) (c : Cond) → is_failed (later_by k c) ≡ is_failed c
+is_failed-later_by k Good = refl
+is_failed-later_by k (HoldOff left) = refl
+is_failed-later_by k Failed = refl
+is_failed-later_by k (Restoring left) = refl
 
 -- where nothing happens, an input stays failed, or not failed, while a running time runs
 failed_at-after_quiet : (timers : Timers) → 0 < timers.holdoff → (k : ℕ) (past : List Signal) → Lasts k (condition_at timers past) → failed_at timers (after_quiet k past) ≡ failed_at timers past
 failed_at-after_quiet timers some k past lasts =
     sym (is_failed-condition_at timers (after_quiet k past))
     ∙ ap is_failed (condition_at-after_quiet timers some k past lasts)
-    ∙ is_failed-aged k (condition_at timers past)
+    ∙ is_failed-later_by k (condition_at timers past)
     ∙ is_failed-condition_at timers past
 
 -- where a running time ends, "failed" changes
-ends_holdoff : (timers : Timers) (k : ℕ) → is_failed (next_condition timers (aged k (HoldOff (suc k))) (record { up = false; clear = false })) ≡ true
+ends_holdoff : (timers : Timers) (k : ℕ) → is_failed (next_condition timers (later_by k (HoldOff (suc k))) (record { up = false; clear = false })) ≡ true
 ends_holdoff timers k = grind (arith, nat_tests)
 
-ends_restoring : (timers : Timers) (k : ℕ) → is_failed (next_condition timers (aged k (Restoring (suc k))) (record { up = true; clear = false })) ≡ false
+ends_restoring : (timers : Timers) (k : ℕ) → is_failed (next_condition timers (later_by k (Restoring (suc k))) (record { up = true; clear = false })) ≡ false
 ends_restoring timers k = grind (arith, nat_tests)
 
-changes : (timers : Timers) → 0 < timers.holdoff → (k : ℕ) (past : List Signal) (c : Cond) → condition_at timers past ≡ c → Lasts k c → is_failed (next_condition timers (aged k c) (record { up = up_of c; clear = false })) ≡ not (is_failed c) →
+changes : (timers : Timers) → 0 < timers.holdoff → (k : ℕ) (past : List Signal) (c : Cond) → condition_at timers past ≡ c → Lasts k c → is_failed (next_condition timers (later_by k c) (record { up = up_of c; clear = false })) ≡ not (is_failed c) →
     (due : ℕ) → due + 1 - length past ≡ suc k → failed_at timers (continued (due + 1) past) ≡ not (failed_at timers past)
 changes timers some k past c is lasts flips due at =
     ap (λ n. failed_at timers (after_quiet n past)) at

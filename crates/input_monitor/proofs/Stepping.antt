@@ -1,15 +1,8 @@
 -- The condition from one millisecond to the next.
-use Rattle.std.specs.Prelude.{ℕ, ◌-◌, ◌||◌, nat_eq, nat_le, if◌then◌else◌}
+use Rattle.std.specs.Prelude.{◌-◌, ◌||◌, nat_eq, nat_le, if◌then◌else◌}
 use Rattle.sync_ql.specs.declared.rules.Cond.{Cond}
 use Rattle.sync_ql.specs.declared.rules.Cond.TheVariants.{Good, HoldOff, Failed, Restoring}
 use Rattle.sync_ql.specs.Condition.{Signal, Timers}
-
--- the condition after k milliseconds in which nothing happens, before a running time ends
-abbrev pub aged : ℕ → Cond → Cond
-aged k Good = Good
-aged k (HoldOff left) = HoldOff (left - k)
-aged k Failed = Failed
-aged k (Restoring left) = Restoring (left - k)
 
 -- the condition after one more millisecond
 abbrev pub next_condition : Timers → Cond → Signal → Cond

@@ -1,5 +1,5 @@
 -- When a condition ends, if nothing happens.
-use Rattle.std.specs.Prelude.{◌≡◌, ◌≤◌, ◌+◌, ℕ, Option, None, Some}
+use Rattle.std.specs.Prelude.{◌≡◌, ◌≤◌, ◌+◌, ◌-◌, ℕ, Option, None, Some}
 use Rattle.sync_ql.specs.declared.rules.Cond.{Cond}
 use Rattle.sync_ql.specs.declared.rules.Cond.TheVariants.{Good, HoldOff, Failed, Restoring}
 
@@ -14,3 +14,10 @@ IsEnd next Good due = due ≡ None
 IsEnd next (HoldOff left) due = EndsWith next left due
 IsEnd next Failed due = due ≡ None
 IsEnd next (Restoring left) due = EndsWith next left due
+
+-- a condition k milliseconds later, before it ends: that much less is left of it
+abbrev pub later_by : ℕ → Cond → Cond
+later_by k Good = Good
+later_by k (HoldOff left) = HoldOff (left - k)
+later_by k Failed = Failed
+later_by k (Restoring left) = Restoring (left - k)

@@ -3,7 +3,8 @@ use Rattle.std.specs.Prelude.{◌≤◌, ℕ, ◌+◌, ◌-◌, Bool, true, fals
 use Rattle.sync_ql.specs.declared.rules.Cond.{Cond}
 use Rattle.sync_ql.specs.declared.rules.Cond.TheVariants.{Good, HoldOff, Failed, Restoring}
 use Rattle.sync_ql.specs.Condition.{Timers}
-use Rattle.input_monitor.specs.Running.{IsRunning}
+use Rattle.input_monitor.specs.Running.{IsRunning, IsAtMost}
+use Rattle.input_monitor.specs.declared.limits.TheConstants.{SHORTEST_HOLDOFF, LONGEST_HOLDOFF, LONGEST_WTR, LAST_MILLISECOND}
 use Rattle.input_monitor.specs.declared.monitor.Monitor.TheInside.{Inside}
 
 -- the input's times, the first millisecond that no step has told of, the condition at the last
@@ -21,6 +22,13 @@ is_failed Good = false
 is_failed (HoldOff left) = false
 is_failed Failed = true
 is_failed (Restoring left) = true
+
+-- whether an input in a condition is up
+abbrev pub up_of : Cond → Bool
+up_of Good = true
+up_of (HoldOff left) = false
+up_of Failed = false
+up_of (Restoring left) = true
 
 -- the millisecond in which a running time ends, by what is left of it just before the next one
 abbrev pub end_of : ℕ → Cond → Option ℕ
@@ -40,8 +48,9 @@ monitored m = record {
 
 -- what is true of the fields
 pub record IsKept (m : Inside) : Type 0 where
-  pub holdoff_low : 300 ≤ m.holdoff
-  pub holdoff_high : m.holdoff ≤ 1800
-  pub wtr_high : m.wtr ≤ 720000
-  pub in_range : m.next ≤ 86400001
+  pub holdoff_low : SHORTEST_HOLDOFF ≤ m.holdoff
+  pub holdoff_high : m.holdoff ≤ LONGEST_HOLDOFF
+  pub wtr_high : m.wtr ≤ LONGEST_WTR
+  pub in_range : m.next ≤ LAST_MILLISECOND + 1
   pub running : IsRunning m.condition
+  pub at_most : IsAtMost LONGEST_WTR m.condition

@@ -1,9 +1,11 @@
 ghost use Rattle.std.specs.Prelude.{◌≡◌, ◌≤◌, ◌<◌, ◌+◌, ◌-◌, ◌*◌, ◌⊎◌, ◌↔◌, ◌∷◌, [], ℕ, List, IfSome, IsNone, None, length};
-ghost use Rattle.sync_ql.specs.Condition.{Signal, condition_at, failed_at, continued, IsSameKind, IsDue};
+ghost use Rattle.sync_ql.specs.Condition.{Signal, is_up, condition_at, failed_at, continued, IsSameKind, IsDue};
 ghost use Rattle.input_monitor.specs.StandsFor.{StandsFor};
-ghost use Rattle.input_monitor.specs.Ending.{IsEnd};
-ghost use Rattle.input_monitor.specs.Running.{IsRunning};
+ghost use Rattle.input_monitor.specs.Ending.{IsEnd, later_by};
+ghost use Rattle.input_monitor.specs.Monitored.{up_of};
+ghost use Rattle.input_monitor.specs.Running.{IsRunning, IsAtMost};
 
+use crate::limits::{LAST_MILLISECOND, LONGEST_HOLDOFF, LONGEST_WTR, SHORTEST_HOLDOFF};
 use std::marker::Model;
 use sync_ql::rules::Cond;
 
@@ -38,9 +40,9 @@ impl Monitor {
     ///
     /// After G.781, hold-off time and wait-to-restore time.
     pub fn new(holdoff: u32, wtr: u32) -> Monitor
-        requires not_short { 300 ≤ holdoff }
-        requires not_long { holdoff ≤ 1800 }
-        requires minutes { wtr ≤ 12 * 60 * 1000 }
+        requires not_short { SHORTEST_HOLDOFF ≤ holdoff }
+        requires not_long { holdoff ≤ LONGEST_HOLDOFF }
+        requires minutes { wtr ≤ LONGEST_WTR }
         ensures holdoff { result.timers.holdoff ≡ holdoff }
         ensures wtr { result.timers.wtr ≡ wtr }
         ensures next { result.next ≡ 0 }
@@ -65,11 +67,12 @@ impl Monitor {
     pub fn step(&mut self, now: u64, up: bool, clear_wtr: bool)
         requires later { self.old.next ≤ now }
         requires in_time { IfSome self.old.due (λ due. now ≤ due) }
-        requires in_range { now ≤ 24 * 60 * 60 * 1000 }
+        requires in_range { now ≤ LAST_MILLISECOND }
         ensures next { self.new.next ≡ now + 1 }
         ensures kept { self.new.timers ≡ self.old.timers }
         ensures stands { (past : List Signal) → StandsFor self.old past →
             StandsFor self.new (record { up = up; clear = clear_wtr } ∷ continued now past) }
+        ensures up { up_of self.new.condition ≡ up }
     {
         self.condition = self.next_condition(now, up, clear_wtr);
         self.next = now + 1;
@@ -91,6 +94,37 @@ impl Monitor {
         self.condition
     }
 
+    /// The condition in the millisecond before `next`, where nothing has happened since the last
+    /// step: of a running time so much less is left.
+    ///
+    /// `next` is at `due` at the latest.
+    /// After G.781, signal fail, hold-off and wait-to-restore.
+    pub fn condition_before(&self, next: u64) -> Cond
+        requires later { self.now.next ≤ next }
+        requires in_time { IfSome self.now.due (λ due. next ≤ due) }
+        ensures value { result ≡ later_by (next - self.now.next) self.now.condition }
+        ensures condition { (past : List Signal) → StandsFor self.now past →
+            result ≡ condition_at self.now.timers (continued next past) }
+    {
+        let passed = next - self.next;
+        match self.condition {
+            Cond::HoldOff(left) => Cond::HoldOff(left - passed as u32),
+            Cond::Restoring(left) => Cond::Restoring(left - passed as u32),
+            Cond::Good => Cond::Good,
+            Cond::Failed => Cond::Failed,
+        }
+    }
+
+    /// Whether the input is up, as told at the last step.
+    ///
+    /// After G.781, signal fail.
+    pub fn up(&self) -> bool
+        ensures value { result ≡ up_of self.now.condition }
+        ensures up { (past : List Signal) → StandsFor self.now past → result ≡ is_up past }
+    {
+        matches!(self.condition, Cond::Good | Cond::Restoring(_))
+    }
+
     /// Whether the input is failed: from the last step up to but not at `due`, if nothing happens.
     ///
     /// After G.781, signal fail after hold-off, until wait-to-restore has passed.
@@ -105,7 +139,8 @@ impl Monitor {
 
     /// The first later millisecond at which `failed` changes, if nothing happens.
     ///
-    /// `None` exactly where the condition is good or failed, since no time runs then.
+    /// `None` exactly where the condition is good or failed, since no time runs then; else at most
+    /// the longest time after the last step.
     /// After G.781, hold-off time and wait-to-restore time; the exact millisecond is this project's
     /// own.
     pub fn due(&self) -> Option<u64>
@@ -113,6 +148,7 @@ impl Monitor {
         ensures none { IsNone result ↔
             ((self.now.condition ≡ Cond.Good) ⊎ (self.now.condition ≡ Cond.Failed)) }
         ensures end { IsEnd self.now.next self.now.condition result }
+        ensures soon { IfSome result (λ due. due < self.now.next + LONGEST_WTR) }
         ensures due { (past : List Signal) → StandsFor self.now past →
             IsDue self.now.timers past result }
     {
@@ -127,11 +163,13 @@ impl Monitor {
     fn next_condition(&self, now: u64, up: bool, clear_wtr: bool) -> Cond
         requires later { self.now.next ≤ now }
         requires in_time { IfSome self.now.due (λ due. now ≤ due) }
-        requires in_range { now ≤ 24 * 60 * 60 * 1000 }
+        requires in_range { now ≤ LAST_MILLISECOND }
         ensures condition { (past : List Signal) → StandsFor self.now past →
             result ≡ condition_at self.now.timers
             (record { up = up; clear = clear_wtr } ∷ continued now past) }
         ensures running { IsRunning result }
+        ensures at_most { IsAtMost LONGEST_WTR result }
+        ensures up { up_of result ≡ up }
     {
         let passed = now + 1 - self.next;
         match (self.condition, up) {

@@ -1,5 +1,5 @@
 -- The choice without a switch, in facts.
-use Rattle.std.proofs.Common.{◌≡◌, ◌≤◌, ℕ, Bool, true, false, not, List, length, Option, None, Some, IfSome, refl, arith}
+use Rattle.std.proofs.Common.{◌≡◌, ◌<◌, ◌≤◌, ℕ, Bool, true, false, not, List, length, Option, None, Some, IfSome, refl, arith}
 use Rattle.std.proofs.Math.Decide.{dec_lt}
 use Rattle.std.proofs.lemmas.Bool.{and_parts, not-true}
 use Rattle.sync_ql.specs.declared.rules.Candidate.{Candidate}
@@ -81,3 +81,8 @@ IsBestChoice-best_choice inputs (Some i) (Some current) first = of (is_good inpu
 pub eligible_choice : (inputs : List Candidate) (current answer : Option ℕ) → IsBestChoice inputs current answer → IfSome answer (IsEligible inputs)
 eligible_choice inputs current None is = tt
 eligible_choice inputs current (Some i) is = is.best.eligible
+
+-- and one of the inputs
+pub place_choice : (inputs : List Candidate) (current answer : Option ℕ) → IsBestChoice inputs current answer → IfSome answer (λ i. i < length inputs)
+place_choice inputs current None is = tt
+place_choice inputs current (Some i) is = eligible_within inputs i is.best.eligible

@@ -3,3 +3,5 @@ pub mod Eligible
 pub mod FirstBest
 pub mod BestChoice
 pub mod ManualSwitch
+pub mod Tournaments
+pub mod Standings

@@ -4,12 +4,13 @@ ghost use Rattle.std.specs.Prelude.{◌≡◌, ◌≤◌, ◌<◌, ◌+◌, IfSo
 ghost use Rattle.sync_ql.specs.Selection.{candidate, is_eligible, is_better, beats, SameOption, AreOfOneOption};
 ghost use Rattle.selector.specs.Scanned.{IsFirstBest};
 
+use crate::choice::MOST_INPUTS;
 use sync_ql::rules::Candidate;
 use sync_ql::{better, do_not_use};
 
 // The first of the inputs that no other beats.
 pub fn first_best(inputs: &[Candidate]) -> Option<u32>
-    requires few { length inputs.now ≤ 64 }
+    requires few { length inputs.now ≤ MOST_INPUTS }
     requires one_option { AreOfOneOption inputs.now }
     ensures { IsFirstBest inputs.now (length inputs.now) result }
 {
@@ -22,7 +23,7 @@ pub fn first_best(inputs: &[Candidate]) -> Option<u32>
 
 // The best input up to a place, where the best one before it is known.
 fn best_so_far(inputs: &[Candidate], before: Option<u32>, place: usize) -> Option<u32>
-    requires few { length inputs.now ≤ 64 }
+    requires few { length inputs.now ≤ MOST_INPUTS }
     requires place { place < length inputs.now }
     requires one_option { AreOfOneOption inputs.now }
     requires before { IsFirstBest inputs.now place before }

@@ -1,9 +1,15 @@
 ghost use Rattle.std.specs.Prelude.{◌≡◌, ◌≤◌, ◌<◌, ◌⊎◌, ◌↔◌, ℕ, ◌&&◌, not, false, None, IsTrue, IsNone, IfSome, MatchOption, length};
 ghost use Rattle.sync_ql.specs.Selection.{choice, standing_manual, manual_stands, best_choice, candidate, is_eligible, beats, IsEligible, IsBestChoice, ManualStands, AreOfOneOption};
+ghost use Rattle.selector.specs.Choices.{IsChoice};
 ghost use Rattle.selector.specs.Scanned.{IsFirstBest};
 
 use crate::best::{beats, first_best, has_better_level, is_eligible};
 use sync_ql::rules::Candidate;
+
+/// The most inputs that an element has.
+///
+/// This project's own.
+pub const MOST_INPUTS: usize = 64;
 
 /// The input that is taken, and whether the manual switch stands.
 ///
@@ -30,28 +36,34 @@ pub fn choose(
     manual: Option<u32>,
     current: Option<u32>,
 ) -> Choice
-    requires few { length inputs.now ≤ 64 }
+    requires few { length inputs.now ≤ MOST_INPUTS }
     requires one_option { AreOfOneOption inputs.now }
     requires forced_place { IfSome forced (λ i. i < length inputs.now) }
     requires manual_place { IfSome manual (λ i. i < length inputs.now) }
     requires current_place { IfSome current (λ i. i < length inputs.now) }
     requires one_switch { IsNone forced ⊎ IsNone manual }
-    ensures exact { result.input ≡
-        choice inputs.now forced (standing_manual inputs.now manual) current }
-    ensures exact_stands { result.manual_stands ≡ manual_stands inputs.now manual }
-
-    // The same in facts.
-    ensures place { IfSome result.input (λ i. i < length inputs.now) }
-    ensures eligible { IfSome result.input (IsEligible inputs.now) }
-    ensures forced { IfSome forced (λ i. IsEligible inputs.now i → result.input ≡ forced) }
-    ensures forced_fails { IfSome forced (λ i. ¬ IsEligible inputs.now i → result.input ≡ None) }
-    ensures manual { IsTrue result.manual_stands → result.input ≡ manual }
-    ensures stands { MatchOption manual (result.manual_stands ≡ false)
-        (λ i. IsTrue result.manual_stands ↔ ManualStands inputs.now i) }
-    ensures best { IsNone forced → ¬ IsTrue result.manual_stands →
-        IsBestChoice inputs.now current result.input }
+    ensures { IsChoice inputs.now forced manual current result }
 {
     let best = first_best(inputs);
+    choose_by(inputs, best, forced, manual, current)
+}
+
+// The same, where the first of the best is known.
+pub fn choose_by(
+    inputs: &[Candidate],
+    best: Option<u32>,
+    forced: Option<u32>,
+    manual: Option<u32>,
+    current: Option<u32>,
+) -> Choice
+    requires one_option { AreOfOneOption inputs.now }
+    requires best { IsFirstBest inputs.now (length inputs.now) best }
+    requires forced_place { IfSome forced (λ i. i < length inputs.now) }
+    requires manual_place { IfSome manual (λ i. i < length inputs.now) }
+    requires current_place { IfSome current (λ i. i < length inputs.now) }
+    requires one_switch { IsNone forced ⊎ IsNone manual }
+    ensures { IsChoice inputs.now forced manual current result }
+{
     let manual_stands = stands(inputs, best, manual);
     let input = match forced {
         Some(forced) if is_eligible(&inputs[forced as usize]) => Some(forced),
@@ -82,7 +94,7 @@ fn stands(inputs: &[Candidate], best: Option<u32>, manual: Option<u32>) -> bool
 }
 
 // The current input stays where no input that may be taken beats it.
-fn stay_or_take(inputs: &[Candidate], best: Option<u32>, current: Option<u32>) -> Option<u32>
+pub fn stay_or_take(inputs: &[Candidate], best: Option<u32>, current: Option<u32>) -> Option<u32>
     requires place { IfSome current (λ i. i < length inputs.now) }
     requires one_option { AreOfOneOption inputs.now }
     requires best { IsFirstBest inputs.now (length inputs.now) best }

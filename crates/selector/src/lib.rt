@@ -3,7 +3,8 @@
 //! [`choose`] looks at one [`Candidate`] for each input, at the operator's forced or manual switch,
 //! and at the input taken so far. Contracts say which input that is by `choice`, and in facts: the
 //! one taken may be taken, and no input that may be taken beats it (`IsBestChoice`). It is one pass
-//! over at most 64 inputs, and takes no memory.
+//! over at most 64 inputs, and takes no memory. A [`Table`] keeps the candidates, and gives the
+//! same choice without that pass, however few of them were renewed; contracts see it as their list.
 //!
 //! After ITU-T G.781, selection by quality level and priority. That the current input stays on a
 //! tie is of the standard; that the least place is taken else is this project's own. The tests go
@@ -12,8 +13,11 @@
 
 mod best;
 mod choice;
+mod standing;
+mod table;
 #[cfg(test)]
 mod tests;
 
-pub use choice::{Choice, choose};
+pub use choice::{Choice, MOST_INPUTS, choose};
 pub use sync_ql::rules::Candidate;
+pub use table::Table;

@@ -2,10 +2,11 @@ ghost use Rattle.std.specs.Prelude.{◌≤◌, ◌<◌, ◌⊎◌, IsTrue, IsNon
 ghost use Rattle.sync_ql.specs.Selection.{AreOfOneOption};
 ghost use Rattle.selector.specs.OneOption.{IsOfOption};
 
-use crate::{Candidate, Choice, choose};
+use crate::{Candidate, Choice, MOST_INPUTS, Table, choose};
 use std::alloc::{AllocError, Global};
 use std::process::Abort;
 use std::test::Fail;
+use sync_edge::NoMemory;
 use sync_ql::{NetOption, level_of_name};
 
 // The level's name, the priority number, and whether the input is usable.
@@ -179,6 +180,56 @@ fn agrees(
     assert_eq!(rt; chosen, expected, "{shows}: {row:?}");
 }
 
+/// The same by a table.
+fn agrees_by_table(rt: &impl Abort, shows: &'static str, table: &Table, row: &Row) {
+    let (forced, manual, current, input, manual_stands) = *row;
+    let inputs = table.inputs().len();
+    assert!(rt; is_place(forced, inputs));
+    assert!(rt; is_place(manual, inputs));
+    assert!(rt; is_place(current, inputs));
+    assert!(rt; forced.is_none() || manual.is_none());
+    let expected = Choice {
+        input,
+        manual_stands,
+    };
+    let chosen = table.choose(forced, manual, current);
+    assert_eq!(rt; chosen, expected, "{shows} by a table: {row:?}");
+}
+
+fn set(rt: &impl Abort, table: &mut Table, option: NetOption, i: u32, candidate: Candidate) {
+    assert!(rt; (i as usize) < table.inputs().len());
+    assert!(rt; are_of(option, table.inputs()) && is_of(option, &candidate));
+    table.set(i, candidate);
+}
+
+fn candidate(option: NetOption, input: Input) -> Candidate {
+    let (name, priority, usable) = input;
+    Candidate {
+        level: level_of_name(option, name.as_bytes()),
+        priority,
+        usable,
+    }
+}
+
+fn table_of(rt: &(impl Abort + AllocGlobal), case: &Case) -> Result<Table, NoMemory> {
+    let inputs = case.inputs.len();
+    assert!(rt; inputs <= MOST_INPUTS);
+    let mut table = Table::new(rt.alloc(), inputs as u32)?;
+    let mut i = 0;
+    for input in case.inputs {
+        assert!(rt; i < 64);
+        set(
+            rt,
+            &mut table,
+            case.option,
+            i,
+            candidate(case.option, *input),
+        );
+        i += 1;
+    }
+    Ok(table)
+}
+
 #[test]
 fn choices_are_those_of_the_rules(rt: HostRuntime) -> Result<(), Fail> {
     for case in &CASES {
@@ -186,7 +237,74 @@ fn choices_are_those_of_the_rules(rt: HostRuntime) -> Result<(), Fail> {
         for row in case.rows {
             agrees(&rt, case.shows, case.option, inputs.as_slice(), row);
         }
+        let table = table_of(&rt, case)?;
+        for row in case.rows {
+            agrees_by_table(&rt, case.shows, &table, row);
+        }
     }
+    Ok(())
+}
+
+/// A place, what is set there, what is taken so far, and then what is taken.
+type Set = (u32, Input, Option<u32>, Option<u32>);
+
+const SETS: [Set; 14] = [
+    (4, ("QL-SEC", 1, false), None, None),
+    (4, ("QL-SEC", 1, true), None, Some(4)),
+    (2, ("QL-SEC", 1, true), None, Some(2)),
+    (2, ("QL-SEC", 1, true), Some(4), Some(4)),
+    (1, ("QL-SEC", 2, true), Some(4), Some(4)),
+    (3, ("QL-PRC", 9, true), Some(4), Some(3)),
+    (0, ("QL-PRC", 9, true), Some(3), Some(3)),
+    (0, ("QL-PRC", 9, true), None, Some(0)),
+    (0, ("QL-PRC", 8, true), Some(3), Some(0)),
+    (0, ("QL-DNU", 1, true), Some(0), Some(3)),
+    (3, ("QL-PRC", 9, false), Some(3), Some(2)),
+    (2, ("", 1, true), Some(2), Some(4)),
+    (4, ("QL-SEC", 3, true), Some(4), Some(1)),
+    (1, ("QL-DNU", 1, true), Some(1), Some(4)),
+];
+
+fn takes(rt: &impl Abort, table: &Table, current: Option<u32>, expected: Option<u32>) {
+    assert!(rt; is_place(current, table.inputs().len()));
+    assert_eq!(rt; table.best(current), expected, "{:?}", table.inputs());
+}
+
+#[test]
+fn a_table_takes_the_best_after_each_set(rt: HostRuntime) -> Result<(), Fail> {
+    let mut table = Table::new(rt.alloc(), 5)?;
+    takes(&rt, &table, None, None);
+    takes(&rt, &table, Some(3), None);
+    for (i, input, current, expected) in SETS {
+        set(
+            &rt,
+            &mut table,
+            NetOption::I,
+            i,
+            candidate(NetOption::I, input),
+        );
+        takes(&rt, &table, current, expected);
+    }
+    Ok(())
+}
+
+#[test]
+fn a_table_has_64_inputs(rt: HostRuntime) -> Result<(), Fail> {
+    let mut table = Table::new(rt.alloc(), 64)?;
+    let usable = candidate(NetOption::I, ("QL-SEC", 7, true));
+    for i in 0..64 {
+        set(&rt, &mut table, NetOption::I, i, usable);
+        takes(&rt, &table, None, Some(0));
+    }
+    takes(&rt, &table, Some(63), Some(63));
+    set(
+        &rt,
+        &mut table,
+        NetOption::I,
+        63,
+        candidate(NetOption::I, ("QL-SEC", 6, true)),
+    );
+    takes(&rt, &table, Some(5), Some(63));
     Ok(())
 }
 

@@ -22,36 +22,47 @@ candidates_seen settings s past inputs long same =
     let within : i < n = omega (arith, inside, long) in
     same i within ∙ sym (get_or-map-range_with_len f 0 n i i nobody within (zero-add i)))
 
--- a millisecond after a past, at whose end an input was chosen
-pub record IsEvaluated (settings : Settings) (now : Moment) (before : List Moment) (inputs : List Candidate) (commands switches : Switches) (current selection : Option ℕ) (was was_then : Bool) : Type 0 where
-  pub seen_is : inputs ≡ candidates_at settings commands (now ∷ before)
-  pub commanded_is : commands ≡ commanded settings now before
-  pub ended : switches ≡ at_end inputs commands
-  pub chosen : selection ≡ choice inputs switches.forced switches.manual current
-  pub current_is : current ≡ selection_at settings before
-  pub was_is : was ≡ was_locked settings before
-  pub ever : was_then ≡ (is_some selection || was)
+-- the end of a millisecond: the inputs as the choice sees them, the switches as commanded and then, and
+-- what was taken before and is taken then
+pub record Evaluation : Type 0 where
+  pub inputs : List Candidate
+  pub commands : Switches
+  pub switches : Switches
+  pub current : Option ℕ
+  pub selection : Option ℕ
+  pub was : Bool
+  pub was_then : Bool
 
-pub switches_evaluated : (settings : Settings) (now : Moment) (before : List Moment) (inputs : List Candidate) (commands switches : Switches) (current selection : Option ℕ) (was was_then : Bool) → IsEvaluated settings now before inputs commands switches current selection was was_then → switches ≡ switches_at settings (now ∷ before)
-switches_evaluated settings now before inputs commands switches current selection was was_then is =
+-- a millisecond after a past, at whose end an input was chosen
+pub record IsEvaluated (settings : Settings) (now : Moment) (before : List Moment) (v : Evaluation) : Type 0 where
+  pub seen_is : v.inputs ≡ candidates_at settings v.commands (now ∷ before)
+  pub commanded_is : v.commands ≡ commanded settings now before
+  pub ended : v.switches ≡ at_end v.inputs v.commands
+  pub chosen : v.selection ≡ choice v.inputs v.switches.forced v.switches.manual v.current
+  pub current_is : v.current ≡ selection_at settings before
+  pub was_is : v.was ≡ was_locked settings before
+  pub ever : v.was_then ≡ (is_some v.selection || v.was)
+
+pub switches_evaluated : (settings : Settings) (now : Moment) (before : List Moment) (v : Evaluation) → IsEvaluated settings now before v → v.switches ≡ switches_at settings (now ∷ before)
+switches_evaluated settings now before v is =
     is.ended
-    ∙ ap (λ c. at_end c commands) is.seen_is
+    ∙ ap (λ c. at_end c v.commands) is.seen_is
     ∙ ap (λ s. at_end (candidates_at settings s (now ∷ before)) s) is.commanded_is
     ∙ sym (switches_at-cons settings now before)
 
-pub selection_evaluated : (settings : Settings) (now : Moment) (before : List Moment) (inputs : List Candidate) (commands switches : Switches) (current selection : Option ℕ) (was was_then : Bool) → IsEvaluated settings now before inputs commands switches current selection was was_then → selection ≡ selection_at settings (now ∷ before)
-selection_evaluated settings now before inputs commands switches current selection was was_then is =
+pub selection_evaluated : (settings : Settings) (now : Moment) (before : List Moment) (v : Evaluation) → IsEvaluated settings now before v → v.selection ≡ selection_at settings (now ∷ before)
+selection_evaluated settings now before v is =
     let past : List Moment = now ∷ before in
     let s : Switches = switches_at settings past in
-    let same : candidates_at settings switches past ≡ candidates_at settings commands past = ap (λ u. candidates_at settings u past) is.ended in
+    let same : candidates_at settings v.switches past ≡ candidates_at settings v.commands past = ap (λ u. candidates_at settings u past) is.ended in
     is.chosen
-    ∙ ap (λ c. choice c switches.forced switches.manual current) (is.seen_is ∙ sym same)
-    ∙ ap (λ u. choice (candidates_at settings u past) u.forced u.manual current) (switches_evaluated settings now before inputs commands switches current selection was was_then is)
+    ∙ ap (λ c. choice c v.switches.forced v.switches.manual v.current) (is.seen_is ∙ sym same)
+    ∙ ap (λ u. choice (candidates_at settings u past) u.forced u.manual v.current) (switches_evaluated settings now before v is)
     ∙ ap (choice (candidates_at settings s past) s.forced s.manual) is.current_is
     ∙ sym (selection_at-cons settings now before)
 
-pub was_locked_evaluated : (settings : Settings) (now : Moment) (before : List Moment) (inputs : List Candidate) (commands switches : Switches) (current selection : Option ℕ) (was was_then : Bool) → IsEvaluated settings now before inputs commands switches current selection was was_then → was_then ≡ was_locked settings (now ∷ before)
-was_locked_evaluated settings now before inputs commands switches current selection was was_then is =
+pub was_locked_evaluated : (settings : Settings) (now : Moment) (before : List Moment) (v : Evaluation) → IsEvaluated settings now before v → v.was_then ≡ was_locked settings (now ∷ before)
+was_locked_evaluated settings now before v is =
     is.ever
-    ∙ ap (λ o. is_some o || was) (selection_evaluated settings now before inputs commands switches current selection was was_then is)
+    ∙ ap (λ o. is_some o || v.was) (selection_evaluated settings now before v is)
     ∙ ap (λ b. is_some (selection_at settings (now ∷ before)) || b) is.was_is

@@ -1,9 +1,13 @@
+pub mod Following
+pub mod FirstDues
+pub mod Renewed
 pub mod Waiting
 pub mod Answering
 pub mod DueLemmas
-pub mod Starting
+pub mod Beginning
 pub mod TellingLemmas
-pub mod SteppingLemmas
 pub mod Evaluating
 pub mod Taking
+pub mod Untouched
 pub mod Fitting
+pub mod SameLevels

@@ -1,9 +1,7 @@
 -- A step makes the past that an element stands for longer.
-use Rattle.std.proofs.Common.{◌≡◌, ◌≤◌, ◌<◌, ℕ, ◌+◌, ◌-◌, Bool, true, false, not, ◌&&◌, ◌||◌, List, [], ◌∷◌, map, length, replicate, All, Option, None, Some, IfSome, refl, ap, sym, ◌∙◌, arith, subst, nat_eq}
-use Rattle.std.specs.Prelude.{slice_index, unwrap_or, is_some, if◌then◌else◌}
+use Rattle.std.proofs.Common.{◌≡◌, ◌≤◌, ◌<◌, ℕ, ◌+◌, ◌-◌, inl, inr, Bool, true, false, not, ◌&&◌, ◌||◌, List, [], ◌∷◌, length, All, Option, None, Some, IfSome, refl, ap, sym, ◌∙◌, arith, subst, nat_eq}
+use Rattle.std.specs.Prelude.{slice_index, unwrap_or, is_some, if◌then◌else◌, MatchOption}
 use Rattle.std.specs.List.{list_any}
-use Rattle.std.proofs.Math.Decide.{dec_lt}
-use Rattle.std.proofs.lemmas.List.{ext_get_or, get_or-map, length-map, get_or-replicate}
 use Rattle.std.proofs.lemmas.List.Elements.{All-head, All-tail}
 use Rattle.std.proofs.lemmas.Bool.Decides.{nat_tests}
 use Rattle.sync_ql.specs.declared.levels.NetOption.{NetOption}
@@ -13,31 +11,36 @@ use Rattle.sync_ql.specs.declared.rules.InputEvent.{InputEvent}
 use Rattle.sync_ql.specs.declared.rules.InputEvent.TheVariants as event
 use Rattle.sync_ql.specs.Condition.{Signal, is_up, failed_at, continued}
 use Rattle.sync_ql.specs.Switches.{Switches, after_commands, is_locked}
-use Rattle.sync_ql.specs.Selection.{candidate, is_better, choice, SameOption}
+use Rattle.sync_ql.specs.Selection.{candidate, is_better, choice}
 use Rattle.sync_ql.specs.Moment.{Moment, Settings, input_of, signals_of, at_end, switches_at}
 use Rattle.sync_ql.specs.Told.{last_said, says_up, says_level, clears, commands_in, moment_after, moments_until, IsOfOption, FitsElement}
-use Rattle.input_monitor.specs.Monitored.{Monitored}
-use Rattle.input_monitor.specs.StandsFor as Monitor
-use Rattle.sync_ql.proofs.Eligible.{nobody}
-use Rattle.sync_element.specs.ElementState.{ElementState, inputs_of, monitor_in, up_in, HasEnd, IsFirstDue, IsInTime, IsWhole}
-use Rattle.sync_element.specs.StandsFor.{StandsFor}
-use Rattle.sync_element.specs.Telling.{clear_in, IsToldSoFar, IsSameInputs}
-use Rattle.sync_element.specs.Stepping.{IsStepped, AreStepped}
-use Rattle.sync_element.proofs.TellingLemmas.{unwrap_or-option_or}
-use Rattle.sync_element.proofs.Evaluating.{candidates_seen, IsEvaluated, switches_evaluated, selection_evaluated, was_locked_evaluated}
 use Rattle.sync_ql.proofs.QuietMoments.{input_of-moment_after, seen}
-use Rattle.sync_ql.proofs.Staying.{length-quiet_moments, signals_of-quiet_moments, signals_of-moments_until, is_up-after_quiet, last_level-quiet_moments}
-use Rattle.sync_element.proofs.Waiting.{stays_until}
+use Rattle.sync_ql.proofs.Staying.{length-signals_of, length-quiet_moments, signals_of-quiet_moments, signals_of-moments_until, is_up-after_quiet, last_level-quiet_moments}
+use Rattle.input_monitor.specs.Monitored.{up_of}
+use Rattle.input_monitor.specs.declared.limits.TheConstants.{LAST_MILLISECOND}
+use Rattle.sync_element.specs.declared.watched.Watched.{Watched}
+use Rattle.sync_element.specs.Dues.{due_in, IsFirstTime}
+use Rattle.sync_element.specs.Kept.{InputsKept, watched_in, Follows, HasEnd}
+use Rattle.sync_element.specs.ElementState.{ElementState, inputs_of, IsInTime}
+use Rattle.sync_element.specs.Whole.{watched_of, monitor_of, IsAtRest, IsFirstDue, IsWhole}
+use Rattle.sync_element.specs.StandsFor.{IsAfter}
+use Rattle.sync_element.specs.Telling.{IsToldSoFar}
+use Rattle.sync_element.specs.Renewing as renewing
+use Rattle.sync_element.specs.Renewing.{touches, must_step, IsReady, CanRenew, IsDone, IsPending, IsDoneAt, AreRenewed, AreTaken, AreKept}
+use Rattle.sync_element.proofs.Following.{follows-up, follows-failed}
+use Rattle.sync_element.proofs.Renewed.{quiet_is, quiet_back, not_now, done_unstepped}
+use Rattle.sync_element.proofs.Untouched.{up-untouched, level-untouched, clear-untouched, locked-untouched}
+use Rattle.sync_element.proofs.TellingLemmas.{unwrap_or-option_or}
+use Rattle.sync_element.proofs.Evaluating.{candidates_seen, Evaluation, IsEvaluated, switches_evaluated, selection_evaluated, was_locked_evaluated}
+use Rattle.sync_element.proofs.Waiting.{stays_until, until_due, length-input}
 
--- what a step makes on its way: which wait-to-restore times are cleared, and the inputs and switches
--- as they are told; and what it keeps
+-- what a step makes on its way: the inputs and switches as they are told, and the inputs after those
+-- that are touched are renewed; and what it keeps
 pub record Taken : Type 0 where
-  pub clear : List Bool
-  pub told : List Candidate
+  pub told : List Watched
   pub commands : Switches
-  pub monitors : List Monitored
-  pub ups : List Bool
-  pub candidates : List Candidate
+  pub touched : InputsKept
+  pub inputs : InputsKept
   pub switches : Switches
   pub selection : Option ℕ
   pub was_locked : Bool
@@ -48,37 +51,41 @@ abbrev pub after : ElementState → ℕ → Taken → ElementState
 after e now t = record {
   settings = e.settings;
   next = now + 1;
-  monitors = t.monitors;
-  ups = t.ups;
-  candidates = t.candidates;
-  switches = t.switches;
-  selection = t.selection;
-  was_locked = t.was_locked;
   due = t.due;
   later_steps = t.later_steps;
+  kept = record {
+    inputs = t.inputs;
+    switches = t.switches;
+    selection = t.selection;
+    was_locked = t.was_locked;
+  };
 }
+
+abbrev pub renewal_of : ElementState → ℕ → Taken → renewing.Renewal
+renewal_of e now t = record { now = now; switches = t.commands; floor = e.settings.floor }
 
 -- what the parts of a step say of it
 pub record IsTaken (e : ElementState) (now : ℕ) (events : List InputEvent) (t : Taken) : Type 0 where
-  pub is_told : IsToldSoFar events [] e.ups t.ups (replicate 64 false) t.clear e.candidates t.told e.switches t.commands
-  pub is_same : IsSameInputs e.ups t.ups (replicate 64 false) t.clear e.candidates t.told e.switches t.commands
-  pub are_stepped : AreStepped (length e.monitors) now t.ups t.clear t.commands e.settings.floor e.monitors t.monitors t.told t.candidates
-  pub ended : t.switches ≡ at_end t.candidates t.commands
-  pub chosen : t.selection ≡ choice t.candidates t.switches.forced t.switches.manual e.selection
-  pub ever_locked : t.was_locked ≡ (is_some t.selection || e.was_locked)
+  pub is_told : IsToldSoFar events [] (record { watched = e.kept.inputs.watched; switches = e.kept.switches }) (record { watched = t.told; switches = t.commands })
+  pub taken : AreTaken (renewal_of e now t) t.told e.kept.inputs.candidates events [] t.touched
+  pub kept : AreKept (renewal_of e now t) t.told e.kept.inputs.candidates t.touched t.inputs
+  pub later : (i : ℕ) → i < length t.inputs.watched → IfSome (due_in t.inputs.dues i) (λ due. now < due)
+  pub ended : t.switches ≡ at_end t.inputs.candidates t.commands
+  pub chosen : t.selection ≡ choice t.inputs.candidates t.switches.forced t.switches.manual e.kept.selection
+  pub ever_locked : t.was_locked ≡ (is_some t.selection || e.kept.was_locked)
 
-pub or-false : (b : Bool) → (b || false) ≡ b
-or-false true = refl
-or-false false = refl
+or-nothing : (a b : Bool) → b ≡ false → (a || b) ≡ a
+or-nothing true b none = refl
+or-nothing false b none = none
 
-pub commands_after : (settings : Settings) (past : List Moment) (events : List InputEvent) → (moment_after settings past events).commands ≡ commands_in events
+commands_after : (settings : Settings) (past : List Moment) (events : List InputEvent) → (moment_after settings past events).commands ≡ commands_in events
 unfolding moment_after
 commands_after settings past events = refl
 
-pub same_candidate : (l l_then : Option Level) (p p_then : ℕ) (u u_then : Bool) → l ≡ l_then → p ≡ p_then → u ≡ u_then → ◌≡◌ {A = Candidate} (record { level = l; priority = p; usable = u }) (record { level = l_then; priority = p_then; usable = u_then })
+same_candidate : (l l_then : Option Level) (p p_then : ℕ) (u u_then : Bool) → l ≡ l_then → p ≡ p_then → u ≡ u_then → ◌≡◌ {A = Candidate} (record { level = l; priority = p; usable = u }) (record { level = l_then; priority = p_then; usable = u_then })
 same_candidate l l_then p p_then u u_then level priority usable = rw (level, priority, usable) refl
 
-pub same_signal : (u u_then c c_then : Bool) → u ≡ u_then → c ≡ c_then → ◌≡◌ {A = Signal} (record { up = u; clear = c }) (record { up = u_then; clear = c_then })
+same_signal : (u u_then c c_then : Bool) → u ≡ u_then → c ≡ c_then → ◌≡◌ {A = Signal} (record { up = u; clear = c }) (record { up = u_then; clear = c_then })
 same_signal u u_then c c_then up clear = rw (up, clear) refl
 
 -- the past until the step, and the step's millisecond
@@ -88,99 +95,178 @@ waited e past now = moments_until e.settings now past
 abbrev pub told_now : ElementState → List Moment → ℕ → List InputEvent → Moment
 told_now e past now events = moment_after e.settings (moments_until e.settings now past) events
 
-length-waited : (e : ElementState) (past : List Moment) (now : ℕ) → StandsFor e past → IsInTime e now → length (waited e past now) ≡ now
+length-waited : (e : ElementState) (past : List Moment) (now : ℕ) → IsAfter e past → IsInTime e now → length (waited e past now) ≡ now
 length-waited e past now stands in_time = omega (arith, length-quiet_moments e.settings (now - length past) past, in_time.later, stands.next)
 
--- whether an input is up, whether it is cleared, and its level, are as they are told
-up_taken : (e : ElementState) (past : List Moment) (now : ℕ) (events : List InputEvent) (t : Taken) → StandsFor e past → IsTaken e now events t → (i : ℕ) → i < inputs_of e → up_in t.ups i ≡ (input_of i (told_now e past now events)).signal.up
-up_taken e past now events t stands taken i within =
+-- before anything is renewed, each input is as it was told
+pub all_pending : (e : ElementState) (now : ℕ) (events : List InputEvent) (told : List Watched) (commands : Switches) → IsWhole e → IsToldSoFar events [] (record { watched = e.kept.inputs.watched; switches = e.kept.switches }) (record { watched = told; switches = commands }) →
+    AreRenewed (record { now = now; switches = commands; floor = e.settings.floor }) told e.kept.inputs.candidates (record { watched = told; dues = e.kept.inputs.dues; candidates = e.kept.inputs.candidates })
+all_pending e now events told commands whole is_told = record {
+  watched_length = refl;
+  dues_length = whole.dues_length ∙ sym whole.watched_length ∙ sym is_told.count;
+  candidates_length = whole.candidates_length ∙ sym whole.watched_length ∙ sym is_told.count;
+  each = λ i within. inr (record {
+    watched = refl;
+    due_is = (whole.at_rest i (omega (arith, within, is_told.count, whole.watched_length))).due_is ∙ sym (ap (λ m. m.due) (is_told.same_monitor i));
+    candidate_is = refl;
+  });
+}
+
+-- what is told of an input
+up_told : (e : ElementState) (past : List Moment) (now : ℕ) (events : List InputEvent) (t : Taken) → IsWhole e → IsAfter e past → IsTaken e now events t → (i : ℕ) → i < inputs_of e → (watched_in t.told i).up ≡ (input_of i (told_now e past now events)).signal.up
+up_told e past now events t whole stands taken i within =
     taken.is_told.is_up i
-    ∙ ap (unwrap_or (last_said (says_up i) events)) (stands.ups i within ∙ sym (is_up-after_quiet (now - length past) (signals_of i past)) ∙ sym (ap is_up (signals_of-quiet_moments e.settings i (now - length past) past within)))
+    ∙ ap (unwrap_or (last_said (says_up i) events)) ((whole.at_rest i within).up ∙ sym (follows-up (monitor_of e i) (signals_of i past) (stands.kept.monitors i within)) ∙ sym (is_up-after_quiet (now - length past) (signals_of i past)) ∙ sym (ap is_up (signals_of-quiet_moments e.settings i (now - length past) past within)))
     ∙ sym (ap (λ input. input.signal.up) (input_of-moment_after e.settings (waited e past now) events i within))
 
-clear_taken : (e : ElementState) (past : List Moment) (now : ℕ) (events : List InputEvent) (t : Taken) → IsWhole e → IsTaken e now events t → (i : ℕ) → i < inputs_of e → clear_in t.clear i ≡ (input_of i (told_now e past now events)).signal.clear
-clear_taken e past now events t whole taken i within =
-    taken.is_told.is_clear i
-    ∙ ap (λ b. list_any (clears i) events || b) (get_or-replicate 64 i false false (omega (arith, whole.few, within)))
-    ∙ or-false (list_any (clears i) events)
+clear_told : (e : ElementState) (past : List Moment) (now : ℕ) (events : List InputEvent) (t : Taken) → IsWhole e → IsTaken e now events t → (i : ℕ) → i < inputs_of e → (watched_in t.told i).cleared ≡ (input_of i (told_now e past now events)).signal.clear
+clear_told e past now events t whole taken i within =
+    taken.is_told.is_cleared i
+    ∙ or-nothing (list_any (clears i) events) (watched_of e i).cleared (whole.at_rest i within).cleared
     ∙ sym (ap (λ input. input.signal.clear) (input_of-moment_after e.settings (waited e past now) events i within))
 
-level_told : (e : ElementState) (past : List Moment) (now : ℕ) (events : List InputEvent) (t : Taken) → StandsFor e past → IsTaken e now events t → (i : ℕ) → i < inputs_of e → (candidate t.told i).level ≡ (input_of i (told_now e past now events)).level
+level_told : (e : ElementState) (past : List Moment) (now : ℕ) (events : List InputEvent) (t : Taken) → IsAfter e past → IsTaken e now events t → (i : ℕ) → i < inputs_of e → (watched_in t.told i).level ≡ (input_of i (told_now e past now events)).level
 level_told e past now events t stands taken i within =
     taken.is_told.has_level i
-    ∙ ap (unwrap_or (last_said (says_level i) events)) (stands.levels i within ∙ sym (last_level-quiet_moments e.settings i (now - length past) past within))
+    ∙ ap (unwrap_or (last_said (says_level i) events)) (stands.kept.levels i within ∙ sym (last_level-quiet_moments e.settings i (now - length past) past within))
     ∙ sym (ap (λ input. input.level) (input_of-moment_after e.settings (waited e past now) events i within))
 
--- the input at a place is one step on
-stepped_at : (e : ElementState) (now : ℕ) (events : List InputEvent) (t : Taken) → IsWhole e → IsTaken e now events t → (i : ℕ) → i < inputs_of e → IsStepped now (up_in t.ups i) (clear_in t.clear i) (is_locked t.commands i) e.settings.floor (monitor_in e.monitors i) (monitor_in t.monitors i) (candidate t.told i) (candidate t.candidates i)
-stepped_at e now events t whole taken i within = taken.are_stepped.first i (omega (arith, within, whole.monitors_length))
+-- an input that no event touches, and whose running time doesn't end, is done
+untouched_done : (e : ElementState) (now : ℕ) (events : List InputEvent) (t : Taken) → IsWhole e → IsInTime e now → IsTaken e now events t → (i : ℕ) → i < inputs_of e → list_any (touches i) events ≡ false → IsPending (watched_in t.told i) (candidate e.kept.inputs.candidates i) (watched_in t.inputs.watched i) (due_in t.inputs.dues i) (candidate t.inputs.candidates i) → IfSome (due_in t.inputs.dues i) (λ d. now < d) → IsDoneAt (renewal_of e now t) t.told e.kept.inputs.candidates i t.inputs
+untouched_done e now events t whole in_time taken i within none pending later =
+    let w = watched_of e i in
+    let told = watched_in t.told i in
+    let before = candidate e.kept.inputs.candidates i in
+    let rest = whole.at_rest i within in
+    let same : told.monitor ≡ w.monitor = taken.is_told.same_monitor i in
+    let up : told.up ≡ w.up = taken.is_told.is_up i ∙ ap (λ o. unwrap_or o w.up) (up-untouched i events none) in
+    let level : told.level ≡ w.level = taken.is_told.has_level i ∙ ap (λ o. unwrap_or o w.level) (level-untouched i events none) in
+    let cleared : told.cleared ≡ false = taken.is_told.is_cleared i ∙ ap (λ b. b || w.cleared) (clear-untouched i events none) ∙ rest.cleared in
+    let locked : is_locked t.commands i ≡ is_locked e.kept.switches i = ap (λ s. is_locked s i) taken.is_told.switches ∙ locked-untouched i events e.kept.switches none in
+    let after_now : IfSome told.monitor.due (λ d. now < d) = subst (λ o. IfSome o (λ d. now < d)) pending.due_is later in
+    let still : must_step now told ≡ false = quiet_back now told (record { cleared = cleared; up = up ∙ rest.up ∙ sym (ap (λ m. up_of m.condition) same); not_due = not_now now told.monitor.due after_now }) in
+    let next : told.monitor.next ≤ now + 1 = subst (λ m. m.next ≤ now + 1) (sym same) (omega (arith, rest.not_later, in_time.later)) in
+    let seen_as : before ≡ renewing.candidate_of (renewal_of e now t) i before.priority told =
+    rest.candidate_is
+    ∙ same_candidate w.level told.level (slice_index e.settings.priorities i) before.priority (not (is_locked e.kept.switches i) && not w.monitor.failed && not (is_better e.settings.floor w.level)) (not (is_locked t.commands i) && not told.monitor.failed && not (is_better e.settings.floor told.level))
+    (sym level) (sym (ap (λ c. c.priority) rest.candidate_is))
+    (usable_same (is_locked e.kept.switches i) (is_locked t.commands i) w.monitor.failed told.monitor.failed e.settings.floor w.level told.level (sym locked) (sym (ap (λ m. m.failed) same)) (sym level)) in
+    done_unstepped (renewal_of e now t) i told (watched_in t.inputs.watched i) before (candidate t.inputs.candidates i) (due_in t.inputs.dues i) pending still next (subst HasEnd (sym same) rest.ends) after_now seen_as
+  where
+    usable_same : (locked locked_then failed failed_then : Bool) (floor level level_then : Option Level) → locked ≡ locked_then → failed ≡ failed_then → level ≡ level_then → (not locked && not failed && not (is_better floor level)) ≡ (not locked_then && not failed_then && not (is_better floor level_then))
+    usable_same locked locked_then failed failed_then floor level level_then s f l = rw (s, f, l) refl
 
-monitor_taken : (e : ElementState) (past : List Moment) (now : ℕ) (events : List InputEvent) (t : Taken) → IsWhole e → StandsFor e past → IsTaken e now events t → (i : ℕ) → i < inputs_of e → Monitor.StandsFor (monitor_in t.monitors i) (signals_of i (told_now e past now events ∷ waited e past now))
-monitor_taken e past now events t whole stands taken i within =
-    let m = monitor_in t.monitors i in
-    let one = stepped_at e now events t whole taken i within in
-    let signal : record { up = up_in t.ups i; clear = clear_in t.clear i } ≡ (input_of i (told_now e past now events)).signal =
-    same_signal (up_in t.ups i) (input_of i (told_now e past now events)).signal.up (clear_in t.clear i) (input_of i (told_now e past now events)).signal.clear
-    (up_taken e past now events t stands taken i within) (clear_taken e past now events t whole taken i within) in
-    subst (λ rest. Monitor.StandsFor m ((input_of i (told_now e past now events)).signal ∷ rest)) (sym (signals_of-moments_until e.settings i now past within))
-    (subst (λ s. Monitor.StandsFor m (s ∷ continued now (signals_of i past))) signal (one.stands (signals_of i past) (stands.monitors i within)))
+-- each input is done at the end of the step
+pub all_done : (e : ElementState) (now : ℕ) (events : List InputEvent) (t : Taken) → IsWhole e → IsInTime e now → IsTaken e now events t → (i : ℕ) → i < inputs_of e → IsDoneAt (renewal_of e now t) t.told e.kept.inputs.candidates i t.inputs
+all_done e now events t whole in_time taken i within =
+    let inside : i < length t.told = omega (arith, within, taken.is_told.count, whole.watched_length) in
+    elim (taken.kept.renewed.each i inside) [
+      | inl done ↦ done
+      | inr pending ↦ of inside pending (list_any (touches i) events) refl
+    ]
+  where
+    of : i < length t.told → IsPending (watched_in t.told i) (candidate e.kept.inputs.candidates i) (watched_in t.inputs.watched i) (due_in t.inputs.dues i) (candidate t.inputs.candidates i) → (b : Bool) → list_any (touches i) events ≡ b → IsDoneAt (renewal_of e now t) t.told e.kept.inputs.candidates i t.inputs
+    of inside pending true is = elim (taken.taken.touched i inside is) [
+      | inl never ↦ absurd (cc)
+      | inr done ↦ taken.kept.done i inside done
+    ]
+    of inside pending false is = untouched_done e now events t whole in_time taken i within is pending (taken.later i (omega (arith, inside, taken.kept.renewed.watched_length)))
 
-failed_taken : (e : ElementState) (past : List Moment) (now : ℕ) (events : List InputEvent) (t : Taken) → IsWhole e → StandsFor e past → IsTaken e now events t → (i : ℕ) → i < inputs_of e → (monitor_in t.monitors i).failed ≡ failed_at e.settings.timers (signals_of i (told_now e past now events ∷ waited e past now))
-failed_taken e past now events t whole stands taken i within =
-    (monitor_taken e past now events t whole stands taken i within).failed
-    ∙ ap (λ timers. failed_at timers (signals_of i (told_now e past now events ∷ waited e past now))) ((stepped_at e now events t whole taken i within).timers ∙ whole.timers i within)
+-- a monitor follows its input's past
+monitor_taken : (e : ElementState) (past : List Moment) (now : ℕ) (events : List InputEvent) (t : Taken) → IsWhole e → IsAfter e past → IsInTime e now → IsTaken e now events t → (i : ℕ) → i < inputs_of e → Follows (watched_in t.inputs.watched i).monitor (signals_of i (told_now e past now events ∷ waited e past now))
+monitor_taken e past now events t whole stands in_time taken i within =
+    let m = (watched_in t.inputs.watched i).monitor in
+    let told = watched_in t.told i in
+    let one = all_done e now events t whole in_time taken i within in
+    let signal : renewing.signal_of told ≡ (input_of i (told_now e past now events)).signal =
+    same_signal told.up (input_of i (told_now e past now events)).signal.up told.cleared (input_of i (told_now e past now events)).signal.clear
+    (up_told e past now events t whole stands taken i within) (clear_told e past now events t whole taken i within) in
+    let follows : Follows told.monitor (signals_of i past) = subst (λ n. Follows n (signals_of i past)) (sym (taken.is_told.same_monitor i)) (stands.kept.monitors i within) in
+    subst (λ rest. Follows m ((input_of i (told_now e past now events)).signal ∷ rest)) (sym (signals_of-moments_until e.settings i now past within))
+    (subst (λ s. Follows m (s ∷ continued now (signals_of i past))) signal (one.stands (signals_of i past) (omega (arith, length-input e past i stands, in_time.later)) follows))
 
-priority_taken : (e : ElementState) (now : ℕ) (events : List InputEvent) (t : Taken) → IsWhole e → IsTaken e now events t → (i : ℕ) → i < inputs_of e → (candidate t.candidates i).priority ≡ slice_index e.settings.priorities i
-priority_taken e now events t whole taken i within =
-    (stepped_at e now events t whole taken i within).priority
-    ∙ sym (get_or-map (λ c. c.priority) t.told i nobody 0 (omega (arith, within, taken.is_same.inputs_length, whole.candidates_length)))
-    ∙ ap (λ priorities. slice_index priorities i) (taken.is_same.same_priorities ∙ whole.priorities)
+timers_taken : (e : ElementState) (now : ℕ) (events : List InputEvent) (t : Taken) → IsWhole e → IsInTime e now → IsTaken e now events t → (i : ℕ) → i < inputs_of e → (watched_in t.inputs.watched i).monitor.timers ≡ e.settings.timers
+timers_taken e now events t whole in_time taken i within =
+    (all_done e now events t whole in_time taken i within).timers ∙ ap (λ m. m.timers) (taken.is_told.same_monitor i) ∙ (whole.at_rest i within).timers
+
+until_now : (now n : ℕ) (o : Option ℕ) → n ≡ now + 1 → IfSome o (λ d. now < d) → IfSome o (λ d. n ≤ d)
+until_now now n None is later = tt
+until_now now n (Some due) is later = omega arith
+
+failed_taken : (e : ElementState) (past : List Moment) (now : ℕ) (events : List InputEvent) (t : Taken) → IsWhole e → IsAfter e past → IsInTime e now → IsTaken e now events t → (i : ℕ) → i < inputs_of e → (watched_in t.inputs.watched i).monitor.failed ≡ failed_at e.settings.timers (signals_of i (told_now e past now events ∷ waited e past now))
+failed_taken e past now events t whole stands in_time taken i within =
+    let m = (watched_in t.inputs.watched i).monitor in
+    let all : List Moment = told_now e past now events ∷ waited e past now in
+    let long : length (signals_of i all) ≡ now + 1 = omega (arith, length-signals_of i all, length-waited e past now stands in_time) in
+    follows-failed m (signals_of i all) (monitor_taken e past now events t whole stands in_time taken i within) (until_now now (length (signals_of i all)) m.due long (all_done e now events t whole in_time taken i within).later)
+    ∙ ap (λ timers. failed_at timers (signals_of i all)) (timers_taken e now events t whole in_time taken i within)
+
+priority_taken : (e : ElementState) (now : ℕ) (events : List InputEvent) (t : Taken) → IsWhole e → IsInTime e now → IsTaken e now events t → (i : ℕ) → i < inputs_of e → (candidate e.kept.inputs.candidates i).priority ≡ slice_index e.settings.priorities i
+priority_taken e now events t whole in_time taken i within = ap (λ c. c.priority) (whole.at_rest i within).candidate_is
+
+level_taken : (e : ElementState) (past : List Moment) (now : ℕ) (events : List InputEvent) (t : Taken) → IsWhole e → IsAfter e past → IsInTime e now → IsTaken e now events t → (i : ℕ) → i < inputs_of e → (watched_in t.inputs.watched i).level ≡ (input_of i (told_now e past now events)).level
+level_taken e past now events t whole stands in_time taken i within =
+    (all_done e now events t whole in_time taken i within).level ∙ level_told e past now events t stands taken i within
 
 usable_same : (locked failed failed_then : Bool) (floor level level_then : Option Level) → failed ≡ failed_then → level ≡ level_then → (not locked && not failed && not (is_better floor level)) ≡ (not locked && not failed_then && not (is_better floor level_then))
 usable_same locked failed failed_then floor level level_then f l = rw (f, l) refl
 
-candidate_taken : (e : ElementState) (past : List Moment) (now : ℕ) (events : List InputEvent) (t : Taken) → IsWhole e → StandsFor e past → IsTaken e now events t → (i : ℕ) → i < inputs_of e → candidate t.candidates i ≡ seen e.settings t.commands (told_now e past now events ∷ waited e past now) i
-candidate_taken e past now events t whole stands taken i within =
-    let c = candidate t.candidates i in
+candidate_taken : (e : ElementState) (past : List Moment) (now : ℕ) (events : List InputEvent) (t : Taken) → IsWhole e → IsAfter e past → IsInTime e now → IsTaken e now events t → (i : ℕ) → i < inputs_of e → candidate t.inputs.candidates i ≡ seen e.settings t.commands (told_now e past now events ∷ waited e past now) i
+candidate_taken e past now events t whole stands in_time taken i within =
+    let w = watched_in t.inputs.watched i in
     let d = seen e.settings t.commands (told_now e past now events ∷ waited e past now) i in
-    let one = stepped_at e now events t whole taken i within in
-    let level = level_told e past now events t stands taken i within in
-    same_candidate c.level d.level c.priority d.priority c.usable d.usable
-    (one.level ∙ level)
-    (priority_taken e now events t whole taken i within)
-    (one.usable ∙ usable_same (is_locked t.commands i) (monitor_in t.monitors i).failed (failed_at e.settings.timers (signals_of i (told_now e past now events ∷ waited e past now))) e.settings.floor (candidate t.told i).level (input_of i (told_now e past now events)).level (failed_taken e past now events t whole stands taken i within) level)
+    let level = level_taken e past now events t whole stands in_time taken i within in
+    (all_done e now events t whole in_time taken i within).candidate_is
+    ∙ same_candidate w.level d.level (candidate e.kept.inputs.candidates i).priority d.priority (not (is_locked t.commands i) && not w.monitor.failed && not (is_better e.settings.floor w.level)) d.usable
+    level
+    (priority_taken e now events t whole in_time taken i within)
+    (usable_same (is_locked t.commands i) w.monitor.failed (failed_at e.settings.timers (signals_of i (told_now e past now events ∷ waited e past now))) e.settings.floor w.level (input_of i (told_now e past now events)).level (failed_taken e past now events t whole stands in_time taken i within) level)
 
-length-candidates : (e : ElementState) (now : ℕ) (events : List InputEvent) (t : Taken) → IsWhole e → IsTaken e now events t → length t.candidates ≡ inputs_of e
-length-candidates e now events t whole taken = taken.are_stepped.inputs_length ∙ taken.is_same.inputs_length ∙ whole.candidates_length
+count_taken : (e : ElementState) (now : ℕ) (events : List InputEvent) (t : Taken) → IsWhole e → IsTaken e now events t → length t.told ≡ inputs_of e
+count_taken e now events t whole taken = taken.is_told.count ∙ whole.watched_length
+
+abbrev evaluation : ElementState → Taken → Evaluation
+evaluation e t = record {
+  inputs = t.inputs.candidates;
+  commands = t.commands;
+  switches = t.switches;
+  current = e.kept.selection;
+  selection = t.selection;
+  was = e.kept.was_locked;
+  was_then = t.was_locked;
+}
 
 -- what is decided at the end of the step
-evaluated : (e : ElementState) (past : List Moment) (now : ℕ) (events : List InputEvent) (t : Taken) → IsWhole e → StandsFor e past → IsInTime e now → IsTaken e now events t → IsEvaluated e.settings (told_now e past now events) (waited e past now) t.candidates t.commands t.switches e.selection t.selection e.was_locked t.was_locked
+evaluated : (e : ElementState) (past : List Moment) (now : ℕ) (events : List InputEvent) (t : Taken) → IsWhole e → IsAfter e past → IsInTime e now → IsTaken e now events t → IsEvaluated e.settings (told_now e past now events) (waited e past now) (evaluation e t)
 evaluated e past now events t whole stands in_time taken =
     let stays = stays_until e past now whole stands in_time in
     record {
-      seen_is = candidates_seen e.settings t.commands (told_now e past now events ∷ waited e past now) t.candidates (length-candidates e now events t whole taken) (candidate_taken e past now events t whole stands taken);
+      seen_is = candidates_seen e.settings t.commands (told_now e past now events ∷ waited e past now) t.inputs.candidates (taken.kept.renewed.candidates_length ∙ count_taken e now events t whole taken) (candidate_taken e past now events t whole stands in_time taken);
       commanded_is =
-          taken.is_told.commands
-          ∙ ap (λ s. after_commands s (commands_in events)) (stands.switches ∙ sym stays.switches)
+          taken.is_told.switches
+          ∙ ap (λ s. after_commands s (commands_in events)) (stands.kept.switches ∙ sym stays.switches)
           ∙ ap (after_commands (switches_at e.settings (waited e past now))) (sym (commands_after e.settings (waited e past now) events));
       ended = taken.ended;
       chosen = taken.chosen;
-      current_is = stands.selection ∙ sym stays.selection;
-      was_is = stands.was_locked ∙ sym stays.was_locked;
+      current_is = stands.kept.selection ∙ sym stays.selection;
+      was_is = stands.kept.was_locked ∙ sym stays.was_locked;
       ever = taken.ever_locked;
     }
 
 -- a step makes the past longer by its millisecond, and by those before in which nothing is told
-pub StandsFor-after : (e : ElementState) (now : ℕ) (events : List InputEvent) (t : Taken) → IsWhole e → IsInTime e now → IsTaken e now events t → (past : List Moment) → StandsFor e past → StandsFor (after e now t) (told_now e past now events ∷ waited e past now)
-StandsFor-after e now events t whole in_time taken past stands = record {
-  next = omega (arith, length-waited e past now stands in_time);
-  monitors = monitor_taken e past now events t whole stands taken;
-  ups = up_taken e past now events t stands taken;
-  levels = λ i within. (stepped_at e now events t whole taken i within).level ∙ level_told e past now events t stands taken i within;
-  switches = switches_evaluated e.settings (told_now e past now events) (waited e past now) t.candidates t.commands t.switches e.selection t.selection e.was_locked t.was_locked (evaluated e past now events t whole stands in_time taken);
-  selection = selection_evaluated e.settings (told_now e past now events) (waited e past now) t.candidates t.commands t.switches e.selection t.selection e.was_locked t.was_locked (evaluated e past now events t whole stands in_time taken);
-  was_locked = was_locked_evaluated e.settings (told_now e past now events) (waited e past now) t.candidates t.commands t.switches e.selection t.selection e.was_locked t.was_locked (evaluated e past now events t whole stands in_time taken);
-}
+pub IsAfter-after : (e : ElementState) (now : ℕ) (events : List InputEvent) (t : Taken) → IsWhole e → IsInTime e now → IsTaken e now events t → (past : List Moment) → IsAfter e past → IsAfter (after e now t) (told_now e past now events ∷ waited e past now)
+IsAfter-after e now events t whole in_time taken past stands =
+    let is = evaluated e past now events t whole stands in_time taken in
+    record {
+      next = omega (arith, length-waited e past now stands in_time);
+      kept = record {
+        monitors = monitor_taken e past now events t whole stands in_time taken;
+        levels = level_taken e past now events t whole stands in_time taken;
+        switches = switches_evaluated e.settings (told_now e past now events) (waited e past now) (evaluation e t) is;
+        selection = selection_evaluated e.settings (told_now e past now events) (waited e past now) (evaluation e t) is;
+        was_locked = was_locked_evaluated e.settings (told_now e past now events) (waited e past now) (evaluation e t) is;
+      };
+    }
 
 -- a level that is told is of the element's option
 said_level : (option : NetOption) (settings : Settings) → settings.own.option ≡ option → (i : ℕ) (e : InputEvent) (before : Option Level) → FitsElement settings e → IsOfOption option before → IsOfOption option (unwrap_or (says_level i e) before)
@@ -199,57 +285,95 @@ said_levels option settings own i (first ∷ events) before fits is =
     subst (IsOfOption option) (sym (unwrap_or-option_or (last_said (says_level i) events) (says_level i first) before))
     (said_levels option settings own i events (unwrap_or (says_level i first) before) (All-tail (FitsElement settings) first events fits) (said_level option settings own i first before (All-head (FitsElement settings) first events fits) is))
 
--- the level of each input is of the element's option, after the events and after the step
-pub told_option : (e : ElementState) (events : List InputEvent) (ups ups_now clear clear_now : List Bool) (told : List Candidate) (s s_now : Switches) → IsWhole e → All (FitsElement e.settings) events → IsToldSoFar events [] ups ups_now clear clear_now e.candidates told s s_now → (i : ℕ) → IsOfOption e.settings.own.option (candidate told i).level
-told_option e events ups ups_now clear clear_now told s s_now whole fits so_far i =
-    subst (IsOfOption e.settings.own.option) (sym (so_far.has_level i)) (said_levels e.settings.own.option e.settings refl i events (candidate e.candidates i).level fits (whole.option i))
+-- the level of each input is of the element's option, as it is told
+pub told_option : (e : ElementState) (events : List InputEvent) (told : List Watched) (commands : Switches) → IsWhole e → All (FitsElement e.settings) events → IsToldSoFar events [] (record { watched = e.kept.inputs.watched; switches = e.kept.switches }) (record { watched = told; switches = commands }) → (i : ℕ) → IsOfOption e.settings.own.option (watched_in told i).level
+told_option e events told commands whole fits so_far i =
+    subst (IsOfOption e.settings.own.option) (sym (so_far.has_level i)) (said_levels e.settings.own.option e.settings refl i events (watched_of e i).level fits (whole.option i))
 
-pub stepped_option : (option : NetOption) (n now : ℕ) (ups clear : List Bool) (s : Switches) (floor : Option Level) (monitors monitors_then : List Monitored) (inputs inputs_then : List Candidate) → AreStepped n now ups clear s floor monitors monitors_then inputs inputs_then → ((i : ℕ) → IsOfOption option (candidate inputs i).level) → (i : ℕ) → IsOfOption option (candidate inputs_then i).level
-stepped_option option n now ups clear s floor monitors monitors_then inputs inputs_then stepped all i =
-    elim (dec_lt i n) [
-      | yes within ↦ subst (IsOfOption option) (sym (stepped.first i within).level) (all i)
-      | no beyond ↦ subst (λ c. IsOfOption option c.level) (sym (stepped.other_inputs i (omega arith))) (all i)
-    ]
+-- what is told can be renewed
+pub can_first : (e : ElementState) (now : ℕ) (events : List InputEvent) (told : List Watched) (commands : Switches) → IsWhole e → IsInTime e now → All (FitsElement e.settings) events → IsToldSoFar events [] (record { watched = e.kept.inputs.watched; switches = e.kept.switches }) (record { watched = told; switches = commands }) →
+    ((i : ℕ) → IsOfOption e.settings.own.option (candidate e.kept.inputs.candidates i).level) →
+    CanRenew now e.settings.own.option (record { watched = told; dues = e.kept.inputs.dues; candidates = e.kept.inputs.candidates })
+can_first e now events told commands whole in_time fits is_told levels = record {
+  few = omega (arith, is_told.count, whole.watched_length, whole.few);
+  dues_length = whole.dues_length ∙ sym whole.watched_length ∙ sym is_told.count;
+  candidates_length = whole.candidates_length ∙ sym whole.watched_length ∙ sym is_told.count;
+  ready = λ i inside must. record { later = next i (place i inside); in_time = until i (place i inside) };
+  ends = λ i inside. subst HasEnd (sym (is_told.same_monitor i)) (whole.at_rest i (place i inside)).ends;
+  not_later = λ i inside. let before = next i (place i inside) in omega arith;
+  in_time = λ i inside. until i (place i inside);
+  dues = λ i inside. (whole.at_rest i (place i inside)).due_is ∙ sym (ap (λ m. m.due) (is_told.same_monitor i));
+  levels = told_option e events told commands whole fits is_told;
+  candidate_levels = levels;
+}
+  where
+    place : (i : ℕ) → i < length told → i < inputs_of e
+    place i inside = omega (arith, inside, is_told.count, whole.watched_length)
 
-pub same_option : (option : NetOption) (a b : Option Level) → IsOfOption option a → IsOfOption option b → SameOption a b
-same_option option None b first second = tt
-same_option option (Some a) None first second = tt
-same_option option (Some a) (Some b) first second = first ∙ sym second
+    next : (i : ℕ) → i < inputs_of e → (watched_in told i).monitor.next ≤ now
+    next i within = subst (λ m. m.next ≤ now) (sym (is_told.same_monitor i)) (omega (arith, (whole.at_rest i within).not_later, in_time.later))
+
+    until : (i : ℕ) → i < inputs_of e → IfSome (watched_in told i).monitor.due (λ d. now ≤ d)
+    until i within = subst (λ m. IfSome m.due (λ d. now ≤ d)) (sym (is_told.same_monitor i)) (until_due e now i whole in_time within)
 
 -- what the end of a step adds to its parts
 pub record IsTakenWhole (e : ElementState) (now : ℕ) (t : Taken) : Type 0 where
-  pub is_within : IfSome t.selection (λ i. i < length t.candidates)
-  pub is_first : IsFirstDue t.monitors (length t.monitors) t.due
-  pub are_ended : (i : ℕ) → i < length t.monitors → HasEnd (monitor_in t.monitors i)
+  pub can : CanRenew now e.settings.own.option t.inputs
+  pub is_within : IfSome t.selection (λ i. i < length t.inputs.candidates)
+  pub is_first : MatchOption t.due ((i : ℕ) → i < length t.inputs.dues → due_in t.inputs.dues i ≡ None) (IsFirstTime t.inputs.dues)
   pub steps_are : t.later_steps ≡ (if nat_eq e.next 0 then 0 else e.later_steps + 1)
 
+at_rest_after : (e : ElementState) (now : ℕ) (events : List InputEvent) (t : Taken) → IsWhole e → IsInTime e now → IsTaken e now events t → (i : ℕ) → i < inputs_of e → IsAtRest e.settings t.switches (now + 1) i (watched_in t.inputs.watched i) (due_in t.inputs.dues i) (candidate t.inputs.candidates i)
+at_rest_after e now events t whole in_time taken i within =
+    let one = all_done e now events t whole in_time taken i within in
+    let w = watched_in t.inputs.watched i in
+    record {
+      timers = timers_taken e now events t whole in_time taken i within;
+      not_later = one.next;
+      ends = one.ends;
+      up = (quiet_is now w one.settled).up;
+      cleared = one.cleared;
+      due_is = one.due_is;
+      due_later = until_now now (now + 1) w.monitor.due refl one.later;
+      candidate_is =
+          one.candidate_is
+          ∙ ap (λ p. renewing.candidate_of (renewal_of e now t) i p w) (priority_taken e now events t whole in_time taken i within)
+          ∙ same_candidate w.level w.level (slice_index e.settings.priorities i) (slice_index e.settings.priorities i) (not (is_locked t.commands i) && not w.monitor.failed && not (is_better e.settings.floor w.level)) (not (is_locked t.switches i) && not w.monitor.failed && not (is_better e.settings.floor w.level)) refl refl
+          (ap (λ b. not b && not w.monitor.failed && not (is_better e.settings.floor w.level)) (sym (ap (λ s. is_locked s i) taken.ended)));
+    }
+
 -- an element stays whole
-pub IsWhole-after : (e : ElementState) (now : ℕ) (events : List InputEvent) (t : Taken) → IsWhole e → IsInTime e now → now ≤ 86400000 → All (FitsElement e.settings) events → IsTaken e now events t → IsTakenWhole e now t → IsWhole (after e now t)
-IsWhole-after e now events t whole in_time in_range fits taken end =
-    let monitors_length : length t.monitors ≡ inputs_of e = taken.are_stepped.monitors_length ∙ whole.monitors_length in
-    let long = length-candidates e now events t whole taken in
+pub IsWhole-after : (e : ElementState) (now : ℕ) (events : List InputEvent) (t : Taken) → IsWhole e → IsInTime e now → now ≤ LAST_MILLISECOND → IsTaken e now events t → IsTakenWhole e now t → IsWhole (after e now t)
+IsWhole-after e now events t whole in_time in_range taken end =
+    let count = count_taken e now events t whole taken in
     record {
       holdoff = whole.holdoff;
       few = whole.few;
-      monitors_length = monitors_length;
-      ups_length = taken.is_same.ups_length ∙ whole.ups_length;
-      candidates_length = long;
-      locked_length = ap (λ s. length s.locked) taken.ended ∙ taken.is_same.locked_length ∙ whole.locked_length;
-      timers = λ i within. (stepped_at e now events t whole taken i within).timers ∙ whole.timers i within;
-      same_next = λ i within. (stepped_at e now events t whole taken i within).next;
-      ends = λ i within. end.are_ended i (omega (arith, within, monitors_length));
+      watched_length = taken.kept.renewed.watched_length ∙ count;
+      dues_length = dues_count;
+      candidates_length = taken.kept.renewed.candidates_length ∙ count;
+      locked_length = ap (λ s. length s.locked) taken.ended ∙ taken.is_told.locked_count ∙ whole.locked_length;
+      at_rest = at_rest_after e now events t whole in_time taken;
       floor = whole.floor;
-      option = stepped_option e.settings.own.option (length e.monitors) now t.ups t.clear t.commands e.settings.floor e.monitors t.monitors t.told t.candidates taken.are_stepped (told_option e events e.ups t.ups (replicate 64 false) t.clear t.told e.switches t.commands whole fits taken.is_told);
-      priorities =
-          ext_get_or 0 (map (λ c. c.priority) t.candidates) e.settings.priorities (length-map t.candidates (λ c. c.priority) ∙ long)
-          (λ i inside.
-          let within : i < length t.candidates = omega (arith, inside, length-map t.candidates (λ c. c.priority)) in
-          get_or-map (λ c. c.priority) t.candidates i nobody 0 within ∙ priority_taken e now events t whole taken i (omega (arith, within, long)));
-      selection_within = subst (λ n. IfSome t.selection (λ i. i < n)) long end.is_within;
-      first_due = subst (λ n. IsFirstDue t.monitors n t.due) monitors_length end.is_first;
+      option = end.can.levels;
+      selection_within = subst (λ n. IfSome t.selection (λ i. i < n)) (taken.kept.renewed.candidates_length ∙ count) end.is_within;
+      first_due = first t.due end.is_first;
       in_range = omega arith;
       steps = steps_fit;
     }
   where
+    dues_count : length t.inputs.dues ≡ inputs_of e
+    dues_count = taken.kept.renewed.dues_length ∙ count_taken e now events t whole taken
+
+    due_is : (i : ℕ) → i < inputs_of e → due_in t.inputs.dues i ≡ (watched_in t.inputs.watched i).monitor.due
+    due_is i within = (all_done e now events t whole in_time taken i within).due_is
+
+    first : (due : Option ℕ) → MatchOption due ((i : ℕ) → i < length t.inputs.dues → due_in t.inputs.dues i ≡ None) (IsFirstTime t.inputs.dues) → IsFirstDue (after e now t) due
+    first None none = λ i within. sym (due_is i within) ∙ none i (omega (arith, within, dues_count))
+    first (Some due) is = record {
+      some = (is.some.0, omega (arith, is.some.1, dues_count), sym (due_is is.some.0 (omega (arith, is.some.1, dues_count))) ∙ is.some.2);
+      first = λ i within. subst (λ o. IfSome o (λ other. due ≤ other)) (due_is i within) (is.first i (omega (arith, within, dues_count)));
+    }
+
     steps_fit : t.later_steps ≤ now + 1
     steps_fit = let few = whole.steps in let later = in_time.later in let steps = end.steps_are in grind (arith, nat_tests)

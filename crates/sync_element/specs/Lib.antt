@@ -2,7 +2,11 @@ pub mod Configured
 pub mod ElementState
 pub mod StandsFor
 pub mod Due
+pub mod Kept
+pub mod Whole
+pub mod Dues
+pub mod DuesKept
 pub mod Starting
 pub mod Telling
+pub mod Renewing
 pub mod Fitting
-pub mod Stepping

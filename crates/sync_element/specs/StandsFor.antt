@@ -1,19 +1,25 @@
 -- What an element has to do with the milliseconds that were.
 use Rattle.std.specs.Prelude.{◌≡◌, ◌<◌, ℕ, List, length}
-use Rattle.sync_ql.specs.Condition.{is_up}
-use Rattle.sync_ql.specs.Selection.{candidate}
-use Rattle.sync_ql.specs.Moment.{Moment, signals_of, switches_at, selection_at}
+use Rattle.sync_ql.specs.Moment.{Moment, Settings, signals_of, switches_at, selection_at}
 use Rattle.sync_ql.specs.Told.{last_level}
 use Rattle.sync_ql.specs.Output.{was_locked}
-use Rattle.input_monitor.specs.StandsFor as Monitor
-use Rattle.sync_element.specs.ElementState.{ElementState, inputs_of, monitor_of, up_in}
+use Rattle.sync_element.specs.Kept.{Kept, watched_in, Follows}
+use Rattle.sync_element.specs.ElementState.{ElementState}
 
--- the element stands for a past: all that it keeps is what the rules say of that past
-pub record StandsFor (e : ElementState) (past : List Moment) : Type 0 where
+-- Private: what is kept of the inputs is what the rules say of a past
+pub record IsOfPast (settings : Settings) (kept : Kept) (past : List Moment) : Type 0 where
+  pub monitors : (i : ℕ) → i < length settings.priorities → Follows (watched_in kept.inputs.watched i).monitor (signals_of i past)
+  pub levels : (i : ℕ) → i < length settings.priorities → (watched_in kept.inputs.watched i).level ≡ last_level settings i past
+  pub switches : kept.switches ≡ switches_at settings past
+  pub selection : kept.selection ≡ selection_at settings past
+  pub was_locked : kept.was_locked ≡ was_locked settings past
+
+-- Private: the element has come to the end of a past, and all that it keeps is of that past
+pub record IsAfter (e : ElementState) (past : List Moment) : Type 0 where
   pub next : e.next ≡ length past
-  pub monitors : (i : ℕ) → i < inputs_of e → Monitor.StandsFor (monitor_of e i) (signals_of i past)
-  pub ups : (i : ℕ) → i < inputs_of e → up_in e.ups i ≡ is_up (signals_of i past)
-  pub levels : (i : ℕ) → i < inputs_of e → (candidate e.candidates i).level ≡ last_level e.settings i past
-  pub switches : e.switches ≡ switches_at e.settings past
-  pub selection : e.selection ≡ selection_at e.settings past
-  pub was_locked : e.was_locked ≡ was_locked e.settings past
+  pub kept : IsOfPast e.settings e.kept past
+
+-- the element stands for a past. What that says of what it keeps is known to this crate alone: others
+-- take it from one call to the next, and never look into it
+unfoldable pub StandsFor : ElementState → List Moment → Type 0
+StandsFor e past = IsAfter e past

@@ -1,16 +1,12 @@
--- Private: what events make of the inputs and switches, which only clauses of private functions cite.
-use Rattle.std.specs.Prelude.{◌≡◌, ◌<◌, ℕ, Bool, false, ◌||◌, List, [], ◌∷◌, length, map, slice_index_or, unwrap_or}
+-- Private to this crate: what events make of inputs and switches, which only clauses of private functions cite.
+use Rattle.std.specs.Prelude.{◌≡◌, ◌<◌, ℕ, ◌||◌, List, [], ◌∷◌, length, unwrap_or}
 use Rattle.std.specs.List.{list_any}
-use Rattle.sync_ql.specs.declared.rules.Candidate.{Candidate}
 use Rattle.sync_ql.specs.declared.rules.InputEvent.{InputEvent}
 use Rattle.sync_ql.specs.declared.rules.InputEvent.TheVariants.{Signal, Heard, ClearWtr, Command}
 use Rattle.sync_ql.specs.Switches.{Switches, after_commands, NamesInput}
-use Rattle.sync_ql.specs.Selection.{candidate}
 use Rattle.sync_ql.specs.Told.{last_said, says_up, says_level, clears, commands_in}
-use Rattle.sync_element.specs.ElementState.{up_in}
-
-abbrev pub clear_in : List Bool → ℕ → Bool
-clear_in clears i = slice_index_or clears i false
+use Rattle.sync_element.specs.declared.watched.Watched.{Watched}
+use Rattle.sync_element.specs.Kept.{watched_in}
 
 -- an event names one of n inputs or none
 abbrev pub Fits : ℕ → InputEvent → Type 0
@@ -19,24 +15,21 @@ Fits n (Heard i level) = i < n
 Fits n (ClearWtr i) = i < n
 Fits n (Command command) = NamesInput n command
 
+-- the inputs and switches that are told
+pub record Tellable : Type 0 where
+  pub watched : List Watched
+  pub switches : Switches
+
+-- what is left of some events makes of them now what all the events make of those before
+pub record IsToldSoFar (all left : List InputEvent) (before now : Tellable) : Type 0 where
+  pub count : length now.watched ≡ length before.watched
+  pub locked_count : length now.switches.locked ≡ length before.switches.locked
+  pub same_monitor : (i : ℕ) → (watched_in now.watched i).monitor ≡ (watched_in before.watched i).monitor
+  pub is_up : (i : ℕ) → unwrap_or (last_said (says_up i) left) (watched_in now.watched i).up ≡ unwrap_or (last_said (says_up i) all) (watched_in before.watched i).up
+  pub is_cleared : (i : ℕ) → (list_any (clears i) left || (watched_in now.watched i).cleared) ≡ (list_any (clears i) all || (watched_in before.watched i).cleared)
+  pub has_level : (i : ℕ) → unwrap_or (last_said (says_level i) left) (watched_in now.watched i).level ≡ unwrap_or (last_said (says_level i) all) (watched_in before.watched i).level
+  pub switches : after_commands now.switches (commands_in left) ≡ after_commands before.switches (commands_in all)
+
 -- what one event tells is taken in
-pub record IsTold (event : InputEvent) (ups ups_then clear clear_then : List Bool) (inputs inputs_then : List Candidate) (s s_then : Switches) : Type 0 where
-  pub is_up : (i : ℕ) → up_in ups_then i ≡ unwrap_or (says_up i event) (up_in ups i)
-  pub is_clear : (i : ℕ) → clear_in clear_then i ≡ (clears i event || clear_in clear i)
-  pub has_level : (i : ℕ) → (candidate inputs_then i).level ≡ unwrap_or (says_level i event) (candidate inputs i).level
-  pub commands : s_then ≡ after_commands s (commands_in (event ∷ []))
-
--- what is left of some events makes of the inputs now what all of them make of those before
-pub record IsToldSoFar (all left : List InputEvent) (ups ups_now clear clear_now : List Bool) (inputs inputs_now : List Candidate) (s s_now : Switches) : Type 0 where
-  pub is_up : (i : ℕ) → unwrap_or (last_said (says_up i) left) (up_in ups_now i) ≡ unwrap_or (last_said (says_up i) all) (up_in ups i)
-  pub is_clear : (i : ℕ) → (list_any (clears i) left || clear_in clear_now i) ≡ (list_any (clears i) all || clear_in clear i)
-  pub has_level : (i : ℕ) → unwrap_or (last_said (says_level i) left) (candidate inputs_now i).level ≡ unwrap_or (last_said (says_level i) all) (candidate inputs i).level
-  pub commands : after_commands s_now (commands_in left) ≡ after_commands s (commands_in all)
-
--- the number of inputs, and their priorities, stay
-pub record IsSameInputs (ups ups_then clear clear_then : List Bool) (inputs inputs_then : List Candidate) (s s_then : Switches) : Type 0 where
-  pub ups_length : length ups_then ≡ length ups
-  pub clear_length : length clear_then ≡ length clear
-  pub inputs_length : length inputs_then ≡ length inputs
-  pub same_priorities : map (λ c. c.priority) inputs_then ≡ map (λ c. c.priority) inputs
-  pub locked_length : length s_then.locked ≡ length s.locked
+abbrev pub IsTold : InputEvent → Tellable → Tellable → Type 0
+IsTold event before now = IsToldSoFar (event ∷ []) [] before now

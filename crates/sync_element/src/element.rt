@@ -8,22 +8,26 @@ ghost use Rattle.sync_ql.specs.Output.{clock_level_at, sent_back_at, mode_at, st
 ghost use Rattle.sync_element.specs.Configured.{settings_of};
 ghost use Rattle.sync_element.specs.StandsFor.{StandsFor};
 ghost use Rattle.sync_ql.specs.Quiet.{IsElementDue};
-ghost use Rattle.sync_element.specs.Due.{IsLastStepPlusLeast, NoneEnds, later_by};
-ghost use Rattle.sync_element.specs.ElementState.{inputs_of, monitor_of, level_of, level_back_of, IsInTime};
+ghost use Rattle.input_monitor.specs.Ending.{later_by};
+ghost use Rattle.sync_element.specs.Due.{IsLastPlusLeast, NoneEnds};
+ghost use Rattle.sync_element.specs.ElementState.{inputs_of, IsInTime};
 
 use crate::config::Config;
-use crate::inputs::{
-    MOST, all_up, first_candidates, first_due, new_monitors, step_all, steps_after, tell_all,
+use crate::inputs::{Inputs, tell_all};
+use crate::renewing::{renew_due, renew_told};
+use crate::selection::{
+    evaluate, first_due, level_back, level_of, mode_of, state_of, steps_after, was_ever_locked,
 };
-use crate::selection::{evaluate, level_back, level_of, mode_of, state_of, was_ever_locked};
-use input_monitor::Monitor;
+use crate::starting::new_inputs;
+use input_monitor::{LAST_MILLISECOND, LONGEST_HOLDOFF, LONGEST_WTR, SHORTEST_HOLDOFF};
 use operator_cmds::Cmds;
+use selector::MOST_INPUTS;
 use std::alloc::Global;
 use std::marker::Model;
 use std::sync::ledger::Ledger;
 use sync_edge::{NoMemory, Steps};
 use sync_ql::Level;
-use sync_ql::rules::{Candidate, ClockState, Cond, InputEvent, Mode};
+use sync_ql::rules::{ClockState, Cond, InputEvent, Mode};
 
 /// One network element: it takes one of its inputs, or none, and has a level by it.
 ///
@@ -34,10 +38,7 @@ use sync_ql::rules::{Candidate, ClockState, Cond, InputEvent, Mode};
 #[derive(Debug, Drop)]
 pub struct Element {
     config: Config,
-    /// Of each input the monitor, whether it is up, and what the choice looks at.
-    monitors: Vec<Monitor>,
-    ups: Vec<bool>,
-    candidates: Vec<Candidate>,
+    inputs: Inputs,
     commands: Cmds,
     selected: Option<u32>,
     /// Whether an input was taken in any millisecond.
@@ -49,9 +50,11 @@ pub struct Element {
 }
 
 impl Model for Element {
-    ghost use Rattle.sync_element.specs.ElementState.{ElementState, element_state, IsKept};
+    ghost use Rattle.sync_element.specs.ElementState.{ElementState};
 
     ghost Value = { ElementState };
+
+    ghost use Rattle.sync_element.specs.Whole.{element_state, IsKept};
 
     ghost view = { element_state };
 
@@ -65,10 +68,10 @@ impl Element {
     /// one network option.
     /// After G.781, hold-off time, wait-to-restore time, priority and quality level.
     pub fn new(alloc: Global, config: Config) -> Result<Element, NoMemory>
-        requires not_short { 300 ≤ config.holdoff }
-        requires not_long { config.holdoff ≤ 1800 }
-        requires minutes { config.wtr ≤ 12 * 60 * 1000 }
-        requires few { length config.inputs ≤ 64 }
+        requires not_short { SHORTEST_HOLDOFF ≤ config.holdoff }
+        requires not_long { config.holdoff ≤ LONGEST_HOLDOFF }
+        requires minutes { config.wtr ≤ LONGEST_WTR }
+        requires few { length config.inputs ≤ MOST_INPUTS }
         requires priorities { All (λ input. 1 ≤ input.priority) config.inputs }
         requires floor { IsOfOption config.own.option config.floor }
         requires first { All (λ input. IsOfOption config.own.option input.first) config.inputs }
@@ -78,16 +81,11 @@ impl Element {
         ensures later_steps { IfOk result (λ e. e.later_steps ≡ 0) }
         ensures stands { IfOk result (λ e. StandsFor e []) }
     {
-        let inputs = config.inputs.as_slice();
-        let monitors = new_monitors(alloc, config.holdoff, config.wtr, inputs.len())?;
-        let ups = all_up(alloc, inputs.len())?;
-        let candidates = first_candidates(alloc, inputs)?;
-        let commands = Cmds::new(inputs.len() as u32);
+        let commands = Cmds::new(config.inputs.as_slice().len() as u32);
+        let inputs = new_inputs(alloc, &config)?;
         Ok(Element {
             config,
-            monitors,
-            ups,
-            candidates,
+            inputs,
             commands,
             selected: None,
             was_locked: false,
@@ -106,7 +104,7 @@ impl Element {
     /// After G.781, selection and external commands.
     pub fn step<L: Ledger>(&mut self, now: u64, changes: &[InputEvent], steps: &mut Steps<L>)
         requires in_time { IsInTime self.old now }
-        requires in_range { now ≤ 24 * 60 * 60 * 1000 }
+        requires in_range { now ≤ LAST_MILLISECOND }
         requires fits { All (FitsElement self.old.settings) changes.now }
         ensures next { self.new.next ≡ now + 1 }
         ensures kept { self.new.settings ≡ self.old.settings }
@@ -114,6 +112,8 @@ impl Element {
             StandsFor self.new
             (moment_after self.old.settings (moments_until self.old.settings now past) changes.now
             ∷ moments_until self.old.settings now past) }
+        ensures due_later { IfSome self.new.due (λ due. now < due) }
+        ensures due_soon { IfSome self.new.due (λ due. due ≤ now + LONGEST_WTR) }
         ensures ticks { steps.new ≡ steps.old + 1 }
         ensures counts { self.new.later_steps ≡
             (if nat_eq self.old.next 0 then 0 else self.old.later_steps + 1) }
@@ -128,7 +128,6 @@ impl Element {
     /// `None` exactly where no input is taken.
     /// After G.781, selected input.
     pub fn selected(&self) -> Option<u32>
-        ensures value { result ≡ self.now.selection }
         ensures place { IfSome result (λ i. i < inputs_of self.now) }
         ensures selected { (past : List Moment) (n : ℕ) → StandsFor self.now past →
             IsInTime self.now n →
@@ -142,20 +141,18 @@ impl Element {
     ///
     /// After G.781, quality level of a clock.
     pub fn level(&self) -> Level
-        ensures value { result ≡ level_of self.now }
         ensures option { result.option ≡ self.now.settings.own.option }
         ensures level { (past : List Moment) (n : ℕ) → StandsFor self.now past →
             IsInTime self.now n →
             result ≡ clock_level_at self.now.settings (moments_until self.now.settings n past) }
     {
-        level_of(self.candidates.as_slice(), self.selected, self.config.own)
+        level_of(self.inputs.table.inputs(), self.selected, self.config.own)
     }
 
     /// How the input is chosen, as from the last step up to but not at `due`, if nothing is told.
     ///
     /// After G.781, forced, manual and automatic selection.
     pub fn mode(&self) -> Mode
-        ensures value { result ≡ mode_of self.now.switches.forced self.now.switches.manual }
         ensures mode { (past : List Moment) (n : ℕ) → StandsFor self.now past →
             IsInTime self.now n →
             result ≡ mode_at self.now.settings (moments_until self.now.settings n past) }
@@ -168,7 +165,6 @@ impl Element {
     ///
     /// After G.781 and G.810, locked, holdover and free-running mode.
     pub fn state(&self) -> ClockState
-        ensures value { result ≡ state_of self.now.selection self.now.was_locked }
         ensures state { (past : List Moment) (n : ℕ) → StandsFor self.now past →
             IsInTime self.now n →
             result ≡ state_at self.now.settings (moments_until self.now.settings n past) }
@@ -184,13 +180,12 @@ impl Element {
     /// project's own.
     pub fn out_to(&self, i: u32) -> Level
         requires place { i < inputs_of self.now }
-        ensures value { result ≡ level_back_of self.now i }
         ensures option { result.option ≡ self.now.settings.own.option }
         ensures sent { (past : List Moment) (n : ℕ) → StandsFor self.now past →
             IsInTime self.now n →
             result ≡ sent_back_at self.now.settings (moments_until self.now.settings n past) i }
     {
-        let level = level_of(self.candidates.as_slice(), self.selected, self.config.own);
+        let level = level_of(self.inputs.table.inputs(), self.selected, self.config.own);
         level_back(&self.config, self.selected, i, level)
     }
 
@@ -201,7 +196,6 @@ impl Element {
     /// After G.781, signal fail, hold-off and wait-to-restore.
     pub fn cond(&self, i: u32) -> Cond
         requires place { i < inputs_of self.now }
-        ensures value { result ≡ (monitor_of self.now i).condition }
         ensures last { (past : List Moment) → StandsFor self.now past →
             result ≡ condition_at self.now.settings.timers (signals_of i past) }
         ensures kind { (past : List Moment) (n : ℕ) → StandsFor self.now past →
@@ -214,7 +208,8 @@ impl Element {
             (signals_of i (moments_until self.now.settings n past))
             ≡ later_by (n - self.now.next) result }
     {
-        self.monitors[i as usize].condition()
+        let input = &self.inputs.watched[i as usize];
+        input.monitor.condition_before(self.next)
     }
 
     /// The first later millisecond at which a step has to be made: that of the last step plus the
@@ -222,13 +217,19 @@ impl Element {
     ///
     /// It is the first in which an input is failed where it wasn't, or isn't where it was, if
     /// nothing is told.
-    /// `None` exactly where every condition is good or failed.
+    /// `None` exactly where every condition is good or failed. Else it is after the last step, and
+    /// at most the longest wait-to-restore time after it.
     /// After G.781, hold-off time and wait-to-restore time; the exact millisecond is this project's
     /// own.
     pub fn due(&self) -> Option<u64>
         ensures value { result ≡ self.now.due }
-        ensures none { IsNone result ↔ NoneEnds self.now }
-        ensures least { IfSome result (IsLastStepPlusLeast self.now) }
+        ensures later { IfSome result (λ due. self.now.next ≤ due) }
+        ensures soon { IfSome result (λ due. due < self.now.next + LONGEST_WTR) }
+        ensures in_range { IfSome result (λ due. due ≤ LAST_MILLISECOND + LONGEST_WTR) }
+        ensures none { (past : List Moment) → StandsFor self.now past →
+            IsNone result ↔ NoneEnds self.now.settings past }
+        ensures least { (past : List Moment) → StandsFor self.now past →
+            IfSome result (IsLastPlusLeast self.now.settings past) }
         ensures changes { (past : List Moment) → StandsFor self.now past →
             IsElementDue self.now.settings past result }
     {
@@ -247,7 +248,7 @@ impl Element {
     // A step, but for the count of the caller.
     fn advance(&mut self, now: u64, changes: &[InputEvent])
         requires in_time { IsInTime self.old now }
-        requires in_range { now ≤ 24 * 60 * 60 * 1000 }
+        requires in_range { now ≤ LAST_MILLISECOND }
         requires fits { All (FitsElement self.old.settings) changes.now }
         ensures next { self.new.next ≡ now + 1 }
         ensures kept { self.new.settings ≡ self.old.settings }
@@ -255,32 +256,20 @@ impl Element {
             StandsFor self.new
             (moment_after self.old.settings (moments_until self.old.settings now past) changes.now
             ∷ moments_until self.old.settings now past) }
+        ensures due_later { IfSome self.new.due (λ due. now < due) }
+        ensures due_soon { IfSome self.new.due (λ due. due ≤ now + LONGEST_WTR) }
         ensures counts { self.new.later_steps ≡
             (if nat_eq self.old.next 0 then 0 else self.old.later_steps + 1) }
     {
-        let mut clear = [false; MOST];
         tell_all(
-            self.ups.as_mut_slice(),
-            &mut clear,
-            self.candidates.as_mut_slice(),
+            self.inputs.watched.as_mut_slice(),
             &mut self.commands,
             changes,
         );
-        step_all(
-            self.monitors.as_mut_slice(),
-            self.candidates.as_mut_slice(),
-            self.ups.as_slice(),
-            &clear,
-            &self.commands,
-            self.config.floor,
-            now,
-        );
-        self.due = first_due(self.monitors.as_slice());
-        self.selected = evaluate(
-            self.candidates.as_slice(),
-            &mut self.commands,
-            self.selected,
-        );
+        renew_told(&mut self.inputs, changes, now, &self.commands, &self.config);
+        renew_due(&mut self.inputs, now, &self.commands, &self.config);
+        self.due = first_due(&self.inputs.dues);
+        self.selected = evaluate(&self.inputs.table, &mut self.commands, self.selected);
         self.was_locked = was_ever_locked(self.selected, self.was_locked);
         self.later_steps = steps_after(self.next, self.later_steps);
         self.next = now + 1;

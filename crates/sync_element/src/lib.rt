@@ -4,20 +4,28 @@
 //! and only where something happens or is due. It keeps no list of the past. Contracts see it as a
 //! record (`ElementState`) and say for which past it stands (`StandsFor`): each step makes that past
 //! longer, and each answer is what the rules say of it, from the last step up to but not at `due`.
-//! Only [`Element::new`] takes memory.
+//! Only [`Element::new`] takes memory. A step's work is by the inputs that it is told of and those
+//! whose running time ends, each for the logarithm of the number of inputs.
 //!
 //! After ITU-T G.781: hold-off and wait-to-restore, external commands, selection by quality level
 //! and priority, and do-not-use on the way back. The tests go through
 //! histories whose answers, times and levels sent back are written by hand.
 #![tactic(auto)]
 
+mod candidates;
 mod config;
+mod dues;
 mod element;
 mod inputs;
+mod renewing;
 mod selection;
+mod starting;
 #[cfg(test)]
 mod tests;
+mod watched;
 
 pub use config::{Config, InputConfig};
 pub use element::Element;
+pub use input_monitor::{LAST_MILLISECOND, LONGEST_HOLDOFF, LONGEST_WTR, SHORTEST_HOLDOFF};
+pub use selector::MOST_INPUTS;
 pub use sync_ql::rules::{ClockState, Cmd, Cond, InputEvent, Mode};

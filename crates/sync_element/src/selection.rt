@@ -1,34 +1,55 @@
 //! What is decided at the end of a millisecond.
 
-ghost use Rattle.std.specs.Prelude.{◌≡◌, ◌≤◌, ◌<◌, IfSome, length, ◌||◌, is_some, unwrap_or, option_and_then, if◌then◌else◌};
-ghost use Rattle.sync_ql.specs.Selection.{candidate, choice, AreOfOneOption};
+ghost use Rattle.std.specs.Prelude.{◌≡◌, ◌≤◌, ◌<◌, ◌+◌, ℕ, None, nat_eq, MatchOption, IfSome, length, ◌||◌, is_some, unwrap_or, option_and_then, if◌then◌else◌};
+ghost use Rattle.sync_ql.specs.Selection.{candidate, choice};
 ghost use Rattle.sync_ql.specs.Level.{do_not_use_of};
 ghost use Rattle.sync_ql.specs.Moment.{at_end};
 ghost use Rattle.sync_ql.specs.Output.{bundle_of, goes_back, mode_of, state_of};
 ghost use Rattle.sync_element.specs.Configured.{settings_of};
+ghost use Rattle.sync_element.specs.Dues.{due_in, IsFirstTime};
 
 use crate::config::Config;
+use crate::dues::Dues;
+use input_monitor::LAST_MILLISECOND;
 use operator_cmds::Cmds;
-use selector::choose;
+use selector::Table;
 use sync_ql::rules::{Candidate, ClockState, Mode};
 use sync_ql::{Level, do_not_use};
 
 // Chooses an input, and ends a manual switch that does not stand.
-pub fn evaluate(inputs: &[Candidate], commands: &mut Cmds, current: Option<u32>) -> Option<u32>
-    requires few { length inputs.now ≤ 64 }
-    requires locked_length { length commands.old.locked ≡ length inputs.now }
-    requires one_option { AreOfOneOption inputs.now }
-    requires current_place { IfSome current (λ i. i < length inputs.now) }
+pub fn evaluate(table: &Table, commands: &mut Cmds, current: Option<u32>) -> Option<u32>
+    requires locked_length { length commands.old.locked ≡ length table.now }
+    requires current_place { IfSome current (λ i. i < length table.now) }
     ensures input { result ≡
-        choice inputs.now commands.new.forced commands.new.manual current }
-    ensures switches { commands.new ≡ at_end inputs.now commands.old }
-    ensures place { IfSome result (λ i. i < length inputs.now) }
+        choice table.now commands.new.forced commands.new.manual current }
+    ensures switches { commands.new ≡ at_end table.now commands.old }
+    ensures place { IfSome result (λ i. i < length table.now) }
 {
-    let choice = choose(inputs, commands.forced(), commands.manual(), current);
+    let choice = table.choose(commands.forced(), commands.manual(), current);
     if !choice.manual_stands {
         commands.drop_manual();
     }
     choice.input
+}
+
+// The first millisecond at which a running time ends.
+pub fn first_due(dues: &Dues) -> Option<u64>
+    ensures { MatchOption result ((i : ℕ) → i < length dues.now → due_in dues.now i ≡ None)
+        (IsFirstTime dues.now) }
+{
+    match dues.first() {
+        Some(due) => Some(due.at),
+        None => None,
+    }
+}
+
+// The number of steps after the first, where there is one more.
+pub fn steps_after(next: u64, later_steps: u64) -> u64
+    requires few { later_steps ≤ next }
+    requires in_range { next ≤ LAST_MILLISECOND + 1 }
+    ensures { result ≡ (if nat_eq next 0 then 0 else later_steps + 1) }
+{
+    if next == 0 { 0 } else { later_steps + 1 }
 }
 
 // Whether an input is taken, or was earlier.

@@ -52,7 +52,7 @@ struct Case {
     rows: &'static [Row],
 }
 
-const CASES: [Case; 7] = [
+const CASES: [Case; 8] = [
     Case {
         shows: "on_a_tie_the_other_stays_when_the_first_is_good_again",
         wtr: 0,
@@ -156,6 +156,22 @@ const CASES: [Case; 7] = [
             (1000, &[Down(0)], Some(0), "QL-PRC", Auto, Locked),
             (1310, &[Up(0)], Some(1), "QL-SSU-A", Auto, Locked),
             (1320, &[Cleared(0)], Some(0), "QL-PRC", Auto, Locked),
+        ],
+    },
+    Case {
+        shows: "two_inputs_fail_in_one_millisecond_and_come_back_in_two",
+        wtr: 500,
+        floor: "",
+        inputs: &[(1, "QL-PRC", 0), (1, "QL-PRC", 1), (2, "QL-SSU-A", 2)],
+        rows: &[
+            (0, &[], Some(0), "QL-PRC", Auto, Locked),
+            (1000, &[Down(0), Down(1)], Some(0), "QL-PRC", Auto, Locked),
+            (1299, &[], Some(0), "QL-PRC", Auto, Locked),
+            (1300, &[], Some(2), "QL-SSU-A", Auto, Locked),
+            (1400, &[Up(1)], Some(2), "QL-SSU-A", Auto, Locked),
+            (1401, &[Up(0)], Some(2), "QL-SSU-A", Auto, Locked),
+            (1900, &[], Some(1), "QL-PRC", Auto, Locked),
+            (1901, &[], Some(1), "QL-PRC", Auto, Locked),
         ],
     },
     Case {

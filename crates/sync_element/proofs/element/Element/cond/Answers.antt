@@ -1,25 +1,45 @@
-use Rattle.std.proofs.Common.{◌≡◌, ◌<◌, ◌-◌, length, arith, ap, sym, ◌∙◌, subst}
-use Rattle.sync_element.specs.ElementState.{element_state, inputs_of, monitor_of}
-use Rattle.sync_element.proofs.Answering.{SaysKind, kind_until, monitor_read}
-use Rattle.sync_element.specs.Due.{later_by}
-use Rattle.sync_element.proofs.DueLemmas.{left_until}
+use Rattle.std.proofs.Common.{◌≡◌, ◌<◌, ◌-◌, ap, length, sym, ◌∙◌, subst, arith}
+use Rattle.std.proofs.lemmas.List.{get_or_default}
+use Rattle.sync_ql.specs.Condition.{condition_at, IsSameKind}
+use Rattle.sync_ql.specs.Moment.{signals_of}
+use Rattle.sync_ql.specs.Told.{moments_until}
+use Rattle.input_monitor.specs.Ending.{later_by}
+use Rattle.sync_element.specs.Kept.{unused}
+use Rattle.sync_element.specs.ElementState.{ElementState, inputs_of}
+use Rattle.sync_element.specs.StandsFor.{StandsFor}
+use Rattle.sync_element.specs.Whole.{element_state, watched_of, monitor_of}
+use Rattle.sync_element.proofs.DueLemmas.{condition_is, kind_until, left_until}
 use Rattle.sync_element.proofs.element.Element.cond.Goals as goal
 
-pub returns-clause-kind : goal.returns-clause-kind
-returns-clause-kind c =
-    let within : c.args.i < inputs_of (element_state c.self.inside) = rw (← c.self.view_is) at c.requires.place in
-    let place : c.args.i < length c.self.inside.monitors.items = omega (arith, within, c.self.invariant.monitors_length) in
-    let read = monitor_read c.self.inside.monitors.items c.args.i c.index.result.now c.index.ensures place in
-    let says : SaysKind (monitor_of (element_state c.self.inside) c.args.i) c.condition.result = subst (λ m. SaysKind m c.condition.result) (sym read) c.condition.ensures.kind in
+abbrev state : goal.After-condition_before → ElementState
+state c = element_state c.self.inside
+
+within : (c : goal.After-condition_before) → c.args.i < inputs_of (state c)
+within c = rw (← c.self.view_is) at c.requires.place
+
+-- the condition that is given is that of the input at the place
+given : (c : goal.After-condition_before) → later_by ((state c).next - (monitor_of (state c) c.args.i).next) (monitor_of (state c) c.args.i).condition ≡ c.condition_before.result
+given c =
+    let inside : c.args.i < length c.self.inside.inputs.watched.items = omega (arith, within c, c.self.invariant.watched_length) in
+    let read : watched_of (state c) c.args.i ≡ c.index-input.result.now = get_or_default c.self.inside.inputs.watched.items c.args.i unused c.index-input.result.now inside ∙ sym c.index-input.ensures in
+    ap (λ w. later_by ((state c).next - w.monitor.next) w.monitor.condition) read ∙ sym c.condition_before.ensures.value
+
+pub returns-clause-last : goal.returns-clause-last
+unfolding StandsFor
+returns-clause-last c =
     rw (← c.self.view_is)
-    (kind_until (element_state c.self.inside) c.self.invariant c.args.i within c.condition.result says)
+    (λ past stands. sym (condition_is (state c) past c.self.invariant stands c.args.i (within c) ∙ given c))
+
+pub returns-clause-kind : goal.returns-clause-kind
+unfolding StandsFor
+returns-clause-kind c =
+    rw (← c.self.view_is)
+    (λ past n stands in_time. subst (λ d. IsSameKind d (condition_at (state c).settings.timers (signals_of c.args.i (moments_until (state c).settings n past)))) (given c)
+    (kind_until (state c) c.self.invariant c.args.i (within c) past n stands in_time))
 
 pub returns-clause-left : goal.returns-clause-left
+unfolding StandsFor
 returns-clause-left c =
-    let within : c.args.i < inputs_of (element_state c.self.inside) = rw (← c.self.view_is) at c.requires.place in
-    let place : c.args.i < length c.self.inside.monitors.items = omega (arith, within, c.self.invariant.monitors_length) in
-    let read = monitor_read c.self.inside.monitors.items c.args.i c.index.result.now c.index.ensures place in
-    let is : (monitor_of (element_state c.self.inside) c.args.i).condition ≡ c.condition.result = ap (λ m. m.condition) read ∙ sym c.condition.ensures.value in
     rw (← c.self.view_is)
-    (λ past n stands in_time. left_until (element_state c.self.inside) c.self.invariant c.args.i within past n stands in_time
-    ∙ ap (later_by (n - c.self.inside.next)) is)
+    (λ past n stands in_time. left_until (state c) c.self.invariant c.args.i (within c) past n stands in_time
+    ∙ ap (later_by (n - (state c).next)) (given c))

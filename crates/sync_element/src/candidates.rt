@@ -1,0 +1,47 @@
+//! What the choice looks at in an input, renewed only where it changes.
+
+ghost use Rattle.std.specs.Prelude.{◌≡◌, ◌<◌, ℕ, IsTrue, length, slice_set};
+ghost use Rattle.sync_ql.specs.Selection.{candidate, SameOption};
+
+use selector::Table;
+use sync_ql::Level;
+use sync_ql::rules::Candidate;
+
+// Sets a candidate in the table, unless it is there already.
+pub fn set_if_other(table: &mut Table, i: u32, c: Candidate)
+    requires place { i < length table.old }
+    requires one_option { (k : ℕ) → SameOption c.level (candidate table.old k).level }
+    ensures { table.new ≡ slice_set table.old i c }
+{
+    if is_same(table.inputs()[i as usize], c) {
+        return;
+    }
+    table.set(i, c);
+}
+
+fn is_same(one: Candidate, other: Candidate) -> bool
+    ensures { IsTrue result → one ≡ other }
+{
+    if one.priority != other.priority || one.usable != other.usable {
+        return false;
+    }
+    is_same_level(one.level, other.level)
+}
+
+fn is_same_level(one: Option<Level>, other: Option<Level>) -> bool
+    ensures { IsTrue result → one ≡ other }
+{
+    match (one, other) {
+        (Some(one), Some(other)) => is_same_row(one, other),
+        (None, None) => true,
+        _ => false,
+    }
+}
+
+// Whether two levels are one row of one option's table.
+fn is_same_row(one: Level, other: Level) -> bool
+    ensures option { IsTrue result → one.option ≡ other.option }
+    ensures place { IsTrue result → one.place ≡ other.place }
+{
+    one.option == other.option && one.place == other.place
+}

@@ -1,0 +1,111 @@
+//! Which inputs a step renews: those that an event touches, and those whose running time ends.
+
+ghost use Rattle.std.specs.Prelude.{◌≡◌, ◌≤◌, ◌<◌, ℕ, List, [], length, All, IsNone, IfSome, Some};
+ghost use Rattle.sync_ql.specs.declared.rules.Candidate.{Candidate};
+ghost use Rattle.sync_ql.specs.Told.{IsOfOption};
+ghost use Rattle.sync_element.specs.declared.watched.Watched.{Watched};
+ghost use Rattle.sync_element.specs.Dues.{due_in};
+ghost use Rattle.sync_element.specs.Telling.{Fits};
+ghost use Rattle.sync_element.specs.Renewing.{touched_by, CanRenew, AreRenewed, AreTaken, AreKept, IsTouched};
+ghost use Rattle.sync_element.specs.Whole.{inputs_kept};
+
+use crate::config::Config;
+use crate::dues::Dues;
+use crate::inputs::{Inputs, renew};
+use input_monitor::LAST_MILLISECOND;
+use operator_cmds::Cmds;
+use sync_ql::rules::{Cmd, InputEvent};
+
+// Renews each input that an event touches.
+pub fn renew_told(
+    inputs: &mut Inputs,
+    events: &[InputEvent],
+    now: u64,
+    commands: &Cmds,
+    config: &Config,
+)
+    requires can { CanRenew now config.now.own.option (inputs_kept inputs.old) }
+    requires fits { All (Fits (length inputs.old.watched.items)) events.now }
+    requires in_range { now ≤ LAST_MILLISECOND }
+    requires locked_length { length commands.now.locked ≡ length inputs.old.watched.items }
+    requires floor { IsOfOption config.now.own.option config.now.floor }
+    ensures can { CanRenew now config.now.own.option (inputs_kept inputs.new) }
+    ensures count { length inputs.new.watched.items ≡ length inputs.old.watched.items }
+    ensures taken { (told : List Watched) (before : List Candidate) →
+        AreRenewed (record { now = now; switches = commands.now; floor = config.now.floor })
+        told before (inputs_kept inputs.old) →
+        AreTaken (record { now = now; switches = commands.now; floor = config.now.floor })
+        told before events.now [] (inputs_kept inputs.new) }
+{
+    for event in events {
+        renew_if_touched(inputs, *event, now, commands, config);
+    }
+}
+
+fn renew_if_touched(
+    inputs: &mut Inputs,
+    event: InputEvent,
+    now: u64,
+    commands: &Cmds,
+    config: &Config,
+)
+    requires can { CanRenew now config.now.own.option (inputs_kept inputs.old) }
+    requires fits { Fits (length inputs.old.watched.items) event }
+    requires in_range { now ≤ LAST_MILLISECOND }
+    requires locked_length { length commands.now.locked ≡ length inputs.old.watched.items }
+    requires floor { IsOfOption config.now.own.option config.now.floor }
+    ensures { IsTouched (record { now = now; switches = commands.now; floor = config.now.floor })
+        config.now.own.option event (inputs_kept inputs.old) (inputs_kept inputs.new) }
+{
+    if let Some(i) = touched_by(event) {
+        renew(inputs, i, now, commands, config);
+    }
+}
+
+// The input that an event touches: which it names, except as that of a switch.
+fn touched_by(event: InputEvent) -> Option<u32>
+    ensures { result ≡ touched_by event }
+{
+    match event {
+        InputEvent::Signal(i, _)
+        | InputEvent::Heard(i, _)
+        | InputEvent::ClearWtr(i)
+        | InputEvent::Command(Cmd::Lockout(i) | Cmd::Unlock(i)) => Some(i),
+        InputEvent::Command(_) => None,
+    }
+}
+
+// Renews each input whose running time ends now.
+pub fn renew_due(inputs: &mut Inputs, now: u64, commands: &Cmds, config: &Config)
+    requires can { CanRenew now config.now.own.option (inputs_kept inputs.old) }
+    requires in_range { now ≤ LAST_MILLISECOND }
+    requires locked_length { length commands.now.locked ≡ length inputs.old.watched.items }
+    requires floor { IsOfOption config.now.own.option config.now.floor }
+    ensures can { CanRenew now config.now.own.option (inputs_kept inputs.new) }
+    ensures count { length inputs.new.watched.items ≡ length inputs.old.watched.items }
+    ensures later { (i : ℕ) → i < length inputs.new.watched.items →
+        IfSome (due_in inputs.new.dues i) (λ due. now < due) }
+    ensures renewed { (told : List Watched) (before : List Candidate) →
+        AreRenewed (record { now = now; switches = commands.now; floor = config.now.floor })
+        told before (inputs_kept inputs.old) →
+        AreKept (record { now = now; switches = commands.now; floor = config.now.floor })
+        told before (inputs_kept inputs.old) (inputs_kept inputs.new) }
+{
+    while let Some(i) = due_now(&inputs.dues, now) {
+        renew(inputs, i, now, commands, config);
+    }
+}
+
+// An input whose running time ends now, if there is one.
+fn due_now(dues: &Dues, now: u64) -> Option<u32>
+    ensures some { IfSome result (λ i. i < length dues.now) }
+    ensures due { IfSome result (λ i. due_in dues.now i ≡ Some now) }
+    ensures none { IsNone result →
+        ((i : ℕ) → i < length dues.now → IfSome (due_in dues.now i) (λ due. now ≤ due)) →
+        (i : ℕ) → i < length dues.now → IfSome (due_in dues.now i) (λ due. now < due) }
+{
+    match dues.first() {
+        Some(due) if due.at == now => Some(due.place),
+        _ => None,
+    }
+}

@@ -1,0 +1,43 @@
+//! One input of an element: what is told of it, and its monitor.
+
+ghost use Rattle.std.specs.Prelude.{◌≡◌, ◌≤◌, true};
+ghost use Rattle.sync_element.specs.Kept.{HasEnd};
+ghost use Rattle.sync_element.specs.Renewing.{must_step, IsReady, IsStepped};
+
+use input_monitor::{LAST_MILLISECOND, Monitor};
+use sync_ql::Level;
+
+// What an element keeps of an input, besides what the choice looks at.
+#[derive(Debug, Drop)]
+pub struct Watched {
+    pub monitor: Monitor,
+    /// Whether it is up, and which level it has, as told last.
+    pub up: bool,
+    pub level: Option<Level>,
+    /// Whether its wait-to-restore time is cleared in the millisecond that is told of.
+    pub cleared: bool,
+}
+
+// Whether something happens to the input in a millisecond: its wait-to-restore time is cleared, it
+// goes up or down, or its running time ends.
+fn must_step(input: &Watched, now: u64) -> bool
+    ensures { result ≡ must_step now input.now }
+{
+    input.cleared || input.up != input.monitor.up() || input.monitor.due() == Some(now)
+}
+
+// Tells the monitor of a millisecond in which something happens. It gives when the running time
+// ends.
+pub fn step_if_told(input: &mut Watched, now: u64) -> Option<u64>
+    requires ready { must_step now input.old ≡ true → IsReady now input.old.monitor }
+    requires in_range { now ≤ LAST_MILLISECOND }
+    requires ends { HasEnd input.old.monitor }
+    ensures stepped { IsStepped now input.old input.new }
+    ensures due { result ≡ input.new.monitor.due }
+{
+    if must_step(input, now) {
+        input.monitor.step(now, input.up, input.cleared);
+        input.cleared = false;
+    }
+    input.monitor.due()
+}
