@@ -8,14 +8,14 @@ use Rattle.std.proofs.Math.Seq.{get_or-append_seam}
 use Rattle.std.proofs.lemmas.List.Elements.{All-append, All-cons, All-nil, filter_map-append}
 use Rattle.sync_topo.specs.declared.event.Event.{Event}
 use Rattle.sync_topo.specs.Topology.{Topology}
-use Rattle.sync_topo.specs.Events.{Fits}
+use Rattle.sync_topo.specs.Events.{Fits, IsInOrder}
 use Rattle.csv_records.specs.FirstRefusal.{first_refusal}
 use Rattle.csv_records.proofs.FirstRefusals.{first_refusal-some, first_refusal-none}
 use Rattle.event_file.specs.declared.error.EventErr.{EventErr}
 use Rattle.event_file.specs.declared.error.EventErr.TheVariants.{Header, Fields, Time, Order, What, Target, Value, Limit, NoMemory}
 use Rattle.event_file.specs.Refusal.{Refuses}
 use Rattle.event_file.specs.Rows.{Fields as Row, event_in, time_in, time_before, row_refusal, refusal_at, event_limit, last_time}
-use Rattle.event_file.specs.EventText.{events_in, events_of_rows, unless_refused, IsInOrder}
+use Rattle.event_file.specs.EventText.{events_in, events_of_rows, unless_refused}
 use Rattle.event_file.specs.Taken.{AreTaken}
 
 -- what stands behind some rows

@@ -1,6 +1,6 @@
 -- The events that a text gives, or the first rule that it breaks. This project's own.
 use Rattle.std.specs.Prelude.{ℕ, ◌≤◌, Bool, false, ◌&&◌, List, [], ◌∷◌, length, codes, Option, Some, None, Result, Ok, Err, if◌then◌else◌}
-use Rattle.std.specs.List.{AllAdjacentBelow, filter_map}
+use Rattle.std.specs.List.{filter_map}
 use Rattle.std.specs.Str.{bytes_eq}
 use Rattle.csv_records.specs.Records.{records_of}
 use Rattle.csv_records.specs.FirstRefusal.{first_refusal}
@@ -37,7 +37,3 @@ events_of_records plan (first ∷ rows) = if is_header first then events_of_rows
 -- the events of a text
 abbrev pub events_of : Topology → List ℕ → Result (List Event) EventErr
 events_of plan bytes = events_of_records plan (records_of bytes)
-
--- times don't fall from one event to the next
-abbrev pub IsInOrder : List Event → Type 0
-IsInOrder events = AllAdjacentBelow (λ one next. one.at ≤ next.at) events (length events)

@@ -2,6 +2,7 @@
 use Rattle.std.specs.Prelude.{ℕ, ◌+◌, zero, suc, Bool, ◌&&◌, nat_le, nat_lt, List, [], ◌∷◌, codes, is_none, Option, Some, None, option_map, option_and_then, slice_get, unwrap_or, if◌then◌else◌}
 use Rattle.std.specs.Str.{bytes_eq}
 use Rattle.csv_records.specs.Fields.{four_of}
+use Rattle.sync_ql.specs.declared.limits.TheConstants.{LAST_MILLISECOND}
 use Rattle.sync_edge.specs.Number.{number_of}
 use Rattle.sync_topo.specs.declared.event.Event.{Event}
 use Rattle.sync_topo.specs.declared.event.What.{What}
@@ -18,7 +19,7 @@ Fields = List (List ℕ)
 
 -- the last millisecond at which an event may stand, and how many events there may be
 abbrev pub last_time : ℕ
-last_time = 86400000
+last_time = LAST_MILLISECOND
 
 abbrev pub event_limit : ℕ
 event_limit = 100000

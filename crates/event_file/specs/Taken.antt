@@ -3,9 +3,9 @@ use Rattle.std.specs.Prelude.{◌≡◌, ℕ, ◌≤◌, ◌<◌, ◌++◌, List
 use Rattle.std.specs.List.{All}
 use Rattle.sync_topo.specs.declared.event.Event.{Event}
 use Rattle.sync_topo.specs.Topology.{Topology}
-use Rattle.sync_topo.specs.Events.{Fits}
+use Rattle.sync_topo.specs.Events.{Fits, IsInOrder}
 use Rattle.event_file.specs.Rows.{Fields, time_before, refusal_at, event_limit, last_time}
-use Rattle.event_file.specs.EventText.{events_in, IsInOrder}
+use Rattle.event_file.specs.EventText.{events_in}
 
 -- of the rows the first n are gone through and these are left; the last of them has this time, and these are their events
 pub record AreTaken (plan : Topology) (rows : List Fields) (n before : ℕ) (left : List Fields) (events : List Event) : Type 0 where

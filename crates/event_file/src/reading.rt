@@ -2,8 +2,8 @@
 
 ghost use Rattle.std.specs.Prelude.{◌≡◌, ◌≤◌, false, length, IfOk, Ok, Err};
 ghost use Rattle.std.specs.List.{All};
-ghost use Rattle.sync_topo.specs.Events.{Fits};
-ghost use Rattle.event_file.specs.EventText.{events_of, events_of_rows, is_header, IsInOrder};
+ghost use Rattle.sync_topo.specs.Events.{Fits, IsInOrder};
+ghost use Rattle.event_file.specs.EventText.{events_of, events_of_rows, is_header};
 ghost use Rattle.event_file.specs.Refusal.{Gives};
 ghost use Rattle.event_file.specs.Rows.{event_limit, last_time};
 

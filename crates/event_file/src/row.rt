@@ -9,13 +9,11 @@ use crate::error::EventErr;
 use crate::word::Word;
 use csv_records::Record;
 use sync_edge::read_number;
+use sync_ql::limits::LAST_MILLISECOND;
 use sync_topo::{Event, Plan};
 
 /// How many events there may be.
 pub(crate) const EVENT_LIMIT: u64 = 100_000;
-
-/// The last millisecond at which an event may stand.
-const LAST_TIME: u64 = 86_400_000;
 
 /// The event of a row of this number, counted from 1, where the row before it has this time.
 #[tactic(auto, unfolding(crate::specs::Rows::row_refusal))]
@@ -64,5 +62,9 @@ fn time_of(bytes: &[u8]) -> Option<u64>
     ensures within { IfSome result (λ at. at ≤ last_time) }
 {
     let at = read_number(bytes)?;
-    if at <= LAST_TIME { Some(at) } else { None }
+    if at <= LAST_MILLISECOND {
+        Some(at)
+    } else {
+        None
+    }
 }

@@ -9,11 +9,9 @@
 //! project's own. The tests go through histories whose conditions and times are written by hand.
 #![tactic(auto)]
 
-mod limits;
 mod monitor;
 #[cfg(test)]
 mod tests;
 
-pub use limits::{LAST_MILLISECOND, LONGEST_HOLDOFF, LONGEST_WTR, SHORTEST_HOLDOFF};
 pub use monitor::Monitor;
 pub use sync_ql::rules::Cond;

@@ -5,8 +5,8 @@ ghost use Rattle.input_monitor.specs.Ending.{IsEnd, later_by};
 ghost use Rattle.input_monitor.specs.Monitored.{up_of};
 ghost use Rattle.input_monitor.specs.Running.{IsRunning, IsAtMost};
 
-use crate::limits::{LAST_MILLISECOND, LONGEST_HOLDOFF, LONGEST_WTR, SHORTEST_HOLDOFF};
 use std::marker::Model;
+use sync_ql::limits::{GREATEST_HOLDOFF, GREATEST_WTR, LAST_MILLISECOND, LEAST_HOLDOFF};
 use sync_ql::rules::Cond;
 
 /// Watches one input, and says in which condition it is and when that ends.
@@ -40,9 +40,9 @@ impl Monitor {
     ///
     /// After G.781, hold-off time and wait-to-restore time.
     pub fn new(holdoff: u32, wtr: u32) -> Monitor
-        requires not_short { SHORTEST_HOLDOFF ≤ holdoff }
-        requires not_long { holdoff ≤ LONGEST_HOLDOFF }
-        requires minutes { wtr ≤ LONGEST_WTR }
+        requires not_short { LEAST_HOLDOFF ≤ holdoff }
+        requires not_long { holdoff ≤ GREATEST_HOLDOFF }
+        requires minutes { wtr ≤ GREATEST_WTR }
         ensures holdoff { result.timers.holdoff ≡ holdoff }
         ensures wtr { result.timers.wtr ≡ wtr }
         ensures next { result.next ≡ 0 }
@@ -148,7 +148,7 @@ impl Monitor {
         ensures none { IsNone result ↔
             ((self.now.condition ≡ Cond.Good) ⊎ (self.now.condition ≡ Cond.Failed)) }
         ensures end { IsEnd self.now.next self.now.condition result }
-        ensures soon { IfSome result (λ due. due < self.now.next + LONGEST_WTR) }
+        ensures soon { IfSome result (λ due. due < self.now.next + GREATEST_WTR) }
         ensures due { (past : List Signal) → StandsFor self.now past →
             IsDue self.now.timers past result }
     {
@@ -168,7 +168,7 @@ impl Monitor {
             result ≡ condition_at self.now.timers
             (record { up = up; clear = clear_wtr } ∷ continued now past) }
         ensures running { IsRunning result }
-        ensures at_most { IsAtMost LONGEST_WTR result }
+        ensures at_most { IsAtMost GREATEST_WTR result }
         ensures up { up_of result ≡ up }
     {
         let passed = now + 1 - self.next;

@@ -3,10 +3,8 @@ ghost use Rattle.sync_ql.specs.Switches.{unswitched, is_locked, is_rejected, oth
 ghost use Rattle.operator_cmds.specs.Switched.{forced_by, manual_by};
 
 use std::marker::Model;
+use sync_ql::limits::MOST_INPUTS;
 use sync_ql::rules::Cmd;
-
-// The most inputs that an element has.
-const MOST: usize = 64;
 
 /// Whether a command was carried out.
 ///
@@ -27,7 +25,7 @@ pub enum Applied {
 pub struct Cmds {
     inputs: u32,
     /// Which inputs are locked out; beyond `inputs` none is.
-    locked: [bool; MOST],
+    locked: [bool; MOST_INPUTS],
     switch: Switch,
 }
 
@@ -183,8 +181,8 @@ impl Cmds {
     }
 }
 
-fn all_free() -> [bool; MOST]
+fn all_free() -> [bool; MOST_INPUTS]
     ensures { result ≡ replicate 64 false }
 {
-    [false; MOST]
+    [false; MOST_INPUTS]
 }

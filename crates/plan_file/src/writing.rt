@@ -14,17 +14,16 @@ ghost use Rattle.plan_file.specs.Writing.{put_member, option_name, element_table
 use std::alloc::Global;
 use std::str;
 use sync_edge::{NoMemory, Text};
+use sync_ql::limits::MINUTE;
 use sync_ql::{NetOption, name_of};
 use sync_topo::{Element, Link, Plan, Source};
 use toml::{Table, Value};
 
-/// How many milliseconds a minute has.
-const MINUTE: u32 = 60_000;
-
 /// A text of the plan: reading it gives this plan.
 ///
-/// It has a table for each element, link and source, with every key but a bundle that isn't named,
-/// and says the second version where a bundle is. It is spelled as the crate `toml` spells documents.
+/// It has a table for each element, link and source, with every key but a floor and a bundle that
+/// isn't given, and says the second version where a bundle is. It is spelled as the crate `toml`
+/// spells documents.
 /// This project's own.
 pub fn write_plan(alloc: Global, plan: &Plan) -> Result<Text, NoMemory>
     ensures text { IfOk result (IsPlanText plan.now) }

@@ -62,7 +62,7 @@ same_letter a b i j same = ap (λ bytes. get_or bytes 0 0) same
 element_fits : (j : ℕ) → IsElementOf I (ladder_element j)
 unfolding dec_lt
 element_fits j = record {
-  own_is_clock_level = record { of_option = refl; usable = omega arith };
+  own_is_clock_level = record { of_option = refl; above_do_not_use = omega arith };
   floor_is_clock_level = tt;
   least_holdoff = omega arith;
   greatest_holdoff = omega arith;

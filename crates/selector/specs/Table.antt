@@ -2,7 +2,7 @@
 use Rattle.std.specs.Prelude.{◌≤◌, List, length, None}
 use Rattle.sync_ql.specs.declared.rules.Candidate.{Candidate}
 use Rattle.sync_ql.specs.Selection.{AreOfOneOption}
-use Rattle.selector.specs.declared.choice.TheConstants.{MOST_INPUTS}
+use Rattle.sync_ql.specs.declared.limits.TheConstants.{MOST_INPUTS}
 use Rattle.selector.specs.declared.table.Table.TheInside.{Inside}
 use Rattle.selector.specs.Standing.{winner, standing_at}
 use Rattle.selector.specs.Tournament.{IsTournament}

@@ -4,7 +4,7 @@ ghost use Rattle.std.specs.Prelude.{◌≡◌, ◌≤◌, ◌<◌, ◌+◌, IfSo
 ghost use Rattle.sync_ql.specs.Selection.{candidate, is_eligible, is_better, beats, SameOption, AreOfOneOption};
 ghost use Rattle.selector.specs.Scanned.{IsFirstBest};
 
-use crate::choice::MOST_INPUTS;
+use sync_ql::limits::MOST_INPUTS;
 use sync_ql::rules::Candidate;
 use sync_ql::{better, do_not_use};
 

@@ -4,12 +4,8 @@ ghost use Rattle.selector.specs.Choices.{IsChoice};
 ghost use Rattle.selector.specs.Scanned.{IsFirstBest};
 
 use crate::best::{beats, first_best, has_better_level, is_eligible};
+use sync_ql::limits::MOST_INPUTS;
 use sync_ql::rules::Candidate;
-
-/// The most inputs that an element has.
-///
-/// This project's own.
-pub const MOST_INPUTS: usize = 64;
 
 /// The input that is taken, and whether the manual switch stands.
 ///

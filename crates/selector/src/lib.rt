@@ -18,6 +18,6 @@ mod table;
 #[cfg(test)]
 mod tests;
 
-pub use choice::{Choice, MOST_INPUTS, choose};
+pub use choice::{Choice, choose};
 pub use sync_ql::rules::Candidate;
 pub use table::Table;

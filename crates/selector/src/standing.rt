@@ -6,7 +6,7 @@ ghost use Rattle.selector.specs.Tournament.{IsTournament, with_player};
 ghost use Rattle.selector.specs.declared.standing.Standing.{Standing};
 
 use crate::best::is_eligible;
-use crate::choice::MOST_INPUTS;
+use sync_ql::limits::MOST_INPUTS;
 use sync_ql::rules::Candidate;
 
 // Where an eligible input stands among others: the place of its level in the option's table, its

@@ -3,11 +3,12 @@ ghost use Rattle.sync_ql.specs.Selection.{candidate, choice, IsBestChoice, SameO
 ghost use Rattle.selector.specs.Choices.{unusable, IsChoice};
 ghost use Rattle.selector.specs.Scanned.{IsFirstBest};
 
-use crate::choice::{Choice, MOST_INPUTS, choose_by, stay_or_take};
+use crate::choice::{Choice, choose_by, stay_or_take};
 use crate::standing::{Standing, renew, standing_of};
 use std::alloc::Global;
 use std::marker::Model;
 use sync_edge::NoMemory;
+use sync_ql::limits::MOST_INPUTS;
 use sync_ql::rules::Candidate;
 
 /// The candidates of an element's inputs, by place, of which the best is at hand.

@@ -2,11 +2,12 @@ ghost use Rattle.std.specs.Prelude.{◌≤◌, ◌<◌, ◌⊎◌, IsTrue, IsNon
 ghost use Rattle.sync_ql.specs.Selection.{AreOfOneOption};
 ghost use Rattle.selector.specs.OneOption.{IsOfOption};
 
-use crate::{Candidate, Choice, MOST_INPUTS, Table, choose};
+use crate::{Candidate, Choice, Table, choose};
 use std::alloc::{AllocError, Global};
 use std::process::Abort;
 use std::test::Fail;
 use sync_edge::NoMemory;
+use sync_ql::limits::MOST_INPUTS;
 use sync_ql::{NetOption, level_of_name};
 
 // The level's name, the priority number, and whether the input is usable.

@@ -14,8 +14,7 @@ use Rattle.sync_ql.specs.Told.{IsOfOption}
 use Rattle.sync_ql.proofs.Eligible.{nobody}
 use Rattle.input_monitor.specs.Monitored.{up_of}
 use Rattle.input_monitor.specs.Ending.{IsEnd}
-use Rattle.input_monitor.specs.declared.limits.TheConstants.{SHORTEST_HOLDOFF}
-use Rattle.selector.specs.declared.choice.TheConstants.{MOST_INPUTS}
+use Rattle.sync_ql.specs.declared.limits.TheConstants.{LEAST_HOLDOFF, MOST_INPUTS}
 use Rattle.sync_element.specs.declared.config.Config.{Config}
 use Rattle.sync_element.specs.declared.config.InputConfig.{InputConfig}
 use Rattle.sync_element.specs.declared.watched.Watched.{Watched}
@@ -43,7 +42,7 @@ new_state config inputs switches = record {
 
 -- what a new element is made of
 pub record IsNewState (config : Config) (inputs : InputsKept) (switches : Switches) : Type 0 where
-  pub holdoff : SHORTEST_HOLDOFF ≤ config.holdoff
+  pub holdoff : LEAST_HOLDOFF ≤ config.holdoff
   pub few : length config.inputs ≤ MOST_INPUTS
   pub floor : IsOfOption config.own.option config.floor
   pub first : All (λ input. IsOfOption config.own.option input.first) config.inputs

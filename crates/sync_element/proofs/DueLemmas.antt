@@ -5,7 +5,7 @@ use Rattle.std.specs.Prelude.{MatchOption, IsNone, ◌↔◌}
 use Rattle.std.proofs.lemmas.Option.{same_Some}
 use Rattle.sync_ql.specs.declared.rules.Cond.{Cond}
 use Rattle.sync_ql.specs.declared.rules.Cond.TheVariants.{Good, HoldOff, Failed, Restoring}
-use Rattle.sync_ql.specs.Condition.{failed_at, condition_at, continued, IsDue, IsFirstChange, IsSameKind}
+use Rattle.sync_ql.specs.Condition.{failed_at, condition_at, continued, IsDue, IsSameKind}
 use Rattle.sync_ql.specs.Moment.{Moment, Settings, signals_of}
 use Rattle.sync_ql.specs.Told.{moments_until}
 use Rattle.input_monitor.specs.Ending.{EndsWith, IsEnd, later_by}
@@ -13,9 +13,9 @@ use Rattle.input_monitor.proofs.Conditions.{length-continued}
 use Rattle.sync_element.specs.ElementState.{ElementState, inputs_of, IsInTime}
 use Rattle.sync_element.specs.Whole.{monitor_of, IsFirstDue, IsFirstDueAt, IsWhole}
 use Rattle.sync_element.specs.StandsFor.{IsAfter}
-use Rattle.sync_ql.specs.Quiet.{IsFirstFailedChange, IsElementDue}
+use Rattle.sync_ql.specs.Quiet.{IsElementDue}
 use Rattle.sync_element.specs.Due.{left_of, left_in, IsLastPlusLeast, NoneEnds}
-use Rattle.input_monitor.specs.declared.limits.TheConstants.{LAST_MILLISECOND, LONGEST_WTR}
+use Rattle.sync_ql.specs.declared.limits.TheConstants.{LAST_MILLISECOND, GREATEST_WTR}
 use Rattle.sync_ql.proofs.Staying.{length-signals_of, signals_of-moments_until}
 use Rattle.sync_element.proofs.Following.{follows-condition, follows-later, end_later}
 use Rattle.sync_element.proofs.Waiting.{due_of, due_after, until_due, length-input}
@@ -120,24 +120,24 @@ due_later e whole = of e.due whole.first_due
     of None none = tt
     of (Some due) first = subst (λ o. IfSome o (λ d. e.next ≤ d)) first.some.2 (whole.at_rest first.some.0 first.some.1).due_later
 
-soon_after : (a b : ℕ) (o : Option ℕ) → a ≤ b → IfSome o (λ d. d < a + LONGEST_WTR) → IfSome o (λ d. d < b + LONGEST_WTR)
+soon_after : (a b : ℕ) (o : Option ℕ) → a ≤ b → IfSome o (λ d. d < a + GREATEST_WTR) → IfSome o (λ d. d < b + GREATEST_WTR)
 soon_after a b None less soon = tt
 soon_after a b (Some due) less soon = omega arith
 
-pub due_soon : (e : ElementState) → IsWhole e → IfSome e.due (λ due. due < e.next + LONGEST_WTR)
+pub due_soon : (e : ElementState) → IsWhole e → IfSome e.due (λ due. due < e.next + GREATEST_WTR)
 due_soon e whole = of e.due whole.first_due
   where
-    of : (due : Option ℕ) → IsFirstDue e due → IfSome due (λ d. d < e.next + LONGEST_WTR)
+    of : (due : Option ℕ) → IsFirstDue e due → IfSome due (λ d. d < e.next + GREATEST_WTR)
     of None none = tt
     of (Some due) first =
         let rest = whole.at_rest first.some.0 first.some.1 in
-        subst (λ o. IfSome o (λ d. d < e.next + LONGEST_WTR)) first.some.2
+        subst (λ o. IfSome o (λ d. d < e.next + GREATEST_WTR)) first.some.2
         (soon_after (monitor_of e first.some.0).next e.next (monitor_of e first.some.0).due rest.not_later rest.ends.soon)
 
-pub due_in_range : (e : ElementState) → IsWhole e → IfSome e.due (λ due. due ≤ LAST_MILLISECOND + LONGEST_WTR)
+pub due_in_range : (e : ElementState) → IsWhole e → IfSome e.due (λ due. due ≤ LAST_MILLISECOND + GREATEST_WTR)
 due_in_range e whole = of e.due (due_soon e whole)
   where
-    of : (o : Option ℕ) → IfSome o (λ d. d < e.next + LONGEST_WTR) → IfSome o (λ d. d ≤ LAST_MILLISECOND + LONGEST_WTR)
+    of : (o : Option ℕ) → IfSome o (λ d. d < e.next + GREATEST_WTR) → IfSome o (λ d. d ≤ LAST_MILLISECOND + GREATEST_WTR)
     of None soon = tt
     of (Some due) soon = let limit : e.next ≤ LAST_MILLISECOND + 1 = whole.in_range in omega arith
 
@@ -157,10 +157,10 @@ first_until e due n k first in_time inside = of (monitor_of e k).due (first.firs
     of None later = tt
     of (Some d) later = omega arith
 
-first_failed_change : (e : ElementState) (past : List Moment) (due : ℕ) → IsWhole e → IsAfter e past → IsFirstDueAt e due → IsFirstFailedChange e.settings past due
+first_failed_change : (e : ElementState) (past : List Moment) (due : ℕ) → IsWhole e → IsAfter e past → IsFirstDueAt e due → IsElementDue e.settings past (Some due)
 first_failed_change e past due whole stands first =
     let i = first.some.0 in
-    let change : IsFirstChange e.settings.timers (signals_of i past) due = subst (IsDue e.settings.timers (signals_of i past)) first.some.2 (due_of e past whole stands i first.some.1) in
+    let change : IsDue e.settings.timers (signals_of i past) (Some due) = subst (IsDue e.settings.timers (signals_of i past)) first.some.2 (due_of e past whole stands i first.some.1) in
     record {
       later = omega (arith, length-signals_of i past, change.later);
       changed = (i, first.some.1, ap (failed_at e.settings.timers) (signals_of-moments_until e.settings i (due + 1) past first.some.1) ∙ change.changed);

@@ -17,7 +17,7 @@ use Rattle.sync_ql.specs.Told.{last_said, says_up, says_level, clears, commands_
 use Rattle.sync_ql.proofs.QuietMoments.{input_of-moment_after, seen}
 use Rattle.sync_ql.proofs.Staying.{length-signals_of, length-quiet_moments, signals_of-quiet_moments, signals_of-moments_until, is_up-after_quiet, last_level-quiet_moments}
 use Rattle.input_monitor.specs.Monitored.{up_of}
-use Rattle.input_monitor.specs.declared.limits.TheConstants.{LAST_MILLISECOND}
+use Rattle.sync_ql.specs.declared.limits.TheConstants.{LAST_MILLISECOND}
 use Rattle.sync_element.specs.declared.watched.Watched.{Watched}
 use Rattle.sync_element.specs.Dues.{due_in, IsFirstTime}
 use Rattle.sync_element.specs.Kept.{InputsKept, watched_in, Follows, HasEnd}

@@ -1,6 +1,6 @@
 -- Private to this crate: what is true of the times that are kept.
 use Rattle.std.specs.Prelude.{◌≤◌, ℕ, List, length, Option, None}
-use Rattle.selector.specs.declared.choice.TheConstants.{MOST_INPUTS}
+use Rattle.sync_ql.specs.declared.limits.TheConstants.{MOST_INPUTS}
 use Rattle.selector.specs.Tournament.{IsTournament}
 use Rattle.sync_element.specs.declared.dues.Dues.TheInside.{Inside}
 use Rattle.sync_element.specs.Dues.{earlier, due_at}

@@ -7,7 +7,7 @@ use Rattle.sync_ql.specs.Switches.{Switches}
 use Rattle.input_monitor.specs.Monitored.{Monitored}
 use Rattle.input_monitor.specs.Ending.{IsEnd}
 use Rattle.input_monitor.specs.StandsFor as Monitor
-use Rattle.input_monitor.specs.declared.limits.TheConstants.{LONGEST_WTR}
+use Rattle.sync_ql.specs.declared.limits.TheConstants.{GREATEST_WTR}
 use Rattle.sync_element.specs.declared.watched.Watched.{Watched}
 
 -- of the inputs, by place: what each was told last, with its monitor; when its running time ends; and
@@ -53,4 +53,4 @@ pub record Follows (m : Monitored) (past : List Signal) : Type 0 where
 -- step
 pub record HasEnd (m : Monitored) : Type 0 where
   pub ends : IsEnd m.next m.condition m.due
-  pub soon : IfSome m.due (λ due. due < m.next + LONGEST_WTR)
+  pub soon : IfSome m.due (λ due. due < m.next + GREATEST_WTR)

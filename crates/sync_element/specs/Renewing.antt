@@ -11,7 +11,7 @@ use Rattle.sync_ql.specs.Condition as condition
 use Rattle.sync_ql.specs.Switches.{Switches, is_locked}
 use Rattle.sync_ql.specs.Selection.{candidate, is_better}
 use Rattle.sync_ql.specs.Told.{IsOfOption}
-use Rattle.selector.specs.declared.choice.TheConstants.{MOST_INPUTS}
+use Rattle.sync_ql.specs.declared.limits.TheConstants.{MOST_INPUTS}
 use Rattle.input_monitor.specs.Monitored.{Monitored, up_of}
 use Rattle.input_monitor.specs.StandsFor.{StandsFor}
 use Rattle.sync_element.specs.declared.watched.Watched.{Watched}

@@ -9,8 +9,7 @@ use Rattle.sync_ql.specs.Selection.{candidate}
 use Rattle.sync_ql.specs.Switches.{Switches}
 use Rattle.sync_ql.specs.Told.{IsOfOption}
 use Rattle.input_monitor.specs.Monitored.{Monitored, up_of}
-use Rattle.input_monitor.specs.declared.limits.TheConstants.{LAST_MILLISECOND}
-use Rattle.selector.specs.declared.choice.TheConstants.{MOST_INPUTS}
+use Rattle.sync_ql.specs.declared.limits.TheConstants.{LAST_MILLISECOND, MOST_INPUTS}
 use Rattle.sync_element.specs.declared.element.Element.TheInside.{Inside}
 use Rattle.sync_element.specs.declared.inputs.Inputs.{Inputs}
 use Rattle.sync_element.specs.declared.watched.Watched.{Watched}

@@ -5,10 +5,10 @@ ghost use Rattle.selector.specs.Tournament.{IsTournament, with_player};
 ghost use Rattle.sync_element.specs.Dues.{due_in, earlier, due_of, IsFirst};
 ghost use Rattle.sync_element.specs.declared.dues.Due.{Due};
 
-use selector::MOST_INPUTS;
 use std::alloc::Global;
 use std::marker::Model;
 use sync_edge::NoMemory;
+use sync_ql::limits::MOST_INPUTS;
 
 // When the running time of the input at a place ends.
 #[derive(Clone, Copy, Debug, PartialEq, Eq)]

@@ -19,14 +19,15 @@ use crate::selection::{
     evaluate, first_due, level_back, level_of, mode_of, state_of, steps_after, was_ever_locked,
 };
 use crate::starting::new_inputs;
-use input_monitor::{LAST_MILLISECOND, LONGEST_HOLDOFF, LONGEST_WTR, SHORTEST_HOLDOFF};
 use operator_cmds::Cmds;
-use selector::MOST_INPUTS;
 use std::alloc::Global;
 use std::marker::Model;
 use std::sync::ledger::Ledger;
 use sync_edge::{NoMemory, Steps};
 use sync_ql::Level;
+use sync_ql::limits::{
+    GREATEST_HOLDOFF, GREATEST_WTR, LAST_MILLISECOND, LEAST_HOLDOFF, MOST_INPUTS,
+};
 use sync_ql::rules::{ClockState, Cond, InputEvent, Mode};
 
 /// One network element: it takes one of its inputs, or none, and has a level by it.
@@ -68,9 +69,9 @@ impl Element {
     /// one network option.
     /// After G.781, hold-off time, wait-to-restore time, priority and quality level.
     pub fn new(alloc: Global, config: Config) -> Result<Element, NoMemory>
-        requires not_short { SHORTEST_HOLDOFF ≤ config.holdoff }
-        requires not_long { config.holdoff ≤ LONGEST_HOLDOFF }
-        requires minutes { config.wtr ≤ LONGEST_WTR }
+        requires not_short { LEAST_HOLDOFF ≤ config.holdoff }
+        requires not_long { config.holdoff ≤ GREATEST_HOLDOFF }
+        requires minutes { config.wtr ≤ GREATEST_WTR }
         requires few { length config.inputs ≤ MOST_INPUTS }
         requires priorities { All (λ input. 1 ≤ input.priority) config.inputs }
         requires floor { IsOfOption config.own.option config.floor }
@@ -113,7 +114,7 @@ impl Element {
             (moment_after self.old.settings (moments_until self.old.settings now past) changes.now
             ∷ moments_until self.old.settings now past) }
         ensures due_later { IfSome self.new.due (λ due. now < due) }
-        ensures due_soon { IfSome self.new.due (λ due. due ≤ now + LONGEST_WTR) }
+        ensures due_soon { IfSome self.new.due (λ due. due ≤ now + GREATEST_WTR) }
         ensures ticks { steps.new ≡ steps.old + 1 }
         ensures counts { self.new.later_steps ≡
             (if nat_eq self.old.next 0 then 0 else self.old.later_steps + 1) }
@@ -224,8 +225,8 @@ impl Element {
     pub fn due(&self) -> Option<u64>
         ensures value { result ≡ self.now.due }
         ensures later { IfSome result (λ due. self.now.next ≤ due) }
-        ensures soon { IfSome result (λ due. due < self.now.next + LONGEST_WTR) }
-        ensures in_range { IfSome result (λ due. due ≤ LAST_MILLISECOND + LONGEST_WTR) }
+        ensures soon { IfSome result (λ due. due < self.now.next + GREATEST_WTR) }
+        ensures in_range { IfSome result (λ due. due ≤ LAST_MILLISECOND + GREATEST_WTR) }
         ensures none { (past : List Moment) → StandsFor self.now past →
             IsNone result ↔ NoneEnds self.now.settings past }
         ensures least { (past : List Moment) → StandsFor self.now past →
@@ -257,7 +258,7 @@ impl Element {
             (moment_after self.old.settings (moments_until self.old.settings now past) changes.now
             ∷ moments_until self.old.settings now past) }
         ensures due_later { IfSome self.new.due (λ due. now < due) }
-        ensures due_soon { IfSome self.new.due (λ due. due ≤ now + LONGEST_WTR) }
+        ensures due_soon { IfSome self.new.due (λ due. due ≤ now + GREATEST_WTR) }
         ensures counts { self.new.later_steps ≡
             (if nat_eq self.old.next 0 then 0 else self.old.later_steps + 1) }
     {

@@ -11,9 +11,9 @@ use crate::candidates::set_if_other;
 use crate::config::Config;
 use crate::dues::Dues;
 use crate::watched::{Watched, step_if_told};
-use input_monitor::LAST_MILLISECOND;
 use operator_cmds::Cmds;
 use selector::Table;
+use sync_ql::limits::LAST_MILLISECOND;
 use sync_ql::rules::{Candidate, InputEvent};
 use sync_ql::{Level, better};
 

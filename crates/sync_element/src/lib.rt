@@ -26,6 +26,4 @@ mod watched;
 
 pub use config::{Config, InputConfig};
 pub use element::Element;
-pub use input_monitor::{LAST_MILLISECOND, LONGEST_HOLDOFF, LONGEST_WTR, SHORTEST_HOLDOFF};
-pub use selector::MOST_INPUTS;
 pub use sync_ql::rules::{ClockState, Cmd, Cond, InputEvent, Mode};

@@ -12,8 +12,8 @@ ghost use Rattle.sync_element.specs.Whole.{inputs_kept};
 use crate::config::Config;
 use crate::dues::Dues;
 use crate::inputs::{Inputs, renew};
-use input_monitor::LAST_MILLISECOND;
 use operator_cmds::Cmds;
+use sync_ql::limits::LAST_MILLISECOND;
 use sync_ql::rules::{Cmd, InputEvent};
 
 // Renews each input that an event touches.

@@ -10,9 +10,9 @@ ghost use Rattle.sync_element.specs.Dues.{due_in, IsFirstTime};
 
 use crate::config::Config;
 use crate::dues::Dues;
-use input_monitor::LAST_MILLISECOND;
 use operator_cmds::Cmds;
 use selector::Table;
+use sync_ql::limits::LAST_MILLISECOND;
 use sync_ql::rules::{Candidate, ClockState, Mode};
 use sync_ql::{Level, do_not_use};
 

@@ -11,18 +11,19 @@ use crate::config::{Config, InputConfig};
 use crate::dues::Dues;
 use crate::inputs::{Inputs, is_below};
 use crate::watched::Watched;
-use input_monitor::{LONGEST_HOLDOFF, LONGEST_WTR, Monitor, SHORTEST_HOLDOFF};
-use selector::{MOST_INPUTS, Table};
+use input_monitor::Monitor;
+use selector::Table;
 use std::alloc::Global;
 use sync_edge::NoMemory;
 use sync_ql::Level;
+use sync_ql::limits::{GREATEST_HOLDOFF, GREATEST_WTR, LEAST_HOLDOFF, MOST_INPUTS};
 use sync_ql::rules::Candidate;
 
 // The inputs of a new element: all are up, and have their first levels.
 pub fn new_inputs(alloc: Global, config: &Config) -> Result<Inputs, NoMemory>
-    requires not_short { SHORTEST_HOLDOFF ≤ config.now.holdoff }
-    requires not_long { config.now.holdoff ≤ LONGEST_HOLDOFF }
-    requires minutes { config.now.wtr ≤ LONGEST_WTR }
+    requires not_short { LEAST_HOLDOFF ≤ config.now.holdoff }
+    requires not_long { config.now.holdoff ≤ GREATEST_HOLDOFF }
+    requires minutes { config.now.wtr ≤ GREATEST_WTR }
     requires few { length config.now.inputs ≤ MOST_INPUTS }
     requires floor { IsOfOption config.now.own.option config.now.floor }
     requires first { All (λ input. IsOfOption config.now.own.option input.first) config.now.inputs }
@@ -40,9 +41,9 @@ pub fn new_inputs(alloc: Global, config: &Config) -> Result<Inputs, NoMemory>
 
 // Each input with a monitor that was told nothing.
 fn new_watched(alloc: Global, config: &Config) -> Result<Vec<Watched>, NoMemory>
-    requires not_short { SHORTEST_HOLDOFF ≤ config.now.holdoff }
-    requires not_long { config.now.holdoff ≤ LONGEST_HOLDOFF }
-    requires minutes { config.now.wtr ≤ LONGEST_WTR }
+    requires not_short { LEAST_HOLDOFF ≤ config.now.holdoff }
+    requires not_long { config.now.holdoff ≤ GREATEST_HOLDOFF }
+    requires minutes { config.now.wtr ≤ GREATEST_WTR }
     ensures count { IfOk result (λ watched. length watched.items ≡ length config.now.inputs) }
     ensures new { IfOk result (λ watched. (i : ℕ) → i < length config.now.inputs →
         IsNew config.now i (watched_in watched.items i)) }
@@ -58,9 +59,9 @@ fn new_watched(alloc: Global, config: &Config) -> Result<Vec<Watched>, NoMemory>
 }
 
 fn new_input(config: &Config, first: Option<Level>) -> Watched
-    requires not_short { SHORTEST_HOLDOFF ≤ config.now.holdoff }
-    requires not_long { config.now.holdoff ≤ LONGEST_HOLDOFF }
-    requires minutes { config.now.wtr ≤ LONGEST_WTR }
+    requires not_short { LEAST_HOLDOFF ≤ config.now.holdoff }
+    requires not_long { config.now.holdoff ≤ GREATEST_HOLDOFF }
+    requires minutes { config.now.wtr ≤ GREATEST_WTR }
     ensures { HasFirst config.now first result }
 {
     Watched {

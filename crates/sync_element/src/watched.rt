@@ -4,8 +4,9 @@ ghost use Rattle.std.specs.Prelude.{◌≡◌, ◌≤◌, true};
 ghost use Rattle.sync_element.specs.Kept.{HasEnd};
 ghost use Rattle.sync_element.specs.Renewing.{must_step, IsReady, IsStepped};
 
-use input_monitor::{LAST_MILLISECOND, Monitor};
+use input_monitor::Monitor;
 use sync_ql::Level;
+use sync_ql::limits::LAST_MILLISECOND;
 
 // What an element keeps of an input, besides what the choice looks at.
 #[derive(Debug, Drop)]

@@ -6,3 +6,4 @@ pub mod SameChoice
 pub mod QuietMoments
 pub mod Staying
 pub mod TakenInputs
+pub mod Delivered

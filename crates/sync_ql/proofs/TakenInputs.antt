@@ -5,7 +5,7 @@ use Rattle.std.proofs.lemmas.List.FromFn.{get_or-map-range_with_len}
 use Rattle.sync_ql.specs.declared.levels.Level.{Level}
 use Rattle.sync_ql.specs.declared.rules.Candidate.{Candidate}
 use Rattle.sync_ql.specs.Switches.{Switches, is_locked}
-use Rattle.sync_ql.specs.Selection.{candidate, can_be_used, is_better, is_eligible, choice, standing_manual, IsEligible}
+use Rattle.sync_ql.specs.Selection.{candidate, is_above_do_not_use, is_better, is_eligible, choice, standing_manual, IsEligible}
 use Rattle.sync_ql.specs.Moment.{Moment, Settings, level_now, usable_at, candidates_at, switches_at, selection_at}
 use Rattle.sync_ql.specs.Taken.{MayBeTaken}
 use Rattle.sync_ql.proofs.Eligible.{nobody}
@@ -17,24 +17,24 @@ is_false true is = cc
 is_false false is = refl
 
 -- the level that an eligible candidate has
-pub record Usable (level : Option Level) (floor : Option Level) : Type 0 where
+pub record HasGoodLevel (level : Option Level) (floor : Option Level) : Type 0 where
   pub which : Level
   pub is : level ≡ Some which
-  pub good : can_be_used (Some which) ≡ true
+  pub good : is_above_do_not_use (Some which) ≡ true
   pub above : is_better floor (Some which) ≡ false
 
-usable_level : (level floor : Option Level) → can_be_used level ≡ true → is_better floor level ≡ false → Usable level floor
-usable_level None floor good above = cc
-usable_level (Some which) floor good above = record { which = which; is = refl; good = good; above = above }
+good_level : (level floor : Option Level) → is_above_do_not_use level ≡ true → is_better floor level ≡ false → HasGoodLevel level floor
+good_level None floor good above = cc
+good_level (Some which) floor good above = record { which = which; is = refl; good = good; above = above }
 
 may_be_taken : (settings : Settings) (s : Switches) (past : List Moment) (i : ℕ) → i < length settings.priorities → s.locked ≡ (switches_at settings past).locked → is_eligible (candidate (candidates_at settings s past) i) ≡ true → MayBeTaken settings past i
 may_be_taken settings s past i within locked eligible =
     let at : candidate (candidates_at settings s past) i ≡ seen settings s past i = get_or-map-range_with_len (seen settings s past) 0 (length settings.priorities) i i nobody within (zero-add i) in
     let here : is_eligible (seen settings s past i) ≡ true = sym (ap is_eligible at) ∙ eligible in
-    let both = and_parts (usable_at settings s past i) (can_be_used (level_now i past)) here in
+    let both = and_parts (usable_at settings s past i) (is_above_do_not_use (level_now i past)) here in
     let parts = and_parts _ _ both.0 in
     let signals = and_parts _ _ parts.0 in
-    let level = usable_level (level_now i past) settings.floor both.1 (is_false _ parts.1) in
+    let level = good_level (level_now i past) settings.floor both.1 (is_false _ parts.1) in
     let open_ : is_locked s i ≡ false = is_false _ signals.0 in
     record {
       within = within;
@@ -42,7 +42,7 @@ may_be_taken settings s past i within locked eligible =
       not_failed = is_false _ signals.1;
       level = level.which;
       level_is = level.is;
-      usable = ltb-true _ _ level.good;
+      above_do_not_use = ltb-true _ _ level.good;
       not_below = level.above;
     }
 

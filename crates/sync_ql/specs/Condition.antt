@@ -1,9 +1,10 @@
 -- When an input is failed, and in what condition it is.
 -- After G.781, hold-off time and wait-to-restore time.
 -- A past is the list of an input's milliseconds from 0 on, the newest first; before 0 it is empty.
-use Rattle.std.specs.Prelude.{◌≡◌, ◌≤◌, ℕ, zero, suc, ◌+◌, ◌-◌, Bool, true, false, not, ◌&&◌, ◌||◌, nat_lt, if◌then◌else◌, List, [], ◌∷◌, length, Option, None, Some, ⊤}
+use Rattle.std.specs.Prelude.{◌≡◌, ℕ, zero, suc, ◌+◌, ◌-◌, Bool, true, false, not, ◌&&◌, ◌||◌, nat_lt, if◌then◌else◌, List, [], ◌∷◌, length, Option, ⊤}
 use Rattle.sync_ql.specs.declared.rules.Cond.{Cond}
 use Rattle.sync_ql.specs.declared.rules.Cond.TheVariants.{Good, HoldOff, Failed, Restoring}
+use Rattle.sync_ql.specs.FirstChange.{IsNextChange}
 
 -- one millisecond: whether the input is up at its end, and whether wait-to-restore is cleared in it
 pub record Signal : Type 0 where
@@ -76,15 +77,10 @@ IsSameKind Failed Failed = ⊤
 IsSameKind (Restoring a) (Restoring b) = ⊤
 IsSameKind a b = ⊥
 
--- the first later millisecond in which "failed" is another, if nothing happens
-pub record IsFirstChange (timers : Timers) (past : List Signal) (due : ℕ) : Type 0 where
-  pub later : length past ≤ due
-  pub changed : failed_at timers (continued (due + 1) past) ≡ not (failed_at timers past)
-  pub same_before : (n : ℕ) → length past ≤ n → n ≤ due →
-      failed_at timers (continued n past) ≡ failed_at timers past
-
--- that millisecond, or None where "failed" stays for ever
+-- the first later millisecond in which "failed" is another, if nothing happens, or None where it
+-- stays for ever
 abbrev pub IsDue : Timers → List Signal → Option ℕ → Type 0
-IsDue timers past (Some due) = IsFirstChange timers past due
-IsDue timers past None = (n : ℕ) → length past ≤ n →
-    failed_at timers (continued n past) ≡ failed_at timers past
+IsDue timers past = IsNextChange
+    (λ n. failed_at timers (continued n past) ≡ failed_at timers past)
+    (λ n. failed_at timers (continued n past) ≡ not (failed_at timers past))
+    (length past)

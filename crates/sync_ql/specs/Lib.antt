@@ -1,5 +1,7 @@
 pub mod Table
 pub mod Level
+pub mod FirstChange
+pub mod Pasts
 pub mod Condition
 pub mod Switches
 pub mod Selection
@@ -8,5 +10,6 @@ pub mod Told
 pub mod Output
 pub mod Quiet
 pub mod Taken
+pub mod Messages
 pub mod Examples
 pub mod Rows

@@ -1,7 +1,8 @@
 -- What stays in milliseconds in which nothing is told, and until when.
-use Rattle.std.specs.Prelude.{◌≡◌, ◌≤◌, ◌<◌, ◌+◌, ℕ, not, List, length, Option, None, Some}
+use Rattle.std.specs.Prelude.{◌≡◌, ◌<◌, ℕ, not, List, length, Option}
 use Rattle.sync_ql.specs.Condition.{failed_at}
 use Rattle.sync_ql.specs.Moment.{Moment, Settings, signals_of, selection_at}
+use Rattle.sync_ql.specs.FirstChange.{IsNextChange}
 use Rattle.sync_ql.specs.Told.{moments_until}
 use Rattle.sync_ql.specs.Output.{clock_level_at, sent_back_at, mode_at, state_at}
 
@@ -22,13 +23,10 @@ pub record IsSameOutput (settings : Settings) (past past_then : List Moment) : T
 abbrev pub SomeFailedChanges : Settings → List Moment → List Moment → Type 0
 SomeFailedChanges settings past past_then = (i : ℕ) × (i < length settings.priorities) × (failed_at settings.timers (signals_of i past_then) ≡ not (failed_at settings.timers (signals_of i past)))
 
--- the first later millisecond in which an input's "failed" changes, if nothing is told
-pub record IsFirstFailedChange (settings : Settings) (past : List Moment) (due : ℕ) : Type 0 where
-  pub later : length past ≤ due
-  pub changed : SomeFailedChanges settings past (moments_until settings (due + 1) past)
-  pub same_before : (n : ℕ) → length past ≤ n → n ≤ due → IsSameFailed settings past (moments_until settings n past)
-
--- that millisecond, or None where every input's "failed" stays for ever
+-- the first later millisecond in which an input's "failed" changes, if nothing is told, or None where
+-- every input's "failed" stays for ever
 abbrev pub IsElementDue : Settings → List Moment → Option ℕ → Type 0
-IsElementDue settings past (Some due) = IsFirstFailedChange settings past due
-IsElementDue settings past None = (n : ℕ) → length past ≤ n → IsSameFailed settings past (moments_until settings n past)
+IsElementDue settings past = IsNextChange
+    (λ n. IsSameFailed settings past (moments_until settings n past))
+    (λ n. SomeFailedChanges settings past (moments_until settings n past))
+    (length past)

@@ -11,13 +11,13 @@ abbrev pub candidate : List Candidate → ℕ → Candidate
 candidate inputs i = slice_index_or inputs i (record { level = None; priority = 0; usable = false })
 
 -- whether there is a level, and it is better than do-not-use
-abbrev pub can_be_used : Option Level → Bool
-can_be_used None = false
-can_be_used (Some level) = nat_lt (place_of level) (place_of (do_not_use_of level.option))
+abbrev pub is_above_do_not_use : Option Level → Bool
+is_above_do_not_use None = false
+is_above_do_not_use (Some level) = nat_lt (place_of level) (place_of (do_not_use_of level.option))
 
 -- an input may be taken where it is usable and has a level better than do-not-use
 abbrev pub is_eligible : Candidate → Bool
-is_eligible c = c.usable && can_be_used c.level
+is_eligible c = c.usable && is_above_do_not_use c.level
 
 -- whether one input has a better level than another, and whether both have the same one
 abbrev pub is_better : Option Level → Option Level → Bool

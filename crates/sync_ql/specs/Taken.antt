@@ -16,7 +16,7 @@ pub record MayBeTaken (settings : Settings) (past : List Moment) (i : ℕ) : Typ
   pub not_failed : failed_at settings.timers (signals_of i past) ≡ false
   pub level : Level
   pub level_is : level_now i past ≡ Some level
-  pub usable : IsBetter level (do_not_use_of level.option)
+  pub above_do_not_use : IsBetter level (do_not_use_of level.option)
   pub not_below : is_better settings.floor (Some level) ≡ false
 
 -- two candidates that are the same, or neither of which is eligible

@@ -1,14 +1,17 @@
-//! What follows from the rules of one element, for crates that hold none.
+//! What follows from the rules of one element and of one line, for crates that hold none.
 //!
 //! Each function does nothing: its contract is the law. This project's own.
 
-ghost use Rattle.std.specs.Prelude.{◌≡◌, ◌≤◌, ℕ, List, ◌∷◌, Option, IfSome, length};
+ghost use Rattle.std.specs.Prelude.{◌≡◌, ◌≤◌, ◌<◌, ℕ, suc, ◌+◌, true, List, ◌∷◌, Option, None, Some, IfSome, length};
+ghost use Rattle.sync_ql.specs.declared.levels.Level.{Level};
 ghost use Rattle.sync_ql.specs.declared.rules.Candidate.{Candidate};
 ghost use Rattle.sync_ql.specs.Selection.{choice, standing_manual, IsEligible};
 ghost use Rattle.sync_ql.specs.Moment.{Moment, Settings, selection_at};
 ghost use Rattle.sync_ql.specs.Told.{quiet_moment, moments_until};
 ghost use Rattle.sync_ql.specs.Quiet.{IsSameFailed, IsSameOutput, IsElementDue};
 ghost use Rattle.sync_ql.specs.Taken.{MayBeTaken, AllAlike};
+ghost use Rattle.sync_ql.specs.Pasts.{past_of};
+ghost use Rattle.sync_ql.specs.Messages.{LineMoment, said_in, came, heard_at, hearing_time};
 
 /// The laws of the choice: what is chosen is eligible; choosing again from what was chosen changes
 /// nothing; and candidates that are alike place by place, each the same or none of both eligible,
@@ -45,4 +48,27 @@ pub fn quiet_law()
         (due : Option ℕ) (n : ℕ) → IsElementDue settings (now ∷ before) due →
         length (now ∷ before) ≤ n → IfSome due (λ due. n ≤ due) →
         IsSameOutput settings (now ∷ before) (moments_until settings n (now ∷ before)) }
+{}
+
+/// The laws of a line. It is a delay: what it says is heard a delay later if it was up since, and no
+/// repeat has to be looked at. What arrived last is heard for five seconds, and nothing is heard where
+/// nothing arrived so long. What is heard doesn't depend on what is said in the same millisecond.
+///
+/// After G.8264, event and information messages; whole milliseconds are this project's own.
+pub fn line_law()
+    ensures delay { (moments : ℕ → LineMoment) (level : Level) (delay said heard : ℕ) →
+        heard ≡ delay + said → said_in (moments said) ≡ Some level →
+        ((t : ℕ) → said ≤ t → t ≤ heard → (moments t).up ≡ true) →
+        heard_at delay (past_of moments (suc heard)) ≡ Some level }
+    ensures last { (moments : ℕ → LineMoment) (level : Level) (delay arrival now : ℕ) →
+        arrival ≤ now → came delay (past_of moments (suc arrival)) ≡ Some level →
+        ((t : ℕ) → arrival < t → t ≤ now → came delay (past_of moments (suc t)) ≡ None) →
+        now < arrival + hearing_time → heard_at delay (past_of moments (suc now)) ≡ Some level }
+    ensures lost { (moments : ℕ → LineMoment) (delay now : ℕ) →
+        ((t : ℕ) → t ≤ now → now < t + hearing_time →
+        came delay (past_of moments (suc t)) ≡ None) →
+        heard_at delay (past_of moments (suc now)) ≡ None }
+    ensures earlier { (delay : ℕ) (now other : LineMoment) (before : List LineMoment) →
+        1 ≤ delay → now.up ≡ other.up →
+        heard_at delay (now ∷ before) ≡ heard_at delay (other ∷ before) }
 {}

@@ -9,7 +9,11 @@
 //! what holds at a millisecond is read off the list of the milliseconds until then, the newest
 //! first (`failed_at`, `condition_at`, `switches_at`, `selection_at`, `clock_level_at`,
 //! `sent_back_at`, `mode_at`, `state_at`), and a millisecond by what is told in it (`moment_after`).
-//! The module [`rules`] has the types in which they ask and answer, and [`laws`] what follows.
+//! The module [`rules`] has the types in which they ask and answer, [`limits`] the ranges of times and
+//! inputs, and [`laws`] what follows.
+//!
+//! So are the rules of one line: what it says, which messages go out, what arrives and what is heard
+//! (`said`, `is_sent`, `came`, `heard_at`).
 //!
 //! After ITU-T G.781, quality levels and SSM codes of network options I and II, hold-off and
 //! wait-to-restore times, external commands and selection; the idea of enhanced codes after ITU-T
@@ -19,6 +23,7 @@
 
 pub mod laws;
 mod levels;
+pub mod limits;
 mod rows;
 pub mod rules;
 mod table;

@@ -22,7 +22,7 @@ use Rattle.sync_topo.specs.declared.rows.PlanRows.{PlanRows}
 use Rattle.sync_topo.specs.Topology.{Topology}
 use Rattle.sync_topo.specs.Limits.{element_limit, link_limit, source_limit}
 use Rattle.sync_topo.specs.Names.{is_name, is_named, element_names}
-use Rattle.sync_topo.specs.RowValues.{number_or, usable, clock_level, default_own, element_of_name, element_from, link_from, source_from, plan_from}
+use Rattle.sync_topo.specs.RowValues.{number_or, if_clock_level, clock_level, default_own, element_of_name, element_from, link_from, source_from, plan_from}
 use Rattle.sync_topo.specs.Rules.{Rule, is_outside, has_room, element_rules, link_rules, source_rules}
 use Rattle.sync_topo.specs.PlanRows.{each_row, element_row_rules, link_row_rules, source_row_rules, limits_of, rules_of, first_broken, or_refusal, plan_of_rows}
 use Rattle.sync_topo.specs.Steps.{rows_from, element_rules_after, link_rules_after, source_rules_after}
@@ -78,20 +78,20 @@ named_level option name level = by (place_of_name option name)
 clock_level-is : (option : NetOption) (name : List ℕ) (level : Level) → clock_level option name ≡ Some level → IsClockLevel option level
 clock_level-is option name level = by (level_of_name option name) refl
   where
-    by : (found : Option Level) → level_of_name option name ≡ found → usable option found ≡ Some level → IsClockLevel option level
+    by : (found : Option Level) → level_of_name option name ≡ found → if_clock_level option found ≡ Some level → IsClockLevel option level
     by None is e = absurd (none-some level e)
     by (Some there) is e = tested (nat_lt (level_place there) (level_place (do_not_use_of option))) refl e
       where
         tested : (better : Bool) → nat_lt (level_place there) (level_place (do_not_use_of option)) ≡ better → (if better then Some there else None) ≡ Some level
             → IsClockLevel option level
         tested true better found =
-            rw (← same_Some there level found) (record { of_option = named_level option name there is; usable = ltb-true _ _ better })
+            rw (← same_Some there level found) (record { of_option = named_level option name there is; above_do_not_use = ltb-true _ _ better })
         tested false better found = absurd (none-some level found)
 
 default_own-is : (option : NetOption) → IsClockLevel option (default_own option)
 unfolding dec_lt
-default_own-is I = record { of_option = refl; usable = lit< tt }
-default_own-is II = record { of_option = refl; usable = lit< tt }
+default_own-is I = record { of_option = refl; above_do_not_use = lit< tt }
+default_own-is II = record { of_option = refl; above_do_not_use = lit< tt }
 
 own_level : (option : NetOption) (given : Option (List ℕ)) → IsClockLevel option (unwrap_or (option_and_then (clock_level option) given) (default_own option))
 own_level option None = default_own-is option

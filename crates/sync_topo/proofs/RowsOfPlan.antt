@@ -80,7 +80,7 @@ level_found : (option : NetOption) (level : Level) → level.option ≡ option �
 level_found option level of_option = rw (← of_option) (level_of_name-name_of level)
 
 clock_level_found : (option : NetOption) (level : Level) → IsClockLevel option level → clock_level option (name_of level) ≡ Some level
-clock_level_found option level is_clock = rw (level_found option level is_clock.of_option, lt-ltb _ _ is_clock.usable) refl
+clock_level_found option level is_clock = rw (level_found option level is_clock.of_option, lt-ltb _ _ is_clock.above_do_not_use) refl
 
 floor_found : (option : NetOption) (floor : Option Level) → IfSome floor (IsClockLevel option) → option_and_then (clock_level option) (option_map name_of floor) ≡ floor
 floor_found option None is_clock = refl

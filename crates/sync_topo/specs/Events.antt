@@ -1,5 +1,6 @@
--- Which events a plan may have.
-use Rattle.std.specs.Prelude.{◌≡◌, ◌<◌, length}
+-- Which events a plan may have, and lists of events.
+use Rattle.std.specs.Prelude.{◌≡◌, ◌<◌, ◌≤◌, List, length}
+use Rattle.std.specs.List.{All, AllAdjacentBelow}
 use Rattle.sync_topo.specs.declared.event.Part.{Part}
 use Rattle.sync_topo.specs.declared.event.Part.TheVariants as part
 use Rattle.sync_topo.specs.declared.event.What.{What}
@@ -31,3 +32,12 @@ MayHappen plan (ClearWtr input) = IsInput plan input
 -- the event fits the plan
 abbrev pub Fits : Topology → Event → Type 0
 Fits plan event = MayHappen plan event.what
+
+-- times don't fall from one event to the next
+abbrev pub IsInOrder : List Event → Type 0
+IsInOrder events = AllAdjacentBelow (λ one next. one.at ≤ next.at) events (length events)
+
+-- the events fit the plan, and stand in order of time
+pub record IsEventList (plan : Topology) (events : List Event) : Type 0 where
+  pub fit : All (Fits plan) events
+  pub in_order : IsInOrder events

@@ -1,8 +1,9 @@
 -- Hops from line to line, ranks that rise over them, and cycles.
-use Rattle.std.specs.Prelude.{ℕ, ◌<◌, Bool, not, ◌&&◌, ◌==◌, IsTrue, ⊤, List, [], ◌∷◌, ◌++◌}
+use Rattle.std.specs.Prelude.{ℕ, Bool, not, ◌&&◌, ◌==◌, IsTrue, List}
 use Rattle.sync_topo.specs.Topology.{Topology}
 use Rattle.sync_topo.specs.Lines.{sender_of, receiver_of, is_nominated}
 use Rattle.sync_topo.specs.Bundles.{are_bundled}
+use Rattle.sync_topo.specs.Ranks.{Rises, Walks, Circles}
 
 -- the second line begins where the first ends, and leads back over the first one's bundle: what a line brings is not
 -- offered there again. After G.781, do-not-use towards the selected reference.
@@ -18,17 +19,12 @@ hops plan line next =
 abbrev pub Hops : Topology → ℕ → ℕ → Type 0
 Hops plan line next = IsTrue (hops plan line next)
 
--- the rank is greater after every hop
+-- ranks that rise over the hops of a plan, its walks and its cycles
 abbrev pub IsRising : Topology → (ℕ → ℕ) → Type 0
-IsRising plan rank = (line next : ℕ) → Hops plan line next → rank line < rank next
+IsRising plan rank = Rises (hops plan) rank
 
--- each line of the list hops to the one after it
 abbrev pub IsWalk : Topology → List ℕ → Type 0
-IsWalk plan [] = ⊤
-IsWalk plan (line ∷ []) = ⊤
-IsWalk plan (line ∷ next ∷ rest) = Hops plan line next × IsWalk plan (next ∷ rest)
+IsWalk plan lines = Walks (hops plan) lines
 
--- at least one line, each of which hops to the next, and the last to the first
 abbrev pub IsCycle : Topology → List ℕ → Type 0
-IsCycle plan [] = ⊥
-IsCycle plan (first ∷ rest) = IsWalk plan (first ∷ rest ++ first ∷ [])
+IsCycle plan lines = Circles (hops plan) lines

@@ -1,5 +1,6 @@
 -- How much a plan may hold. This project's own, but for the hold-off and wait-to-restore times, which are after G.781.
 use Rattle.std.specs.Prelude.{ℕ}
+use Rattle.sync_ql.specs.declared.limits.TheConstants.{MOST_INPUTS, LEAST_HOLDOFF, GREATEST_HOLDOFF, GREATEST_WTR_MINUTES, LEAST_DELAY, GREATEST_DELAY}
 
 abbrev pub element_limit : ℕ
 element_limit = 2000
@@ -12,25 +13,25 @@ source_limit = 2000
 
 -- the most nominated inputs that an element may have
 abbrev pub input_limit : ℕ
-input_limit = 64
+input_limit = MOST_INPUTS
 
 -- hold-off times, in milliseconds
 abbrev pub least_holdoff : ℕ
-least_holdoff = 300
+least_holdoff = LEAST_HOLDOFF
 
 abbrev pub greatest_holdoff : ℕ
-greatest_holdoff = 1800
+greatest_holdoff = GREATEST_HOLDOFF
 
 -- wait-to-restore times, in minutes
 abbrev pub greatest_wtr : ℕ
-greatest_wtr = 12
+greatest_wtr = GREATEST_WTR_MINUTES
 
 -- delays, in milliseconds
 abbrev pub least_delay : ℕ
-least_delay = 1
+least_delay = LEAST_DELAY
 
 abbrev pub greatest_delay : ℕ
-greatest_delay = 2000
+greatest_delay = GREATEST_DELAY
 
 abbrev pub greatest_priority : ℕ
 greatest_priority = 255

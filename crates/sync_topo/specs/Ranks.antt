@@ -1,5 +1,5 @@
--- Least ranks, and the first cycle where no ranks rise: over any test that says which line hops to which.
-use Rattle.std.specs.Prelude.{◌≡◌, ℕ, ◌<◌, ◌≤◌, ⊤, Bool, false, IsTrue, zero, suc, List, [], ◌∷◌, Option, Some, None}
+-- Ranks that rise, walks, cycles, least ranks, and the first cycle where no ranks rise: over any test that says which line hops to which.
+use Rattle.std.specs.Prelude.{◌≡◌, ℕ, ◌<◌, ◌≤◌, ⊤, Bool, false, IsTrue, zero, suc, List, [], ◌∷◌, ◌++◌, Option, Some, None}
 use Rattle.std.specs.List.{All}
 
 -- which line hops to which. All below holds for any such test.
@@ -9,6 +9,17 @@ HopTest = ℕ → ℕ → Bool
 -- the rank is greater after every hop
 abbrev pub Rises : HopTest → (ℕ → ℕ) → Type 0
 Rises hop rank = (line next : ℕ) → IsTrue (hop line next) → rank line < rank next
+
+-- each line of the list hops to the one after it
+abbrev pub Walks : HopTest → List ℕ → Type 0
+Walks hop [] = ⊤
+Walks hop (line ∷ []) = ⊤
+Walks hop (line ∷ next ∷ rest) = IsTrue (hop line next) × Walks hop (next ∷ rest)
+
+-- at least one line, each of which hops to the next, and the last to the first
+abbrev pub Circles : HopTest → List ℕ → Type 0
+Circles hop [] = ⊥
+Circles hop (first ∷ rest) = Walks hop (first ∷ rest ++ first ∷ [])
 
 -- a walk of so many hops ends in the line
 abbrev pub HasWalk : HopTest → ℕ → ℕ → Type 0

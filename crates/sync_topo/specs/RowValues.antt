@@ -20,14 +20,14 @@ number_or default None = default
 number_or default (Some (pos n)) = n
 number_or default (Some (negsuc n)) = default
 
--- the level, if it is better than do-not-use
-abbrev pub usable : NetOption → Option Level → Option Level
-usable option None = None
-usable option (Some level) = if nat_lt (level_place level) (level_place (do_not_use_of option)) then Some level else None
+-- the level, if it is better than do-not-use: one that a clock or a floor may have
+abbrev pub if_clock_level : NetOption → Option Level → Option Level
+if_clock_level option None = None
+if_clock_level option (Some level) = if nat_lt (level_place level) (level_place (do_not_use_of option)) then Some level else None
 
 -- the level of a name that a clock or a floor may have: every level of the option but do-not-use
 abbrev pub clock_level : NetOption → List ℕ → Option Level
-clock_level option name = usable option (level_of_name option name)
+clock_level option name = if_clock_level option (level_of_name option name)
 
 -- the level of the clock of an element that names none. This project's own
 abbrev pub default_own_name : NetOption → List ℕ

@@ -21,7 +21,7 @@ AreDistinct names = (i j : ℕ) → i < j → j < length names → slice_get nam
 -- a level of the option, and not do-not-use
 pub record IsClockLevel (option : NetOption) (level : Level) : Type 0 where
   pub of_option : level.option ≡ option
-  pub usable : level_place level < level_place (do_not_use_of option)
+  pub above_do_not_use : level_place level < level_place (do_not_use_of option)
 
 -- the element's levels are the option's, and its times fit
 pub record IsElementOf (option : NetOption) (element : Element) : Type 0 where

@@ -5,10 +5,10 @@
 //! first rule that the rows break and where. Contracts see a plan as a `Topology`: its option, its
 //! elements, its links and its sources.
 //!
-//! Each link is two lines. Which lines and inputs there are and their names is `Lines`, which links go
-//! back together is `Bundles`, which line goes on over which is `Hops`, and which events a plan may have is `Events`. The rules for one row
-//! are `Rules`, the plan of rows or the first refusal is `plan_of_rows`, and what holds of every plan
-//! is `IsWellFormed`.
+//! Each link is two lines. Which lines and inputs there are and their names is `Lines`, which links
+//! go back together is `Bundles`, which line goes on over which is `Hops`, and which events a plan
+//! may have is `Events`. The rules for one row are `Rules`, the plan of rows or the first refusal is
+//! `plan_of_rows`, and what holds of every plan is `IsWellFormed`.
 //!
 //! Tested here are look-ups, events, hops and printed texts; whole plans are tested in plan_file.
 #![tactic(auto)]

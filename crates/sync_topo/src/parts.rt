@@ -25,6 +25,7 @@ use crate::source::Source;
 use std::alloc::Global;
 use sync_edge::{NoMemory, Text};
 use sync_ql::NetOption;
+use sync_ql::limits::MOST_INPUTS;
 
 /// The most elements that a plan may have.
 const ELEMENT_LIMIT: usize = 2000;
@@ -34,9 +35,6 @@ const LINK_LIMIT: usize = 4000;
 
 /// The most sources that a plan may have.
 const SOURCE_LIMIT: usize = 2000;
-
-/// The most nominated inputs that an element may have.
-const INPUT_LIMIT: usize = 64;
 
 /// What a plan keeps: what it holds, and indexes that are found from that.
 #[derive(Drop)]
@@ -113,7 +111,7 @@ impl Parts {
         ensures { let more = if nat_lt 0 priority then 1 else 0 in
             result ≡ nat_le (length (inputs_of (topology self.now) element) + more) input_limit }
     {
-        priority == 0 || self.inputs[element as usize].len() < INPUT_LIMIT
+        priority == 0 || self.inputs[element as usize].len() < MOST_INPUTS
     }
 }
 

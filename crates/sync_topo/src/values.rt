@@ -46,7 +46,7 @@ pub(crate) fn priority_within(given: Option<i64>, default: u8) -> Option<u8>
 /// `None` where it names none, and where no level of the option but do-not-use has the name.
 pub(crate) fn level_given(option: NetOption, given: &Option<Text>) -> Option<Level>
     ensures level { result ≡ option_and_then (clock_level option) given.now }
-    ensures usable { IfSome result (IsClockLevel option) }
+    ensures clock_level { IfSome result (IsClockLevel option) }
 {
     match given {
         Some(name) => clock_level(option, name.bytes()),
@@ -57,7 +57,7 @@ pub(crate) fn level_given(option: NetOption, given: &Option<Text>) -> Option<Lev
 /// The level of a name that a clock or a floor may have: every level of the option but do-not-use.
 fn clock_level(option: NetOption, name: &[u8]) -> Option<Level>
     ensures level { result ≡ clock_level option name.now }
-    ensures usable { IfSome result (IsClockLevel option) }
+    ensures clock_level { IfSome result (IsClockLevel option) }
 {
     let level = level_of_name(option, name)?;
     if better(level, do_not_use(option)) {
@@ -70,7 +70,7 @@ fn clock_level(option: NetOption, name: &[u8]) -> Option<Level>
 /// The level of the clock of an element that names none: QL-SEC in option I, QL-ST3 in option II.
 pub(crate) fn default_own(option: NetOption) -> Level
     ensures level { result ≡ default_own option }
-    ensures usable { IsClockLevel option result }
+    ensures clock_level { IsClockLevel option result }
 {
     let name = match option {
         NetOption::I => "QL-SEC",

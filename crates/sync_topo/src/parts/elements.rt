@@ -16,10 +16,14 @@ use crate::rows::ElementRow;
 use crate::values::{default_own, level_given, number_within};
 use std::alloc::Global;
 use sync_edge::{NoMemory, Rows};
+use sync_ql::limits::{GREATEST_HOLDOFF, GREATEST_WTR_MINUTES, LEAST_HOLDOFF, MINUTE};
 use sync_ql::{Level, NetOption};
 
-/// How many milliseconds a minute has.
-const MINUTE: u32 = 60_000;
+/// The hold-off time of an element that names none, in milliseconds.
+const DEFAULT_HOLDOFF: u32 = 300;
+
+/// The wait-to-restore time of an element that names none, in minutes.
+const DEFAULT_WTR_MINUTES: u32 = 5;
 
 impl Parts {
     ghost use Rattle.sync_topo.specs.Indexed.{topology, IsIndexed, MayJoin};
@@ -114,8 +118,13 @@ fn times_of(row: &ElementRow) -> Option<(u32, u32)>
     ensures wtr { IfSome result (λ times. times.1 ≡ 60000 * number_or 5 row.now.wtr) }
     ensures greatest_wtr { IfSome result (λ times. number_or 5 row.now.wtr ≤ greatest_wtr) }
 {
-    let holdoff = number_within(row.holdoff, 300, 300, 1800)?;
-    let minutes = number_within(row.wtr, 5, 0, 12)?;
+    let holdoff = number_within(
+        row.holdoff,
+        DEFAULT_HOLDOFF,
+        LEAST_HOLDOFF,
+        GREATEST_HOLDOFF,
+    )?;
+    let minutes = number_within(row.wtr, DEFAULT_WTR_MINUTES, 0, GREATEST_WTR_MINUTES)?;
     Some((holdoff, MINUTE * minutes))
 }
 
@@ -127,10 +136,10 @@ fn levels_of(option: NetOption, row: &ElementRow) -> Option<(Level, Option<Level
         ≡ (is_no_clock_level option row.now.own || is_no_clock_level option row.now.floor) }
     ensures own { IfSome result (λ levels. levels.0
         ≡ unwrap_or (option_and_then (clock_level option) row.now.own) (default_own option)) }
-    ensures own_usable { IfSome result (λ levels. IsClockLevel option levels.0) }
+    ensures own_clock_level { IfSome result (λ levels. IsClockLevel option levels.0) }
     ensures floor { IfSome result
         (λ levels. levels.1 ≡ option_and_then (clock_level option) row.now.floor) }
-    ensures floor_usable { IfSome result (λ levels. IfSome levels.1 (IsClockLevel option)) }
+    ensures floor_clock_level { IfSome result (λ levels. IfSome levels.1 (IsClockLevel option)) }
 {
     let own = level_given(option, &row.own);
     if row.own.is_some() && own.is_none() {

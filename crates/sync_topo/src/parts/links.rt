@@ -16,6 +16,10 @@ use crate::place::Section;
 use crate::rows::LinkRow;
 use crate::values::{number_within, priority_within};
 use sync_edge::{NoMemory, Rows};
+use sync_ql::limits::{GREATEST_DELAY, LEAST_DELAY};
+
+/// The delay of a line that names none, in milliseconds.
+const DEFAULT_DELAY: u32 = 1;
 
 impl Parts {
     ghost use Rattle.sync_topo.specs.Indexed.{topology, IsIndexed, MayLink};
@@ -186,8 +190,8 @@ fn numbers_of(row: &LinkRow) -> Option<LinkNumbers>
 {
     let priority_a = priority_within(row.priority_a, 0)?;
     let priority_b = priority_within(row.priority_b, 0)?;
-    let delay_a = number_within(row.delay_a, 1, 1, 2000)?;
-    let delay_b = number_within(row.delay_b, 1, 1, 2000)?;
+    let delay_a = number_within(row.delay_a, DEFAULT_DELAY, LEAST_DELAY, GREATEST_DELAY)?;
+    let delay_b = number_within(row.delay_b, DEFAULT_DELAY, LEAST_DELAY, GREATEST_DELAY)?;
     Some(LinkNumbers {
         priority_a,
         priority_b,
