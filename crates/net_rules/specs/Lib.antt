@@ -1,0 +1,13 @@
+pub mod Signals
+pub mod Inputs
+pub mod History
+pub mod Sameness
+pub mod Walks
+pub mod GoingBack
+pub mod Settled
+pub mod Safety
+pub mod Facing
+pub mod Staying
+pub mod Activity
+pub mod Settling
+pub mod Examples
