@@ -3,6 +3,7 @@
 ghost use Rattle.std.specs.Prelude.{◌≡◌, ◌<◌, ℕ, List, option_map};
 ghost use Rattle.sync_topo.specs.Lines.{line_count, IsInput};
 ghost use Rattle.sync_topo.specs.Hops.{IsCycle};
+ghost use Rattle.net_rules.specs.Safety.{IsLoopFree};
 ghost use Rattle.rank_cert.specs.Ranks.{IsRanked, Judges};
 ghost use Rattle.rank_cert.specs.FirstFall.{falls, fall_from, first_to, earlier};
 
@@ -22,13 +23,16 @@ pub enum Verdict {
 
 /// Tests that the rank is greater after every hop.
 ///
-/// It looks at each hop once, and takes no memory. This project's own.
+/// It looks at each hop once, and takes no memory. What ranks that rise leave of timing loops is
+/// proved over the rules of a running network (`net_rules`). This project's own.
 pub fn check(plan: &Plan, cert: &Cert) -> Verdict
     requires ranked { IsRanked plan.now cert.now }
     ensures verdict { Judges plan.now cert.now result }
 
-    // With rising ranks no lines hop round in a cycle.
+    // With rising ranks no lines hop round in a cycle, and no timing loop can form, but two elements
+    // that face each other on one link or bundle, whatever happens.
     ensures no_cycle { result ≡ Verdict.Rising → (lines : List ℕ) → IsCycle plan.now lines → ⊥ }
+    ensures loop_free { result ≡ Verdict.Rising → IsLoopFree plan.now }
 {
     let mut first: Option<(LineId, LineId)> = None;
     for number in 0..plan.lines() {

@@ -2,6 +2,7 @@ use Rattle.std.proofs.Common.{◌≤◌, arith}
 use Rattle.sync_topo.specs.Lines.{line_count}
 use Rattle.rank_cert.specs.Ranks.{rank_of}
 use Rattle.rank_cert.proofs.RankLaws.{IsFirstBelow-more, IsRising-from, IsFirstFall-from, IsRising-no_cycle}
+use Rattle.net_rules.proofs.FinalLaws.{loop_free}
 use Rattle.rank_cert.proofs.rising.check.Goals as goal
 
 pub loop-number-preserved : goal.loop-number-preserved
@@ -23,4 +24,10 @@ pub returns-in-None-clause-no_cycle : goal.returns-in-None-clause-no_cycle
 returns-in-None-clause-no_cycle c = λ rising.
     let all : line_count c.args.plan.now ≤ c.loop-number.number = omega (arith, c.lines-number-end.ensures.count) in
     IsRising-no_cycle c.args.plan.now (rank_of c.args.cert.now)
+    (IsRising-from c.args.plan.now c.args.cert.now c.loop-number.number all (rw c.in-None.is at c.loop-number.invariant))
+
+pub returns-in-None-clause-loop_free : goal.returns-in-None-clause-loop_free
+returns-in-None-clause-loop_free c = λ rising.
+    let all : line_count c.args.plan.now ≤ c.loop-number.number = omega (arith, c.lines-number-end.ensures.count) in
+    loop_free c.args.plan.now (rank_of c.args.cert.now) c.lines-number-end.ensures.well_formed
     (IsRising-from c.args.plan.now c.args.cert.now c.loop-number.number all (rw c.in-None.is at c.loop-number.invariant))
