@@ -1,5 +1,5 @@
 -- That the test of ranks accepts what the planner wrote.
-use Rattle.std.proofs.Common.{◌≡◌, ◌≤◌, ◌<◌, ℕ, Bool, true, false, List, [], ◌∷◌, length, Option, Some, None, Result, Ok, Err, refl, sym, ap, arith, ◌∙◌}
+use Rattle.std.proofs.Common.{◌≡◌, ◌≤◌, ◌<◌, ℕ, Bool, true, false, List, [], ◌∷◌, length, Option, Some, None, Result, Ok, Err, refl, sym}
 use Rattle.std.specs.Prelude.{codes, nat_lt}
 use Rattle.std.specs.FinMap.{get}
 use Rattle.std.proofs.lemmas.Bool.{le-ltb, lt-ltb}
@@ -10,7 +10,7 @@ use Rattle.plan_file.specs.PlanText.{plan_of}
 use Rattle.rank_cert.specs.Ranks.{Ranks}
 use Rattle.rank_cert.specs.CertificateText.{certificate_of}
 use Rattle.sync_top.specs.declared.status.Status.{Status}
-use Rattle.sync_top.specs.declared.status.Status.TheVariants.{Done, Usage, TooLong, BadPlan}
+use Rattle.sync_top.specs.declared.status.Status.TheVariants.{Done}
 use Rattle.sync_top.specs.Form.{is_file_word}
 use Rattle.sync_top.specs.Answer.{End, no_file, answered, file, file_limit, text_line, plan_in, ranks_in, documents, Answered, IsPlanned, IsVerdict, IsAnswer}
 
@@ -26,7 +26,7 @@ ranks_are : (plan : Topology) (name text : List ℕ) (files : Contents) (ranks :
 ranks_are plan name text files ranks there short back = rw (file_is name text files there short, back) refl
 
 -- what ends the reading of a plan is no answer that was done
-never_done : (name : List ℕ) (files : Contents) (known : Status) (said : List ℕ) → plan_in name files ≡ Err (answered known said) → known ≡ Done → ⊥
+pub never_done : (name : List ℕ) (files : Contents) (known : Status) (said : List ℕ) → plan_in name files ≡ Err (answered known said) → known ≡ Done → ⊥
 never_done name files known said is done = there (get files name) refl
   where
     refused : (bytes : List ℕ) (read : Result Topology PlanFileErr) → plan_of bytes ≡ read → get files name ≡ Some bytes → nat_lt file_limit (length bytes) ≡ false → ⊥

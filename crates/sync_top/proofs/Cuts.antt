@@ -1,6 +1,6 @@
 -- What was to be written where a write failed.
-use Rattle.std.proofs.Common.{◌≡◌, ℕ, Bool, List, Option, Some, None, inl, inr}
-use Rattle.std.specs.Prelude.{IfSome, ◌⊎◌}
+use Rattle.std.proofs.Common.{ℕ, Bool, List, Option, Some, None, inl, inr}
+use Rattle.std.specs.Prelude.{IfSome}
 use Rattle.sync_edge.specs.Contents.{Contents}
 use Rattle.sync_edge.specs.Transfers.{AppendsFront}
 use Rattle.sync_top.specs.declared.status.Status.{Status}

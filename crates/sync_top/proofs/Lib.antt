@@ -1,3 +1,4 @@
 pub mod Cuts
 pub mod OneAnswer
 pub mod Accepted
+pub mod LoopFree

@@ -5,3 +5,4 @@ pub mod OneAnswer
 pub mod Examples
 pub mod Work
 pub mod FormSeen
+pub mod LoopFree

@@ -6,6 +6,7 @@ ghost use Rattle.sync_edge.specs.Faults.{Rose};
 ghost use Rattle.sync_top.specs.Status.{OnAnswer};
 ghost use Rattle.sync_top.specs.Form.{form_of, file_count, reads_file};
 ghost use Rattle.sync_top.specs.Answer.{across, IsAnswer, MissesFile, HasFiles, Delivers, IsCut, MayFault, fault_text};
+ghost use Rattle.sync_top.specs.LoopFree.{IsCheckedLoopFree};
 ghost use Rattle.sync_top.specs.Work.{Replies, EndsIn, UsageWhere, status_of};
 
 use crate::check::check;
@@ -85,6 +86,11 @@ pub fn run<F: Folder, K: Sink>(
     // Where the folder tells its contents, status and text are an answer to the words.
     ensures answer { OnAnswer result (IfSome (F.contents folder.old)
         (Delivers (map string_bytes words.now) (K.written sink.old) (K.written sink.new) result)) }
+
+    // Where `check` is done, a plan was read, and no timing loop can form in it, but two elements
+    // that face each other on one link or bundle, whatever happens.
+    ensures accepted_is_loop_free { result ≡ Status.Done → IfSome (F.contents folder.old)
+        (IsCheckedLoopFree (form_of (map string_bytes words.now))) }
 
     // Which words are a form doesn't depend on any file. Other words, and `gen`, call the folder not
     // at all.

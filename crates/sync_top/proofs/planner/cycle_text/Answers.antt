@@ -1,4 +1,4 @@
-use Rattle.std.proofs.Common.{◌≡◌, ◌<◌, ℕ, map, length, get_or}
+use Rattle.std.proofs.Common.{◌<◌, ℕ, map, length, get_or}
 use Rattle.std.proofs.lemmas.List.{get_or-map, length-map}
 use Rattle.sync_topo.specs.Lines.{line_count}
 use Rattle.sync_topo.specs.declared.input.LineId.{LineId}

@@ -1,6 +1,7 @@
-use Rattle.std.proofs.Common.{◌≡◌, map}
+use Rattle.std.proofs.Common.{map}
 use Rattle.std.specs.String.{string_bytes}
 use Rattle.sync_top.proofs.Cuts.{cut-from}
+use Rattle.sync_top.proofs.LoopFree.{loop_free-from}
 use Rattle.sync_top.proofs.program.run.Goals as goal
 
 pub returns-clause-cut : goal.returns-clause-cut
@@ -9,3 +10,9 @@ returns-clause-cut g c = λ fault.
     cut-from (map string_bytes c.args.words.now) (F.contents c.args.folder.now) (F.steady c.args.folder.now) (F.faults c.args.folder.now) (F.faults c.reply_to.new.folder)
     (K.written c.args.sink.now) (K.written c.write_all.new.sink) c.in-Ok.reply.status c.in-Ok.reply.text
     c.in-Ok.ensures.ends (rw c.bytes.ensures at c.in-Err.ensures.front)
+
+pub returns-in-Ok-write_all-clause-accepted_is_loop_free : goal.returns-in-Ok-write_all-clause-accepted_is_loop_free
+returns-in-Ok-write_all-clause-accepted_is_loop_free g c =
+    let F = g.F.Folder in
+    loop_free-from (map string_bytes c.args.words.now) (F.contents c.args.folder.now) (F.steady c.args.folder.now) (F.faults c.args.folder.now) (F.faults c.reply_to.new.folder)
+    c.in-Ok.reply.status c.in-Ok.reply.text c.in-Ok.ensures.ends
