@@ -1,0 +1,10 @@
+pub mod Times
+pub mod Pasts
+pub mod Ordering
+pub mod Steps
+pub mod Telling
+pub mod Standing
+pub mod Called
+pub mod Replies
+pub mod Dues
+pub mod Arriving

@@ -1,0 +1,38 @@
+-- Private to this crate: how a line is seen, and what is true of every one.
+use Rattle.std.specs.Prelude.{◌≤◌, ℕ, ◌+◌, ◌*◌, ◌/◌}
+use Rattle.sync_ql.specs.declared.limits.TheConstants.{LEAST_DELAY, GREATEST_DELAY, LAST_MILLISECOND}
+use Rattle.link_model.specs.declared.line.Line.TheInside.{Inside}
+use Rattle.link_model.specs.Kept.{Kept, words_kept, all_words, due_of, IsOrdered}
+use Rattle.link_model.specs.Each.{Each}
+use Rattle.link_model.specs.LineState.{LineState}
+
+-- the first millisecond that no call has told of
+abbrev pub next_of : ℕ → ℕ
+next_of turn = (turn + 3) / 4
+
+abbrev pub seen : ℕ → ℕ → Kept → LineState
+seen delay turn kept = record {
+  delay = delay;
+  turn = turn;
+  due = due_of delay (next_of turn) kept.words;
+  kept = kept;
+}
+
+abbrev pub kept_in : Inside → Kept
+kept_in line = record {
+  now = record { up = line.up; esmc = line.esmc; level = line.level };
+  words = words_kept line.words;
+}
+
+abbrev pub line_state : Inside → LineState
+line_state line = seen line.delay line.turn (kept_in line)
+
+pub record IsWhole (delay turn : ℕ) (kept : Kept) : Type 0 where
+  pub delay_low : LEAST_DELAY ≤ delay
+  pub delay_high : delay ≤ GREATEST_DELAY
+  pub turn_high : turn ≤ 4 * LAST_MILLISECOND + 4
+  pub ordered : IsOrdered delay (next_of turn) kept.words
+  pub said : Each (λ w. 4 * w.sent + 4 ≤ turn) (all_words kept.words)
+
+abbrev pub IsKept : Inside → Type 0
+IsKept line = IsWhole line.delay line.turn (kept_in line)
