@@ -1,7 +1,7 @@
 -- In the millisecond that is due news arrives, or the level that was heard is lost.
-use Rattle.std.proofs.Common.{◌≡◌, ◌≤◌, ◌<◌, ◌⊎◌, inl, inr, ℕ, suc, ◌+◌, ◌-◌, Bool, true, false, not, ◌&&◌, ◌||◌, nat_lt, if◌then◌else◌, List, [], ◌∷◌, length, drop, Option, None, Some, IfSome, refl, ap, sym, subst, ◌∙◌, arith}
+use Rattle.std.proofs.Common.{◌≡◌, ◌≤◌, inl, inr, ℕ, suc, ◌+◌, Bool, true, false, ◌&&◌, nat_lt, if◌then◌else◌, List, [], ◌∷◌, length, drop, Option, None, Some, IfSome, refl, ap, sym, subst, ◌∙◌, arith}
 use Rattle.sync_ql.specs.declared.levels.Level.{Level}
-use Rattle.sync_ql.specs.Messages.{LineMoment, is_news, arrives, came, said, unchanged, line_until}
+use Rattle.sync_ql.specs.Messages.{LineMoment, arrives, came, said, unchanged, line_until}
 use Rattle.link_model.specs.declared.word.Word.{Word}
 use Rattle.link_model.specs.Busy.{news_arrives, IsBusyAt}
 use Rattle.link_model.specs.Kept.{Kept, loss_of, arrival_of, first_of, due_of, IsOrdered}

@@ -13,6 +13,8 @@
 
 mod laws;
 mod line;
+#[cfg(test)]
+mod tests;
 mod word;
 mod words;
 

@@ -9,7 +9,7 @@ ghost use Rattle.link_model.specs.Spoken.{message_of};
 ghost use Rattle.link_model.specs.StandsFor.{StandsFor, AreOfOption};
 
 use crate::word::Word;
-use crate::words::{Words, is_other};
+use crate::words::{HEARING_TIME, Words, is_other};
 use std::alloc::Global;
 use std::marker::Model;
 use sync_edge::NoMemory;
@@ -187,7 +187,7 @@ impl Line {
         ensures heard { (past : List LineMoment) → StandsFor self.now past →
             result ≡ heard_at self.now.delay (line_until (suc now) past) }
     {
-        self.words.heard_in(self.delay, now)
+        self.words.heard_in(self.delay, HEARING_TIME, now)
     }
 
     /// The first later millisecond in which a message with news arrives, or the level that is heard is

@@ -9,6 +9,9 @@ use std::alloc::Global;
 use sync_edge::NoMemory;
 use sync_ql::Level;
 
+/// For so many milliseconds a level is heard after the message that brought it.
+pub const HEARING_TIME: u64 = 5000;
+
 /// The words of a line: the one that arrived last, and those on their way, the oldest first.
 #[derive(Debug, Drop)]
 pub struct Words {
@@ -127,7 +130,7 @@ impl Words {
     // The level of the word that arrived last, if its last message arrived in the last so many
     // milliseconds before `next`.
     pub fn heard(&self, delay: u64, window: u64, next: u64) -> Option<Level>
-        requires window { window ≤ 5000 }
+        requires window { window ≤ HEARING_TIME }
         requires delay { delay ≤ GREATEST_DELAY }
         requires next { next ≤ LAST_MILLISECOND + 1 }
         requires in_range { IfSome self.now.arrived (λ w. w.sent ≤ LAST_MILLISECOND) }
@@ -141,17 +144,20 @@ impl Words {
         }
     }
 
-    // The level that is heard in a millisecond, in which a word may arrive.
-    pub fn heard_in(&self, delay: u64, now: u64) -> Option<Level>
+    // The level of the word that arrived last, one that arrives in the millisecond included, if its last
+    // message arrived in the last so many milliseconds.
+    pub fn heard_in(&self, delay: u64, window: u64, now: u64) -> Option<Level>
+        requires window { 0 < window }
+        requires short { window ≤ HEARING_TIME }
         requires delay { delay ≤ GREATEST_DELAY }
         requires now { now ≤ LAST_MILLISECOND }
         requires in_range { IfSome self.now.arrived (λ w. w.sent ≤ LAST_MILLISECOND) }
         ensures { result ≡ heard_of delay
-            (taken_in delay now self.now.arrived self.now.on_way.items).arrived 5000 (now + 1) }
+            (taken_in delay now self.now.arrived self.now.on_way.items).arrived window (now + 1) }
     {
         match self.on_way.first() {
             Some(word) if word.arrives(delay, now) => Some(word.level),
-            Some(_) | None => self.heard(delay, 5000, now + 1),
+            Some(_) | None => self.heard(delay, window, now + 1),
         }
     }
 
@@ -181,7 +187,7 @@ impl Words {
     {
         let word = self.arrived?;
         let until = word.until?;
-        let lost = delay + word.last_sent(until) + 5000;
+        let lost = delay + word.last_sent(until) + HEARING_TIME;
         if next <= lost { Some(lost) } else { None }
     }
 }
