@@ -1,11 +1,12 @@
 //! One delayed line: what it carries from one element to the next, and what is heard at its end.
 //!
-//! A [`Line`] is told what it says, and whether it is up and its ESMC is on, a millisecond at a time
-//! and only where something changes or is due. It keeps the word that arrived last and the words on
-//! their way; the messages that repeat a word each second are computed, and not kept. Contracts see
-//! it as a record (`LineState`) and say for which past it stands (`StandsFor`): each call makes that
-//! past longer, and each answer is what the rules say of it. Only [`Line::say`] takes memory for
-//! words, at most one for each millisecond of the delay.
+//! A [`Line`] is told what it says, and whether it is up and its ESMC is on, a millisecond at a
+//! time and only where something changes or is due. It keeps the word that arrived last and the
+//! words on their way; the messages that repeat a word each second are computed, and not kept.
+//! Contracts see it as a record (`LineState`) and say for which past it stands (`StandsFor`):
+//! each call makes that past longer, and each answer is what the rules say of it. Only
+//! [`Line::new`] and [`Line::say`] take memory, for at most one word for each millisecond of the
+//! delay.
 //!
 //! After ITU-T G.8264: event messages, information messages each second, and a level that is lost
 //! after five seconds. Whole milliseconds and one delay for each line are this project's own.

@@ -19,11 +19,11 @@ use sync_ql::limits::{GREATEST_DELAY, LAST_MILLISECOND, LEAST_DELAY};
 /// One delayed line, from what its sender says to what is heard at its end.
 ///
 /// Times are milliseconds from 0. In one millisecond the calls come in the order `set_up`,
-/// `set_esmc`, `take_due`, `say`, each at most once; a call that changes nothing may be left out, and
-/// so may every millisecond in which nothing is told and nothing is due. Before its first call a line
-/// is up, its ESMC is on, and its sender gave it no level.
-/// After G.8264, event and information messages; one delay and whole milliseconds are this project's
-/// own.
+/// `set_esmc`, `take_due`, `say`, each at most once; a call that changes nothing may be left out,
+/// and so may every millisecond in which nothing is told and nothing is due. Before its first
+/// call a line is up, its ESMC is on, and its sender gave it no level.
+/// After G.8264, event and information messages; one delay and whole milliseconds are this
+/// project's own.
 #[derive(Debug, Drop)]
 pub struct Line {
     delay: u64,
@@ -75,8 +75,8 @@ impl Line {
 
     /// Tells whether the line is up at the end of a millisecond.
     ///
-    /// Where it goes down, what is on its way is lost; what arrived is still heard. Where that makes
-    /// it speak, it has no level until `say` gives one.
+    /// Where it goes down, what is on its way is lost; what arrived is still heard. Where it speaks
+    /// from now on, it has no level until `say` gives one.
     /// After G.781, signal fail, for lines.
     pub fn set_up(&mut self, now: u64, up: bool)
         requires turn { self.old.turn ≤ 4 * now }
@@ -99,8 +99,8 @@ impl Line {
 
     /// Tells whether the line's ESMC is on at the end of a millisecond.
     ///
-    /// Where it goes off, what is on its way still arrives. Where that makes the line speak, it has no
-    /// level until `say` gives one.
+    /// Where it goes off, what is on its way still arrives. Where the line speaks from now on, it
+    /// has no level until `say` gives one.
     /// After G.8264, the ESMC of a port.
     pub fn set_esmc(&mut self, now: u64, on: bool)
         requires turn { self.old.turn ≤ 4 * now + 1 }
@@ -190,10 +190,10 @@ impl Line {
         self.words.heard_in(self.delay, HEARING_TIME, now)
     }
 
-    /// The first later millisecond in which a message with news arrives, or the level that is heard is
-    /// lost, if nothing is told.
+    /// The first later millisecond in which a message with news arrives, or the level that is heard
+    /// is lost, if nothing is told.
     ///
-    /// `None` exactly where neither comes. A call has to be made in it at the latest.
+    /// `None` exactly where neither comes. The next call is made in it at the latest.
     /// After G.8264; the exact millisecond is this project's own.
     pub fn due(&self) -> Option<u64>
         ensures value { result ≡ self.now.due }
@@ -256,8 +256,8 @@ impl Line {
         self.up && self.esmc && is_other(level, self.level)
     }
 
-    // The level that the line has where it is up or down and its ESMC on or off: none yet where that
-    // makes it speak.
+    // The level that the line has where it is up or down and its ESMC on or off: none yet where it
+    // speaks from now on.
     fn level_if(&self, up: bool, esmc: bool) -> Option<Level>
         ensures { result ≡ (turned self.now.kept.now up esmc).level }
     {

@@ -8,8 +8,8 @@ use std::test::Fail;
 use sync_edge::NoMemory;
 use sync_ql::{Level, NetOption, level_of_name};
 
-/// What is told in a millisecond, with levels by their names; where the line is up or its ESMC is on
-/// again, its level is said again.
+/// What is told in a millisecond, with levels by their names; where the line is up or its ESMC is
+/// on again, its level is said again.
 #[derive(Clone, Copy)]
 enum Told {
     Nothing,

@@ -144,8 +144,8 @@ impl Words {
         }
     }
 
-    // The level of the word that arrived last, one that arrives in the millisecond included, if its last
-    // message arrived in the last so many milliseconds.
+    // The level of the word that arrived last, one that arrives in the millisecond included, if its
+    // last message arrived in the last so many milliseconds.
     pub fn heard_in(&self, delay: u64, window: u64, now: u64) -> Option<Level>
         requires window { 0 < window }
         requires short { window ≤ HEARING_TIME }
@@ -165,7 +165,8 @@ impl Words {
     pub fn due(&self, delay: u64, next: u64) -> Option<u64>
         requires delay { delay ≤ GREATEST_DELAY }
         requires arrived { IfSome self.now.arrived IsInRange }
-        requires coming { IfSome (arrival_of delay self.now.on_way.items) (λ at. at ≤ LAST_MILLISECOND + GREATEST_DELAY) }
+        requires coming { IfSome (arrival_of delay self.now.on_way.items)
+            (λ at. at ≤ LAST_MILLISECOND + GREATEST_DELAY) }
         ensures { result ≡ due_of delay next (words_kept self.now) }
     {
         first(self.arrival(delay), self.loss(delay, next))
@@ -173,7 +174,8 @@ impl Words {
 
     fn arrival(&self, delay: u64) -> Option<u64>
         requires delay { delay ≤ GREATEST_DELAY }
-        requires coming { IfSome (arrival_of delay self.now.on_way.items) (λ at. at ≤ LAST_MILLISECOND + GREATEST_DELAY) }
+        requires coming { IfSome (arrival_of delay self.now.on_way.items)
+            (λ at. at ≤ LAST_MILLISECOND + GREATEST_DELAY) }
         ensures { result ≡ arrival_of delay self.now.on_way.items }
     {
         let word = self.on_way.first()?;
