@@ -1,8 +1,7 @@
-ghost use Rattle.std.specs.Prelude.{◌≡◌, ◌≤◌, ◌<◌, ◌+◌, ◌-◌, ◌++◌, ◌∷◌, [], Some, None, IfSome, IfOk, OnOk, OnErr, map, take, drop, length, not, if◌then◌else◌, MatchOption};
+ghost use Rattle.std.specs.Prelude.{◌≡◌, ◌≤◌, ◌<◌, ◌+◌, ◌-◌, ◌++◌, [], Some, None, IfSome, IfOk, OnOk, OnErr, map, take, drop, length, not, if◌then◌else◌};
 ghost use Rattle.sync_ql.specs.Messages.{is_same_level};
 ghost use Rattle.sync_ql.specs.declared.limits.TheConstants.{GREATEST_DELAY, LAST_MILLISECOND};
-ghost use Rattle.link_model.specs.Spoken.{said_by};
-ghost use Rattle.link_model.specs.Kept.{words_kept, taken_in, lost, ended, ended_arrived, cut_arrived, new_word, heard_of, arrival_of, loss_of, first_of, due_of, lost_from, if_later, starts_in, IsInRange};
+ghost use Rattle.link_model.specs.Kept.{words_kept, taken_in, lost, ended, ended_arrived, cut_arrived, new_word, heard_of, arrival_of, loss_of, first_of, due_of, starts_in, IsInRange};
 
 use crate::word::Word;
 use std::alloc::Global;
