@@ -1,5 +1,6 @@
 pub mod Times
 pub mod Pasts
+pub mod News
 pub mod Ordering
 pub mod Steps
 pub mod Telling

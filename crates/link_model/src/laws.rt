@@ -1,10 +1,11 @@
-//! What the calls of one millisecond make of a line's past, for crates that hold none.
+//! What the calls of one millisecond make of a line's past, and what becomes of the messages on
+//! their way: for crates that cite it where they hold no line.
 //!
-//! The function does nothing: its contract is the law. This project's own.
+//! The functions do nothing: their contracts are the laws. This project's own.
 
-ghost use Rattle.std.specs.Prelude.{◌≡◌, ◌≤◌, ◌+◌, ◌*◌, ℕ, suc, Bool, List, ◌∷◌, length};
+ghost use Rattle.std.specs.Prelude.{◌≡◌, ◌≤◌, ◌+◌, ◌*◌, ℕ, suc, Bool, true, List, ◌∷◌, length, drop, Some, All};
 ghost use Rattle.sync_ql.specs.declared.levels.Level.{Level};
-ghost use Rattle.sync_ql.specs.Messages.{LineMoment, unchanged, line_until};
+ghost use Rattle.sync_ql.specs.Messages.{LineMoment, came, is_news, on_way_at, unchanged, line_until};
 ghost use Rattle.link_model.specs.Calls.{told, turned, with_up, with_esmc, with_level};
 ghost use Rattle.link_model.specs.LineState.{LineState};
 ghost use Rattle.link_model.specs.StandsFor.{StandsFor};
@@ -33,4 +34,15 @@ pub fn calls_law()
         line_until (suc now) past ≡ unchanged past ∷ line_until now past }
     ensures long { (n : ℕ) (past : List LineMoment) → length past ≤ n →
         length (line_until n past) ≡ n }
+{}
+
+/// The law of the messages on their way: if nothing more is told of the line, each arrives a delay
+/// after it went out, with its level, and it is one that went out with news.
+pub fn news_law()
+    ensures arrives { (delay : ℕ) (past : List LineMoment) → All (λ message.
+        came delay (line_until (suc (message.sent + delay)) past) ≡ Some message.level)
+        (on_way_at delay past) }
+    ensures news { (delay : ℕ) (past : List LineMoment) → All (λ message.
+        is_news (drop delay (line_until (suc (message.sent + delay)) past)) ≡ true)
+        (on_way_at delay past) }
 {}

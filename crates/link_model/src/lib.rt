@@ -19,6 +19,6 @@ mod tests;
 mod word;
 mod words;
 
-pub use laws::calls_law;
+pub use laws::{calls_law, news_law};
 pub use line::Line;
 pub use word::Word;
