@@ -1,0 +1,3 @@
+pub mod Tournaments
+pub mod FirstDues
+pub mod MarkedPlaces

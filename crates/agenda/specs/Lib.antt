@@ -1,0 +1,6 @@
+pub mod DueTimes
+pub mod Marked
+pub mod Tournament
+pub mod EarlierDue
+pub mod DueTimesKept
+pub mod MarkedKept

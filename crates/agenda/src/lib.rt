@@ -1,0 +1,25 @@
+//! Which objects of a network are due when, and which are marked for work.
+//!
+//! Objects are told apart by their places, from 0 up to a count. Neither type looks at all of them.
+//!
+//! - [`DueTimes`] keeps when each object is due. Contracts see the times, by place, with `None` where
+//!   an object isn't due (`due_in`). The first of them is at hand (`IsFirst`), and an object whose
+//!   time has come is taken out (`IsTaken`).
+//! - [`Marks`] keeps which objects are marked, in the order of marking. Contracts see a flag for each
+//!   place beside the places that are listed (`Marked`): just those with a flag, none of them twice
+//!   (`AreListed`).
+//!
+//! Only their `new` takes memory. This project's own. The tests show that memory is found, and go
+//! through orders of taking and of marking that are written by hand.
+#![tactic(auto)]
+
+mod due_times;
+pub mod limits;
+mod marks;
+pub mod walks;
+
+pub use due_times::{Due, DueTimes};
+pub use marks::Marks;
+
+#[cfg(test)]
+mod tests;

@@ -1,0 +1,117 @@
+ghost use Rattle.std.specs.Prelude.{◌≡◌, ◌<◌, ℕ, true, false, nat_eq, if◌then◌else◌, List, [], ◌∷◌, ◌++◌, IfOk, length, replicate, slice_index_or, slice_set};
+ghost use Rattle.std.specs.List.{All, list_any};
+ghost use Rattle.agenda.specs.Marked.{none_marked, AreListed};
+
+use std::alloc::Global;
+use std::marker::Model;
+use sync_edge::NoMemory;
+
+/// Places that are marked for work, in the order of marking.
+///
+/// This project's own.
+#[derive(Debug, Drop)]
+pub struct Marks {
+    flags: Vec<bool>,
+    /// The places with a flag, with room for all places.
+    listed: Vec<u32>,
+}
+
+impl Model for Marks {
+    ghost use Rattle.agenda.specs.Marked.{Marked};
+
+    ghost Value = { Marked };
+
+    ghost use Rattle.agenda.specs.MarkedKept.{marked_in, IsKept};
+
+    ghost view = { marked_in };
+
+    ghost invariant = { IsKept };
+}
+
+impl Marks {
+    /// So many places, none of which is marked.
+    ///
+    /// This project's own.
+    pub fn new(alloc: Global, count: usize) -> Result<Marks, NoMemory>
+        ensures { IfOk result (λ marks. marks ≡ none_marked count) }
+    {
+        let flags = no_flags(alloc, count)?;
+        let Ok(listed) = Vec::with_capacity(alloc, count) else {
+            return Err(NoMemory);
+        };
+        Ok(Marks { flags, listed })
+    }
+
+    /// Marks a place, unless it is marked already. It takes the same time for any number of places, and
+    /// no memory.
+    ///
+    /// This project's own.
+    pub fn mark(&mut self, k: u32)
+        requires place { k < length self.old.flags }
+        ensures flags { self.new.flags ≡ slice_set self.old.flags k true }
+        ensures listed { self.new.listed ≡
+            (if slice_index_or self.old.flags k false then self.old.listed
+            else self.old.listed ++ k ∷ []) }
+        ensures all { AreListed self.new }
+    {
+        if self.flags[k as usize] {
+            return;
+        }
+        self.flags[k as usize] = true;
+        self.listed.push(k).unwrap();
+    }
+
+    /// Whether a place is marked.
+    ///
+    /// This project's own.
+    pub fn is_marked(&self, k: u32) -> bool
+        requires place { k < length self.now.flags }
+        ensures { result ≡ slice_index_or self.now.flags k false }
+    {
+        self.flags[k as usize]
+    }
+
+    /// The marked places, in the order of marking.
+    ///
+    /// This project's own.
+    pub fn listed(&self) -> &[u32]
+        ensures listed { result.now ≡ self.now.listed }
+        ensures all { AreListed self.now }
+    {
+        self.listed.as_slice()
+    }
+
+    /// Takes all marks away. It takes time by the number of marked places, and no memory.
+    ///
+    /// This project's own.
+    pub fn clear(&mut self)
+        ensures { self.new ≡ none_marked (length self.old.flags) }
+    {
+        take_away(self.flags.as_mut_slice(), self.listed.as_slice());
+        self.listed.clear();
+    }
+}
+
+// Takes the flags of these places away; no other place has one.
+fn take_away(flags: &mut [bool], listed: &[u32])
+    requires within { All (λ k. k < length flags.old) listed.now }
+    requires only { (k : ℕ) → slice_index_or flags.old k false ≡ true →
+        list_any (nat_eq k) listed.now ≡ true }
+    ensures { flags.new ≡ replicate (length flags.old) false }
+{
+    for place in listed {
+        flags[*place as usize] = false;
+    }
+}
+
+fn no_flags(alloc: Global, count: usize) -> Result<Vec<bool>, NoMemory>
+    ensures { IfOk result (λ flags. flags.items ≡ replicate count false) }
+{
+    let mut flags = Vec::new(alloc);
+    for _place in 0..count {
+        if flags.push(false).is_err() {
+            return Err(NoMemory);
+        }
+    }
+    Ok(flags)
+}
