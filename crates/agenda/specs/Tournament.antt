@@ -1,4 +1,4 @@
--- Private: a tournament, in which each of n players is compared with one other at a time until one is left.
+-- A tournament, in which each of n players is compared with one other at a time until one is left.
 use Rattle.std.specs.Prelude.{◌≡◌, ◌≢◌, ◌<◌, ◌+◌, ◌*◌, ℕ, List, length, slice_index_or, nat_eq, if◌then◌else◌}
 
 -- the rounds of a tournament of n players, in a list: the players stand from place n on, and before

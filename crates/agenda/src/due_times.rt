@@ -1,3 +1,5 @@
+//! When each object is due, with the first of these times at hand.
+
 ghost use Rattle.std.specs.Prelude.{◌≡◌, ◌≤◌, ◌<◌, ◌+◌, ℕ, None, Option, IsNone, IfSome, IfOk, MatchOption, length, replicate, slice_set};
 ghost use Rattle.agenda.specs.Tournament.{IsTournament, with_player};
 ghost use Rattle.agenda.specs.DueTimes.{due_in, due_count, IsFirst, IsTaken, AreLater};

@@ -13,9 +13,9 @@ use Rattle.sync_ql.proofs.Eligible.{nobody}
 use Rattle.selector.specs.declared.standing.Standing.{Standing}
 use Rattle.selector.specs.Choices.{unusable}
 use Rattle.selector.specs.Standing.{is_ahead, winner, standing_with, standing_of, standing_at, place_in}
-use Rattle.selector.specs.Tournament.{IsTournament, with_player}
+use Rattle.agenda.specs.Tournament.{IsTournament, with_player}
 use Rattle.selector.specs.Scanned.{IsFirstBest}
-use Rattle.selector.proofs.Tournaments.{same_players, each_has, last_has}
+use Rattle.agenda.proofs.Tournaments.{same_players, each_has, last_has}
 
 -- what a standing says of its input
 record IsStandingOf (i : ℕ) (c : Candidate) (s : Standing) : Type 0 where

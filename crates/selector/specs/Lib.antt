@@ -1,7 +1,6 @@
 pub mod Choices
 pub mod Table
 pub mod Standing
-pub mod Tournament
 pub mod Scanned
 pub mod OneOption
 pub use Rattle.sync_ql.specs.Selection

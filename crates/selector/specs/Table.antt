@@ -5,7 +5,7 @@ use Rattle.sync_ql.specs.Selection.{AreOfOneOption}
 use Rattle.sync_ql.specs.declared.limits.TheConstants.{MOST_INPUTS}
 use Rattle.selector.specs.declared.table.Table.TheInside.{Inside}
 use Rattle.selector.specs.Standing.{winner, standing_at}
-use Rattle.selector.specs.Tournament.{IsTournament}
+use Rattle.agenda.specs.Tournament.{IsTournament}
 
 abbrev pub candidates_in : Inside → List Candidate
 candidates_in t = t.inputs.items

@@ -2,7 +2,7 @@
 
 ghost use Rattle.std.specs.Prelude.{◌≡◌, ◌≤◌, ◌<◌, ◌+◌, ℕ, None, Option, length};
 ghost use Rattle.selector.specs.Standing.{is_ahead, winner, standing_of};
-ghost use Rattle.selector.specs.Tournament.{IsTournament, with_player};
+ghost use Rattle.agenda.specs.Tournament.{IsTournament, with_player};
 ghost use Rattle.selector.specs.declared.standing.Standing.{Standing};
 
 use crate::best::is_eligible;

@@ -19,7 +19,7 @@ use Rattle.sync_element.specs.declared.config.Config.{Config}
 use Rattle.sync_element.specs.declared.config.InputConfig.{InputConfig}
 use Rattle.sync_element.specs.declared.watched.Watched.{Watched}
 use Rattle.sync_element.specs.Configured.{settings_of}
-use Rattle.sync_element.specs.Dues.{due_in}
+use Rattle.agenda.specs.DueTimes.{due_in}
 use Rattle.sync_element.specs.Kept.{InputsKept, unused, watched_in, HasEnd}
 use Rattle.sync_element.specs.ElementState.{ElementState}
 use Rattle.sync_element.specs.Whole.{IsAtRest, IsWhole}

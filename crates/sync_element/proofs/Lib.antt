@@ -1,5 +1,4 @@
 pub mod Following
-pub mod FirstDues
 pub mod Renewed
 pub mod Waiting
 pub mod Answering

@@ -13,7 +13,7 @@ use Rattle.sync_ql.proofs.Eligible.{nobody}
 use Rattle.sync_ql.proofs.Staying.{is_up-after_quiet}
 use Rattle.input_monitor.specs.Monitored.{up_of}
 use Rattle.sync_element.specs.declared.watched.Watched.{Watched}
-use Rattle.sync_element.specs.Dues.{due_in}
+use Rattle.agenda.specs.DueTimes.{due_in}
 use Rattle.sync_element.specs.Kept.{InputsKept, unused, watched_in, Follows, HasEnd}
 use Rattle.sync_element.specs.Renewing.{Renewal, differs, ends_at, must_step, signal_of, candidate_of, touches, IsReady, IsStepped, IsRenewed, CanRenew, IsDone, IsPending, IsDoneAt, IsPendingAt, AreRenewed, AreTaken, AreKept}
 use Rattle.sync_element.proofs.Following.{follows-quiet, follows-told, follows-up, ends_after}

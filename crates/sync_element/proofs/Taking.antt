@@ -19,7 +19,8 @@ use Rattle.sync_ql.proofs.Staying.{length-signals_of, length-quiet_moments, sign
 use Rattle.input_monitor.specs.Monitored.{up_of}
 use Rattle.sync_ql.specs.declared.limits.TheConstants.{LAST_MILLISECOND}
 use Rattle.sync_element.specs.declared.watched.Watched.{Watched}
-use Rattle.sync_element.specs.Dues.{due_in, IsFirstTime}
+use Rattle.agenda.specs.DueTimes.{due_in}
+use Rattle.sync_element.specs.FirstTime.{IsFirstTime}
 use Rattle.sync_element.specs.Kept.{InputsKept, watched_in, Follows, HasEnd}
 use Rattle.sync_element.specs.ElementState.{ElementState, inputs_of, IsInTime}
 use Rattle.sync_element.specs.Whole.{watched_of, monitor_of, IsAtRest, IsFirstDue, IsWhole}

@@ -4,8 +4,7 @@ pub mod StandsFor
 pub mod Due
 pub mod Kept
 pub mod Whole
-pub mod Dues
-pub mod DuesKept
+pub mod FirstTime
 pub mod Starting
 pub mod Telling
 pub mod Renewing

@@ -15,7 +15,7 @@ use Rattle.sync_ql.specs.declared.limits.TheConstants.{MOST_INPUTS}
 use Rattle.input_monitor.specs.Monitored.{Monitored, up_of}
 use Rattle.input_monitor.specs.StandsFor.{StandsFor}
 use Rattle.sync_element.specs.declared.watched.Watched.{Watched}
-use Rattle.sync_element.specs.Dues.{due_in}
+use Rattle.agenda.specs.DueTimes.{due_in}
 use Rattle.sync_element.specs.Kept.{InputsKept, watched_in, Follows, HasEnd}
 
 abbrev pub differs : Bool → Bool → Bool

@@ -14,7 +14,7 @@ use Rattle.sync_element.specs.declared.element.Element.TheInside.{Inside}
 use Rattle.sync_element.specs.declared.inputs.Inputs.{Inputs}
 use Rattle.sync_element.specs.declared.watched.Watched.{Watched}
 use Rattle.sync_element.specs.Configured.{settings_of}
-use Rattle.sync_element.specs.Dues.{due_in}
+use Rattle.agenda.specs.DueTimes.{due_in}
 use Rattle.sync_element.specs.Kept.{InputsKept, watched_in, HasEnd}
 use Rattle.sync_element.specs.Renewing.{candidate_of}
 use Rattle.sync_element.specs.ElementState.{ElementState, inputs_of}

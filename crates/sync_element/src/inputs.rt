@@ -9,8 +9,8 @@ ghost use Rattle.sync_element.specs.Whole.{inputs_kept};
 
 use crate::candidates::set_if_other;
 use crate::config::Config;
-use crate::dues::Dues;
 use crate::watched::{Watched, step_if_told};
+use agenda::DueTimes;
 use operator_cmds::Cmds;
 use selector::Table;
 use sync_ql::limits::LAST_MILLISECOND;
@@ -21,7 +21,7 @@ use sync_ql::{Level, better};
 #[derive(Debug, Drop)]
 pub struct Inputs {
     pub watched: Vec<Watched>,
-    pub dues: Dues,
+    pub dues: DueTimes,
     pub table: Table,
 }
 

@@ -14,7 +14,6 @@
 
 mod candidates;
 mod config;
-mod dues;
 mod element;
 mod inputs;
 mod renewing;

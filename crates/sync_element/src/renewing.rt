@@ -4,14 +4,14 @@ ghost use Rattle.std.specs.Prelude.{◌≡◌, ◌≤◌, ◌<◌, ℕ, List, []
 ghost use Rattle.sync_ql.specs.declared.rules.Candidate.{Candidate};
 ghost use Rattle.sync_ql.specs.Told.{IsOfOption};
 ghost use Rattle.sync_element.specs.declared.watched.Watched.{Watched};
-ghost use Rattle.sync_element.specs.Dues.{due_in};
+ghost use Rattle.agenda.specs.DueTimes.{due_in};
 ghost use Rattle.sync_element.specs.Telling.{Fits};
 ghost use Rattle.sync_element.specs.Renewing.{touched_by, CanRenew, AreRenewed, AreTaken, AreKept, IsTouched};
 ghost use Rattle.sync_element.specs.Whole.{inputs_kept};
 
 use crate::config::Config;
-use crate::dues::Dues;
 use crate::inputs::{Inputs, renew};
+use agenda::DueTimes;
 use operator_cmds::Cmds;
 use sync_ql::limits::LAST_MILLISECOND;
 use sync_ql::rules::{Cmd, InputEvent};
@@ -97,7 +97,7 @@ pub fn renew_due(inputs: &mut Inputs, now: u64, commands: &Cmds, config: &Config
 }
 
 // An input whose running time ends now, if there is one.
-fn due_now(dues: &Dues, now: u64) -> Option<u32>
+fn due_now(dues: &DueTimes, now: u64) -> Option<u32>
     ensures some { IfSome result (λ i. i < length dues.now) }
     ensures due { IfSome result (λ i. due_in dues.now i ≡ Some now) }
     ensures none { IsNone result →

@@ -6,10 +6,11 @@ ghost use Rattle.sync_ql.specs.Level.{do_not_use_of};
 ghost use Rattle.sync_ql.specs.Moment.{at_end};
 ghost use Rattle.sync_ql.specs.Output.{bundle_of, goes_back, mode_of, state_of};
 ghost use Rattle.sync_element.specs.Configured.{settings_of};
-ghost use Rattle.sync_element.specs.Dues.{due_in, IsFirstTime};
+ghost use Rattle.agenda.specs.DueTimes.{due_in};
+ghost use Rattle.sync_element.specs.FirstTime.{IsFirstTime};
 
 use crate::config::Config;
-use crate::dues::Dues;
+use agenda::DueTimes;
 use operator_cmds::Cmds;
 use selector::Table;
 use sync_ql::limits::LAST_MILLISECOND;
@@ -33,7 +34,7 @@ pub fn evaluate(table: &Table, commands: &mut Cmds, current: Option<u32>) -> Opt
 }
 
 // The first millisecond at which a running time ends.
-pub fn first_due(dues: &Dues) -> Option<u64>
+pub fn first_due(dues: &DueTimes) -> Option<u64>
     ensures { MatchOption result ((i : ℕ) → i < length dues.now → due_in dues.now i ≡ None)
         (IsFirstTime dues.now) }
 {

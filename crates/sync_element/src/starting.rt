@@ -8,9 +8,9 @@ ghost use Rattle.sync_element.specs.Kept.{watched_in};
 ghost use Rattle.sync_element.specs.Whole.{inputs_kept};
 
 use crate::config::{Config, InputConfig};
-use crate::dues::Dues;
 use crate::inputs::{Inputs, is_below};
 use crate::watched::Watched;
+use agenda::DueTimes;
 use input_monitor::Monitor;
 use selector::Table;
 use std::alloc::Global;
@@ -30,7 +30,7 @@ pub fn new_inputs(alloc: Global, config: &Config) -> Result<Inputs, NoMemory>
     ensures { IfOk result (λ inputs. AreNew config.now (inputs_kept inputs)) }
 {
     let watched = new_watched(alloc, config)?;
-    let dues = Dues::new(alloc, config.inputs.as_slice().len())?;
+    let dues = DueTimes::new(alloc, config.inputs.as_slice().len())?;
     let table = new_table(alloc, config)?;
     Ok(Inputs {
         watched,

@@ -2,4 +2,4 @@ use Rattle.std.proofs.Common.{◌≡◌, length}
 use Rattle.agenda.proofs.tests.what_is_due_first_is_taken_first.Given as goal
 
 abbrev pub invariant-loop-row : goal.invariant-loop-row
-invariant-loop-row l = length l.times ≡ 5
+invariant-loop-row g l = length l.times ≡ 5

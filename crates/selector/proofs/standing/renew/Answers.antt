@@ -1,7 +1,7 @@
 use Rattle.std.proofs.Common.{◌≡◌, None, arith, subst, length-set}
 use Rattle.selector.specs.Standing.{winner}
-use Rattle.selector.specs.Tournament.{IsTournament, with_player}
-use Rattle.selector.proofs.Tournaments.{with_winner}
+use Rattle.agenda.specs.Tournament.{IsTournament, with_player}
+use Rattle.agenda.proofs.Tournaments.{with_winner}
 use Rattle.selector.proofs.standing.renew.Goals as goal
 
 pub loop-round-preserved : goal.loop-round-preserved

@@ -1,7 +1,7 @@
 use Rattle.std.proofs.Common.{◌≡◌, ◌<◌, ℕ, ◌+◌, length, Option, None}
 use Rattle.selector.specs.declared.standing.Standing.{Standing}
 use Rattle.selector.specs.Standing.{winner}
-use Rattle.selector.specs.Tournament.{IsTournament, with_player}
+use Rattle.agenda.specs.Tournament.{IsTournament, with_player}
 use Rattle.selector.proofs.standing.renew.Given as goal
 
 -- the winner of this round alone is stale
