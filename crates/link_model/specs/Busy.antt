@@ -6,8 +6,8 @@ use Rattle.sync_ql.specs.Messages.{LineMoment, is_news, arrives, line_until, is_
 abbrev pub news_arrives : ℕ → List LineMoment → Bool
 news_arrives delay past = is_news (drop delay past) && arrives delay past
 
--- if nothing is told of the line, a message with news arrives in a millisecond, or the level that was
--- heard is lost in it
+-- if nothing is told of the line, a message with news arrives in a millisecond, or the level that
+-- was heard has been lost by then
 abbrev pub IsBusyAt : ℕ → List LineMoment → ℕ → Type 0
 IsBusyAt delay past now =
     (news_arrives delay (line_until (suc now) past) ≡ true) ⊎ (is_lost delay (suc now) past ≡ true)

@@ -40,7 +40,7 @@ struct Case {
     rows: &'static [Row],
 }
 
-const CASES: [Case; 12] = [
+const CASES: [Case; 13] = [
     Case {
         shows: "repeated_each_second_and_lost_five_seconds_after_the_last",
         delay: 10,
@@ -131,6 +131,18 @@ const CASES: [Case; 12] = [
             (160, Nothing, "QL-SSU-A", "QL-SSU-A", Some(5160)),
             (5159, Nothing, "", "QL-SSU-A", Some(5160)),
             (5160, Nothing, "", "", None),
+        ],
+    },
+    Case {
+        shows: "a_level_said_again_after_another_within_the_delay_arrives_again",
+        delay: 50,
+        rows: &[
+            (100, Says("QL-PRC"), "", "", Some(150)),
+            (110, Says("QL-SSU-A"), "", "", Some(150)),
+            (120, Says("QL-PRC"), "", "", Some(150)),
+            (150, Nothing, "QL-PRC", "QL-PRC", Some(160)),
+            (160, Nothing, "QL-SSU-A", "QL-SSU-A", Some(170)),
+            (170, Nothing, "QL-PRC", "QL-PRC", None),
         ],
     },
     Case {
