@@ -1,0 +1,126 @@
+-- The laws of a network, as contracts see it.
+use Rattle.std.proofs.Common.{◌≡◌, ◌≤◌, ◌<◌, ◌+◌, ℕ, Bool, true, false, List, length, Option, None, Some, IfSome, ap, sym, subst, ◌∙◌, inl, inr, arith}
+use Rattle.std.specs.Prelude.{slice_index_or}
+use Rattle.std.specs.List.{All}
+use Rattle.std.proofs.lemmas.List.{get_or_default}
+use Rattle.agenda.specs.declared.due_times.Due.{Due}
+use Rattle.agenda.specs.DueTimes.{due_in, IsFirst}
+use Rattle.sync_element.specs.ElementState.{ElementState}
+use Rattle.link_model.specs.LineState.{LineState}
+use Rattle.sync_topo.specs.declared.event.Event.{Event}
+use Rattle.sync_topo.specs.Topology.{Topology}
+use Rattle.sync_topo.specs.Lines.{line_count, delay_of, IsNominated}
+use Rattle.sync_topo.proofs.LineLaws.{IsNominated-within}
+use Rattle.net_rules.specs.Signals.{signals_by}
+use Rattle.net_rules.specs.History.{out_at}
+use Rattle.net_rules.specs.Activity.{is_active, is_busy}
+use Rattle.sync_ql.specs.Messages.{hearing_time}
+use Rattle.sync_topo.specs.WellFormed.{IsWellFormed}
+use Rattle.net_rules.specs.Settling.{IsUnswitched}
+use Rattle.net_rules.specs.Facing.{Faces}
+use Rattle.net_rules.proofs.FinalLaws.{pair-by_events}
+use Rattle.sync_net.specs.declared.parts.Parts.{Parts}
+use Rattle.sync_net.specs.NetState.{NetState, line_in, NoneDueBefore, IsDueAt}
+use Rattle.sync_net.specs.NetState as Net
+use Rattle.sync_net.specs.Standing.{IsOfPast, ElementStands, LineStands, NoneFrom}
+use Rattle.sync_net.specs.NetStep.{IsNetStep, AreEvaluatedFor}
+use Rattle.sync_net.specs.Evaluated.{IsContinued}
+use Rattle.sync_net.specs.Whole.{state_of, IsWhole}
+use Rattle.sync_net.proofs.QuietGap.{stands-later, some_element}
+use Rattle.sync_net.proofs.ActiveLaws.{due-busy}
+use Rattle.sync_net.proofs.Assembling.{if_some_at}
+use Rattle.sync_net.proofs.NetLaws.{if-some, whole-sound, whole-later, state-live, stands_after, all_active, first_least, due_here}
+
+-- what is due isn't due before
+due-later : (net : NetState) (n at : ℕ) → NoneDueBefore net n → IsDueAt net at → n ≤ at
+due-later net n at none (inl element) =
+    if_some_at (λ due. n ≤ due) (slice_index_or net.elements element.0 (some_element net.plan)).due at (element.2 (some_element net.plan)) (none.elements element.0 (some_element net.plan) element.1)
+due-later net n at none (inr line) =
+    if_some_at (λ due. n ≤ due) line.state.due at line.due (if_some_at (λ state. IfSome state.due (λ due. n ≤ due)) (line_in net.lines line.line) line.state line.has (none.lines line.line line.within))
+
+-- an element that was read stands as it stands in the list
+pub element-read : (net : NetState) (plan : Topology) (spent : Bool) (p : Parts) (element : ℕ) (read : ElementState) → state_of plan spent p ≡ net
+    → read ≡ slice_index_or p.elements.items element read → element < length net.plan.elements → (all : List Event) (n : ℕ) → IsOfPast net all n
+    → ElementStands net.plan (signals_by net.plan all) (out_at net.plan (signals_by net.plan all)) element n read
+element-read net plan spent p element read view same within all n is =
+    subst (ElementStands net.plan (signals_by net.plan all) (out_at net.plan (signals_by net.plan all)) element n)
+    (ap (λ s. slice_index_or s.elements element read) (sym view) ∙ sym same) (is.elements element read within)
+
+pub line-read : (net : NetState) (plan : Topology) (spent : Bool) (p : Parts) (line : ℕ) (kept : Option LineState) (read : LineState) → state_of plan spent p ≡ net
+    → kept ≡ slice_index_or p.lines.items line kept → kept ≡ Some read → length p.lines.items ≡ line_count plan → IsNominated net.plan line → (all : List Event) (n : ℕ) → IsOfPast net all n
+    → LineStands net.plan (signals_by net.plan all) (out_at net.plan (signals_by net.plan all)) line n read
+line-read net plan spent p line kept read view same has count nominated all n is =
+    if_some_at (LineStands net.plan (signals_by net.plan all) (out_at net.plan (signals_by net.plan all)) line n) (line_in net.lines line) read
+    (ap (λ s. line_in s.lines line) (sym view) ∙ get_or_default p.lines.items line None kept within ∙ sym same ∙ has) (is.lines line (IsNominated-within net.plan line nominated))
+  where
+    within : line < length p.lines.items
+    within = omega (arith, IsNominated-within net.plan line nominated, ap (λ s. line_count s.plan) view, count)
+
+module _ (net : NetState) (plan : Topology) (spent : Bool) (p : Parts) (view : state_of plan spent p ≡ net) (live : net.spent ≡ false) (invariant : spent ≡ false → IsWhole plan p) where
+  -- it isn't spent
+  not_spent : spent ≡ false
+  not_spent = ap (λ s. s.spent) view ∙ live
+
+  whole : IsWhole plan p
+  whole = invariant not_spent
+
+  seen : state_of plan false p ≡ net
+  seen = sym (state-live plan spent p not_spent) ∙ view
+
+  pub seen_stands : (now : ℕ) (events : List Event) (q : Parts) → Net.IsInTime net now → IsNetStep now events (state_of plan false p) (state_of plan false q)
+      → (all : List Event) (n : ℕ) → IsContinued net.plan all n now events → IsOfPast net all n → IsOfPast (state_of plan spent q) all (now + 1)
+  seen_stands now events q in_time step all n here is =
+      subst (λ s. IsOfPast s all (now + 1)) (sym (state-live plan spent q not_spent))
+      (stands_after plan all events n now p q whole
+      (subst (λ s. IsOfPast s all n) (sym seen) is)
+      (subst (λ s. IsContinued s.plan all n now events) (sym seen) here)
+      (subst (λ s. Net.IsInTime s now) (sym seen) in_time) step)
+
+  pub seen_active : (now : ℕ) (events : List Event) (q : Parts) → Net.IsInTime net now → IsNetStep now events (state_of plan false p) (state_of plan false q)
+      → AreEvaluatedFor now events (state_of plan false p) (state_of plan false q)
+      → (all : List Event) (n : ℕ) → IsContinued net.plan all n now events → IsOfPast net all n → All (λ element. is_active net.plan all element now ≡ true) q.tellings.active.listed
+  seen_active now events q in_time step evaluated all n here is =
+      subst (λ s. All (λ element. is_active s.plan all element now ≡ true) q.tellings.active.listed) seen
+      (all_active plan all events n now p q whole
+      (subst (λ s. IsOfPast s all n) (sym seen) is)
+      (subst (λ s. IsContinued s.plan all n now events) (sym seen) here)
+      (subst (λ s. Net.IsInTime s now) (sym seen) in_time) step evaluated)
+
+  pub seen_least : (n : ℕ) → ((i : ℕ) → i < length p.dues → IfSome (due_in p.dues i) (λ due. n ≤ due)) → NoneDueBefore net n
+  seen_least n none = subst (λ s. NoneDueBefore s n) seen (first_least plan p whole n none)
+
+  seen_before : (due : Due) → IsFirst p.dues due → (n : ℕ) → n ≤ due.at → NoneDueBefore net n
+  seen_before due first n early = seen_least n (λ i inside. if-some (λ other. due.at ≤ other) (λ other. n ≤ other) (λ other later. omega (arith, early, later)) (due_in p.dues i) (first.first i inside))
+
+  pub seen_due : (due : Due) → IsFirst p.dues due → IsDueAt net due.at
+  seen_due due first = subst (λ s. IsDueAt s due.at) seen (due_here plan p whole due.place due.at first.within first.ends)
+
+  pub seen_later : (due : Due) → IsFirst p.dues due → net.next ≤ due.at
+  seen_later due first = due-later net net.next due.at (subst (λ s. NoneDueBefore s s.next) seen (whole-later plan false p whole)) (seen_due due first)
+
+  seen_gap_of : (all : List Event) (m n : ℕ) → IsOfPast net all m → m ≤ n → (net.next ≡ 0 → n ≡ 0) → NoneFrom m n all → NoneDueBefore net n → IsOfPast net all n
+  seen_gap_of all m n is early begun none before =
+      subst (λ s. IsOfPast s all n) seen
+      (stands-later (state_of plan false p) all m n whole.well_formed (whole-sound plan false p whole) (subst (λ s. IsOfPast s all m) (sym seen) is) early
+      (λ never. begun (ap (λ s. s.next) (sym seen) ∙ never)) none (subst (λ s. NoneDueBefore s n) (sym seen) before))
+
+  pub seen_gap : (due : Due) → IsFirst p.dues due → (all : List Event) (m n : ℕ) → IsOfPast net all m → m ≤ n → (net.next ≡ 0 → n ≡ 0) → NoneFrom m n all → n ≤ due.at → IsOfPast net all n
+  seen_gap due first all m n is early begun none until = seen_gap_of all m n is early begun none (seen_before due first n until)
+
+  pub seen_gap_idle : ((i : ℕ) → i < length p.dues → due_in p.dues i ≡ None) → (all : List Event) (m n : ℕ) → IsOfPast net all m → m ≤ n → (net.next ≡ 0 → n ≡ 0) → NoneFrom m n all → IsOfPast net all n
+  seen_gap_idle idle all m n is early begun none =
+      seen_gap_of all m n is early begun none (seen_least n (λ i inside. subst (λ o. IfSome o (λ due. n ≤ due)) (sym (idle i inside)) tt))
+
+  pub seen_busy : (due : Due) → IsFirst p.dues due → (all : List Event) (n : ℕ) → IsOfPast net all n → 0 < net.next → n ≤ due.at → NoneFrom n due.at all → is_busy net.plan all due.at ≡ true
+  seen_busy due first all n is begun early none =
+      subst (λ s. is_busy s.plan all due.at ≡ true) seen
+      (due-busy (state_of plan false p) all n due.at whole.well_formed (whole-sound plan false p whole) (subst (λ s. IsOfPast s all n) (sym seen) is)
+      (subst (λ s. 0 < s.next) (sym seen) begun) early none (subst (λ s. NoneDueBefore s due.at) (sym seen) (seen_before due first due.at (omega arith)))
+      (due_here plan p whole due.place due.at first.within first.ends))
+
+  -- two elements that take their timing from each other do so shortly
+  pub seen_short : (all : List Event) (line back from until : ℕ) → IsUnswitched all line from until → from ≤ until
+      → ((t : ℕ) → from ≤ t → t ≤ until → Faces net.plan (signals_by net.plan all) (out_at net.plan (signals_by net.plan all)) line back t)
+      → until < from + (hearing_time + delay_of net.plan line)
+  seen_short all line back from until still early faces =
+      pair-by_events net.plan all line back from until (subst (λ s. IsWellFormed s.plan) seen whole.well_formed) still early faces

@@ -1,0 +1,265 @@
+-- A network that was told nothing.
+use Rattle.std.proofs.Common.{◌≡◌, ◌≤◌, ◌<◌, ◌+◌, ◌/◌, ℕ, zero, suc, true, false, List, [], ◌∷◌, ◌++◌, map, replicate, length, slice_get, slice_index_or, Option, None, Some, IfSome, IfOk, Result, Ok, Err, refl, ap, sym, subst, ◌∙◌, arith}
+use Rattle.std.specs.Prelude.{nat_lt, if◌then◌else◌, option_and_then}
+use Rattle.std.specs.List.{All}
+use Rattle.std.specs.Option.{option_map_or}
+use Rattle.std.proofs.Math.Decide.{dec_lt}
+use Rattle.std.proofs.Math.ListN.{get_or-append}
+use Rattle.std.proofs.Math.Seq.{get_or-append_seam}
+use Rattle.std.proofs.lemmas.Bool.{ltb-true, true≢false}
+use Rattle.std.proofs.lemmas.List.{length-append, length-replicate}
+use Rattle.std.proofs.lemmas.List.Elements.{All-map, All-nil, All-cons}
+use Rattle.std.proofs.lemmas.Option.{slice_get_past}
+use Rattle.sync_edge.specs.declared.errors.NoMemory.{NoMemory}
+use Rattle.sync_ql.specs.declared.levels.NetOption.{NetOption}
+use Rattle.sync_ql.specs.declared.levels.NetOption.TheVariants.{I, II}
+use Rattle.sync_ql.specs.declared.levels.Level.{Level}
+use Rattle.sync_ql.specs.Level.{do_not_use_of}
+use Rattle.sync_ql.specs.Messages.{heard_at}
+use Rattle.sync_ql.specs.Told.{IsOfOption, moments_until}
+use Rattle.agenda.specs.DueTimes.{due_in}
+use Rattle.agenda.specs.Marked.{Marked}
+use Rattle.sync_element.specs.declared.config.InputConfig.{InputConfig}
+use Rattle.sync_element.specs.Configured as configured
+use Rattle.sync_element.specs.ElementState.{ElementState}
+use Rattle.sync_element.specs.StandsFor as Element
+use Rattle.link_model.specs.LineState.{LineState}
+use Rattle.sync_topo.specs.declared.element.Element as elements
+use Rattle.sync_topo.specs.declared.link.Link.{Link}
+use Rattle.sync_topo.specs.declared.source.Source as sources
+use Rattle.sync_topo.specs.declared.input.InputId.{InputId}
+use Rattle.sync_topo.specs.declared.input.InputId.TheVariants.{Line, Source}
+use Rattle.sync_topo.specs.declared.event.Event.{Event}
+use Rattle.sync_topo.specs.Topology.{Topology}
+use Rattle.sync_topo.specs.Lines.{line_count, ends_at_b, inputs_of, IsNominated}
+use Rattle.sync_topo.specs.WellFormed.{IsWellFormed}
+use Rattle.net_rules.specs.Signals.{Signals, signals_by, planned_level}
+use Rattle.net_rules.specs.History.{Levels, settings_of, element_past, out_at}
+use Rattle.net_rules.specs.Inputs.{IsInputOf}
+use Rattle.net_rules.specs.Walks.{Each}
+use Rattle.net_rules.proofs.Lists.{Each-map}
+use Rattle.net_rules.proofs.InputLaws.{inputs-are}
+use Rattle.sync_net.specs.declared.parts.Parts.{Parts}
+use Rattle.sync_net.specs.declared.signals.LineSignal.{LineSignal}
+use Rattle.sync_net.specs.declared.signals.SourceSignal.{SourceSignal}
+use Rattle.sync_net.specs.Kept.{line_signal, no_source}
+use Rattle.sync_net.specs.Noting.{line_at, source_at, AreOfOption}
+use Rattle.sync_net.specs.Hearing.{heard_in, told_in}
+use Rattle.sync_net.specs.Standing.{ElementStands, LineStands, AreSignals, AreHeard, IsOfPast}
+use Rattle.sync_net.specs.Whole.{IsReadyElement, IsReadyLine, IsWhole, kept_of, state_of}
+use Rattle.sync_net.specs.Beginning.{AreEach, IsNewElement, IsNewLine, IsNewSource, IsBegun, config_of}
+use Rattle.sync_net.proofs.SplitWords.{none-before-0}
+
+-- nothing holds of each of no items
+pub each-none : {A : Type 0} (P : ℕ → A → Type 0) → AreEach P 0 []
+each-none P = record { count = refl; each = λ place other early. absurd (omega (arith, early)) }
+
+-- one item more
+pub each-more : {A : Type 0} (P : ℕ → A → Type 0) (n : ℕ) (xs ys : List A) (x : A) → AreEach P n xs → ys ≡ xs ++ x ∷ [] → P n x → AreEach P (n + 1) ys
+each-more P n xs ys x before more last = subst (AreEach P (n + 1)) (sym more) (record {
+  count = length-append xs (x ∷ []) ∙ ap (λ k. k + 1) before.count;
+  each = λ place other early. elim (dec_lt place n) [
+    | yes earlier ↦ subst (P place) (sym (get_or-append xs (x ∷ []) other place (omega (arith, before.count, earlier)))) (before.each place other earlier)
+    | no here ↦
+        let same : place ≡ n = omega (arith, here, early) in
+        subst (P place) (sym (ap (λ k. slice_index_or (xs ++ x ∷ []) k other) (same ∙ sym before.count) ∙ get_or-append_seam xs x [] other)) (subst (λ k. P k x) (sym same) last)
+  ];
+})
+
+-- what holds of each of a list holds at each of its places
+all-from : {A : Type 0} (P : A → Type 0) (xs : List A) → Each P xs → All P xs
+all-from P [] each = All-nil P
+all-from P (x ∷ xs) each = All-cons P x xs each.0 (all-from P xs each.1)
+
+-- a list made twice over is made once
+map-map : {A B C : Type 0} (f : A → B) (g : B → C) (xs : List A) → map g (map f xs) ≡ map (λ x. g (f x)) xs
+map-map f g [] = refl
+map-map f g (x ∷ xs) = ap (λ ys. g (f x) ∷ ys) (map-map f g xs)
+
+-- the priorities of an element's inputs are at least 1
+pub priorities-fit : (plan : Topology) (place : ℕ) (configs : List InputConfig) → configs ≡ map (config_of plan) (inputs_of plan place) → All (λ input. 1 ≤ input.priority) configs
+priorities-fit plan place configs is =
+    subst (All (λ input. 1 ≤ input.priority)) (sym is)
+    (All-map (λ input. 1 ≤ input.priority) (config_of plan) (inputs_of plan place)
+    (all-from (λ input. 1 ≤ (config_of plan input).priority) (inputs_of plan place)
+    (Each-map (IsInputOf plan place) (λ input. 1 ≤ (config_of plan input).priority) (λ input of. ltb-true 0 (config_of plan input).priority of.nominated) (inputs_of plan place) (inputs-are plan place))))
+
+-- do-not-use of an option is of that option
+none-of : (option : NetOption) → (do_not_use_of option).option ≡ option
+none-of I = refl
+none-of II = refl
+
+-- the level that the plan gives a source is of its option
+pub planned-fits : (plan : Topology) (source : ℕ) → IsWellFormed plan → source < length plan.sources → (planned_level plan source).option ≡ plan.option
+planned-fits plan source well within = of (slice_get plan.sources source) refl
+  where
+    of : (o : Option sources.Source) → slice_get plan.sources source ≡ o → (option_map_or (λ s. s.level) o (do_not_use_of plan.option)).option ≡ plan.option
+    of None is = none-of plan.option
+    of (Some found) is = (well.sources_fit source found is).of_option
+
+-- the level that an input of an element has at first is of the plan's option
+first-fits : (plan : Topology) (place : ℕ) (input : InputId) → IsWellFormed plan → IsInputOf plan place input → IsOfOption plan.option (config_of plan input).first
+first-fits plan place (Line line) well of = tt
+first-fits plan place (Source source) well of = planned-fits plan source well of.has
+
+-- the levels that an element's inputs have at first are of the option of its clock
+pub firsts-fit : (plan : Topology) (place : ℕ) (own : Level) (configs : List InputConfig) → IsWellFormed plan → own.option ≡ plan.option → configs ≡ map (config_of plan) (inputs_of plan place)
+    → All (λ input. IsOfOption own.option input.first) configs
+firsts-fit plan place own configs well own_is is =
+    subst (λ o. All (λ input. IsOfOption o input.first) configs) (sym own_is)
+    (subst (All (λ input. IsOfOption plan.option input.first)) (sym is)
+    (All-map (λ input. IsOfOption plan.option input.first) (config_of plan) (inputs_of plan place)
+    (all-from (λ input. IsOfOption plan.option (config_of plan input).first) (inputs_of plan place)
+    (Each-map (IsInputOf plan place) (λ input. IsOfOption plan.option (config_of plan input).first) (λ input of. first-fits plan place input well of) (inputs_of plan place) (inputs-are plan place)))))
+
+-- an element set to what the plan says has the plan's settings
+pub settings-are : (plan : Topology) (place : ℕ) (element : elements.Element) (configs : List InputConfig) → slice_get plan.elements place ≡ Some element → configs ≡ map (config_of plan) (inputs_of plan place)
+    → configured.settings_of (record { own = element.own; floor = element.floor; holdoff = element.holdoff; wtr = element.wtr; inputs = configs }) ≡ settings_of plan place
+unfolding settings_of
+settings-are plan place element configs is configs_are =
+    rw (
+      is,
+      configs_are,
+      map-map (config_of plan) (λ input. input.priority) (inputs_of plan place),
+      map-map (config_of plan) (λ input. input.first) (inputs_of plan place),
+      map-map (config_of plan) (λ input. input.bundle) (inputs_of plan place),
+    ) refl
+
+-- a nominated line is a line of the plan
+nominated-within : (plan : Topology) (line : ℕ) → IsNominated plan line → line < line_count plan
+nominated-within plan line nominated = elim (dec_lt line (line_count plan)) [
+  | yes within ↦ within
+  | no beyond ↦
+      let past : slice_get plan.links (line / 2) ≡ None = slice_get_past plan.links (line / 2) (omega (arith, beyond)) in
+      absurd (true≢false (sym nominated ∙ ap (λ found. nat_lt 0 (option_map_or (λ (link : Link). if ends_at_b line then link.priority_b else link.priority_a) found 0)) past))
+]
+
+-- what stands at each place of a list of one thing, in range or not
+same-everywhere : {A : Type 0} (n i : ℕ) (x : A) → slice_index_or (replicate n x) i x ≡ x
+same-everywhere zero i x = refl
+same-everywhere (suc n) zero x = refl
+same-everywhere (suc n) (suc i) x = same-everywhere n i x
+
+-- a fact of something that may be there, from another fact of it
+if-some : {A : Type 0} (P Q : A → Type 0) (o : Option A) → ((x : A) → P x → Q x) → IfSome o P → IfSome o Q
+if-some P Q None f holds = tt
+if-some P Q (Some x) f holds = f x holds
+
+-- a new element stands between two steps
+ready-element : (plan : Topology) (next place : ℕ) (element : ElementState) → next ≡ 0 → IsNewElement plan place element → IsReadyElement plan next place element
+ready-element plan next place element at_first new = record {
+  sound = record { settings = new.settings; due = new.changes };
+  first = λ _first. at_first;
+  later = omega (arith, new.next);
+  due_later = subst (λ o. IfSome o (λ due. next ≤ due)) (sym new.due) tt;
+}
+
+-- and so does a new line
+ready-line : (plan : Topology) (next line : ℕ) (state : LineState) → IsNewLine plan line state → IsReadyLine plan next line state
+ready-line plan next line state new = record {
+  sound = record { nominated = new.nominated; delay = new.delay; due = new.changes };
+  options = new.options;
+  turn = omega (arith, new.turn);
+  due_later = subst (λ o. IfSome o (λ due. next ≤ due)) (sym new.due) tt;
+}
+
+-- no line that is kept is due
+no-line-due : (plan : Topology) (line : ℕ) (kept : Option LineState) → IfSome kept (IsNewLine plan line) → None ≡ option_and_then (λ (state : LineState). state.due) kept
+no-line-due plan line None new = refl
+no-line-due plan line (Some state) new = sym new.due
+
+-- the levels of new sources are of the plan's option
+sources-fit : (plan : Topology) (sources : List SourceSignal) → AreEach (IsNewSource plan) (length plan.sources) sources → AreOfOption plan.option sources
+sources-fit plan sources are source within =
+    let new : IsNewSource plan source (source_at sources source) = are.each source no_source (omega (arith, are.count, within)) in
+    record { said = ap (λ (l : Level). l.option) new.said ∙ new.of_option; level = ap (λ (l : Level). l.option) new.level ∙ new.of_option }
+
+-- a network that was told nothing is whole
+pub begun-whole : (plan : Topology) (parts : Parts) → IsBegun plan parts → IsWhole plan parts
+begun-whole plan parts begun = record {
+  well_formed = begun.well_formed;
+  in_range = omega (arith, begun.next);
+  steps = omega (arith, begun.later_steps);
+  elements_count = begun.elements.count;
+  lines_count = begun.lines.count;
+  signals_count = ap length begun.signals ∙ length-replicate (line_count plan) _;
+  sources_count = begun.sources.count;
+  heards_count = ap length begun.heards ∙ length-replicate (line_count plan) None;
+  dues_count = ap length begun.dues ∙ length-replicate (length plan.elements + line_count plan) None;
+  changes_count = ap length begun.changes ∙ length-replicate (length plan.elements) [];
+  active_count = ap (λ (m : Marked). length m.flags) begun.active ∙ length-replicate (length plan.elements) false;
+  none_called = begun.called;
+  places = begun.places;
+  outs = begun.outs;
+  elements = λ element other within. ready-element plan parts.next element _ begun.next (begun.elements.each element other within);
+  lines = λ line within.
+      if-some (IsNewLine plan line) (IsReadyLine plan parts.next line) _ (λ state new. ready-line plan parts.next line state new) (begun.lines.each line None within).is_new;
+  every = λ line nominated. (begun.lines.each line None (nominated-within plan line nominated)).every nominated;
+  element_dues = λ element other within.
+      ap (λ dues. due_in dues element) begun.dues ∙ same-everywhere (length plan.elements + line_count plan) element None ∙ sym (begun.elements.each element other within).due;
+  line_dues = λ line within.
+      ap (λ dues. due_in dues (length plan.elements + line)) begun.dues ∙ same-everywhere (length plan.elements + line_count plan) (length plan.elements + line) None
+      ∙ no-line-due plan line _ (begun.lines.each line None within).is_new;
+  levels = λ line. subst (IsOfOption plan.option) (sym (ap (λ heards. heard_in heards line) begun.heards ∙ same-everywhere (line_count plan) line None)) tt;
+  source_levels = sources-fit plan parts.sources.items begun.sources;
+  told_nothing = λ element. ap (λ changes. told_in changes element) begun.changes ∙ same-everywhere (length plan.elements) element [];
+}
+
+-- a new element follows its past of no milliseconds
+element-begins : (plan : Topology) (signals : Signals) (out : Levels) (place : ℕ) (element : ElementState) → IsNewElement plan place element → ElementStands plan signals out place 0 element
+element-begins plan signals out place element new = record {
+  settings = new.settings;
+  in_time = record { first = λ _first. refl; later = omega (arith, new.next); until_due = subst (λ o. IfSome o (λ due. 0 ≤ due)) (sym new.due) tt };
+  stands = subst (λ n. Element.StandsFor element (element_past plan signals out place n)) (sym new.next) new.stands;
+  quiet = subst (λ n. [] ≡ moments_until (settings_of plan place) 0 (element_past plan signals out place n)) (sym new.next) refl;
+}
+
+-- and so does a new line
+line-begins : (plan : Topology) (signals : Signals) (out : Levels) (line : ℕ) (state : LineState) → IsNewLine plan line state → LineStands plan signals out line 0 state
+line-begins plan signals out line state new = record {
+  delay = new.delay;
+  in_turn = omega (arith, new.turn);
+  until_due = subst (λ o. IfSome o (λ due. 0 ≤ due)) (sym new.due) tt;
+  called = 0;
+  later = omega arith;
+  first = λ _first. refl;
+  stands = new.stands;
+  unchanged = refl;
+}
+
+-- before any event all lines and sources are as the plan has them
+signals-begin : (plan : Topology) (parts : Parts) → IsBegun plan parts → (events : List Event) → AreSignals plan (kept_of parts) events 0
+signals-begin plan parts begun events = record {
+  line_up = λ line nominated. rw (none-before-0 events) (ap (λ (signal : LineSignal). signal.up) (line-is line));
+  line_esmc = λ line nominated. rw (none-before-0 events) (ap (λ (signal : LineSignal). signal.esmc) (line-is line));
+  source_up = λ source is. rw (none-before-0 events) (begun.sources.each source no_source is.has).up;
+  source_said = λ source is. rw (none-before-0 events) (begun.sources.each source no_source is.has).said;
+  source_level = λ source is. (begun.sources.each source no_source is.has).level;
+}
+  where
+    line-is : (line : ℕ) → line_signal (kept_of parts) line ≡ record { up = true; esmc = true }
+    line-is line = ap (λ signals. line_at signals line) begun.signals ∙ same-everywhere (line_count plan) line (record { up = true; esmc = true })
+
+-- and nothing is heard
+heards-begin : (plan : Topology) (parts : Parts) → IsBegun plan parts → (events : List Event) → AreHeard plan (kept_of parts) events 0
+unfolding heard_at
+heards-begin plan parts begun events = λ line nominated. ap (λ heards. heard_in heards line) begun.heards ∙ same-everywhere (line_count plan) line None
+
+-- a network that was told nothing stands for no milliseconds, whatever events come
+pub begun-stands : (plan : Topology) (parts : Parts) → IsBegun plan parts → (events : List Event) → IsOfPast (state_of plan false parts) events 0
+begun-stands plan parts begun events = record {
+  first = λ _first. refl;
+  later = omega (arith, begun.next);
+  elements = λ element other within.
+      element-begins plan (signals_by plan events) (out_at plan (signals_by plan events)) element _ (begun.elements.each element other within);
+  lines = λ line within.
+      if-some (IsNewLine plan line) (LineStands plan (signals_by plan events) (out_at plan (signals_by plan events)) line 0) _
+      (λ state new. line-begins plan (signals_by plan events) (out_at plan (signals_by plan events)) line state new) (begun.lines.each line None within).is_new;
+  signals = signals-begin plan parts begun events;
+  heards = heards-begin plan parts begun events;
+}
+
+-- what holds where there is no want of memory
+pub if-ok : (P Q : Parts → Type 0) (result : Result Parts NoMemory) → ((parts : Parts) → P parts → Q parts) → IfOk result P → IfOk result Q
+if-ok P Q (Ok parts) f holds = f parts holds
+if-ok P Q (Err error) f holds = tt

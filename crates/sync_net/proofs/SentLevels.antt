@@ -1,0 +1,58 @@
+-- The level that a line is given is the one that the rules send.
+use Rattle.std.proofs.Common.{◌≡◌, ◌<◌, ℕ, true, false, List, length, Option, Some, slice_get, ap, sym, subst, ◌∙◌, inl, inr, arith}
+use Rattle.std.specs.Prelude.{option_and_then, if◌then◌else◌}
+use Rattle.std.specs.Option.{option_map_or}
+use Rattle.std.proofs.lemmas.Option.{slice_get_cases}
+use Rattle.sync_ql.specs.declared.levels.Level.{Level}
+use Rattle.sync_ql.specs.Level.{do_not_use_of}
+use Rattle.sync_ql.specs.Moment.{Moment, selection_at}
+use Rattle.sync_ql.specs.Output.{clock_level_at}
+use Rattle.sync_ql.specs.Told.{moments_until}
+use Rattle.sync_element.specs.ElementState.{ElementState, IsInTime}
+use Rattle.sync_element.specs.StandsFor as Element
+use Rattle.sync_topo.specs.declared.element.Element as declared
+use Rattle.sync_topo.specs.Topology.{Topology}
+use Rattle.sync_topo.specs.Lines.{sender_of, inputs_of}
+use Rattle.sync_topo.specs.WellFormed.{IsWellFormed}
+use Rattle.net_rules.specs.History.{settings_of, taken_by, is_way_back, sent_by}
+
+-- an element's own level is of the plan's option
+pub own-option : (plan : Topology) (element : ℕ) → IsWellFormed plan → element < length plan.elements → (settings_of plan element).own.option ≡ plan.option
+unfolding settings_of
+own-option plan element well within = elim ((slice_get_cases plan.elements element).1) [
+  | inl some ↦ of (slice_get plan.elements element) some.0 some.2 some.2
+  | inr none ↦ absurd (omega (arith, none.0, within))
+]
+  where
+    of : (o : Option declared.Element) (e : declared.Element) → o ≡ Some e → slice_get plan.elements element ≡ Some e → (option_map_or (λ (e : declared.Element). e.own) o (do_not_use_of plan.option)).option ≡ plan.option
+    of o e is has = rw is ((well.elements_fit element e has).own_is_clock_level.of_option)
+
+-- a level that is the sender's own, where the line doesn't lead back
+pub own-sent : (plan : Topology) (line : ℕ) (sender : ElementState) (selected : Option ℕ) (level : Level) →
+    sender.settings ≡ settings_of plan (sender_of plan line) →
+    ((past : List Moment) (n : ℕ) → Element.StandsFor sender past → IsInTime sender n → selected ≡ selection_at sender.settings (moments_until sender.settings n past)) →
+    ((past : List Moment) (n : ℕ) → Element.StandsFor sender past → IsInTime sender n → level ≡ clock_level_at sender.settings (moments_until sender.settings n past)) →
+    is_way_back plan (option_and_then (slice_get (inputs_of plan (sender_of plan line))) selected) line ≡ false →
+    (past : List Moment) (n : ℕ) → Element.StandsFor sender past → IsInTime sender n → level ≡ sent_by plan line (moments_until sender.settings n past)
+own-sent plan line sender selected level settings takes has onward past n stands in_time =
+    let p : List Moment = moments_until sender.settings n past in
+    let e : ℕ = sender_of plan line in
+    let selection : selected ≡ selection_at (settings_of plan e) p = takes past n stands in_time ∙ ap (λ s. selection_at s p) settings in
+    let is_own : is_way_back plan (taken_by plan e p) line ≡ false =
+    subst (λ s. is_way_back plan (option_and_then (slice_get (inputs_of plan e)) s) line ≡ false) selection onward in
+    has past n stands in_time ∙ ap (λ s. clock_level_at s p) settings
+    ∙ sym (ap (λ b. if b then do_not_use_of plan.option else clock_level_at (settings_of plan e) p) is_own)
+
+-- and do-not-use, where it does
+pub back-sent : (plan : Topology) (line : ℕ) (sender : ElementState) (selected : Option ℕ) →
+    sender.settings ≡ settings_of plan (sender_of plan line) →
+    ((past : List Moment) (n : ℕ) → Element.StandsFor sender past → IsInTime sender n → selected ≡ selection_at sender.settings (moments_until sender.settings n past)) →
+    is_way_back plan (option_and_then (slice_get (inputs_of plan (sender_of plan line))) selected) line ≡ true →
+    (past : List Moment) (n : ℕ) → Element.StandsFor sender past → IsInTime sender n → do_not_use_of plan.option ≡ sent_by plan line (moments_until sender.settings n past)
+back-sent plan line sender selected settings takes back past n stands in_time =
+    let p : List Moment = moments_until sender.settings n past in
+    let e : ℕ = sender_of plan line in
+    let selection : selected ≡ selection_at (settings_of plan e) p = takes past n stands in_time ∙ ap (λ s. selection_at s p) settings in
+    let is_back : is_way_back plan (taken_by plan e p) line ≡ true =
+    subst (λ s. is_way_back plan (option_and_then (slice_get (inputs_of plan e)) s) line ≡ true) selection back in
+    sym (ap (λ b. if b then do_not_use_of plan.option else clock_level_at (settings_of plan e) p) is_back)

@@ -1,0 +1,27 @@
+use Rattle.std.proofs.Common.{arith, sym, ◌∙◌, ap}
+use Rattle.std.proofs.lemmas.Option.{none-some}
+use Rattle.sync_ql.specs.Messages.{is_same_level}
+use Rattle.sync_topo.specs.Lines.{line_input, receiver_of}
+use Rattle.net_rules.proofs.HistoryLaws.{line-input_of}
+use Rattle.sync_net.proofs.HearingLaws.{passed-same, passed-on, read-heard}
+use Rattle.sync_net.proofs.hearing.pass_on.Goals as goal
+
+pub returns-then-is_same : goal.returns-then-is_same
+returns-then-is_same c =
+    passed-same c.args.plan.now c.args.line.0 c.args.level c.args.heards.now _ _
+    (ap (is_same_level c.args.level) (read-heard c.args.heards.now c.args.line.0 c.index-heards-line.result (omega (arith, c.requires.line, c.requires.heards)) c.index-heards-line.is)
+    ∙ sym c.is_same.ensures ∙ c.if-is_same.true)
+
+pub unreachable-requires : goal.unreachable-requires
+unreachable-requires c =
+    none-some _ (sym (c.in_default.ensures.place (receiver_of c.args.plan.now c.args.line.0))
+    ∙ c.requires.places.place (receiver_of c.args.plan.now c.args.line.0) (line_input c.args.line.0) (line-input_of c.args.plan.now c.args.line.0 c.requires.nominated))
+
+pub returns : goal.returns
+returns c =
+    passed-on c.args.plan.now c.args.line.0 c.in-Some.there.element c.in-Some.there.place c.args.level c.args.heards.now _ _ _ _
+    c.requires.well_formed c.requires.nominated c.requires.heards c.in-Some.ensures.within c.requires.option
+    (ap (is_same_level c.args.level) (read-heard c.args.heards.now c.args.line.0 c.index-heards-line.result (omega (arith, c.requires.line, c.requires.heards)) c.index-heards-line.is)
+    ∙ sym c.is_same.ensures ∙ c.if-is_same.false)
+    c.in-Some.ensures.place
+    c.in_ok-tell.ensures.count c.in_ok-tell.ensures.flags_count c.in_ok-tell.ensures.list c.in_ok-tell.ensures.flag

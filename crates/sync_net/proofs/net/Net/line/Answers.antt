@@ -1,0 +1,10 @@
+use Rattle.std.proofs.Common.{ap, ◌∙◌}
+use Rattle.sync_net.specs.Standing.{StandsFor}
+use Rattle.sync_net.proofs.NetSeen.{line-read}
+use Rattle.sync_net.proofs.net.Net.line.Goals as goal
+
+pub returns-clause-stands : goal.returns-clause-stands
+unfolding StandsFor
+returns-clause-stands c = λ all n is.
+    line-read c.args.self.now c.self.inside.plan.now c.self.inside.spent c.self.inside.parts c.args.l.0 c.index.result.now c.in-Some.line c.self.view_is c.index.ensures c.in-Some.is
+    (c.self.invariant (ap (λ s. s.spent) c.self.view_is ∙ c.requires.live)).lines_count c.requires.nominated all n is

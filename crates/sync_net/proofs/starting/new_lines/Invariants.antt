@@ -1,0 +1,6 @@
+use Rattle.sync_net.specs.Beginning.{AreEach, IsNewPlace}
+use Rattle.sync_net.proofs.starting.new_lines.Given as goal
+
+-- the lines so far
+abbrev pub invariant-loop-number : goal.invariant-loop-number
+invariant-loop-number l = AreEach (IsNewPlace l.plan) l.number l.lines

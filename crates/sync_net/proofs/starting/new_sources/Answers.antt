@@ -1,0 +1,8 @@
+use Rattle.sync_net.specs.Beginning.{IsNewSource}
+use Rattle.sync_net.proofs.NewNets.{each-more}
+use Rattle.sync_net.proofs.starting.new_sources.Goals as goal
+
+pub loop-number-preserved : goal.loop-number-preserved
+loop-number-preserved c =
+    each-more (IsNewSource c.args.plan.now) c.loop-number.number c.loop-number.sources c.push.new.self c.new_source.result
+    c.loop-number.invariant c.in_ok-push.ensures.ok c.new_source.ensures

@@ -1,0 +1,6 @@
+use Rattle.sync_net.specs.Beginning.{AreEach, IsNewSource}
+use Rattle.sync_net.proofs.starting.new_sources.Given as goal
+
+-- the sources so far
+abbrev pub invariant-loop-number : goal.invariant-loop-number
+invariant-loop-number l = AreEach (IsNewSource l.plan) l.number l.sources

@@ -1,0 +1,213 @@
+//! The network, as other crates see it.
+
+ghost use Rattle.std.specs.Prelude.{◌≡◌, ◌≤◌, ◌<◌, ◌+◌, ◌-◌, ℕ, true, false, nat_eq, if◌then◌else◌, List, [], All, IfOk, OnOk, IfSome, OnErr, Option, None, Some, length, slice_index_or};
+ghost use Rattle.sync_topo.specs.declared.event.Event.{Event};
+ghost use Rattle.sync_topo.specs.Events.{Fits};
+ghost use Rattle.sync_topo.specs.Lines.{line_count, delay_of, IsNominated};
+ghost use Rattle.sync_element.specs.ElementState.{ElementState};
+ghost use Rattle.net_rules.specs.Signals.{signals_by};
+ghost use Rattle.net_rules.specs.History.{out_at};
+ghost use Rattle.net_rules.specs.Activity.{is_active, is_busy};
+ghost use Rattle.net_rules.specs.Settling.{IsUnswitched};
+ghost use Rattle.net_rules.specs.Facing.{Faces};
+ghost use Rattle.sync_ql.specs.Messages.{hearing_time};
+ghost use Rattle.sync_net.specs.NetState.{line_in, NoneDueBefore, IsDueAt, IsInTime};
+ghost use Rattle.sync_net.specs.Standing.{ElementStands, LineStands, StandsFor, NoneFrom};
+ghost use Rattle.sync_net.specs.Evaluated.{IsContinued, AreAloneEvaluated};
+
+use crate::parts::Parts;
+use crate::starting::new_parts;
+use crate::stepping::step_parts;
+use link_model::Line;
+use std::alloc::Global;
+use std::marker::Model;
+use std::sync::ledger::Ledger;
+use sync_edge::{NoMemory, Steps};
+use sync_element::Element;
+use sync_ql::limits::LAST_MILLISECOND;
+use sync_topo::{Event, LineId, Plan};
+
+/// A network: the elements and nominated lines of a plan, as they are after its last step.
+///
+/// After each step, and from there up to but not at [`Net::due`], it stands for its plan and all
+/// events so far: each element and line is as the rules have it.
+/// After G.781 and G.8264; the order within a millisecond is this project's own.
+#[derive(Debug, Drop)]
+pub struct Net<'a> {
+    plan: &'a Plan,
+    parts: Parts,
+    /// Whether a step was refused, after which nothing else of the network is said.
+    spent: bool,
+}
+
+impl<'a> Model for Net<'a> {
+    ghost use Rattle.sync_net.specs.NetState.{NetState};
+
+    ghost Value = { NetState };
+
+    ghost use Rattle.sync_net.specs.NetKept.{net_state, IsKept};
+
+    ghost view = { net_state };
+
+    ghost invariant = { IsKept };
+}
+
+impl<'a> Net<'a> {
+    /// A network that was told nothing.
+    ///
+    /// It stands for no milliseconds, whatever the events are. It takes memory by the number of
+    /// elements, links and inputs of the plan.
+    pub fn new(alloc: Global, plan: &'a Plan) -> Result<Net<'a>, NoMemory>
+        ensures plan { IfOk result (λ net. net.plan ≡ plan.now) }
+        ensures live { IfOk result (λ net. net.spent ≡ false) }
+        ensures next { IfOk result (λ net. net.next ≡ 0) }
+        ensures later_steps { IfOk result (λ net. net.later_steps ≡ 0) }
+        ensures evaluated { IfOk result (λ net. net.evaluated ≡ []) }
+        ensures stands { IfOk result (λ net. (events : List Event) → StandsFor net events 0) }
+    {
+        let parts = new_parts(alloc, plan)?;
+        Ok(Net {
+            plan,
+            parts,
+            spent: false,
+        })
+    }
+
+    /// Tells the events of a millisecond, and makes it: the events come in, messages arrive,
+    /// elements evaluate, and lines send.
+    ///
+    /// The first step is at 0; a later one is after the last, at `due` at the latest, and at most
+    /// at 86,400,000. Between two steps nothing happens. Only elements that are active then are
+    /// evaluated, each of them once, which is one step of the count. Two elements that take their
+    /// timing from each other do so shortly: for less than five seconds and the delay of the line,
+    /// where no event switches it. After `NoMemory` the network is spent. After G.781, selection,
+    /// and G.8264, ESMC messages.
+    pub fn step<L: Ledger>(
+        &mut self,
+        now: u64,
+        events: &[Event],
+        steps: &mut Steps<L>,
+    ) -> Result<(), NoMemory>
+        requires live { self.old.spent ≡ false }
+        requires in_time { IsInTime self.old now }
+        requires in_range { now ≤ LAST_MILLISECOND }
+        requires fit { All (Fits self.old.plan) events.now }
+        ensures plan { self.new.plan ≡ self.old.plan }
+        ensures live { OnOk result (self.new.spent ≡ false) }
+        ensures spent { OnErr result (self.new.spent ≡ true) }
+        ensures next { OnOk result (self.new.next ≡ now + 1) }
+        ensures later_steps { OnOk result (self.new.later_steps ≡
+            (if nat_eq self.old.next 0 then 0 else self.old.later_steps + 1)) }
+        ensures stands { OnOk result ((all : List Event) (n : ℕ) →
+            IsContinued self.old.plan all n now events.now →
+            StandsFor self.old all n → StandsFor self.new all (now + 1)) }
+        ensures none_due { OnOk result (NoneDueBefore self.new (now + 1)) }
+        ensures evaluated { OnOk result (AreAloneEvaluated self.old self.new) }
+        ensures active { OnOk result ((all : List Event) (n : ℕ) →
+            IsContinued self.old.plan all n now events.now → StandsFor self.old all n →
+            All (λ element. is_active self.old.plan all element now ≡ true) self.new.evaluated) }
+        ensures ticks { OnOk result (steps.new ≡ steps.old + length self.new.evaluated) }
+        ensures short { OnOk result ((all : List Event) (line back from until : ℕ) →
+            IsUnswitched all line from until → from ≤ until → until ≤ now →
+            ((t : ℕ) → from ≤ t → t ≤ until → Faces self.old.plan (signals_by self.old.plan all)
+            (out_at self.old.plan (signals_by self.old.plan all)) line back t) →
+            until < from + (hearing_time + delay_of self.old.plan line)) }
+    {
+        match step_parts(self.plan, &mut self.parts, now, events, steps) {
+            Ok(()) => Ok(()),
+            Err(NoMemory) => {
+                self.spent = true;
+                Err(NoMemory)
+            }
+        }
+    }
+
+    /// Whether a step was refused.
+    pub fn spent(&self) -> bool
+        ensures { result ≡ self.now.spent }
+    {
+        self.spent
+    }
+
+    /// The plan.
+    pub fn plan(&self) -> &Plan
+        ensures { result.now ≡ self.now.plan }
+    {
+        self.plan
+    }
+
+    /// The millisecond of the last step.
+    ///
+    /// `None` exactly where there was no step.
+    pub fn now(&self) -> Option<u64>
+        ensures { result ≡ (if nat_eq self.now.next 0 then None else Some (self.now.next - 1)) }
+    {
+        if self.parts.next == 0 {
+            return None;
+        }
+        Some(self.parts.next - 1)
+    }
+
+    /// The first later millisecond in which a step has to be made, if nothing is told.
+    ///
+    /// It is the least of the due times of its elements and nominated lines, and `None` exactly
+    /// where none is due. Where no event stands from the last step up to it, something happens in
+    /// it. This project's own.
+    pub fn due(&self) -> Option<u64>
+        requires live { self.now.spent ≡ false }
+        ensures least { (n : ℕ) → IfSome result (λ due. n ≤ due) → NoneDueBefore self.now n }
+        ensures some { IfSome result (IsDueAt self.now) }
+        ensures later { IfSome result (λ due. self.now.next ≤ due) }
+        ensures gap { (all : List Event) (m n : ℕ) → StandsFor self.now all m → m ≤ n →
+            (self.now.next ≡ 0 → n ≡ 0) → NoneFrom m n all → IfSome result (λ due. n ≤ due) →
+            StandsFor self.now all n }
+        ensures busy { IfSome result (λ due. (all : List Event) (n : ℕ) → StandsFor self.now all n →
+            0 < self.now.next → n ≤ due → NoneFrom n due all → is_busy self.now.plan all due ≡ true) }
+    {
+        match self.parts.dues.first() {
+            Some(due) => Some(due.at),
+            None => None,
+        }
+    }
+
+    /// The number of steps after the first.
+    pub fn later_steps(&self) -> u64
+        ensures { result ≡ self.now.later_steps }
+    {
+        self.parts.later_steps
+    }
+
+    /// An element, by its number.
+    pub fn element(&self, e: u32) -> &Element
+        requires live { self.now.spent ≡ false }
+        requires element { e < length self.now.plan.elements }
+        ensures element { (other : ElementState) → result.now ≡ slice_index_or self.now.elements e other }
+        ensures stands { (all : List Event) (n : ℕ) → StandsFor self.now all n →
+            ElementStands self.now.plan (signals_by self.now.plan all)
+            (out_at self.now.plan (signals_by self.now.plan all)) e n result.now }
+    {
+        &self.parts.elements[e as usize]
+    }
+
+    /// A nominated line, by its number.
+    pub fn line(&self, l: LineId) -> &Line
+        requires live { self.now.spent ≡ false }
+        requires nominated { IsNominated self.now.plan l.0 }
+        ensures line { line_in self.now.lines l.0 ≡ Some result.now }
+        ensures stands { (all : List Event) (n : ℕ) → StandsFor self.now all n →
+            LineStands self.now.plan (signals_by self.now.plan all)
+            (out_at self.now.plan (signals_by self.now.plan all)) l.0 n result.now }
+    {
+        match &self.parts.lines[l.0 as usize] {
+            Some(line) => line,
+            None => unreachable!(),
+        }
+    }
+
+    /// The elements that the last step evaluated, in no order.
+    pub fn evaluated(&self) -> &[u32]
+        ensures { result.now ≡ self.now.evaluated }
+    {
+        self.parts.tellings.active.listed()
+    }
+}

@@ -1,0 +1,259 @@
+//! A network before its first step.
+
+ghost use Rattle.std.specs.Prelude.{◌≡◌, ◌≤◌, ◌<◌, ◌+◌, ℕ, true, false, List, [], ◌∷◌, ◌++◌, IfOk, OnOk, None, length, map, replicate};
+ghost use Rattle.agenda.specs.Marked.{none_marked};
+ghost use Rattle.sync_topo.specs.declared.event.Event.{Event};
+ghost use Rattle.sync_topo.specs.Lines.{line_count, inputs_of, IsInput, IsNominated};
+ghost use Rattle.sync_net.specs.Beginning.{AreEach, AreOutsBefore, IsBegun, IsNewElement, IsNewPlace, IsNewSource, config_of};
+ghost use Rattle.sync_net.specs.Standing.{IsOfPast};
+ghost use Rattle.sync_net.specs.Whole.{AreOuts, IsWhole, state_of};
+
+use crate::parts::Parts;
+use crate::places::places_of;
+use crate::signals::{LineSignal, SourceSignal};
+use crate::tellings::Tellings;
+use crate::told::Told;
+use agenda::{DueTimes, Marks};
+use link_model::Line;
+use std::alloc::Global;
+use sync_edge::{NoMemory, Rows};
+use sync_element::{Config, Element, InputConfig};
+use sync_ql::Level;
+use sync_topo::{InputId, LineId, Plan};
+
+// The parts of a network that was told nothing.
+pub fn new_parts(alloc: Global, plan: &Plan) -> Result<Parts, NoMemory>
+    ensures whole { IfOk result (IsWhole plan.now) }
+    ensures next { IfOk result (λ parts. parts.next ≡ 0) }
+    ensures later_steps { IfOk result (λ parts. parts.later_steps ≡ 0) }
+    ensures evaluated { IfOk result (λ parts. parts.tellings.active.listed ≡ []) }
+    ensures stands { IfOk result (λ parts. (events : List Event) →
+        IsOfPast (state_of plan.now false parts) events 0) }
+{
+    begun(alloc, plan)
+}
+
+// The parts, each as it is before anything is told.
+fn begun(alloc: Global, plan: &Plan) -> Result<Parts, NoMemory>
+    ensures { IfOk result (IsBegun plan.now) }
+{
+    let elements = new_elements(alloc, plan)?;
+    let lines = new_lines(alloc, plan)?;
+    let signals = new_signals(alloc, plan)?;
+    let sources = new_sources(alloc, plan)?;
+    let heards = no_levels(alloc, plan)?;
+    let dues = DueTimes::new(alloc, (plan.elements() + plan.lines()) as usize)?;
+    let tellings = new_tellings(alloc, plan)?;
+    let called = Marks::new(alloc, plan.lines() as usize)?;
+    let places = places_of(alloc, plan)?;
+    let outs = outs_of(alloc, plan)?;
+    Ok(Parts {
+        next: 0,
+        later_steps: 0,
+        elements,
+        lines,
+        signals,
+        sources,
+        heards,
+        dues,
+        tellings,
+        called,
+        places,
+        outs,
+    })
+}
+
+// The elements, by number.
+fn new_elements(alloc: Global, plan: &Plan) -> Result<Vec<Element>, NoMemory>
+    ensures { IfOk result (λ elements.
+        AreEach (IsNewElement plan.now) (length plan.now.elements) elements.items) }
+{
+    let mut elements = Rows::new(alloc);
+    for place in 0..plan.elements() {
+        elements.push(new_element(alloc, plan, place)?)?;
+    }
+    Ok(elements.into_vec())
+}
+
+// An element by the plan, that was told nothing.
+fn new_element(alloc: Global, plan: &Plan, place: u32) -> Result<Element, NoMemory>
+    requires { place < length plan.now.elements }
+    ensures { IfOk result (IsNewElement plan.now place) }
+{
+    let inputs = input_configs(alloc, plan, place)?;
+    let planned = plan.element(place);
+    let element = Element::new(
+        alloc,
+        Config {
+            own: planned.own,
+            floor: planned.floor,
+            holdoff: planned.holdoff,
+            wtr: planned.wtr,
+            inputs,
+        },
+    )?;
+    let _due = element.due();
+    Ok(element)
+}
+
+// What an element is set to for its inputs.
+fn input_configs(alloc: Global, plan: &Plan, place: u32) -> Result<Rows<InputConfig>, NoMemory>
+    requires { place < length plan.now.elements }
+    ensures { IfOk result (λ inputs. inputs ≡ map (config_of plan.now) (inputs_of plan.now place)) }
+{
+    let mut inputs = Rows::new(alloc);
+    for input in plan.inputs(place) {
+        inputs.push(input_config(plan, *input))?;
+    }
+    Ok(inputs)
+}
+
+// What an element is set to for an input.
+fn input_config(plan: &Plan, input: InputId) -> InputConfig
+    requires { IsInput plan.now input }
+    ensures { result ≡ config_of plan.now input }
+{
+    let priority = plan.priority(input);
+    match input {
+        InputId::Line(line) => InputConfig {
+            priority,
+            first: None,
+            bundle: plan.bundle(line.0 / 2),
+        },
+        InputId::Source(source) => InputConfig {
+            priority,
+            first: Some(plan.source(source).level),
+            bundle: plan.links() + source,
+        },
+    }
+}
+
+// The lines, by number, of which only the nominated ones are kept.
+fn new_lines(alloc: Global, plan: &Plan) -> Result<Vec<Option<Line>>, NoMemory>
+    ensures { IfOk result (λ lines.
+        AreEach (IsNewPlace plan.now) (line_count plan.now) lines.items) }
+{
+    let mut lines = Rows::new(alloc);
+    for number in 0..plan.lines() {
+        lines.push(new_line(alloc, plan, LineId(number))?)?;
+    }
+    Ok(lines.into_vec())
+}
+
+// A line that was told nothing, if it is nominated.
+fn new_line(alloc: Global, plan: &Plan, line: LineId) -> Result<Option<Line>, NoMemory>
+    requires { line.0 < line_count plan.now }
+    ensures { IfOk result (IsNewPlace plan.now line.0) }
+{
+    if !plan.nominated(InputId::Line(line)) {
+        return Ok(None);
+    }
+    let made = Line::new(alloc, plan.delay(line))?;
+    let _due = made.due();
+    Ok(Some(made))
+}
+
+// All lines are up, and their ESMC is on.
+fn new_signals(alloc: Global, plan: &Plan) -> Result<Vec<LineSignal>, NoMemory>
+    ensures { IfOk result (λ signals.
+        signals.items ≡ replicate (line_count plan.now) (record { up = true; esmc = true })) }
+{
+    let mut signals = Rows::new(alloc);
+    for _line in 0..plan.lines() {
+        signals.push(LineSignal {
+            up: true,
+            esmc: true,
+        })?;
+    }
+    Ok(signals.into_vec())
+}
+
+// The sources, by number.
+fn new_sources(alloc: Global, plan: &Plan) -> Result<Vec<SourceSignal>, NoMemory>
+    ensures { IfOk result (λ sources.
+        AreEach (IsNewSource plan.now) (length plan.now.sources) sources.items) }
+{
+    let mut sources = Rows::new(alloc);
+    for number in 0..plan.sources() {
+        sources.push(new_source(plan, number))?;
+    }
+    Ok(sources.into_vec())
+}
+
+// A source that was told nothing.
+fn new_source(plan: &Plan, number: u32) -> SourceSignal
+    requires { number < length plan.now.sources }
+    ensures { IsNewSource plan.now number result }
+{
+    let level = plan.source(number).level;
+    SourceSignal {
+        up: true,
+        said: level,
+        level,
+    }
+}
+
+// Nothing is heard on any line.
+fn no_levels(alloc: Global, plan: &Plan) -> Result<Vec<Option<Level>>, NoMemory>
+    ensures { IfOk result (λ levels. levels.items ≡ replicate (line_count plan.now) None) }
+{
+    let mut levels = Rows::new(alloc);
+    for _line in 0..plan.lines() {
+        levels.push(None)?;
+    }
+    Ok(levels.into_vec())
+}
+
+// No element is told anything.
+fn new_tellings(alloc: Global, plan: &Plan) -> Result<Tellings, NoMemory>
+    ensures changes { IfOk result (λ tellings.
+        tellings.changes.items ≡ replicate (length plan.now.elements) []) }
+    ensures active { IfOk result (λ tellings.
+        tellings.active ≡ none_marked (length plan.now.elements)) }
+{
+    let mut changes = Rows::new(alloc);
+    for _element in 0..plan.elements() {
+        changes.push(Told::new(alloc))?;
+    }
+    let active = Marks::new(alloc, plan.elements() as usize)?;
+    Ok(Tellings {
+        changes: changes.into_vec(),
+        active,
+    })
+}
+
+// The nominated lines out of each element.
+fn outs_of(alloc: Global, plan: &Plan) -> Result<Vec<Rows<u32>>, NoMemory>
+    ensures { IfOk result (λ outs. AreOuts plan.now outs.items) }
+{
+    let mut outs = no_outs(alloc, plan)?;
+    for number in 0..plan.lines() {
+        add_out(plan, outs.as_mut_slice(), LineId(number))?;
+    }
+    Ok(outs)
+}
+
+// For each element no line.
+fn no_outs(alloc: Global, plan: &Plan) -> Result<Vec<Rows<u32>>, NoMemory>
+    ensures { IfOk result (λ outs. outs.items ≡ replicate (length plan.now.elements) []) }
+{
+    let mut outs = Rows::new(alloc);
+    for _element in 0..plan.elements() {
+        outs.push(Rows::new(alloc))?;
+    }
+    Ok(outs.into_vec())
+}
+
+// One line more is listed, if it is nominated.
+fn add_out(plan: &Plan, outs: &mut [Rows<u32>], line: LineId) -> Result<(), NoMemory>
+    requires within { line.0 < line_count plan.now }
+    requires so_far { AreOutsBefore plan.now line.0 outs.old }
+    ensures count { length outs.new ≡ length outs.old }
+    ensures listed { OnOk result (AreOutsBefore plan.now (line.0 + 1) outs.new) }
+{
+    if !plan.nominated(InputId::Line(line)) {
+        return Ok(());
+    }
+    outs[plan.from(line) as usize].push(line.0)?;
+    Ok(())
+}

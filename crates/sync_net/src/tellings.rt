@@ -1,0 +1,30 @@
+//! What the elements are told in a millisecond.
+
+ghost use Rattle.std.specs.Prelude.{◌<◌, length, OnOk};
+ghost use Rattle.sync_net.specs.Words.{only_to};
+ghost use Rattle.sync_net.specs.Tellings.{AreTold};
+
+use crate::told::Told;
+use agenda::Marks;
+use sync_edge::NoMemory;
+use sync_ql::rules::InputEvent;
+
+// What each element is told, by its number, and the elements that are told something.
+#[derive(Debug, Drop)]
+pub struct Tellings {
+    pub changes: Vec<Told>,
+    pub active: Marks,
+}
+
+impl Tellings {
+    // An element is told of an event more.
+    pub fn tell(&mut self, element: u32, event: InputEvent) -> Result<(), NoMemory>
+        requires list { element < length self.old.changes.items }
+        requires flag { element < length self.old.active.flags }
+        ensures { OnOk result (AreTold (only_to element event) self.old self.new) }
+    {
+        self.changes[element as usize].push(event)?;
+        self.active.mark(element);
+        Ok(())
+    }
+}

@@ -1,0 +1,59 @@
+//! What one element is told in a millisecond.
+
+ghost use Rattle.std.specs.Prelude.{◌≡◌, [], ◌∷◌, ◌++◌, OnOk, OnErr};
+
+use std::alloc::Global;
+use std::marker::Model;
+use sync_edge::NoMemory;
+use sync_ql::rules::InputEvent;
+
+// What an element is told, in order. It keeps its room when it is cleared.
+#[derive(Debug, Drop)]
+pub struct Told {
+    events: Vec<InputEvent>,
+}
+
+impl Model for Told {
+    ghost use Rattle.std.specs.Prelude.{List};
+    ghost use Rattle.sync_ql.specs.declared.rules.InputEvent.{InputEvent};
+
+    ghost Value = { List InputEvent };
+
+    ghost view = { λ told. told.events.items };
+}
+
+impl Told {
+    // Nothing is told. It takes no memory.
+    pub fn new(alloc: Global) -> Told
+        ensures { result ≡ [] }
+    {
+        Told {
+            events: Vec::new(alloc),
+        }
+    }
+
+    // One event more is told; where memory runs out, nothing changes.
+    pub fn push(&mut self, event: InputEvent) -> Result<(), NoMemory>
+        ensures ok { OnOk result (self.new ≡ self.old ++ event ∷ []) }
+        ensures err { OnErr result (self.new ≡ self.old) }
+    {
+        match self.events.push(event) {
+            Ok(()) => Ok(()),
+            Err(_) => Err(NoMemory),
+        }
+    }
+
+    // All that is told.
+    pub fn as_slice(&self) -> &[InputEvent]
+        ensures { result.now ≡ self.now }
+    {
+        self.events.as_slice()
+    }
+
+    // Nothing is told any more.
+    pub fn clear(&mut self)
+        ensures { self.new ≡ [] }
+    {
+        self.events.clear();
+    }
+}
