@@ -1,5 +1,5 @@
 -- The laws of a network, as contracts see it.
-use Rattle.std.proofs.Common.{◌≡◌, ◌≤◌, ◌<◌, ◌+◌, ℕ, Bool, true, false, List, length, Option, None, Some, IfSome, ap, sym, subst, ◌∙◌, inl, inr, arith}
+use Rattle.std.proofs.Common.{◌≡◌, ◌≤◌, ◌<◌, ◌+◌, ◌*◌, ℕ, Bool, true, false, List, length, Option, None, Some, IfSome, ap, sym, subst, ◌∙◌, inl, inr, arith}
 use Rattle.std.specs.Prelude.{slice_index_or}
 use Rattle.std.specs.List.{All}
 use Rattle.std.proofs.lemmas.List.{get_or_default}
@@ -25,7 +25,7 @@ use Rattle.sync_net.specs.NetState as Net
 use Rattle.sync_net.specs.Standing.{IsOfPast, ElementStands, LineStands, NoneFrom}
 use Rattle.sync_net.specs.NetStep.{IsNetStep, AreEvaluatedFor}
 use Rattle.sync_net.specs.Evaluated.{IsContinued}
-use Rattle.sync_net.specs.Whole.{state_of, IsWhole}
+use Rattle.sync_net.specs.Whole.{state_of, IsReadyLine, IsWhole}
 use Rattle.sync_net.proofs.QuietGap.{stands-later, some_element}
 use Rattle.sync_net.proofs.ActiveLaws.{due-busy}
 use Rattle.sync_net.proofs.Assembling.{if_some_at}
@@ -124,3 +124,13 @@ module _ (net : NetState) (plan : Topology) (spent : Bool) (p : Parts) (view : s
       → until < from + (hearing_time + delay_of net.plan line)
   seen_short all line back from until still early faces =
       pair-by_events net.plan all line back from until (subst (λ s. IsWellFormed s.plan) seen whole.well_formed) still early faces
+
+  -- a line that was read can be asked from the next millisecond on
+  pub seen_line : (line : ℕ) (kept : Option LineState) (read : LineState) → kept ≡ slice_index_or p.lines.items line kept → kept ≡ Some read → IsNominated net.plan line
+      → (read.turn ≤ 4 * net.next) × IfSome read.due (λ due. net.next ≤ due)
+  seen_line line kept read same has nominated =
+      let next : p.next ≡ net.next = ap (λ s. s.next) view in
+      let within : line < line_count plan = omega (arith, IsNominated-within net.plan line nominated, ap (λ s. line_count s.plan) view) in
+      let ready : IsReadyLine plan p.next line read = if_some_at (IsReadyLine plan p.next line) (line_in p.lines.items line) read
+      (get_or_default p.lines.items line None kept (omega (arith, within, whole.lines_count)) ∙ sym same ∙ has) (whole.lines line within) in
+      (omega (arith, ready.turn, next), subst (λ n. IfSome read.due (λ due. n ≤ due)) next ready.due_later)

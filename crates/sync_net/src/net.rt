@@ -1,6 +1,6 @@
 //! The network, as other crates see it.
 
-ghost use Rattle.std.specs.Prelude.{◌≡◌, ◌≤◌, ◌<◌, ◌+◌, ◌-◌, ℕ, true, false, nat_eq, if◌then◌else◌, List, [], All, IfOk, OnOk, IfSome, OnErr, Option, None, Some, length, slice_index_or};
+ghost use Rattle.std.specs.Prelude.{◌≡◌, ◌≤◌, ◌<◌, ◌+◌, ◌-◌, ◌*◌, ℕ, true, false, nat_eq, if◌then◌else◌, List, [], All, IfOk, OnOk, IfSome, OnErr, Option, None, Some, length, slice_index_or};
 ghost use Rattle.sync_topo.specs.declared.event.Event.{Event};
 ghost use Rattle.sync_topo.specs.Events.{Fits};
 ghost use Rattle.sync_topo.specs.Lines.{line_count, delay_of, IsNominated};
@@ -194,6 +194,8 @@ impl<'a> Net<'a> {
         requires live { self.now.spent ≡ false }
         requires nominated { IsNominated self.now.plan l.0 }
         ensures line { line_in self.now.lines l.0 ≡ Some result.now }
+        ensures turn { result.now.turn ≤ 4 * self.now.next }
+        ensures in_time { IfSome result.now.due (λ due. self.now.next ≤ due) }
         ensures stands { (all : List Event) (n : ℕ) → StandsFor self.now all n →
             LineStands self.now.plan (signals_by self.now.plan all)
             (out_at self.now.plan (signals_by self.now.plan all)) l.0 n result.now }
