@@ -34,6 +34,8 @@ mod starting;
 mod stepping;
 mod taking;
 mod tellings;
+#[cfg(test)]
+mod tests;
 mod told;
 mod wording;
 
