@@ -77,11 +77,12 @@ impl<'a> Net<'a> {
     /// elements evaluate, and lines send.
     ///
     /// The first step is at 0; a later one is after the last, at `due` at the latest, and at most
-    /// at 86,400,000. Between two steps nothing happens. Only elements that are active then are
-    /// evaluated, each of them once, which is one step of the count. Two elements that take their
-    /// timing from each other do so shortly: for less than five seconds and the delay of the line,
-    /// where no event switches it. After `NoMemory` the network is spent. After G.781, selection,
-    /// and G.8264, ESMC messages.
+    /// at 86,400,000. Between two steps nothing happens. The elements that are evaluated are active
+    /// then, and each makes one step, which is one of the count; one that an event touches and tells
+    /// nothing may be left out. Two elements that take their timing from each other do so for less than
+    /// five seconds and the delay of the line, where no event switches it. `NoMemory` comes for want
+    /// of memory alone, and then the network is spent.
+    /// After G.781, selection, and G.8264, ESMC messages.
     pub fn step<L: Ledger>(
         &mut self,
         now: u64,
