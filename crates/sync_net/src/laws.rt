@@ -2,7 +2,7 @@
 //!
 //! Each function does nothing: its contract is the law. This project's own.
 
-ghost use Rattle.std.specs.Prelude.{◌≡◌, ◌≤◌, ◌<◌, ◌⊎◌, ℕ, suc, true, false, List, ◌++◌, Some, IfSome, All};
+ghost use Rattle.std.specs.Prelude.{◌≡◌, ◌≤◌, ◌<◌, ◌⊎◌, ℕ, suc, true, false, List, ◌++◌, length, slice_index_or, Some, IfSome, All};
 ghost use Rattle.sync_ql.specs.Messages.{is_same_level};
 ghost use Rattle.sync_topo.specs.declared.event.Event.{Event};
 ghost use Rattle.sync_topo.specs.Topology.{Topology};
@@ -16,6 +16,15 @@ ghost use Rattle.net_rules.specs.Activity.{TouchAlike, is_active, news_arrives, 
 ghost use Rattle.sync_net.specs.NetState.{NetState, NoneDueBefore, IsDueAt};
 ghost use Rattle.sync_net.specs.Standing.{ElementStands, LineStands, heard_before, StandsFor, NoneFrom};
 ghost use Rattle.sync_net.specs.Sound.{IsSoundElement, IsSoundLine, AreSound};
+
+/// The law of elements: where a network stands for its plan and all events, so does each of its
+/// elements, also one that no call gives.
+pub fn elements_law()
+    ensures stands { (net : NetState) (events : List Event) (n element : ℕ) (other : ElementState) →
+        StandsFor net events n → element < length net.plan.elements →
+        ElementStands net.plan (signals_by net.plan events) (out_at net.plan (signals_by net.plan events))
+        element n (slice_index_or net.elements element other) }
+{}
 
 /// The laws of later events and of their order. A network that stands for some events after so many
 /// milliseconds stands for them and any that come at those milliseconds or later; and of all events

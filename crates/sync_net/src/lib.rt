@@ -9,7 +9,7 @@
 //! |---|---|
 //! | the one who makes a run | [`Net::new`], [`Net::step`], [`Net::due`] |
 //! | who reads the state | [`Net::element`], [`Net::line`], [`Net::evaluated`] |
-//! | who proves something of a run | [`later_events_law`], [`gap_law`] |
+//! | who proves something of a run | [`elements_law`], [`later_events_law`], [`gap_law`] |
 //!
 //! A step costs by what is active in it: it calls only the elements that an event touches, into
 //! which another level is heard, or that are due, and only the lines that an event names, that are
@@ -39,5 +39,5 @@ mod tests;
 mod told;
 mod wording;
 
-pub use laws::{gap_law, later_events_law};
+pub use laws::{elements_law, gap_law, later_events_law};
 pub use net::Net;

@@ -6,7 +6,7 @@ ghost use Rattle.sync_topo.specs.Events.{Fits};
 ghost use Rattle.sync_topo.specs.Lines.{line_count, delay_of, IsNominated};
 ghost use Rattle.sync_element.specs.ElementState.{ElementState};
 ghost use Rattle.net_rules.specs.Signals.{signals_by};
-ghost use Rattle.net_rules.specs.History.{out_at};
+ghost use Rattle.net_rules.specs.History.{settings_of, out_at};
 ghost use Rattle.net_rules.specs.Activity.{is_active, is_busy};
 ghost use Rattle.net_rules.specs.Settling.{IsUnswitched};
 ghost use Rattle.net_rules.specs.Facing.{Faces};
@@ -182,6 +182,7 @@ impl<'a> Net<'a> {
     pub fn element(&self, e: u32) -> &Element
         requires live { self.now.spent ≡ false }
         requires element { e < length self.now.plan.elements }
+        ensures settings { result.now.settings ≡ settings_of self.now.plan e }
         ensures element { (other : ElementState) → result.now ≡ slice_index_or self.now.elements e other }
         ensures stands { (all : List Event) (n : ℕ) → StandsFor self.now all n →
             ElementStands self.now.plan (signals_by self.now.plan all)
