@@ -1,0 +1,8 @@
+pub mod ShownLemmas
+pub mod RowLaws
+pub mod SortedPlaces
+pub mod NotingLaws
+pub mod EventTimes
+pub mod BoundLaws
+pub mod RunLaws
+pub mod LaterRows

@@ -1,0 +1,9 @@
+pub mod Rows
+pub mod Changes
+pub mod SimState
+pub mod Standing
+pub mod Answers
+pub mod Bounds
+pub mod Showing
+pub mod Running
+pub mod SimKept

@@ -1,0 +1,152 @@
+//! What a step changed.
+
+ghost use Rattle.std.specs.Prelude.{◌≡◌, ◌<◌, ◌≤◌, ◌∷◌, ◌++◌, ℕ, false, if◌then◌else◌, [], nat_eq, length, map, slice_index_or, OnOk, IfOk};
+ghost use Rattle.std.specs.List.{All, IsDistinct};
+ghost use Rattle.event_sim.specs.declared.shown.Shown.{Shown};
+ghost use Rattle.event_sim.specs.Rows.{row_of};
+ghost use Rattle.event_sim.specs.Showing.{AreShown, AreSeen, AreRenewed, AreNoted, others_in};
+
+use crate::change::Change;
+use crate::limits::MOST_CHANGES;
+use crate::shown::{Shown, is_other, shown_of};
+use std::alloc::Global;
+use sync_edge::NoMemory;
+use sync_net::Net;
+
+// What each element of a network shows.
+pub fn first_shown(alloc: Global, net: &Net<'_>) -> Result<Vec<Shown>, NoMemory>
+    requires { net.now.spent ≡ false }
+    ensures { IfOk result (λ shown. AreShown net.now shown.items) }
+{
+    let mut shown = Vec::new(alloc);
+    let plan = net.plan();
+    for place in 0..plan.elements() {
+        let now = shown_of(plan, place, net.element(place));
+        if shown.push(now).is_err() {
+            return Err(NoMemory);
+        }
+    }
+    Ok(shown)
+}
+
+// Looks at the elements that the last step evaluated, and lists those that show something else.
+fn look_at_evaluated(
+    net: &Net<'_>,
+    shown: &mut Vec<Shown>,
+    changed: &mut Vec<u32>,
+) -> Result<(), NoMemory>
+    requires live { net.now.spent ≡ false }
+    requires count { length shown.old.items ≡ length net.now.plan.elements }
+    requires within { All (λ place. place < length net.now.plan.elements) net.now.evaluated }
+    requires apart { IsDistinct nat_eq net.now.evaluated }
+    requires empty { changed.old.items ≡ [] }
+    ensures { OnOk result (AreSeen net.now net.now.evaluated
+        shown.old.items shown.new.items changed.new.items) }
+{
+    for place in net.evaluated() {
+        let now = shown_of(net.plan(), *place, net.element(*place));
+        let was = shown[*place as usize];
+        shown[*place as usize] = now;
+        list_if(changed, *place, is_other(was, now))?;
+    }
+    Ok(())
+}
+
+// Lists a place where it is told so.
+fn list_if(listed: &mut Vec<u32>, place: u32, told: bool) -> Result<(), NoMemory>
+    ensures { OnOk result (listed.new.items ≡
+        (if told then listed.old.items ++ place ∷ [] else listed.old.items)) }
+{
+    if !told {
+        return Ok(());
+    }
+    match listed.push(place) {
+        Ok(()) => Ok(()),
+        Err(_) => Err(NoMemory),
+    }
+}
+
+// The elements that show something else since the last step, in their order.
+fn find_changed(
+    net: &Net<'_>,
+    shown: &mut Vec<Shown>,
+    changed: &mut Vec<u32>,
+) -> Result<(), NoMemory>
+    requires live { net.now.spent ≡ false }
+    requires count { length shown.old.items ≡ length net.now.plan.elements }
+    requires within { All (λ place. place < length net.now.plan.elements) net.now.evaluated }
+    requires apart { IsDistinct nat_eq net.now.evaluated }
+    ensures renewed { OnOk result (AreRenewed net.now shown.old.items shown.new.items) }
+    ensures changed { OnOk result (changed.new.items
+        ≡ others_in net.now.plan shown.old.items shown.new.items) }
+{
+    changed.clear();
+    look_at_evaluated(net, shown, changed)?;
+    changed.sort_unstable();
+    Ok(())
+}
+
+// Adds the rows of some elements in a millisecond.
+fn add_rows(
+    changes: &mut Vec<Change>,
+    now: u64,
+    changed: &[u32],
+    shown: &[Shown],
+) -> Result<(), NoMemory>
+    requires within { All (λ place. place < length shown.now) changed.now }
+    ensures { OnOk result ((other : ℕ → Shown) → changes.new.items ≡ changes.old.items ++ map
+        (λ place. row_of now place (slice_index_or shown.now place (other place))) changed.now) }
+{
+    for place in changed {
+        put(changes, row_of(now, *place, shown[*place as usize]))?;
+    }
+    Ok(())
+}
+
+// The row of an element that shows this from a millisecond on.
+fn row_of(now: u64, element: u32, shown: Shown) -> Change
+    ensures { result ≡ row_of now element shown }
+{
+    Change {
+        at: now,
+        element,
+        mode: shown.mode,
+        input: shown.input,
+        level: shown.level,
+        state: shown.state,
+    }
+}
+
+fn put(changes: &mut Vec<Change>, change: Change) -> Result<(), NoMemory>
+    ensures { OnOk result (changes.new.items ≡ changes.old.items ++ change ∷ []) }
+{
+    match changes.push(change) {
+        Ok(()) => Ok(()),
+        Err(_) => Err(NoMemory),
+    }
+}
+
+// Notes what a step changed: true where the rows fit, and false where they are too many.
+pub fn note_changes(
+    net: &Net<'_>,
+    now: u64,
+    shown: &mut Vec<Shown>,
+    changed: &mut Vec<u32>,
+    changes: &mut Vec<Change>,
+) -> Result<bool, NoMemory>
+    requires live { net.now.spent ≡ false }
+    requires count { length shown.old.items ≡ length net.now.plan.elements }
+    requires within { All (λ place. place < length net.now.plan.elements) net.now.evaluated }
+    requires apart { IsDistinct nat_eq net.now.evaluated }
+    requires few { length changes.old.items ≤ MOST_CHANGES }
+    ensures renewed { OnOk result (AreRenewed net.now shown.old.items shown.new.items) }
+    ensures noted { IfOk result (λ fits. AreNoted fits net.now now shown.old.items shown.new.items
+        changes.old.items changes.new.items) }
+{
+    find_changed(net, shown, changed)?;
+    if MOST_CHANGES - changes.len() < changed.len() {
+        return Ok(false);
+    }
+    add_rows(changes, now, changed.as_slice(), shown.as_slice())?;
+    Ok(true)
+}

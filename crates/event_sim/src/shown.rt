@@ -1,0 +1,104 @@
+//! What an element shows of itself.
+
+ghost use Rattle.std.specs.Prelude.{◌≡◌, ◌<◌, length, option_and_then, slice_get};
+ghost use Rattle.event_sim.specs.Rows.{is_other, is_same_mode, is_same_state, is_same_taken};
+ghost use Rattle.event_sim.specs.Showing.{Shows};
+ghost use Rattle.sync_ql.specs.Messages.{is_same_level};
+ghost use Rattle.net_rules.specs.Signals.{is_same_input};
+
+use sync_element::Element;
+use sync_ql::Level;
+use sync_ql::rules::{ClockState, Mode};
+use sync_topo::{InputId, Plan};
+
+// What an element shows: how its input is chosen, which it takes, its level, and what its clock
+// follows.
+#[derive(Clone, Copy, Debug, Drop)]
+pub struct Shown {
+    pub mode: Mode,
+    pub input: Option<InputId>,
+    pub level: Level,
+    pub state: ClockState,
+}
+
+// What an element of the plan shows.
+pub fn shown_of(plan: &Plan, e: u32, element: &Element) -> Shown
+    requires place { e < length plan.now.elements }
+    ensures { Shows plan.now e element.now result }
+{
+    Shown {
+        mode: element.mode(),
+        input: input_at(plan.inputs(e), element.selected()),
+        level: element.level(),
+        state: element.state(),
+    }
+}
+
+// The input at a place.
+fn input_at(inputs: &[InputId], place: Option<u32>) -> Option<InputId>
+    ensures { result ≡ option_and_then (slice_get inputs.now) place }
+{
+    match place {
+        Some(place) => inputs.get(place as usize).copied(),
+        None => None,
+    }
+}
+
+// Whether something else is shown now than was.
+#[tactic(auto, unfolding(crate::specs::Rows::is_other))]
+pub fn is_other(was: Shown, now: Shown) -> bool
+    ensures { result ≡ is_other was now }
+{
+    !(is_same_mode(was.mode, now.mode)
+        && is_same_taken(was.input, now.input)
+        && is_same_level(was.level, now.level)
+        && is_same_state(was.state, now.state))
+}
+
+fn is_same_mode(one: Mode, other: Mode) -> bool
+    ensures { result ≡ is_same_mode one other }
+{
+    match (one, other) {
+        (Mode::Auto, Mode::Auto) => true,
+        (Mode::Forced, Mode::Forced) => true,
+        (Mode::Manual, Mode::Manual) => true,
+        _ => false,
+    }
+}
+
+fn is_same_state(one: ClockState, other: ClockState) -> bool
+    ensures { result ≡ is_same_state one other }
+{
+    match (one, other) {
+        (ClockState::FreeRun, ClockState::FreeRun) => true,
+        (ClockState::Locked, ClockState::Locked) => true,
+        (ClockState::Holdover, ClockState::Holdover) => true,
+        _ => false,
+    }
+}
+
+fn is_same_taken(one: Option<InputId>, other: Option<InputId>) -> bool
+    ensures { result ≡ is_same_taken one other }
+{
+    match (one, other) {
+        (Some(one), Some(other)) => is_same_input(one, other),
+        (None, None) => true,
+        _ => false,
+    }
+}
+
+fn is_same_input(one: InputId, other: InputId) -> bool
+    ensures { result ≡ is_same_input one other }
+{
+    match (one, other) {
+        (InputId::Line(one), InputId::Line(other)) => one.0 == other.0,
+        (InputId::Source(one), InputId::Source(other)) => one == other,
+        _ => false,
+    }
+}
+
+fn is_same_level(one: Level, other: Level) -> bool
+    ensures { result ≡ is_same_level (Some one) (Some other) }
+{
+    one.option == other.option && one.place == other.place
+}
