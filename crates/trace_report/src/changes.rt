@@ -1,0 +1,82 @@
+//! The changes, each a row.
+
+ghost use Rattle.std.specs.Prelude.{◌≡◌, ◌++◌, ◌<◌, length, IfSome, OnOk};
+ghost use Rattle.std.specs.List.{All};
+ghost use Rattle.sync_topo.specs.Lines.{IsInput};
+ghost use Rattle.event_sim.specs.Changes.{IsChangeOf};
+ghost use Rattle.trace_report.specs.Words.{change_row, choice_text, level_text, taken_name};
+ghost use Rattle.trace_report.specs.Report.{changes_part};
+
+use crate::words::{mode_word, state_word};
+use event_sim::Change;
+use std::alloc::Global;
+use sync_edge::{NoMemory, Text};
+use sync_ql::name_of;
+use sync_topo::{InputId, Plan};
+
+// Puts all changes.
+pub fn put_changes(
+    alloc: Global,
+    text: &mut Text,
+    plan: &Plan,
+    changes: &[Change],
+) -> Result<(), NoMemory>
+    requires of_plan { All (IsChangeOf plan.now) changes.now }
+    ensures put { OnOk result (text.new ≡ text.old ++ changes_part plan.now changes.now) }
+{
+    text.put(b"changes\n")?;
+    for change in changes {
+        put_change(alloc, text, plan, change)?;
+    }
+    Ok(())
+}
+
+// Puts one change.
+fn put_change(alloc: Global, text: &mut Text, plan: &Plan, change: &Change) -> Result<(), NoMemory>
+    requires of_plan { IsChangeOf plan.now change.now }
+    ensures put { OnOk result (text.new ≡ text.old ++ change_row plan.now change.now) }
+{
+    text.put_number(change.at)?;
+    text.put(b",")?;
+    put_choice(alloc, text, plan, change)?;
+    text.put(b",")?;
+    put_level(text, change)?;
+    text.put(b"\n")
+}
+
+// Puts what the element chose.
+fn put_choice(alloc: Global, text: &mut Text, plan: &Plan, change: &Change) -> Result<(), NoMemory>
+    requires of_plan { IsChangeOf plan.now change.now }
+    ensures put { OnOk result (text.new ≡ text.old ++ choice_text plan.now change.now) }
+{
+    text.put(plan.element(change.element).name.bytes())?;
+    text.put(b",")?;
+    text.put(mode_word(change.mode))?;
+    text.put(b",")?;
+    put_taken(alloc, text, plan, change.input)
+}
+
+// Puts what it has of that.
+fn put_level(text: &mut Text, change: &Change) -> Result<(), NoMemory>
+    ensures put { OnOk result (text.new ≡ text.old ++ level_text change.now) }
+{
+    text.put(name_of(change.level).as_bytes())?;
+    text.put(b",")?;
+    text.put(state_word(change.state))
+}
+
+// Puts the name of the input that is taken, or that none is.
+fn put_taken(
+    alloc: Global,
+    text: &mut Text,
+    plan: &Plan,
+    input: Option<InputId>,
+) -> Result<(), NoMemory>
+    requires within { IfSome input (IsInput plan.now) }
+    ensures put { OnOk result (text.new ≡ text.old ++ taken_name plan.now input) }
+{
+    match input {
+        Some(input) => plan.put_input_name(alloc, text, input),
+        None => text.put(b"none"),
+    }
+}
