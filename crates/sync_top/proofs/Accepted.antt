@@ -12,7 +12,10 @@ use Rattle.rank_cert.specs.CertificateText.{certificate_of}
 use Rattle.sync_top.specs.declared.status.Status.{Status}
 use Rattle.sync_top.specs.declared.status.Status.TheVariants.{Done}
 use Rattle.sync_top.specs.Form.{is_file_word}
-use Rattle.sync_top.specs.Answer.{End, no_file, answered, file, file_limit, text_line, plan_in, ranks_in, documents, Answered, IsPlanned, IsVerdict, IsAnswer}
+use Rattle.sync_top.specs.Reading.{End, no_file, answered, file, file_limit, text_line, plan_in, Answered}
+use Rattle.sync_top.specs.Forms.Check.{ranks_in, documents, IsVerdict}
+use Rattle.sync_top.specs.Forms.Rank.{IsPlanned}
+use Rattle.sync_top.specs.Answer.{IsAnswer}
 
 -- a file that isn't too long is read
 file_is : (name text : List ℕ) (files : Contents) → get files name ≡ Some text → length text ≤ file_limit → file name files ≡ Ok text

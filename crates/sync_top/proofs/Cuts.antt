@@ -4,7 +4,7 @@ use Rattle.std.specs.Prelude.{IfSome}
 use Rattle.sync_edge.specs.Contents.{Contents}
 use Rattle.sync_edge.specs.Transfers.{AppendsFront}
 use Rattle.sync_top.specs.declared.status.Status.{Status}
-use Rattle.sync_top.specs.declared.status.Status.TheVariants.{Done, Refuted, Usage, BadPlan, BadCert, BadFrames, ReadFault, WriteFault, TooLong, NoMemory}
+use Rattle.sync_top.specs.declared.status.Status.TheVariants.{Done, Refuted, Usage, BadPlan, BadCert, BadEvents, BadFrames, ReadFault, WriteFault, TooLong, NoMemory, Stopped}
 use Rattle.sync_top.specs.Answer.{Outside, IsAnswer, MissesFile, MayFault, IsCut}
 use Rattle.sync_top.specs.Work.{EndsIn}
 
@@ -24,5 +24,7 @@ cut-from words (Some files) steady before now old new Refuted text (answer, calm
 cut-from words (Some files) steady before now old new Usage text (answer, calm) front = (text, front, inl (Usage, answer))
 cut-from words (Some files) steady before now old new BadPlan text (answer, calm) front = (text, front, inl (BadPlan, answer))
 cut-from words (Some files) steady before now old new BadCert text (answer, calm) front = (text, front, inl (BadCert, answer))
+cut-from words (Some files) steady before now old new BadEvents text (answer, calm) front = (text, front, inl (BadEvents, answer))
+cut-from words (Some files) steady before now old new Stopped text (answer, calm) front = (text, front, inl (Stopped, answer))
 cut-from words (Some files) steady before now old new BadFrames text (answer, calm) front = (text, front, inl (BadFrames, answer))
 cut-from words (Some files) steady before now old new TooLong text (answer, calm) front = (text, front, inl (TooLong, answer))

@@ -18,9 +18,11 @@ use Rattle.rank_cert.specs.declared.error.CertErr.{CertErr}
 use Rattle.rank_cert.specs.Ranks.{Ranks, rank_of}
 use Rattle.rank_cert.specs.CertificateText.{certificate_of}
 use Rattle.sync_top.specs.declared.status.Status.{Status}
-use Rattle.sync_top.specs.declared.status.Status.TheVariants.{Done, Refuted, Usage, BadPlan, BadCert, BadFrames, ReadFault, WriteFault, TooLong, NoMemory}
-use Rattle.sync_top.specs.Form.{Form, check, rank, decode, encode, pcap_decode, pcap_encode, gen, form_of}
-use Rattle.sync_top.specs.Answer.{End, no_file, answered, file_limit, plan_in, ranks_in, documents, Answered, IsVerdict, FormAnswer, IsAnswer, MissesFile}
+use Rattle.sync_top.specs.declared.status.Status.TheVariants.{Done, Refuted, Usage, BadPlan, BadCert, BadEvents, BadFrames, ReadFault, WriteFault, TooLong, NoMemory, Stopped}
+use Rattle.sync_top.specs.Form.{Form, check, rank, decode, encode, pcap_decode, pcap_encode, gen, sim, form_of}
+use Rattle.sync_top.specs.Reading.{End, no_file, answered, file_limit, plan_in, Answered}
+use Rattle.sync_top.specs.Forms.Check.{ranks_in, documents, IsVerdict}
+use Rattle.sync_top.specs.Answer.{FormAnswer, IsAnswer, MissesFile}
 use Rattle.sync_top.specs.LoopFree.{IsCheckedLoopFree}
 use Rattle.sync_top.specs.Work.{EndsIn}
 use Rattle.sync_top.proofs.Accepted.{never_done}
@@ -108,6 +110,7 @@ form-loop_free (Some (encode option name)) files text answer = tt
 form-loop_free (Some (pcap_decode option name)) files text answer = tt
 form-loop_free (Some (pcap_encode option name)) files text answer = tt
 form-loop_free (Some (gen n)) files text answer = tt
+form-loop_free (Some (sim plan_name events_name until)) files text answer = tt
 
 -- so it is where the work ended in this status
 pub loop_free-from : (words : List (List ℕ)) (told : Option Contents) (steady : Bool) (before now : ℕ) (status : Status) (text : List ℕ)
@@ -119,8 +122,10 @@ loop_free-from words (Some files) steady before now Refuted text ends done = cc
 loop_free-from words (Some files) steady before now Usage text ends done = cc
 loop_free-from words (Some files) steady before now BadPlan text ends done = cc
 loop_free-from words (Some files) steady before now BadCert text ends done = cc
+loop_free-from words (Some files) steady before now BadEvents text ends done = cc
 loop_free-from words (Some files) steady before now BadFrames text ends done = cc
 loop_free-from words (Some files) steady before now ReadFault text ends done = cc
 loop_free-from words (Some files) steady before now WriteFault text ends done = cc
 loop_free-from words (Some files) steady before now TooLong text ends done = cc
 loop_free-from words (Some files) steady before now NoMemory text ends done = cc
+loop_free-from words (Some files) steady before now Stopped text ends done = cc

@@ -1,9 +1,11 @@
 -- That words over some files have one answer.
-use Rattle.std.proofs.Common.{◌≡◌, ℕ, true, List, [], ◌∷◌, ◌++◌, Option, Some, None, Result, Ok, Err, map, refl, sym, ◌∙◌, ap, inl, inr, arith, true≢false}
+use Rattle.std.proofs.Common.{◌≡◌, ◌≤◌, ◌<◌, ℕ, suc, length, true, List, [], ◌∷◌, ◌++◌, Option, Some, None, Result, Ok, Err, map, refl, sym, ◌∙◌, ap, inl, inr, arith, true≢false}
 use Rattle.std.specs.Prelude.{◌⊎◌, codes, slice_index_or, unwrap_or}
 use Rattle.std.specs.List.{All, concat, range_with_len}
+use Rattle.std.proofs.Math.Decide.{dec_lt}
 use Rattle.std.proofs.lemmas.List.Elements.{All-head, All-tail, filter_passes}
 use Rattle.sync_edge.specs.Contents.{Contents}
+use Rattle.sync_topo.specs.declared.event.Event.{Event}
 use Rattle.sync_topo.specs.Topology.{Topology}
 use Rattle.sync_topo.specs.Lines.{line_count, line_name, is_nominated}
 use Rattle.sync_topo.specs.Hops.{hops, IsRising}
@@ -14,12 +16,22 @@ use Rattle.rank_cert.proofs.RankLaws.{IsRising-no_cycle}
 use Rattle.cycle_plan.proofs.Walks.{one_least}
 use Rattle.cycle_plan.proofs.OneCycle.{one_cycle}
 use Rattle.cycle_plan.proofs.CycleLaws.{IsCycle-first}
+use Rattle.event_sim.specs.declared.limits.TheConstants.{MOST_CHANGES}
+use Rattle.event_sim.specs.Rows.{rows_until}
+use Rattle.event_sim.specs.Answers.{IsLastFit}
+use Rattle.event_sim.proofs.LaterRows.{rows-grow}
+use Rattle.trace_report.specs.Report.{whole_report, stopped_report}
 use Rattle.capture_text.specs.Capture.{decoded_text, encoded_text}
 use Rattle.pcap_file.specs.Timed.{encoded_pcap}
 use Rattle.sync_top.specs.declared.status.Status.{Status}
-use Rattle.sync_top.specs.declared.status.Status.TheVariants.{Done, Refuted, Usage, BadPlan, BadCert, BadFrames, ReadFault, WriteFault, TooLong, NoMemory}
-use Rattle.sync_top.specs.Form.{Form, check, rank, decode, encode, pcap_decode, pcap_encode, gen, form_of}
-use Rattle.sync_top.specs.Answer.{End, no_file, answered, text_line, documents, plan_in, captured, pcap_rows, Answered, IsVerdict, IsPlanned, IsText, FormAnswer, IsAnswer, cycle_text}
+use Rattle.sync_top.specs.declared.status.Status.TheVariants.{Done, Refuted, Usage, BadPlan, BadCert, BadEvents, BadFrames, ReadFault, WriteFault, TooLong, NoMemory, Stopped}
+use Rattle.sync_top.specs.Form.{Form, check, rank, decode, encode, pcap_decode, pcap_encode, gen, sim, form_of}
+use Rattle.sync_top.specs.Reading.{End, no_file, answered, text_line, plan_in, Answered, IsText}
+use Rattle.sync_top.specs.Forms.Check.{documents, IsVerdict}
+use Rattle.sync_top.specs.Forms.Rank.{IsPlanned, cycle_text}
+use Rattle.sync_top.specs.Forms.Captures.{captured, pcap_rows}
+use Rattle.sync_top.specs.Forms.Sim.{plan_and_events, IsReport}
+use Rattle.sync_top.specs.Answer.{FormAnswer, IsAnswer}
 use Rattle.sync_top.specs.OneAnswer.{has_one_text}
 
 -- one status, and one text
@@ -71,11 +83,13 @@ either_verdict plan ranks Refuted text verdict = inr (refl, verdict)
 either_verdict plan ranks Usage text verdict = absurd verdict
 either_verdict plan ranks BadPlan text verdict = absurd verdict
 either_verdict plan ranks BadCert text verdict = absurd verdict
+either_verdict plan ranks BadEvents text verdict = absurd verdict
 either_verdict plan ranks BadFrames text verdict = absurd verdict
 either_verdict plan ranks ReadFault text verdict = absurd verdict
 either_verdict plan ranks WriteFault text verdict = absurd verdict
 either_verdict plan ranks TooLong text verdict = absurd verdict
 either_verdict plan ranks NoMemory text verdict = absurd verdict
+either_verdict plan ranks Stopped text verdict = absurd verdict
 
 -- ranks that rise fall nowhere
 no_fall : (plan : Topology) (ranks : Ranks) (from to : ℕ) → IsRising plan (rank_of ranks) → IsFirstFall plan ranks from to → ⊥
@@ -140,11 +154,13 @@ either_planned plan Refuted text planned = inr (refl, planned)
 either_planned plan Usage text planned = absurd planned
 either_planned plan BadPlan text planned = absurd planned
 either_planned plan BadCert text planned = absurd planned
+either_planned plan BadEvents text planned = absurd planned
 either_planned plan BadFrames text planned = absurd planned
 either_planned plan ReadFault text planned = absurd planned
 either_planned plan WriteFault text planned = absurd planned
 either_planned plan TooLong text planned = absurd planned
 either_planned plan NoMemory text planned = absurd planned
+either_planned plan Stopped text planned = absurd planned
 
 -- where ranks rise there is no first cycle
 no_first_cycle : (plan : Topology) (ranks : Ranks) (lines : List ℕ) → IsRising plan (rank_of ranks) → IsFirstCycle (hops plan) lines → ⊥
@@ -171,6 +187,59 @@ one_planned plan status other text another first second =
 one_asked : (given : List ℕ) → IsOne (IsText given)
 one_asked given status other text another first second = (first.0 ∙ sym second.0, first.1 ∙ sym second.1)
 
+-- what a run may give
+abbrev Whole : Topology → List Event → ℕ → Status → List ℕ → Type 0
+Whole plan events until status text =
+    (status ≡ Done) × (length (rows_until plan events (suc until)) ≤ MOST_CHANGES) × (text ≡ whole_report plan events until)
+
+abbrev Short : Topology → List Event → ℕ → Status → List ℕ → Type 0
+Short plan events until status text =
+    (status ≡ Stopped) × ((t : ℕ) × IsLastFit plan events t until × (text ≡ stopped_report plan events t))
+
+either_report : (plan : Topology) (events : List Event) (until : ℕ) (status : Status) (text : List ℕ) → IsReport plan events until status text
+    → Whole plan events until status text ⊎ Short plan events until status text
+either_report plan events until Done text report = inl (refl, report.0, report.1)
+either_report plan events until Stopped text report = inr (refl, report)
+either_report plan events until Refuted text report = absurd report
+either_report plan events until Usage text report = absurd report
+either_report plan events until BadPlan text report = absurd report
+either_report plan events until BadCert text report = absurd report
+either_report plan events until BadEvents text report = absurd report
+either_report plan events until BadFrames text report = absurd report
+either_report plan events until ReadFault text report = absurd report
+either_report plan events until WriteFault text report = absurd report
+either_report plan events until TooLong text report = absurd report
+either_report plan events until NoMemory text report = absurd report
+
+-- there is one last millisecond up to which all changes fit
+no_later : (plan : Topology) (events : List Event) (until t u : ℕ) → IsLastFit plan events t until → IsLastFit plan events u until → t < u → ⊥
+no_later plan events until t u first second before =
+    omega (arith, first.full, second.fit, rows-grow plan events (suc (suc t)) (suc u) (omega (arith, before)))
+
+one_last : (plan : Topology) (events : List Event) (until t u : ℕ) → IsLastFit plan events t until → IsLastFit plan events u until → t ≡ u
+one_last plan events until t u first second = elim (dec_lt t u) [
+  | yes before ↦ absurd (no_later plan events until t u first second before)
+  | no not_before ↦ elim (dec_lt u t) [
+    | yes behind ↦ absurd (no_later plan events until u t second first behind)
+    | no not_behind ↦ omega (arith, not_before, not_behind)
+  ]
+]
+
+-- a run gives one report
+one_report : (plan : Topology) (events : List Event) (until : ℕ) → IsOne (IsReport plan events until)
+one_report plan events until status other text another first second =
+    elim (either_report plan events until status text first) [
+      | inl whole ↦ elim (either_report plan events until other another second) [
+        | inl also ↦ (whole.0 ∙ sym also.0, whole.2 ∙ sym also.2)
+        | inr short ↦ absurd (omega (arith, whole.1, short.1.1.all))
+      ]
+      | inr short ↦ elim (either_report plan events until other another second) [
+        | inl whole ↦ absurd (omega (arith, whole.1, short.1.1.all))
+        | inr also ↦
+            (short.0 ∙ sym also.0, short.1.2 ∙ ap (stopped_report plan events) (one_last plan events until short.1.0 also.1.0 short.1.1 also.1.1) ∙ sym also.1.2)
+      ]
+    ]
+
 -- a form has one status
 form_status : (form : Option Form) (files : Contents) (status other : Status) (text another : List ℕ) → FormAnswer form files status text
     → FormAnswer form files other another → status ≡ other
@@ -188,6 +257,8 @@ form_status (Some (pcap_decode option name)) files status other text another fir
 form_status (Some (pcap_encode option name)) files status other text another first second =
     (one_answered IsText one_asked (captured encoded_pcap option name files) status other text another first second).0
 form_status (Some (gen n)) files status other text another first second = first.0 ∙ sym second.0
+form_status (Some (sim plan events until)) files status other text another first second =
+    (one_answered (λ read. IsReport read.0 read.1 until) (λ read. one_report read.0 read.1 until) (plan_and_events plan events files) status other text another first second).0
 
 -- and one text, but for `gen`
 form_text : (form : Option Form) (files : Contents) (status other : Status) (text another : List ℕ) → FormAnswer form files status text
@@ -206,6 +277,8 @@ form_text (Some (pcap_decode option name)) files status other text another first
 form_text (Some (pcap_encode option name)) files status other text another first second one =
     (one_answered IsText one_asked (captured encoded_pcap option name files) status other text another first second).1
 form_text (Some (gen n)) files status other text another first second one = absurd (true≢false (sym one))
+form_text (Some (sim plan events until)) files status other text another first second one =
+    (one_answered (λ read. IsReport read.0 read.1 until) (λ read. one_report read.0 read.1 until) (plan_and_events plan events files) status other text another first second).1
 
 pub one_status : (words : List (List ℕ)) (files : Contents) (status other : Status) (text another : List ℕ) → IsAnswer words files status text
     → IsAnswer words files other another → status ≡ other

@@ -4,6 +4,7 @@ use Rattle.std.specs.Option.{option_map}
 use Rattle.std.specs.Str.{bytes_eq}
 use Rattle.sync_edge.specs.Number.{number_of}
 use Rattle.sync_ql.specs.declared.levels.NetOption.{NetOption}
+use Rattle.sync_ql.specs.declared.limits.TheConstants.{LAST_MILLISECOND}
 use Rattle.sync_ql.specs.declared.levels.NetOption.TheVariants.{I, II}
 
 -- what the program is asked for, with the names of its files
@@ -22,6 +23,8 @@ pub data Form : Type 0 where
   pcap_encode : NetOption → List ℕ → Form
   -- the ladder of so many elements
   gen : ℕ → Form
+  -- the report of a run of a plan with events, up to a millisecond
+  sim : List ℕ → List ℕ → ℕ → Form
 
 -- a word that may name a file: any but the empty one
 abbrev pub is_file_word : List ℕ → Bool
@@ -54,6 +57,13 @@ gen_form word = option_and_then sized (number_of word)
     sized : ℕ → Option Form
     sized n = if is_ladder_size n then Some (gen n) else None
 
+-- the form `sim`, if the words may name files and are followed by a millisecond up to the last one
+abbrev pub sim_form : List ℕ → List ℕ → List ℕ → Option Form
+sim_form plan events word = if is_file_word plan && is_file_word events then option_and_then up_to (number_of word) else None
+  where
+    up_to : ℕ → Option Form
+    up_to until = if nat_le until LAST_MILLISECOND then Some (sim plan events until) else None
+
 -- the form reads a file
 abbrev pub reads_file : Option Form → Bool
 reads_file None = false
@@ -70,6 +80,7 @@ file_count (Some (encode option name)) = 1
 file_count (Some (pcap_decode option name)) = 1
 file_count (Some (pcap_encode option name)) = 1
 file_count (Some (gen n)) = 0
+file_count (Some (sim plan events until)) = 2
 
 -- the form of the words, if they have one
 abbrev pub form_of : List (List ℕ) → Option Form
@@ -84,4 +95,5 @@ form_of (word ∷ second ∷ third ∷ []) =
     else if bytes_eq word (codes "pcap-decode") then capture_form pcap_decode second third
     else if bytes_eq word (codes "pcap-encode") then capture_form pcap_encode second third
     else None
+form_of (word ∷ second ∷ third ∷ fourth ∷ []) = if bytes_eq word (codes "sim") then sim_form second third fourth else None
 form_of _ = None

@@ -1,8 +1,9 @@
 -- How contracts see the code's form: what only private clauses cite.
 use Rattle.std.specs.Prelude.{◌≤◌, ⊤}
+use Rattle.sync_ql.specs.declared.limits.TheConstants.{LAST_MILLISECOND}
 use Rattle.sync_top.specs.declared.form.Form as declared
 use Rattle.sync_top.specs.declared.form.Form.TheVariants as word
-use Rattle.sync_top.specs.Form.{Form, check, rank, decode, encode, pcap_decode, pcap_encode, gen}
+use Rattle.sync_top.specs.Form.{Form, check, rank, decode, encode, pcap_decode, pcap_encode, gen, sim}
 
 abbrev pub seen : declared.Form → Form
 seen (word.Check plan certificate) = check plan.now certificate.now
@@ -12,8 +13,10 @@ seen (word.Encode option name) = encode option name.now
 seen (word.PcapDecode option name) = pcap_decode option name.now
 seen (word.PcapEncode option name) = pcap_encode option name.now
 seen (word.Gen n) = gen n
+seen (word.Sim plan events until) = sim plan.now events.now until
 
--- a ladder that is asked for may have so many elements
+-- a ladder that is asked for may have so many elements, and a run may go so far
 abbrev pub IsSized : declared.Form → Type 0
 IsSized (word.Gen n) = (2 ≤ n) × (n ≤ 2000)
+IsSized (word.Sim plan events until) = until ≤ LAST_MILLISECOND
 IsSized form = ⊤

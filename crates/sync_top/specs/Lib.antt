@@ -1,5 +1,7 @@
 pub mod Status
 pub mod Form
+pub mod Reading
+pub mod Forms
 pub mod Answer
 pub mod OneAnswer
 pub mod Examples

@@ -4,7 +4,7 @@ use Rattle.sync_edge.specs.Contents.{Contents}
 use Rattle.sync_topo.specs.Topology.{Topology}
 use Rattle.net_rules.specs.Safety.{IsLoopFree}
 use Rattle.sync_top.specs.Form.{Form, check}
-use Rattle.sync_top.specs.Answer.{plan_in}
+use Rattle.sync_top.specs.Reading.{plan_in}
 
 -- where the words ask to check a plan, one is read, and no timing loop can form in it, but two elements
 -- that face each other on one link or bundle

@@ -1,20 +1,22 @@
 -- The exit status of the program. This project's own.
 use Rattle.std.specs.Prelude.{ℕ, ⊤}
 use Rattle.sync_top.specs.declared.status.Status.{Status}
-use Rattle.sync_top.specs.declared.status.Status.TheVariants.{Done, Refuted, Usage, BadPlan, BadCert, BadFrames, ReadFault, WriteFault, TooLong, NoMemory}
+use Rattle.sync_top.specs.declared.status.Status.TheVariants.{Done, Refuted, Usage, BadPlan, BadCert, BadEvents, BadFrames, ReadFault, WriteFault, TooLong, NoMemory, Stopped}
 
--- the number of each status; 5 is kept for forms to come
+-- the number of each status
 abbrev pub exit_number : Status → ℕ
 exit_number Done = 0
 exit_number Refuted = 1
 exit_number Usage = 2
 exit_number BadPlan = 3
 exit_number BadCert = 4
+exit_number BadEvents = 5
 exit_number BadFrames = 6
 exit_number ReadFault = 7
 exit_number WriteFault = 8
 exit_number TooLong = 9
 exit_number NoMemory = 10
+exit_number Stopped = 11
 
 -- a fact for each status that tells an answer: no fault, and no want of memory
 abbrev pub OnAnswer : Status → Type 0 → Type 0

@@ -7,7 +7,8 @@ use Rattle.sync_top.specs.declared.status.Status.TheVariants.{Usage, ReadFault, 
 use Rattle.sync_top.specs.declared.reply.Reply.{Reply}
 use Rattle.sync_top.specs.declared.reply.Stop.{Stop}
 use Rattle.sync_top.specs.declared.reply.Stop.TheVariants.{Ended, OutOfMemory}
-use Rattle.sync_top.specs.Answer.{End, no_file, answered, fault_text, Outside}
+use Rattle.sync_top.specs.Reading.{End, no_file, answered}
+use Rattle.sync_top.specs.Answer.{fault_text, Outside}
 
 -- the work ended in this status and text: by an answer to the contents that are told, with no fault on the way,
 -- or by a fault of the folder, which a steady folder has only where a file is missing

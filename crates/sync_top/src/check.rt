@@ -1,7 +1,9 @@
 ghost use Rattle.std.specs.Prelude.{◌≡◌, ◌≢◌, ◌+◌, ◌++◌, ◌<◌, ◌≤◌, Some, IfOk, OnOk, codes};
 ghost use Rattle.sync_edge.specs.Contents.{KeepsFolder};
 ghost use Rattle.sync_topo.specs.Lines.{line_count, line_name};
-ghost use Rattle.sync_top.specs.Answer.{text_line, certificate_refusal, certificate_place, across, ranks_in, documents, IsVerdict, CheckAnswer, FormMissesFile};
+ghost use Rattle.sync_top.specs.Reading.{text_line};
+ghost use Rattle.sync_top.specs.Forms.Check.{certificate_refusal, certificate_place, ranks_in, documents, IsVerdict, CheckAnswer};
+ghost use Rattle.sync_top.specs.Answer.{across, FormMissesFile};
 ghost use Rattle.sync_top.specs.Form.{check};
 ghost use Rattle.rank_cert.specs.Ranks.{IsRanked};
 ghost use Rattle.rank_cert.specs.Rules.{NamesLine};

@@ -1,11 +1,12 @@
 ghost use Rattle.std.specs.Prelude.{◌≡◌, ◌∷◌, [], None, map, IfSome, if◌then◌else◌};
 ghost use Rattle.std.specs.Option.{option_map};
 ghost use Rattle.std.specs.String.{string_bytes};
-ghost use Rattle.sync_top.specs.Form.{form_of, check_form, gen_form, option_of, is_file_word};
+ghost use Rattle.sync_top.specs.Form.{form_of, check_form, gen_form, sim_form, option_of, is_file_word};
 ghost use Rattle.sync_top.specs.FormSeen.{seen, IsSized};
 
 use sync_edge::read_number;
 use sync_ql::NetOption;
+use sync_ql::limits::LAST_MILLISECOND;
 
 /// What the program is asked for.
 #[derive(Clone, Copy, Debug, Drop)]
@@ -29,6 +30,16 @@ pub(crate) enum Form<'a> {
     PcapEncode(NetOption, &'a str),
     /// The ladder of so many elements, 2 to 2,000.
     Gen(u32),
+    /// The report of a run, by the names of the files of the plan and of the events, up to a
+    /// millisecond, at most 86,400,000.
+    Sim {
+        /// The plan's file.
+        plan: &'a str,
+        /// The events' file.
+        events: &'a str,
+        /// The last millisecond.
+        until: u64,
+    },
 }
 
 /// The form of the words, if they have one.
@@ -39,6 +50,9 @@ pub(crate) fn form_of(words: &[String]) -> Option<Form<'_>>
     match words {
         [word, second] => form_of_two(word.as_str(), second.as_str()),
         [word, second, third] => form_of_three(word.as_str(), second.as_str(), third.as_str()),
+        [word, second, third, fourth] if word.as_str() == "sim" => {
+            sim_form(second.as_str(), third.as_str(), fourth.as_str())
+        }
         _ => None,
     }
 }
@@ -64,6 +78,24 @@ fn gen_form(word: &str) -> Option<Form<'static>>
 {
     match read_number(word.as_bytes()) {
         Some(n) if 2 <= n && n <= 2000 => Some(Form::Gen(n as u32)),
+        _ => None,
+    }
+}
+
+/// The form `sim`, if the words may name files and are followed by such a millisecond.
+fn sim_form<'a>(plan: &'a str, events: &'a str, until: &str) -> Option<Form<'a>>
+    ensures form { option_map seen result ≡ sim_form plan.now events.now until.now }
+    ensures sized { IfSome result IsSized }
+{
+    if plan.is_empty() || events.is_empty() {
+        return None;
+    }
+    match read_number(until.as_bytes()) {
+        Some(until) if until <= LAST_MILLISECOND => Some(Form::Sim {
+            plan,
+            events,
+            until,
+        }),
         _ => None,
     }
 }

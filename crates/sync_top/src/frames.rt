@@ -1,7 +1,9 @@
 ghost use Rattle.std.specs.Prelude.{◌≡◌, ◌≢◌, ◌+◌, ◌++◌, ◌≤◌, Some, IfOk, OnOk};
 ghost use Rattle.sync_edge.specs.Contents.{KeepsFolder};
 ghost use Rattle.capture_text.specs.Capture.{decoded_text, encoded_text};
-ghost use Rattle.sync_top.specs.Answer.{across, text_line, capture_refusal, capture_place, captured, CaptureAnswer, FormMissesFile};
+ghost use Rattle.sync_top.specs.Reading.{text_line};
+ghost use Rattle.sync_top.specs.Forms.Captures.{capture_refusal, capture_place, captured, CaptureAnswer};
+ghost use Rattle.sync_top.specs.Answer.{across, FormMissesFile};
 ghost use Rattle.sync_top.specs.Form.{decode, encode};
 ghost use Rattle.sync_top.specs.Work.{Reads, Replies, NeverUsage};
 

@@ -1,6 +1,7 @@
 ghost use Rattle.std.specs.Prelude.{◌≢◌, ◌+◌, ◌≤◌, Some};
 ghost use Rattle.sync_edge.specs.Contents.{KeepsFolder};
-ghost use Rattle.sync_top.specs.Answer.{across, file};
+ghost use Rattle.sync_top.specs.Reading.{file};
+ghost use Rattle.sync_top.specs.Answer.{across};
 ghost use Rattle.sync_top.specs.Work.{Reads, NeverUsage, stopped_in};
 
 use crate::reply::{Reply, Stop, line_text};

@@ -4,7 +4,8 @@ ghost use Rattle.std.specs.Prelude.{◌≡◌, ◌<◌, ℕ, List, [], ◌∷◌
 ghost use Rattle.std.specs.FinMap.{get};
 ghost use Rattle.sync_edge.specs.Contents.{Contents};
 ghost use Rattle.sync_top.specs.declared.status.Status.{Status};
-ghost use Rattle.sync_top.specs.Answer.{IsAnswer, text_line};
+ghost use Rattle.sync_top.specs.Reading.{text_line};
+ghost use Rattle.sync_top.specs.Answer.{IsAnswer};
 ghost use Rattle.sync_top.specs.Form.{form_of};
 ghost use Rattle.sync_top.specs.OneAnswer.{has_one_text};
 

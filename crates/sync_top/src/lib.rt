@@ -19,6 +19,7 @@ mod plan_input;
 mod planner;
 mod program;
 mod reply;
+mod sim;
 mod status;
 
 pub use laws::{one_answer_law, planned_is_accepted_law};

@@ -1,7 +1,9 @@
 ghost use Rattle.std.specs.Prelude.{◌≡◌, ◌≢◌, ◌+◌, ◌++◌, ◌≤◌, Some, IfOk, OnOk};
 ghost use Rattle.sync_edge.specs.Contents.{KeepsFolder};
 ghost use Rattle.pcap_file.specs.Timed.{encoded_pcap};
-ghost use Rattle.sync_top.specs.Answer.{across, text_line, pcap_refusal, pcap_place, pcap_rows, captured, CaptureAnswer, PcapAnswer, FormMissesFile};
+ghost use Rattle.sync_top.specs.Reading.{text_line};
+ghost use Rattle.sync_top.specs.Forms.Captures.{pcap_refusal, pcap_place, pcap_rows, captured, CaptureAnswer, PcapAnswer};
+ghost use Rattle.sync_top.specs.Answer.{across, FormMissesFile};
 ghost use Rattle.sync_top.specs.Form.{pcap_decode, pcap_encode};
 ghost use Rattle.sync_top.specs.Work.{Reads, Replies, NeverUsage};
 

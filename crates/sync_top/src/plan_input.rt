@@ -1,6 +1,7 @@
 ghost use Rattle.std.specs.Prelude.{◌≡◌, ◌≢◌, ◌+◌, ◌++◌, ◌≤◌, IfOk, OnOk, codes};
 ghost use Rattle.sync_edge.specs.Contents.{KeepsFolder};
-ghost use Rattle.sync_top.specs.Answer.{text_line, across, place_text, plan_in, plan_place, plan_refusal, rows_refusal, section_name};
+ghost use Rattle.sync_top.specs.Reading.{text_line, place_text, plan_in, plan_place, plan_refusal, rows_refusal, section_name};
+ghost use Rattle.sync_top.specs.Answer.{across};
 ghost use Rattle.sync_top.specs.Work.{Reads, NeverUsage};
 
 use crate::input::file;

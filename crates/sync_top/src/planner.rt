@@ -2,7 +2,8 @@ ghost use Rattle.std.specs.Prelude.{◌≡◌, ◌≢◌, ◌+◌, ◌++◌, ◌
 ghost use Rattle.std.specs.List.{All, concat};
 ghost use Rattle.sync_edge.specs.Contents.{KeepsFolder};
 ghost use Rattle.sync_topo.specs.Lines.{line_count, line_name};
-ghost use Rattle.sync_top.specs.Answer.{across, cycle_text, IsPlanned, RankAnswer, FormMissesFile};
+ghost use Rattle.sync_top.specs.Forms.Rank.{cycle_text, IsPlanned, RankAnswer};
+ghost use Rattle.sync_top.specs.Answer.{across, FormMissesFile};
 ghost use Rattle.sync_top.specs.Form.{rank};
 ghost use Rattle.sync_top.specs.Work.{Replies, NeverUsage};
 

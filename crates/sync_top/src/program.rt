@@ -16,6 +16,7 @@ use crate::ladder::ladder_text;
 use crate::pcap::{pcap_decode, pcap_encode};
 use crate::planner::rank;
 use crate::reply::{Reply, Stop, line_text};
+use crate::sim::sim;
 use crate::status::Status;
 use std::alloc::Global;
 use sync_edge::{Folder, NoMemory, Sink, write_all};
@@ -37,6 +38,13 @@ fn work<F: Folder>(alloc: Global, words: &[String], folder: &mut F) -> Result<Re
         Some(Form::Encode(option, name)) => encode(alloc, folder, option, name),
         Some(Form::PcapDecode(option, name)) => pcap_decode(alloc, folder, option, name),
         Some(Form::PcapEncode(option, name)) => pcap_encode(alloc, folder, option, name),
+        Some(
+            Form::Sim {
+                plan,
+                events,
+                until,
+            },
+        ) => sim(alloc, folder, plan, events, until),
         Some(Form::Gen(n)) => Ok(Reply {
             status: Status::Done,
             text: ladder_text(alloc, n)?,
@@ -71,8 +79,10 @@ fn reply_to<F: Folder>(alloc: Global, words: &[String], folder: &mut F) -> Resul
 /// on a plan, and `rank PLAN` gives the least ranks as a certificate, or the first cycle.
 /// `decode OPTION FILE` gives the rows of captured frames, and `encode OPTION FILE` the frames of
 /// rows. `pcap-decode OPTION FILE` and `pcap-encode OPTION FILE` do the same for a classic pcap
-/// capture and rows with times. `gen N` writes the ladder of N elements, 2 to 2,000. PLAN, CERT and
-/// FILE are nonempty names of files, and OPTION is `I` or `II`.
+/// capture and rows with times. `sim PLAN EVENTS UNTIL` runs the plan's network from 0 to UNTIL with
+/// the faults and commands of an event list, and writes the report; UNTIL is a millisecond up to
+/// 86,400,000. `gen N` writes the ladder of N elements, 2 to 2,000. PLAN, CERT, EVENTS and FILE are
+/// nonempty names of files, and OPTION is `I` or `II`.
 ///
 /// The whole text is made before its first byte is written, and it is written by one `write_all`.
 ///

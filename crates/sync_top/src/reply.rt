@@ -1,6 +1,6 @@
 ghost use Rattle.std.specs.Prelude.{◌≡◌, ◌++◌, codes, IfOk, OnOk};
 ghost use Rattle.std.specs.Fmt.{decimal};
-ghost use Rattle.sync_top.specs.Answer.{text_line};
+ghost use Rattle.sync_top.specs.Reading.{text_line};
 
 use crate::status::Status;
 use std::alloc::Global;

@@ -15,6 +15,8 @@ pub enum Status {
     BadPlan,
     /// The certificate is refused.
     BadCert,
+    /// The event list is refused.
+    BadEvents,
     /// A captured frame or a row is refused.
     BadFrames,
     /// The folder failed, or a file isn't there.
@@ -25,12 +27,14 @@ pub enum Status {
     TooLong,
     /// Memory ran out. Nothing was written.
     NoMemory,
+    /// `sim`: the changes were too many, and the report ends before them.
+    Stopped,
 }
 
 impl Status {
     ghost use Rattle.sync_top.specs.Status.{exit_number};
 
-    /// The exit status of the program, 0 to 10; 5 is kept for forms to come.
+    /// The exit status of the program, 0 to 11.
     pub fn number(self) -> u8
         ensures { result ≡ exit_number self }
     {
@@ -40,11 +44,13 @@ impl Status {
             Status::Usage => 2,
             Status::BadPlan => 3,
             Status::BadCert => 4,
+            Status::BadEvents => 5,
             Status::BadFrames => 6,
             Status::ReadFault => 7,
             Status::WriteFault => 8,
             Status::TooLong => 9,
             Status::NoMemory => 10,
+            Status::Stopped => 11,
         }
     }
 }

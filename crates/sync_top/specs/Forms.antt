@@ -1,0 +1,6 @@
+-- The answers to the forms, a file each.
+pub mod Check
+pub mod Rank
+pub mod Captures
+pub mod Gen
+pub mod Sim

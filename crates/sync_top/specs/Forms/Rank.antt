@@ -1,0 +1,31 @@
+-- The answer to `rank`.
+use Rattle.std.specs.Prelude.{◌≡◌, ℕ, ◌≤◌, List, ◌++◌, length, map, codes, Ok}
+use Rattle.std.specs.List.{concat}
+use Rattle.sync_edge.specs.Contents.{Contents}
+use Rattle.sync_topo.specs.Topology.{Topology}
+use Rattle.sync_topo.specs.Lines.{line_name, is_nominated}
+use Rattle.sync_topo.specs.Hops.{hops, IsRising}
+use Rattle.sync_topo.specs.Ranks.{AreLeastRanks, IsFirstCycle}
+use Rattle.sync_top.specs.declared.status.Status.{Status}
+use Rattle.sync_top.specs.declared.status.Status.TheVariants.{Done, Refuted}
+use Rattle.sync_top.specs.Form.{rank}
+use Rattle.rank_cert.specs.Ranks.{Ranks, rank_at, rank_of}
+use Rattle.rank_cert.specs.CertificateText.{certificate_of, certificate_text}
+use Rattle.sync_top.specs.Reading.{text_line, file_limit, Answered, file, plan_in}
+
+-- the line on a cycle: its lines by their names
+abbrev pub cycle_text : Topology → List ℕ → List ℕ
+cycle_text plan lines = text_line (codes "cycle" ++ concat (map (λ line. codes " " ++ line_name plan line) lines))
+
+-- the certificate of the least ranks, which is read back as these ranks, and they rise, and which is not too long for a
+-- file; or the first cycle
+abbrev pub IsPlanned : Topology → Status → List ℕ → Type 0
+IsPlanned plan Done text =
+    (ranks : Ranks) × AreLeastRanks (hops plan) (is_nominated plan) (rank_at ranks) × IsRising plan (rank_of ranks)
+    × (text ≡ certificate_text plan ranks) × (certificate_of plan text ≡ Ok ranks) × (length text ≤ file_limit)
+IsPlanned plan Refuted text = (lines : List ℕ) × IsFirstCycle (hops plan) lines × (text ≡ cycle_text plan lines)
+IsPlanned plan status text = ⊥
+
+-- the answer to `rank`: what the planner finds, or what ends the reading
+abbrev pub RankAnswer : List ℕ → Contents → Status → List ℕ → Type 0
+RankAnswer plan_name files status text = Answered IsPlanned (plan_in plan_name files) status text

@@ -1,0 +1,97 @@
+-- How the reading of files ends the work, and a file with a plan. This project's own.
+use Rattle.std.specs.Prelude.{◌≡◌, ℕ, nat_lt, List, [], ◌++◌, length, codes, Option, Some, None, Result, Ok, Err, if◌then◌else◌}
+use Rattle.std.specs.FinMap.{get}
+use Rattle.sync_edge.specs.Contents.{Contents}
+use Rattle.sync_topo.specs.Topology.{Topology}
+use Rattle.sync_topo.specs.declared.place.Place.{Place}
+use Rattle.sync_topo.specs.declared.place.Section.{Section}
+use Rattle.sync_topo.specs.declared.place.Section.TheVariants.{Head, Elements, Links, Sources}
+use Rattle.sync_topo.specs.Refusal.{refusal_number, refused_place}
+use Rattle.plan_file.specs.declared.error.PlanFileErr.{PlanFileErr}
+use Rattle.plan_file.specs.declared.error.PlanFileErr.TheVariants as plan
+use Rattle.plan_file.specs.Chain.{◌>>=◌}
+use Rattle.plan_file.specs.PlanText.{plan_of}
+use Rattle.sync_top.specs.declared.status.Status.{Status}
+use Rattle.sync_top.specs.declared.status.Status.TheVariants.{Done, BadPlan, TooLong}
+use Rattle.std.specs.Fmt.{decimal}
+use Rattle.plan_file.specs.Refusal.{number_of as file_number}
+use Rattle.sync_topo.specs.declared.error.PlanErr.{PlanErr}
+
+-- a text of one line
+abbrev pub text_line : List ℕ → List ℕ
+text_line words = words ++ codes "\n"
+
+-- how the reading of the files can end the work
+pub data End : Type 0 where
+  -- a file that the work comes to isn't there, so there is no answer
+  no_file : End
+  -- the answer is this status and this text
+  answered : Status → List ℕ → End
+
+-- the most bytes that a file may have
+abbrev pub file_limit : ℕ
+file_limit = 8388608
+
+-- the answer to what was read, or what ended the reading
+abbrev pub Answered : {A : Type 0} → (A → Status → List ℕ → Type 0) → Result A End → Status → List ℕ → Type 0
+Answered Answers (Ok read) status text = Answers read status text
+Answered Answers (Err no_file) status text = ⊥
+Answered Answers (Err (answered known written)) status text = (status ≡ known) × (text ≡ written)
+
+-- the bytes of a file
+abbrev pub file : List ℕ → Contents → Result (List ℕ) End
+file name files = within (get files name)
+  where
+    within : Option (List ℕ) → Result (List ℕ) End
+    within None = Err no_file
+    within (Some bytes) = if nat_lt file_limit (length bytes) then Err (answered TooLong (text_line (codes "too long"))) else Ok bytes
+
+-- the line on a refusal: what is refused, the refusal's number, and where; want of memory has no number and no line
+abbrev pub refusal_line : List ℕ → Option ℕ → List ℕ → List ℕ
+refusal_line what None place = []
+refusal_line what (Some number) place = what ++ decimal number ++ place
+
+-- a section by its name, and a place by its section and row
+abbrev pub section_name : Section → List ℕ
+section_name Head = codes "head"
+section_name Elements = codes "element"
+section_name Links = codes "link"
+section_name Sources = codes "source"
+
+abbrev pub place_text : Place → List ℕ
+place_text place = section_name place.section ++ codes " " ++ decimal place.row
+
+-- the refusal of a plan's rows: its number, and the row that breaks the rule
+abbrev pub rows_refusal : PlanErr → List ℕ
+rows_refusal error = refusal_line (codes " ") (refusal_number error) (place_after (refused_place error))
+  where
+    place_after : Option Place → List ℕ
+    place_after None = []
+    place_after (Some place) = codes " " ++ place_text place
+
+-- where a plan is refused
+abbrev pub plan_place : PlanFileErr → List ℕ
+plan_place plan.Syntax = []
+plan_place (plan.Key place) = codes " " ++ place_text place
+plan_place (plan.Kind place) = codes " " ++ place_text place
+plan_place (plan.Plan error) = rows_refusal error
+plan_place plan.NoMemory = []
+
+-- the line on a plan that is refused
+abbrev pub plan_refusal : PlanFileErr → List ℕ
+plan_refusal refused = refusal_line (codes "bad plan ") (file_number refused) (plan_place refused)
+
+-- the plan, where it isn't refused
+abbrev pub accepted_plan : Result Topology PlanFileErr → Result Topology End
+accepted_plan (Ok topology) = Ok topology
+accepted_plan (Err refused) = Err (answered BadPlan (text_line (plan_refusal refused)))
+
+-- the plan of a file
+abbrev pub plan_in : List ℕ → Contents → Result Topology End
+plan_in name files = do
+  bytes ← file name files
+  accepted_plan (plan_of bytes)
+
+-- the text that was asked for
+abbrev pub IsText : List ℕ → Status → List ℕ → Type 0
+IsText given status text = (status ≡ Done) × (text ≡ given)
