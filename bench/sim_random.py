@@ -1,10 +1,11 @@
 #!/usr/bin/env python3
 """Compares the reports of `sim` on random plans and events with those of the reference, up to the part `inputs`.
 
-usage: sim_random.py PROGRAM [--plans N] [--seed N] [--sweep] [--keep FOLDER]
+usage: sim_random.py PROGRAM [--plans N] [--seed N] [--sweep] [--long] [--keep FOLDER]
 
 The plans have up to 8 elements, with bundles, both options and enhanced levels, and up to 40 events of every word.
-With --sweep the tables of `sweep` are compared. It needs Python 3.11.
+With --sweep the tables of `sweep` are compared. With --long wait-to-restore times are up to ten minutes and runs go up to
+700000, for which the reference takes a minute each. It needs Python 3.11.
 """
 import argparse
 import collections
@@ -20,8 +21,11 @@ from reference_random import events_text, plan_text, random_events, random_plan
 from reference_report import sim_text, sweep_text
 
 
-def random_case(chance):
+def random_case(chance, is_long):
     """A plan, events and how long it runs; with a wait-to-restore of a minute long enough for it to end, mostly."""
+    if is_long:
+        plan = random_plan(chance, range(0, 660_000, 60_000))
+        return plan, random_events(chance, plan, chance.choice([9_000, 90_000, 600_000])), chance.randint(600_000, 700_000)
     plan = random_plan(chance, [0] * 19 + [60000])
     events = random_events(chance, plan, chance.choice([300, 3000, 9000]))
     wait = max(element.wtr for element in plan.elements)
@@ -55,12 +59,13 @@ def main():
     words.add_argument("--plans", type=int, default=300)
     words.add_argument("--seed", type=int, default=1)
     words.add_argument("--sweep", action="store_const", const="sweep", default="sim", dest="form")
+    words.add_argument("--long", action="store_true")
     words.add_argument("--keep", help="write files and expected texts of cases that differ into this folder")
     given = words.parse_args()
     chance = random.Random(given.seed)
     counted = collections.Counter()
     for number in range(given.plans):
-        case = random_case(chance)
+        case = random_case(chance, given.long)
         with tempfile.TemporaryDirectory() as folder:
             expected, words_given = expected_and_words(given.form, case, folder)
             answer = answer_of(given.program, words_given)
