@@ -14,6 +14,7 @@
 //!   so that what they read and write is only tested.
 #![tactic(auto)]
 
+mod crossing;
 mod errors;
 mod lists;
 mod memory_folder;

@@ -1,4 +1,4 @@
-ghost use Rattle.std.specs.Prelude.{◌≡◌, [], ◌∷◌, ◌++◌, OnOk, OnErr};
+ghost use Rattle.std.specs.Prelude.{◌≡◌, [], ◌∷◌, ◌++◌, IfOk, OnOk, OnErr};
 ghost use Rattle.std.specs.Fmt.{decimal};
 
 use crate::errors::NoMemory;
@@ -126,6 +126,18 @@ impl<T: Drop> Rows<T> {
     {
         match self.kept.push(item) {
             Ok(()) => Ok(()),
+            Err(_) => Err(NoMemory),
+        }
+    }
+}
+
+impl<T: Copy> Rows<T> {
+    /// The same items once more. It takes memory for them.
+    pub fn try_clone(&self, alloc: Global) -> Result<Rows<T>, NoMemory>
+        ensures { IfOk result (λ rows. rows ≡ self.now) }
+    {
+        match Vec::from_slice(alloc, self.kept.as_slice()) {
+            Ok(kept) => Ok(Rows { kept }),
             Err(_) => Err(NoMemory),
         }
     }

@@ -21,6 +21,7 @@
 //! own. That the table has these values is tested.
 #![tactic(auto)]
 
+mod crossing;
 pub mod laws;
 mod levels;
 pub mod limits;

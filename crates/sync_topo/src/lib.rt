@@ -14,6 +14,7 @@
 #![tactic(auto)]
 
 mod bundles;
+mod crossing;
 mod element;
 mod error;
 mod event;
