@@ -56,6 +56,19 @@ impl DueTimes {
         Ok(DueTimes { times, rounds })
     }
 
+    /// The same times once more. It takes memory for them. This project's own.
+    pub fn try_clone(&self, alloc: Global) -> Result<DueTimes, NoMemory>
+        ensures { IfOk result (λ times. times ≡ self.now) }
+    {
+        let Ok(times) = Vec::from_slice(alloc, self.times.as_slice()) else {
+            return Err(NoMemory);
+        };
+        let Ok(rounds) = Vec::from_slice(alloc, self.rounds.as_slice()) else {
+            return Err(NoMemory);
+        };
+        Ok(DueTimes { times, rounds })
+    }
+
     /// Renews when the object at a place is due, or that it isn't. It takes time by the logarithm of the
     /// number of objects, and no memory; none of either where the object is due then already.
     ///

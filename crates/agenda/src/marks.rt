@@ -44,6 +44,22 @@ impl Marks {
         Ok(Marks { flags, listed })
     }
 
+    /// The same marks once more. It takes memory for all places. This project's own.
+    pub fn try_clone(&self, alloc: Global) -> Result<Marks, NoMemory>
+        ensures { IfOk result (λ marks. marks ≡ self.now) }
+    {
+        let Ok(flags) = Vec::from_slice(alloc, self.flags.as_slice()) else {
+            return Err(NoMemory);
+        };
+        let Ok(mut listed) = Vec::from_slice(alloc, self.listed.as_slice()) else {
+            return Err(NoMemory);
+        };
+        if listed.reserve(flags.len()).is_err() {
+            return Err(NoMemory);
+        }
+        Ok(Marks { flags, listed })
+    }
+
     /// Marks a place, unless it is marked already. It takes the same time for any number of places, and
     /// no memory.
     ///

@@ -1,8 +1,7 @@
 -- What a run costs: counts over milliseconds, one step after another.
 use Rattle.std.proofs.Common.{◌≡◌, ◌≢◌, ◌≤◌, ◌<◌, ◌+◌, ◌-◌, ◌⊎◌, inl, inr, ℕ, zero, suc, Bool, true, false, ◌||◌, cond, List, [], ◌∷◌, ◌++◌, length, filter, refl, ap, sym, subst, ◌∙◌, arith}
-use Rattle.std.specs.Prelude.{nat_eq, nat_lt, slice_index_or, if◌then◌else◌, count_by, sum_by, Option, None, Some, IfSome}
+use Rattle.std.specs.Prelude.{nat_eq, slice_index_or, if◌then◌else◌, count_by, sum_by, Option, Some}
 use Rattle.std.specs.List.{All, list_any, range_with_len, IsDistinct}
-use Rattle.std.proofs.Math.Decide.{dec_lt}
 use Rattle.std.proofs.lemmas.Bool.{true≢false, eqb-true, eq-eqb}
 use Rattle.std.proofs.lemmas.Bool.Decides.{eqb_tells}
 use Rattle.std.proofs.lemmas.Cmp.{nat_eq_equiv}
@@ -20,7 +19,6 @@ use Rattle.net_rules.specs.Walks.{Each}
 use Rattle.net_rules.proofs.EventLaws.{each-all}
 use Rattle.sync_net.specs.NetState.{NetState}
 use Rattle.sync_net.specs.Evaluated.{AreAloneEvaluated}
-use Rattle.sync_net.proofs.StageLaws.{same-place}
 use Rattle.event_sim.specs.Bounds.{milliseconds, turns_in, active_times, active_pairs}
 use Rattle.event_sim.specs.Running.{IsTurnBound, IsBound, IsNextTime}
 

@@ -3,6 +3,7 @@ pub mod RowLaws
 pub mod SortedPlaces
 pub mod NotingLaws
 pub mod EventTimes
+mod EventCut
 pub mod BoundLaws
 pub mod RunLaws
 pub mod LaterRows

@@ -1,5 +1,5 @@
 -- What is noted of a step: the places that were looked at, one after another, and their rows.
-use Rattle.std.proofs.Common.{◌≡◌, ◌≢◌, ◌≤◌, ◌<◌, ◌+◌, ◌⊎◌, inl, inr, ℕ, zero, suc, Bool, true, false, ◌||◌, cond, List, [], ◌∷◌, ◌++◌, length, map, filter, set, take, refl, ap, sym, subst, ◌∙◌, arith}
+use Rattle.std.proofs.Common.{◌≡◌, ◌≢◌, ◌<◌, ◌+◌, ◌⊎◌, inl, inr, ℕ, Bool, true, false, ◌||◌, List, [], ◌∷◌, ◌++◌, length, map, set, take, refl, ap, sym, subst, ◌∙◌, arith}
 use Rattle.std.specs.Prelude.{nat_eq, slice_index, slice_index_or, if◌then◌else◌}
 use Rattle.std.specs.List.{All, list_any, range_with_len, IsDistinct}
 use Rattle.std.specs.List.Sorted.{IsPermutation, IsSorted}
@@ -21,7 +21,7 @@ use Rattle.sync_net.specs.NetState.{NetState}
 use Rattle.event_sim.specs.declared.shown.Shown.{Shown}
 use Rattle.event_sim.specs.declared.change.Change.{Change}
 use Rattle.event_sim.specs.Rows.{is_other, shown_after, row_of}
-use Rattle.event_sim.specs.Showing.{Shows, kept_in, AreSeen, AreRenewed, others_in, rows_between}
+use Rattle.event_sim.specs.Showing.{Shows, kept_in, AreSeen, AreRenewed, others_in}
 use Rattle.event_sim.proofs.RowLaws.{other-same}
 use Rattle.event_sim.proofs.SortedPlaces.{sorted-kept}
 

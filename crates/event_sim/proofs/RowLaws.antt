@@ -1,6 +1,6 @@
 -- The rows of a network that stands for its plan and all events: none where one state of it stands
 -- before and after a millisecond, and else what two states show.
-use Rattle.std.proofs.Common.{◌≡◌, ◌≤◌, ◌<◌, ℕ, zero, suc, ◌+◌, Bool, true, false, not, ◌&&◌, List, [], ◌∷◌, ◌++◌, length, map, filter, Option, None, Some, refl, ap, sym, subst, ◌∙◌, arith}
+use Rattle.std.proofs.Common.{◌≡◌, ◌≤◌, ◌<◌, ℕ, zero, suc, Bool, true, false, List, [], ◌∷◌, ◌++◌, length, map, filter, Option, None, Some, refl, ap, sym, subst, ◌∙◌, arith}
 use Rattle.std.specs.Prelude.{slice_index_or, nat_eq}
 use Rattle.std.specs.List.{range_with_len, list_any}
 use Rattle.std.proofs.Math.Decide.{dec_lt}
@@ -11,16 +11,15 @@ use Rattle.sync_ql.specs.declared.rules.ClockState.{ClockState}
 use Rattle.sync_ql.specs.declared.rules.ClockState.TheVariants.{FreeRun, Locked, Holdover}
 use Rattle.sync_ql.specs.declared.levels.NetOption.{NetOption}
 use Rattle.sync_ql.specs.declared.levels.NetOption.TheVariants.{I, II}
-use Rattle.sync_ql.specs.Messages.{is_same_option, is_same_level}
-use Rattle.sync_ql.specs.Told.{moments_until}
+use Rattle.sync_ql.specs.Messages.{is_same_option}
 use Rattle.sync_element.specs.ElementState.{ElementState}
 use Rattle.sync_topo.specs.declared.input.InputId.{InputId}
 use Rattle.sync_topo.specs.declared.input.InputId.TheVariants.{Line, Source}
 use Rattle.sync_topo.specs.declared.event.Event.{Event}
 use Rattle.sync_topo.specs.Topology.{Topology}
 use Rattle.sync_topo.proofs.Lists.{filter_range_agree}
-use Rattle.net_rules.specs.Signals.{signals_by, is_same_input}
-use Rattle.net_rules.specs.History.{settings_of, element_past, out_at}
+use Rattle.net_rules.specs.Signals.{signals_by}
+use Rattle.net_rules.specs.History.{element_past, out_at}
 use Rattle.net_rules.specs.Walks.{Each}
 use Rattle.net_rules.proofs.Lists.{Each-map, Each-range, Each-filter, map-same}
 use Rattle.sync_net.specs.NetState.{NetState}
@@ -30,7 +29,6 @@ use Rattle.sync_net.proofs.QuietGap.{some_element}
 use Rattle.sync_net.proofs.StageLaws.{same-place}
 use Rattle.event_sim.specs.declared.limits.TheConstants.{MOST_CHANGES}
 use Rattle.event_sim.specs.declared.shown.Shown.{Shown}
-use Rattle.event_sim.specs.declared.change.Change.{Change}
 use Rattle.event_sim.specs.Rows.{is_same_mode, is_same_state, is_same_taken, is_other, shown_after, shown_by, has_changed, changed_in, row_of, rows_in, rows_until}
 use Rattle.event_sim.specs.Showing.{Shows, kept_in, AreShown, AreRenewed, others_in, rows_between}
 

@@ -1,7 +1,7 @@
 -- A run from one millisecond in which something happens to the next.
-use Rattle.std.proofs.Common.{◌≡◌, ◌≢◌, ◌≤◌, ◌<◌, ◌+◌, ◌⊎◌, inl, inr, ℕ, zero, suc, Bool, true, false, ◌||◌, cond, List, [], ◌∷◌, ◌++◌, length, refl, ap, sym, subst, ◌∙◌, arith, add-one}
+use Rattle.std.proofs.Common.{◌≡◌, ◌≤◌, ◌<◌, ◌+◌, ℕ, zero, suc, Bool, true, false, ◌||◌, cond, List, [], ◌++◌, length, refl, ap, sym, subst, ◌∙◌, arith}
 use Rattle.std.specs.Prelude.{nat_eq, slice_index_or, if◌then◌else◌, Option, None, Some, IfSome}
-use Rattle.std.specs.List.{All, list_any, range_with_len}
+use Rattle.std.specs.List.{All, range_with_len}
 use Rattle.std.proofs.lemmas.List.{length-append, length-map}
 use Rattle.std.proofs.lemmas.List.FromFn.{length-range_with_len}
 use Rattle.std.proofs.lemmas.List.Sums.{length-filter, count_by-le-length}
@@ -24,12 +24,12 @@ use Rattle.event_sim.specs.Changes.{IsChangeOf}
 use Rattle.sync_net.proofs.QuietGap.{some_element}
 use Rattle.event_sim.proofs.NotingLaws.{others-within}
 use Rattle.std.proofs.lemmas.List.Elements.{All-append, All-map}
-use Rattle.event_sim.specs.Standing.{watched_rows, AreTold, AreWithin}
-use Rattle.event_sim.specs.Showing.{AreShown, AreShownIf, AreRenewed, AreNoted, kept_in, others_in, rows_between}
-use Rattle.event_sim.specs.Running.{IsKeptBy, RunStands, IsCut, IsAfterTurn, AreHere, IsTurnBound, IsBound, IsNextTime, AreParted}
-use Rattle.event_sim.proofs.RowLaws.{HasElements, quiet-rows, turn-rows, shown-then}
+use Rattle.event_sim.specs.Standing.{AreTold, AreWithin}
+use Rattle.event_sim.specs.Showing.{AreShown, AreShownIf, AreNoted, kept_in, others_in, rows_between}
+use Rattle.event_sim.specs.Running.{IsKeptBy, RunStands, IsAfterTurn, AreHere, IsTurnBound, IsNextTime, AreParted}
+use Rattle.event_sim.proofs.RowLaws.{HasElements, quiet-rows, turn-rows}
 use Rattle.event_sim.proofs.EventTimes.{none-at}
-use Rattle.event_sim.proofs.BoundLaws.{turn-bound, turn-counts, bound-more}
+use Rattle.event_sim.proofs.BoundLaws.{turn-bound, turn-counts}
 
 -- a step goes on from the millisecond before
 pub continued : (plan : Topology) (all : List Event) (now : ℕ) (told : List Event) → AreHere plan all now told → IsContinued plan all now now told

@@ -5,7 +5,7 @@ use Rattle.std.specs.List.{All}
 use Rattle.sync_ql.specs.declared.levels.Level.{Level}
 use Rattle.sync_ql.specs.declared.rules.Mode.{Mode}
 use Rattle.sync_ql.specs.declared.rules.ClockState.{ClockState}
-use Rattle.sync_ql.specs.Moment.{Settings, Moment, selection_at}
+use Rattle.sync_ql.specs.Moment.{Moment, selection_at}
 use Rattle.sync_ql.specs.Told.{moments_until}
 use Rattle.sync_ql.specs.Output.{clock_level_at, mode_at, state_at}
 use Rattle.sync_element.specs.ElementState.{ElementState, IsInTime}

@@ -1,6 +1,6 @@
 -- Private to this crate: what is kept of what each element shows, and what is noted after a step.
 use Rattle.std.specs.Prelude.{◌≡◌, ◌≤◌, ◌<◌, ℕ, Bool, true, false, nat_eq, List, [], ◌++◌, length, map, filter, slice_index_or, IfSome, ⊤}
-use Rattle.std.specs.List.{All, IsDistinct, list_any, range_with_len}
+use Rattle.std.specs.List.{IsDistinct, list_any, range_with_len}
 use Rattle.sync_ql.specs.Moment.{Moment}
 use Rattle.sync_ql.specs.Told.{moments_until}
 use Rattle.sync_element.specs.ElementState.{ElementState, IsInTime}

@@ -2,9 +2,10 @@
 
 ghost use Rattle.std.specs.Prelude.{◌≡◌, ◌≤◌, ◌<◌, ◌⊎◌, ℕ, List, IfSome, length, slice_index_or};
 ghost use Rattle.sync_topo.specs.declared.event.Event.{Event};
+ghost use Rattle.sync_topo.specs.Events.{IsEventList};
 ghost use Rattle.sync_topo.specs.Topology.{Topology};
 ghost use Rattle.event_sim.specs.Running.{IsNextTime, AreParted};
-ghost use Rattle.event_sim.specs.Standing.{AreWithin};
+ghost use Rattle.event_sim.specs.Standing.{AreTold, AreWithin};
 
 use sync_topo::Event;
 
@@ -44,6 +45,18 @@ pub fn split_at_time(events: &[Event], now: u64) -> (&[Event], &[Event])
         AreParted plan now until events.now result.0.now result.1.now }
 {
     events.split_at(count_at(events, now))
+}
+
+/// The events that are not later than a millisecond, of a list in order of time.
+///
+/// This project's own.
+pub fn events_until(events: &[Event], until: u64) -> &[Event]
+    ensures told { (plan : Topology) → IsEventList plan events.now →
+        AreTold plan events.now 0 until result.now }
+    ensures within { (plan : Topology) → IsEventList plan events.now →
+        AreWithin plan 0 until result.now }
+{
+    &events[..count_at(events, until)]
 }
 
 // The number of events before the first one that is later.

@@ -11,6 +11,7 @@
 //! |---|---|
 //! | the one who makes a run | [`Sim::new`], [`Sim::advance`] |
 //! | who reads what came of it | [`Sim::changes`], [`Sim::reached`], [`Sim::net`] |
+//! | who has events for longer | [`events_until`] |
 //! | who proves something of a run in several advances | [`later_events_law`] |
 //!
 //! Which rows there are is `Rows`, what a simulator stands for is `Standing`, what an advance
@@ -22,6 +23,7 @@
 #![tactic(auto)]
 
 mod change;
+mod crossing;
 mod events;
 mod laws;
 pub mod limits;
@@ -33,5 +35,6 @@ mod sim;
 mod tests;
 
 pub use change::{Change, Reach, Watch};
+pub use events::events_until;
 pub use laws::later_events_law;
 pub use sim::Sim;

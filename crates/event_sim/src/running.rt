@@ -15,6 +15,7 @@ use crate::events::{next_time, split_at_time};
 use crate::limits::MOST_CHANGES;
 use crate::noting::note_changes;
 use crate::shown::Shown;
+use std::alloc::Global;
 use std::sync::ledger::Ledger;
 use sync_edge::{NoMemory, Steps};
 use sync_net::{Net, elements_law};
@@ -31,6 +32,45 @@ pub struct Run<'a> {
     // The elements that the last step changed: kept for its memory alone.
     pub changed: Vec<u32>,
     pub changes: Vec<Change>,
+}
+
+impl<'a> Run<'a> {
+    // The same run once more.
+    pub fn try_clone(&self, alloc: Global) -> Result<Run<'a>, NoMemory>
+        ensures net { IfOk result (λ run. run.net ≡ self.now.net) }
+        ensures watch { IfOk result (λ run. run.watch ≡ self.now.watch) }
+        ensures shown { IfOk result (λ run. run.shown.items ≡ self.now.shown.items) }
+        ensures changes { IfOk result (λ run. run.changes.items ≡ self.now.changes.items) }
+    {
+        let net = self.net.try_clone(alloc)?;
+        let shown = copy_shown(alloc, self.shown.as_slice())?;
+        let changes = copy_changes(alloc, self.changes.as_slice())?;
+        Ok(Run {
+            net,
+            watch: self.watch,
+            shown,
+            changed: Vec::new(alloc),
+            changes,
+        })
+    }
+}
+
+fn copy_shown(alloc: Global, shown: &[Shown]) -> Result<Vec<Shown>, NoMemory>
+    ensures { IfOk result (λ copies. copies.items ≡ shown.now) }
+{
+    match Vec::from_slice(alloc, shown) {
+        Ok(copies) => Ok(copies),
+        Err(_) => Err(NoMemory),
+    }
+}
+
+fn copy_changes(alloc: Global, changes: &[Change]) -> Result<Vec<Change>, NoMemory>
+    ensures { IfOk result (λ copies. copies.items ≡ changes.now) }
+{
+    match Vec::from_slice(alloc, changes) {
+        Ok(copies) => Ok(copies),
+        Err(_) => Err(NoMemory),
+    }
 }
 
 impl Run<'_> {

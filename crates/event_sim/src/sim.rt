@@ -82,6 +82,22 @@ impl<'a> Sim<'a> {
         })
     }
 
+    /// The same simulator once more, as far as it has come, over the same plan. It takes memory by
+    /// the size of the plan and the number of changes.
+    ///
+    /// `NoMemory` comes for want of memory alone. This project's own.
+    pub fn try_clone(&self, alloc: Global) -> Result<Sim<'a>, NoMemory>
+        ensures { IfOk result (λ sim. sim ≡ self.now) }
+    {
+        let run = self.run.try_clone(alloc)?;
+        Ok(Sim {
+            run,
+            reached: self.reached,
+            spent: self.spent,
+            stopped: self.stopped,
+        })
+    }
+
     /// Tells events, and runs the network up to and with a millisecond, at most 86,400,000.
     ///
     /// The events fit the plan, stand in order of time, and are later than what is reached and not

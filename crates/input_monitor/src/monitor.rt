@@ -58,6 +58,18 @@ impl Monitor {
         }
     }
 
+    /// The same monitor once more. This project's own.
+    pub fn copy(&self) -> Monitor
+        ensures { result ≡ self.now }
+    {
+        Monitor {
+            holdoff: self.holdoff,
+            wtr: self.wtr,
+            next: self.next,
+            condition: self.condition,
+        }
+    }
+
     /// Tells that the input is up or down at the end of a millisecond, and whether wait-to-restore
     /// was cleared for it in that millisecond.
     ///

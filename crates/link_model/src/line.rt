@@ -73,6 +73,24 @@ impl Line {
         }
     }
 
+    /// The same line once more, as it is after its last call. It takes memory by the number of words
+    /// on its way.
+    ///
+    /// This project's own.
+    pub fn try_clone(&self, alloc: Global) -> Result<Line, NoMemory>
+        ensures { IfOk result (λ line. line ≡ self.now) }
+    {
+        let words = self.words.try_clone(alloc)?;
+        Ok(Line {
+            delay: self.delay,
+            turn: self.turn,
+            up: self.up,
+            esmc: self.esmc,
+            level: self.level,
+            words,
+        })
+    }
+
     /// Tells whether the line is up at the end of a millisecond.
     ///
     /// Where it goes down, what is on its way is lost; what arrived is still heard. Where it speaks

@@ -32,6 +32,19 @@ impl Words {
         }
     }
 
+    // The same words once more.
+    pub fn try_clone(&self, alloc: Global) -> Result<Words, NoMemory>
+        ensures { IfOk result (λ words. words_kept words ≡ words_kept self.now) }
+    {
+        match Vec::from_slice(alloc, self.on_way.as_slice()) {
+            Ok(on_way) => Ok(Words {
+                arrived: self.arrived,
+                on_way,
+            }),
+            Err(_) => Err(NoMemory),
+        }
+    }
+
     // Takes in the first word on its way, if it arrives now.
     pub fn take_in(&mut self, delay: u64, now: u64)
         ensures { words_kept self.new ≡ taken_in delay now self.old.arrived self.old.on_way.items }

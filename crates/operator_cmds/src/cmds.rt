@@ -77,6 +77,17 @@ impl Cmds {
         }
     }
 
+    /// The same switches once more. This project's own.
+    pub fn copy(&self) -> Cmds
+        ensures { result ≡ self.now }
+    {
+        Cmds {
+            inputs: self.inputs,
+            locked: self.locked,
+            switch: self.switch,
+        }
+    }
+
     /// Carries a command out, or rejects it.
     ///
     /// `Rejected` exactly where a switch is to an input that is locked out, or a manual switch is

@@ -50,6 +50,19 @@ impl Table {
         Ok(Table { inputs, standings })
     }
 
+    /// The same candidates once more. It takes memory for them. This project's own.
+    pub fn try_clone(&self, alloc: Global) -> Result<Table, NoMemory>
+        ensures { IfOk result (λ table. table ≡ self.now) }
+    {
+        let Ok(inputs) = Vec::from_slice(alloc, self.inputs.as_slice()) else {
+            return Err(NoMemory);
+        };
+        let Ok(standings) = Vec::from_slice(alloc, self.standings.as_slice()) else {
+            return Err(NoMemory);
+        };
+        Ok(Table { inputs, standings })
+    }
+
     /// Renews the candidate at a place. It takes time by the logarithm of the number of inputs, and
     /// no memory.
     ///

@@ -1,4 +1,8 @@
-use sync_edge::Rows;
+ghost use Rattle.std.specs.Prelude.{◌≡◌, IfOk};
+ghost use Rattle.sync_element.specs.Configured.{settings_of};
+
+use std::alloc::Global;
+use sync_edge::{NoMemory, Rows};
 use sync_ql::Level;
 
 /// What one input of an element is set to.
@@ -30,4 +34,20 @@ pub struct Config {
     pub wtr: u32,
     /// The inputs, at most 64.
     pub inputs: Rows<InputConfig>,
+}
+
+impl Config {
+    // The same settings once more.
+    pub fn try_clone(&self, alloc: Global) -> Result<Config, NoMemory>
+        ensures { IfOk result (λ config. settings_of config ≡ settings_of self.now) }
+    {
+        let inputs = self.inputs.try_clone(alloc)?;
+        Ok(Config {
+            own: self.own,
+            floor: self.floor,
+            holdoff: self.holdoff,
+            wtr: self.wtr,
+            inputs,
+        })
+    }
 }

@@ -96,6 +96,27 @@ impl Element {
         })
     }
 
+    /// The same element once more, as it is after its last step. It takes memory by the number of
+    /// inputs.
+    ///
+    /// This project's own.
+    pub fn try_clone(&self, alloc: Global) -> Result<Element, NoMemory>
+        ensures { IfOk result (λ e. e ≡ self.now) }
+    {
+        let config = self.config.try_clone(alloc)?;
+        let inputs = self.inputs.try_clone(alloc)?;
+        Ok(Element {
+            config,
+            inputs,
+            commands: self.commands.copy(),
+            selected: self.selected,
+            was_locked: self.was_locked,
+            next: self.next,
+            due: self.due,
+            later_steps: self.later_steps,
+        })
+    }
+
     /// Tells what happens in a millisecond, and looks once at its end at which input is taken.
     ///
     /// The first step is at 0; a later one is after the last, at `due` at the latest, and at most at

@@ -1,6 +1,6 @@
 //! The inputs of an element: what is told of them, and their conditions a step on.
 
-ghost use Rattle.std.specs.Prelude.{◌≡◌, ◌≤◌, ◌<◌, ℕ, [], length, All};
+ghost use Rattle.std.specs.Prelude.{◌≡◌, ◌≤◌, ◌<◌, ℕ, [], length, All, IfOk};
 ghost use Rattle.sync_ql.specs.Selection.{is_better, SameOption};
 ghost use Rattle.sync_ql.specs.Told.{IsOfOption};
 ghost use Rattle.sync_element.specs.Telling.{Fits, IsTold, IsToldSoFar};
@@ -9,10 +9,12 @@ ghost use Rattle.sync_element.specs.Whole.{inputs_kept};
 
 use crate::candidates::set_if_other;
 use crate::config::Config;
-use crate::watched::{Watched, step_if_told};
+use crate::watched::{Watched, step_if_told, try_clone_all};
 use agenda::DueTimes;
 use operator_cmds::Cmds;
 use selector::Table;
+use std::alloc::Global;
+use sync_edge::NoMemory;
 use sync_ql::limits::LAST_MILLISECOND;
 use sync_ql::rules::{Candidate, InputEvent};
 use sync_ql::{Level, better};
@@ -23,6 +25,22 @@ pub struct Inputs {
     pub watched: Vec<Watched>,
     pub dues: DueTimes,
     pub table: Table,
+}
+
+impl Inputs {
+    // The same inputs once more.
+    pub fn try_clone(&self, alloc: Global) -> Result<Inputs, NoMemory>
+        ensures { IfOk result (λ inputs. inputs_kept inputs ≡ inputs_kept self.now) }
+    {
+        let watched = try_clone_all(alloc, self.watched.as_slice())?;
+        let dues = self.dues.try_clone(alloc)?;
+        let table = self.table.try_clone(alloc)?;
+        Ok(Inputs {
+            watched,
+            dues,
+            table,
+        })
+    }
 }
 
 // Takes in what is told in a millisecond, in order; no monitor is told of it yet.

@@ -1,10 +1,12 @@
 //! One input of an element: what is told of it, and its monitor.
 
-ghost use Rattle.std.specs.Prelude.{◌≡◌, ◌≤◌, true};
+ghost use Rattle.std.specs.Prelude.{◌≡◌, ◌≤◌, true, IfOk};
 ghost use Rattle.sync_element.specs.Kept.{HasEnd};
 ghost use Rattle.sync_element.specs.Renewing.{must_step, IsReady, IsStepped};
 
 use input_monitor::Monitor;
+use std::alloc::Global;
+use sync_edge::{NoMemory, Rows};
 use sync_ql::Level;
 use sync_ql::limits::LAST_MILLISECOND;
 
@@ -17,6 +19,22 @@ pub struct Watched {
     pub level: Option<Level>,
     /// Whether its wait-to-restore time is cleared in the millisecond that is told of.
     pub cleared: bool,
+}
+
+// The same inputs once more.
+pub fn try_clone_all(alloc: Global, watched: &[Watched]) -> Result<Vec<Watched>, NoMemory>
+    ensures { IfOk result (λ copies. copies.items ≡ watched.now) }
+{
+    let mut copies = Rows::new(alloc);
+    for input in watched {
+        copies.push(Watched {
+            monitor: input.monitor.copy(),
+            up: input.up,
+            level: input.level,
+            cleared: input.cleared,
+        })?;
+    }
+    Ok(copies.into_vec())
 }
 
 // Whether something happens to the input in a millisecond: its wait-to-restore time is cleared, it

@@ -21,3 +21,4 @@ pub mod Whole
 pub mod PartSteps
 pub mod Evaluated
 pub mod NetKept
+pub mod Copied

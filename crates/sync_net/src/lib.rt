@@ -18,6 +18,7 @@
 #![tactic(auto)]
 
 mod calls;
+mod copying;
 mod evaluating;
 mod hearing;
 mod laws;

@@ -15,6 +15,7 @@ ghost use Rattle.sync_net.specs.NetState.{line_in, NoneDueBefore, IsDueAt, IsInT
 ghost use Rattle.sync_net.specs.Standing.{ElementStands, LineStands, StandsFor, NoneFrom};
 ghost use Rattle.sync_net.specs.Evaluated.{IsContinued, AreAloneEvaluated};
 
+use crate::copying::try_clone_parts;
 use crate::parts::Parts;
 use crate::starting::new_parts;
 use crate::stepping::step_parts;
@@ -70,6 +71,21 @@ impl<'a> Net<'a> {
             plan,
             parts,
             spent: false,
+        })
+    }
+
+    /// The same network once more, as it is after its last step, over the same plan. It takes memory
+    /// by the number of elements, links and inputs of the plan.
+    ///
+    /// This project's own.
+    pub fn try_clone(&self, alloc: Global) -> Result<Net<'a>, NoMemory>
+        ensures { IfOk result (λ net. net ≡ self.now) }
+    {
+        let parts = try_clone_parts(alloc, &self.parts)?;
+        Ok(Net {
+            plan: self.plan,
+            parts,
+            spent: self.spent,
         })
     }
 

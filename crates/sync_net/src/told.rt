@@ -1,6 +1,6 @@
 //! What one element is told in a millisecond.
 
-ghost use Rattle.std.specs.Prelude.{◌≡◌, [], ◌∷◌, ◌++◌, OnOk, OnErr};
+ghost use Rattle.std.specs.Prelude.{◌≡◌, [], ◌∷◌, ◌++◌, IfOk, OnOk, OnErr};
 
 use std::alloc::Global;
 use std::marker::Model;
@@ -29,6 +29,16 @@ impl Told {
     {
         Told {
             events: Vec::new(alloc),
+        }
+    }
+
+    // The same once more.
+    pub fn try_clone(&self, alloc: Global) -> Result<Told, NoMemory>
+        ensures { IfOk result (λ told. told ≡ self.now) }
+    {
+        match Vec::from_slice(alloc, self.events.as_slice()) {
+            Ok(events) => Ok(Told { events }),
+            Err(_) => Err(NoMemory),
         }
     }
 

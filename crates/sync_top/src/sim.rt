@@ -14,7 +14,7 @@ use crate::plan_input::plan_in;
 use crate::reply::{Reply, Stop, put_number, refusal};
 use crate::status::Status;
 use event_file::{EventErr, read_events};
-use event_sim::{Reach, Sim, Watch};
+use event_sim::{Reach, Sim, Watch, events_until};
 use std::alloc::Global;
 use std::marker::Brand;
 use std::sync::ledger::{Blank, Ledger};
@@ -102,21 +102,6 @@ fn plan_and_events<F: Folder>(
     }
 }
 
-/// The number of events before the first that is later than a millisecond.
-fn count_until(events: &[Event], until: u64) -> usize
-    ensures within { result ≤ length events.now }
-    ensures here { (k : ℕ) (other : Event) → k < result → (slice_index_or events.now k other).at ≤ until }
-    ensures later { (other : Event) → result < length events.now →
-        until < (slice_index_or events.now result other).at }
-{
-    for (place, event) in events.iter().enumerate() {
-        if until < event.at {
-            return place;
-        }
-    }
-    events.len()
-}
-
 /// The report of a run of a plan with events up to a millisecond.
 fn run_until<L: Ledger>(
     alloc: Global,
@@ -137,7 +122,7 @@ fn run_until<L: Ledger>(
 {
     let mut steps = Steps::<L>::new(blank);
     let mut sim = Sim::new(alloc, plan, Watch::Changes)?;
-    let told = &events[..count_until(events, until)];
+    let told = events_until(events, until);
     match sim.advance(told, until, &mut steps)? {
         Reach::Until => Ok(Reply {
             status: Status::Done,

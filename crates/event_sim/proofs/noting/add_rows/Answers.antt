@@ -1,4 +1,4 @@
-use Rattle.std.proofs.Common.{◌≡◌, ◌<◌, ◌+◌, ◌++◌, ◌∷◌, [], ℕ, List, length, take, ap, sym, subst, ◌∙◌, refl, arith, take_all}
+use Rattle.std.proofs.Common.{◌<◌, ◌++◌, ◌∷◌, [], ℕ, length, ap, ◌∙◌, refl, arith, take_all}
 use Rattle.std.specs.Prelude.{slice_index}
 use Rattle.event_sim.proofs.NotingLaws.{rows-more}
 use Rattle.event_sim.proofs.noting.add_rows.Goals as goal

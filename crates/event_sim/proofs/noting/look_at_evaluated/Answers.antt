@@ -1,11 +1,10 @@
-use Rattle.std.proofs.Common.{◌≡◌, ◌<◌, ◌+◌, ℕ, List, true, false, ◌||◌, length, take, ap, sym, subst, ◌∙◌, arith, take_all}
+use Rattle.std.proofs.Common.{◌≡◌, ◌<◌, ◌+◌, ℕ, List, false, ◌||◌, length, take, ap, sym, subst, ◌∙◌, arith}
 use Rattle.std.specs.Prelude.{nat_eq, slice_index, slice_index_or, if◌then◌else◌, ◌++◌, ◌∷◌, []}
 use Rattle.std.specs.List.{list_any}
 use Rattle.std.proofs.lemmas.List.Folds.{list_any_more}
-use Rattle.sync_topo.specs.Topology.{Topology}
 use Rattle.sync_element.specs.ElementState.{ElementState}
 use Rattle.event_sim.specs.declared.shown.Shown.{Shown}
-use Rattle.event_sim.specs.Showing.{Shows, AreSeen}
+use Rattle.event_sim.specs.Showing.{Shows}
 use Rattle.event_sim.proofs.NotingLaws.{not-before, seen-none, seen-more}
 use Rattle.event_sim.proofs.noting.look_at_evaluated.Goals as goal
 

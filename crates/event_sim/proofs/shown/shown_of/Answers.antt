@@ -1,6 +1,5 @@
-use Rattle.std.proofs.Common.{◌≡◌, ℕ, List, sym, subst, ap, ◌∙◌}
+use Rattle.std.proofs.Common.{subst, ap, ◌∙◌}
 use Rattle.std.specs.Prelude.{option_and_then, slice_get}
-use Rattle.sync_ql.specs.Moment.{Settings, Moment, selection_at}
 use Rattle.std.specs.List.{All}
 use Rattle.sync_topo.specs.Lines.{IsInput}
 use Rattle.event_sim.proofs.ShownLemmas.{shown-as}

@@ -1,8 +1,7 @@
-use Rattle.std.proofs.Common.{ap, sym, subst, take, ◌∙◌}
+use Rattle.std.proofs.Common.{ap, sym, subst, ◌∙◌}
 use Rattle.event_sim.specs.SimState.{first_after}
 use Rattle.event_sim.specs.Standing.{AreTold}
 use Rattle.event_sim.specs.Answers.{IsLastFit}
-use Rattle.sync_top.proofs.EventCut.{are-told}
 use Rattle.sync_top.proofs.Reports.{whole, short}
 use Rattle.sync_top.proofs.sim.run_until.Goals as goal
 
@@ -11,9 +10,8 @@ returns-in-Until-clause-report g c =
     let e = c.in_ok-advance.ensures in
     let n = c.in_ok-sim.ensures in
     let events = c.args.events.now in
-    let part = take c.count_until.result events in
-    let all = are-told c.args.plan.now c.args.until c.count_until.result events (record { fit = c.requires.fit; in_order = c.requires.in_order })
-    c.count_until.ensures.within c.count_until.ensures.here c.count_until.ensures.later in
+    let part = c.events_until.result.now in
+    let all = c.events_until.ensures.told c.args.plan.now (record { fit = c.requires.fit; in_order = c.requires.in_order }) in
     let told = subst (λ p. AreTold p events (first_after c.in_ok-sim.sim.reached) c.args.until part) (sym n.plan)
     (subst (λ r. AreTold c.args.plan.now events (first_after r) c.args.until part) (sym n.reached) all) in
     let stands = e.stands events told (n.stands events) in
@@ -25,9 +23,8 @@ returns-clause-report g c =
     let e = c.in_ok-advance.ensures in
     let n = c.in_ok-sim.ensures in
     let events = c.args.events.now in
-    let part = take c.count_until.result events in
-    let all = are-told c.args.plan.now c.args.until c.count_until.result events (record { fit = c.requires.fit; in_order = c.requires.in_order })
-    c.count_until.ensures.within c.count_until.ensures.here c.count_until.ensures.later in
+    let part = c.events_until.result.now in
+    let all = c.events_until.ensures.told c.args.plan.now (record { fit = c.requires.fit; in_order = c.requires.in_order }) in
     let told = subst (λ p. AreTold p events (first_after c.in_ok-sim.sim.reached) c.args.until part) (sym n.plan)
     (subst (λ r. AreTold c.args.plan.now events (first_after r) c.args.until part) (sym n.reached) all) in
     let stands = e.stands events told (n.stands events) in

@@ -1,11 +1,11 @@
-use Rattle.std.proofs.Common.{◌≡◌, ◌≤◌, ◌<◌, ◌+◌, ℕ, suc, true, false, List, ap, sym, subst, ◌∙◌, arith}
+use Rattle.std.proofs.Common.{◌≡◌, ◌≤◌, ◌<◌, ◌+◌, ℕ, suc, List, sym, subst, ◌∙◌, arith}
 use Rattle.std.specs.List.{All}
 use Rattle.sync_topo.specs.declared.event.Event.{Event}
 use Rattle.sync_topo.specs.Topology.{Topology}
 use Rattle.sync_topo.specs.Events.{Fits}
 use Rattle.sync_net.specs.NetState.{NetState}
 use Rattle.event_sim.specs.Standing.{AreWithin}
-use Rattle.event_sim.specs.Running.{RunStands, IsCut, IsAfterTurn, AreHere, IsBound, IsNextTime, AreParted}
+use Rattle.event_sim.specs.Running.{RunStands, IsCut, IsAfterTurn, AreHere}
 use Rattle.event_sim.proofs.BoundLaws.{bound-more}
 use Rattle.event_sim.proofs.RunLaws.{IsTurn, within-from, the-turn, kept-more, run-until, turn-here, turn-counted}
 use Rattle.event_sim.proofs.running.Run.advance.Goals as goal

@@ -1,14 +1,13 @@
-use Rattle.std.proofs.Common.{◌≡◌, ℕ, List, ap, sym, subst, ◌∙◌}
+use Rattle.std.proofs.Common.{◌≡◌, sym, subst}
 use Rattle.std.specs.List.{All}
 use Rattle.sync_topo.specs.Topology.{Topology}
-use Rattle.sync_topo.specs.declared.event.Event.{Event}
 use Rattle.event_sim.specs.Changes.{IsChangeOf}
 use Rattle.event_sim.specs.declared.change.Watch.{Watch}
-use Rattle.event_sim.specs.declared.change.Watch.TheVariants.{Changes, Nothing}
+use Rattle.event_sim.specs.declared.change.Watch.TheVariants.{Changes}
 use Rattle.event_sim.specs.Showing.{AreShown, AreShownIf, AreNoted}
 use Rattle.event_sim.specs.Running.{RunStands, IsAfterTurn}
 use Rattle.event_sim.proofs.RowLaws.{shown-then}
-use Rattle.event_sim.proofs.RunLaws.{turn-noted, turn-unnoted, turn-cost, turn-late, noted-of-plan}
+use Rattle.event_sim.proofs.RunLaws.{turn-noted, turn-cost, turn-late, noted-of-plan}
 use Rattle.event_sim.proofs.running.Run.take_turn.Goals as goal
 
 pub returns-in-Nothing-clause-cost : goal.returns-in-Nothing-clause-cost

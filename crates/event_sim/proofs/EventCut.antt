@@ -7,7 +7,7 @@ use Rattle.std.proofs.lemmas.List.Elements.{All-take, filter-append}
 use Rattle.std.proofs.lemmas.List.Sorted.{IsNonDecreasingBy-from_all_adjacent, IsNonDecreasingBy-take, all_adjacent_from_non_decreasing}
 use Rattle.sync_topo.specs.declared.event.Event.{Event}
 use Rattle.sync_topo.specs.Topology.{Topology}
-use Rattle.sync_topo.specs.Events.{Fits, IsInOrder, IsEventList}
+use Rattle.sync_topo.specs.Events.{Fits, IsEventList}
 use Rattle.net_rules.specs.Signals.{events_at}
 use Rattle.event_sim.specs.Standing.{AreTold, AreWithin}
 use Rattle.event_sim.proofs.EventTimes.{in-order, none-at}
