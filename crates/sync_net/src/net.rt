@@ -213,6 +213,7 @@ impl<'a> Net<'a> {
         requires nominated { IsNominated self.now.plan l.0 }
         ensures line { line_in self.now.lines l.0 ≡ Some result.now }
         ensures turn { result.now.turn ≤ 4 * self.now.next }
+        ensures in_range { self.now.next ≤ LAST_MILLISECOND + 1 }
         ensures in_time { IfSome result.now.due (λ due. self.now.next ≤ due) }
         ensures stands { (all : List Event) (n : ℕ) → StandsFor self.now all n →
             LineStands self.now.plan (signals_by self.now.plan all)
