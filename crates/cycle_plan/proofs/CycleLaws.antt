@@ -6,22 +6,24 @@ use Rattle.std.proofs.lemmas.List.Elements.{All-cons, All-nil}
 use Rattle.sync_topo.specs.Topology.{Topology}
 use Rattle.sync_topo.specs.Lines.{line_count}
 use Rattle.sync_topo.proofs.LineLaws.{IsNominated-within}
+use Rattle.cycle_plan.specs.declared.returns.Returns.{Returns}
+use Rattle.cycle_plan.specs.Returns.{hops_by}
 use Rattle.cycle_plan.proofs.HopFacts.{hop_parts}
-use Rattle.sync_topo.specs.Hops.{hops, IsWalk, IsCycle, IsRising}
+use Rattle.sync_topo.specs.Hops.{IsRising}
 use Rattle.rank_cert.specs.Ranks.{Ranks, rank_of, Judges}
 use Rattle.rank_cert.specs.declared.rising.Verdict.{Verdict}
 use Rattle.rank_cert.specs.declared.rising.Verdict.TheVariants.{Rising, Falls}
-use Rattle.sync_topo.specs.Ranks.{IsBefore, Leads, IsFirstCycle}
+use Rattle.sync_topo.specs.Ranks.{IsBefore, Leads, IsFirstCycle, Walks, Circles}
 
 -- lines each of which is before the next are a walk
-walk_from : (plan : Topology) (first : ℕ) (rest : List ℕ) (last : ℕ) → Leads (IsBefore (hops plan)) first rest last → IsWalk plan (first ∷ rest ++ last ∷ [])
-walk_from plan first [] last leads = (leads.hops, tt)
-walk_from plan first (next ∷ rest) last leads = (leads.0.hops, walk_from plan next rest last leads.1)
+walk_from : (returns : Returns) (plan : Topology) (first : ℕ) (rest : List ℕ) (last : ℕ) → Leads (IsBefore (hops_by returns plan)) first rest last → Walks (hops_by returns plan) (first ∷ rest ++ last ∷ [])
+walk_from returns plan first [] last leads = (leads.hops, tt)
+walk_from returns plan first (next ∷ rest) last leads = (leads.0.hops, walk_from returns plan next rest last leads.1)
 
 -- the first cycle is a cycle of hops
-pub IsCycle-first : (plan : Topology) (lines : List ℕ) → IsFirstCycle (hops plan) lines → IsCycle plan lines
-IsCycle-first plan [] never = never
-IsCycle-first plan (line ∷ rest) first = walk_from plan line rest line first.ring
+pub IsCycle-first : (returns : Returns) (plan : Topology) (lines : List ℕ) → IsFirstCycle (hops_by returns plan) lines → Circles (hops_by returns plan) lines
+IsCycle-first returns plan [] never = never
+IsCycle-first returns plan (line ∷ rest) first = walk_from returns plan line rest line first.ring
 
 -- the test of ranks finds nothing else of rising ranks than that they rise
 pub rising_is_accepted : (plan : Topology) (ranks : Ranks) → IsRising plan (rank_of ranks) → (verdict : Verdict) → Judges plan ranks verdict → verdict ≡ Rising
@@ -30,14 +32,14 @@ rising_is_accepted plan ranks rising (Falls line next) judged =
     let less = rising line.0 next.0 judged.hops_on in absurd (omega (arith, less, judged.falls))
 
 -- lines each of which is before the next are lines of the plan
-all_within : (plan : Topology) (first : ℕ) (rest : List ℕ) (last : ℕ) → Leads (IsBefore (hops plan)) first rest last
+all_within : (returns : Returns) (plan : Topology) (first : ℕ) (rest : List ℕ) (last : ℕ) → Leads (IsBefore (hops_by returns plan)) first rest last
     → All (λ line. line < line_count plan) (first ∷ rest)
-all_within plan first [] last leads =
-    All-cons (λ line. line < line_count plan) first [] (IsNominated-within plan first (hop_parts plan first last leads.hops).0) (All-nil (λ line. line < line_count plan))
-all_within plan first (next ∷ rest) last leads =
-    All-cons (λ line. line < line_count plan) first (next ∷ rest) (IsNominated-within plan first (hop_parts plan first next leads.0.hops).0)
-    (all_within plan next rest last leads.1)
+all_within returns plan first [] last leads =
+    All-cons (λ line. line < line_count plan) first [] (IsNominated-within plan first (hop_parts returns plan first last leads.hops).0) (All-nil (λ line. line < line_count plan))
+all_within returns plan first (next ∷ rest) last leads =
+    All-cons (λ line. line < line_count plan) first (next ∷ rest) (IsNominated-within plan first (hop_parts returns plan first next leads.0.hops).0)
+    (all_within returns plan next rest last leads.1)
 
-pub All_within-first : (plan : Topology) (lines : List ℕ) → IsFirstCycle (hops plan) lines → All (λ line. line < line_count plan) lines
-All_within-first plan [] never = absurd never
-All_within-first plan (line ∷ rest) first = all_within plan line rest line first.ring
+pub All_within-first : (returns : Returns) (plan : Topology) (lines : List ℕ) → IsFirstCycle (hops_by returns plan) lines → All (λ line. line < line_count plan) lines
+All_within-first returns plan [] never = absurd never
+All_within-first returns plan (line ∷ rest) first = all_within returns plan line rest line first.ring

@@ -1,6 +1,6 @@
 -- Inputs and hops.
 use Rattle.std.proofs.Common.{◌≡◌, ℕ, ◌+◌, ◌/◌, ◌<◌, ◌≤◌, zero, suc, Bool, true, false, not, ◌&&◌, nat_eq, List, [], ◌∷◌, ◌++◌, length, map, filter, Some, None, refl, sym, ap, ◌∙◌, inl, inr, arith, zero-add}
-use Rattle.std.specs.Prelude.{◌≢◌, slice_get, if◌then◌else◌}
+use Rattle.std.specs.Prelude.{◌≢◌, ◌==◌, slice_get, if◌then◌else◌}
 use Rattle.std.specs.List.{range_with_len}
 use Rattle.std.specs.Cmp.Derive.{both_true}
 use Rattle.std.specs.Option.{option_and_then}
@@ -8,13 +8,13 @@ use Rattle.std.proofs.lemmas.Bool.{and_parts, true≢false, cases_lt, cases_eq, 
 use Rattle.std.proofs.lemmas.Option.{none-some, same_Some, slice_get_cases, slice_get_past}
 use Rattle.sync_topo.specs.Topology.{Topology}
 use Rattle.sync_topo.specs.declared.link.Link.{Link}
-use Rattle.sync_topo.specs.Bundles.{line_bundle, are_bundled}
 use Rattle.sync_topo.specs.WellFormed.{IsWellFormed}
 use Rattle.sync_topo.specs.Lines.{line_count, is_nominated, IsNominated, receiver_of, sender_of, ends_at_b, lines_into, sources_at, line_input, inputs_of}
-use Rattle.sync_topo.specs.Hops.{Hops}
 use Rattle.sync_topo.proofs.LineLaws.{IsNominated-within}
 use Rattle.sync_topo.specs.declared.input.InputId.{InputId}
 use Rattle.sync_topo.specs.declared.input.InputId.TheVariants.{Source}
+use Rattle.cycle_plan.specs.declared.returns.Returns.{Returns}
+use Rattle.cycle_plan.specs.Returns.{HopsBy, number_in, number_out}
 use Rattle.cycle_plan.specs.Inputs.{line_of, line_at, AreWithin}
 
 -- what a filter over a range keeps
@@ -117,21 +117,21 @@ line_at_within inputs place line here = elim (cases_lt place (length inputs)) [
 ]
 
 -- what a hop says
-pub hop_parts : (plan : Topology) (line next : ℕ) → Hops plan line next
-    → IsNominated plan line × IsNominated plan next × (receiver_of plan line ≡ sender_of plan next) × (line_bundle plan line ≢ line_bundle plan next)
-hop_parts plan line next hop =
-    let ends = and_parts (is_nominated plan line && is_nominated plan next && nat_eq (receiver_of plan line) (sender_of plan next)) (not (are_bundled plan line next)) hop in
+pub hop_parts : (returns : Returns) (plan : Topology) (line next : ℕ) → HopsBy returns plan line next
+    → IsNominated plan line × IsNominated plan next × (receiver_of plan line ≡ sender_of plan next) × (number_in returns plan line ≢ number_out returns plan next)
+hop_parts returns plan line next hop =
+    let ends = and_parts (is_nominated plan line && is_nominated plan next && nat_eq (receiver_of plan line) (sender_of plan next)) (not (number_in returns plan line == number_out returns plan next)) hop in
     let both = and_parts (is_nominated plan line && is_nominated plan next) (nat_eq (receiver_of plan line) (sender_of plan next)) ends.0 in
     let each = and_parts (is_nominated plan line) (is_nominated plan next) both.0 in
-    (each.0, each.1, eqb-true _ _ both.1, eqb-false _ _ (not-true (are_bundled plan line next) ends.1))
+    (each.0, each.1, eqb-true _ _ both.1, eqb-false _ _ (not-true (number_in returns plan line == number_out returns plan next) ends.1))
 
-pub hop_from : (plan : Topology) (line next : ℕ) → IsNominated plan line → IsNominated plan next → receiver_of plan line ≡ sender_of plan next
-    → line_bundle plan line ≢ line_bundle plan next → Hops plan line next
-hop_from plan line next nominated next_nominated meets apart =
-    both_true {s = is_nominated plan line && is_nominated plan next && nat_eq (receiver_of plan line) (sender_of plan next)} {t = not (are_bundled plan line next)}
+pub hop_from : (returns : Returns) (plan : Topology) (line next : ℕ) → IsNominated plan line → IsNominated plan next → receiver_of plan line ≡ sender_of plan next
+    → number_in returns plan line ≢ number_out returns plan next → HopsBy returns plan line next
+hop_from returns plan line next nominated next_nominated meets apart =
+    both_true {s = is_nominated plan line && is_nominated plan next && nat_eq (receiver_of plan line) (sender_of plan next)} {t = not (number_in returns plan line == number_out returns plan next)}
     (both_true {s = is_nominated plan line && is_nominated plan next} {t = nat_eq (receiver_of plan line) (sender_of plan next)}
     (both_true {s = is_nominated plan line} {t = is_nominated plan next} nominated next_nominated) (eq-eqb _ _ meets))
-    (not_from_false (are_bundled plan line next) (ne_eqb _ _ apart))
+    (not_from_false (number_in returns plan line == number_out returns plan next) (ne_eqb _ _ apart))
 
 -- a line doesn't begin where it ends
 pub ends_apart : (plan : Topology) (line : ℕ) → IsWellFormed plan → line < line_count plan → sender_of plan line ≢ receiver_of plan line

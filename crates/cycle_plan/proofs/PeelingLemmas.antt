@@ -10,9 +10,10 @@ use Rattle.std.proofs.lemmas.Option.{none-some, same_Some, slice_get-get_or}
 use Rattle.sync_topo.specs.Topology.{Topology}
 use Rattle.sync_topo.specs.Ranks.{HopTest}
 use Rattle.sync_topo.specs.Lines.{line_count, IsNominated, receiver_of, sender_of, inputs_of}
-use Rattle.sync_topo.specs.Hops.{hops, Hops}
 use Rattle.rank_cert.specs.Ranks.{Ranks, rank_at}
 use Rattle.sync_topo.specs.declared.input.InputId.{InputId}
+use Rattle.cycle_plan.specs.declared.returns.Returns.{Returns}
+use Rattle.cycle_plan.specs.Returns.{HopsBy, hops_by}
 use Rattle.cycle_plan.specs.Inputs.{line_at, is_open, IsOpenLine, IsWatch}
 use Rattle.cycle_plan.specs.Peeling.{IsOpenInto, IsNext, left_over, IsRanking, IsPeeling, IsMore}
 use Rattle.cycle_plan.specs.declared.inputs.Watch.{Watch}
@@ -81,9 +82,9 @@ pub IsOpenInto-grows : (plan : Topology) (before after : Ranks) (element line : 
 IsOpenInto-grows plan before after element line grows stands =
     record { nominated = stands.nominated; into = stands.into; unranked = fewer (rank_at before) (rank_at after) grows line stands.unranked }
 
-IsWatch-grows : (plan : Topology) (before after : Ranks) (inputs : List InputId) (watch : Watch) → Grows (rank_at before) (rank_at after)
-    → IsWatch plan before inputs watch → IsWatch plan after inputs watch
-IsWatch-grows plan before after inputs watch grows watched = record {
+IsWatch-grows : (returns : Returns) (plan : Topology) (before after : Ranks) (inputs : List InputId) (watch : Watch) → Grows (rank_at before) (rank_at after)
+    → IsWatch returns plan before inputs watch → IsWatch returns plan after inputs watch
+IsWatch-grows returns plan before after inputs watch grows watched = record {
   first_within = watched.first_within;
   second_within = watched.second_within;
   before = λ place low. closed-grows before after inputs place grows (watched.before place low);
@@ -107,16 +108,16 @@ Grows-given plan before after line rank none given other lower ranked = elim (ca
 ]
 
 -- a rank is below what is left of the lines
-below-given : (plan : Topology) (before : Ranks) (line rank left : ℕ) → IsRanking plan before → IsNext (hops plan) (rank_at before) line rank
+below-given : (returns : Returns) (plan : Topology) (before : Ranks) (line rank left : ℕ) → IsRanking returns plan before → IsNext (hops_by returns plan) (rank_at before) line rank
     → left + 1 ≡ left_over before → rank + left < line_count plan
-below-given plan before line rank left ranking next less = elim next.reached [
+below-given returns plan before line rank left ranking next less = elim next.reached [
   | inl zero_rank ↦ let all = count_by-le-length is_none before in omega (arith, zero_rank, all, less, ranking.counted)
   | inr some ↦ let low = ranking.below some.0 some.1 some.3 in omega (arith, some.4, low, less)
 ]
 
-IsRanking-given : (plan : Topology) (before after : Ranks) (line rank : ℕ) → IsRanking plan before → IsNominated plan line → line < line_count plan
-    → rank_at before line ≡ None → IsNext (hops plan) (rank_at before) line rank → IsGiven plan before after line rank → IsRanking plan after
-IsRanking-given plan before after line rank ranking nominated within none next given =
+IsRanking-given : (returns : Returns) (plan : Topology) (before after : Ranks) (line rank : ℕ) → IsRanking returns plan before → IsNominated plan line → line < line_count plan
+    → rank_at before line ≡ None → IsNext (hops_by returns plan) (rank_at before) line rank → IsGiven plan before after line rank → IsRanking returns plan after
+IsRanking-given returns plan before after line rank ranking nominated within none next given =
     let grows = Grows-given plan before after line rank none given in
     let less : left_over after + 1 ≡ left_over before =
     rw given.set (left_over-set before line rank (rw ranking.counted within) none) in
@@ -125,10 +126,10 @@ IsRanking-given plan before after line rank ranking nominated within none next g
       exact = λ other lower ranked. elim (cases_eq other line) [
         | inl same ↦
             let rank_is : rank ≡ lower = same_Some rank lower (sym given.here ∙ ap (λ l. rank_at after l) (sym same) ∙ ranked) in
-            subst (λ l. IsNext (hops plan) (rank_at after) l lower) (sym same)
-            (subst (λ r. IsNext (hops plan) (rank_at after) line r) rank_is (IsNext-grows (hops plan) (rank_at before) (rank_at after) line rank grows next))
+            subst (λ l. IsNext (hops_by returns plan) (rank_at after) l lower) (sym same)
+            (subst (λ r. IsNext (hops_by returns plan) (rank_at after) line r) rank_is (IsNext-grows (hops_by returns plan) (rank_at before) (rank_at after) line rank grows next))
         | inr differs ↦
-            IsNext-grows (hops plan) (rank_at before) (rank_at after) other lower grows
+            IsNext-grows (hops_by returns plan) (rank_at before) (rank_at after) other lower grows
             (ranking.exact other lower (sym (given.others other differs) ∙ ranked))
       ];
       only = λ other lower ranked. elim (cases_eq other line) [
@@ -138,7 +139,7 @@ IsRanking-given plan before after line rank ranking nominated within none next g
       below = λ other lower ranked. elim (cases_eq other line) [
         | inl same ↦
             let rank_is : rank ≡ lower = same_Some rank lower (sym given.here ∙ ap (λ l. rank_at after l) (sym same) ∙ ranked) in
-            let low = below-given plan before line rank (left_over after) ranking next less in
+            let low = below-given returns plan before line rank (left_over after) ranking next less in
             omega (arith, rank_is, low)
         | inr differs ↦
             let low = ranking.below other lower (sym (given.others other differs) ∙ ranked) in omega (arith, low, less)
@@ -146,22 +147,22 @@ IsRanking-given plan before after line rank ranking nominated within none next g
     }
 
 -- one more line is ranked, and its receiver waits
-pub IsMore-given : (plan : Topology) (before after : Ranking) (line rank : ℕ) → IsPeeling plan before → IsNominated plan line → line < line_count plan
-    → rank_at before.ranks line ≡ None → IsNext (hops plan) (rank_at before.ranks) line rank → IsGiven plan before.ranks after.ranks line rank
+pub IsMore-given : (returns : Returns) (plan : Topology) (before after : Ranking) (line rank : ℕ) → IsPeeling returns plan before → IsNominated plan line → line < line_count plan
+    → rank_at before.ranks line ≡ None → IsNext (hops_by returns plan) (rank_at before.ranks) line rank → IsGiven plan before.ranks after.ranks line rank
     → receiver_of plan line < length plan.elements → after.waiting.items ≡ before.waiting.items ++ receiver_of plan line ∷ [] → after.watches ≡ before.watches
-    → IsMore plan before after
-IsMore-given plan before after line rank peeling nominated within none next given receiver waiting watches =
+    → IsMore returns plan before after
+IsMore-given returns plan before after line rank peeling nominated within none next given receiver waiting watches =
     let grows = Grows-given plan before.ranks after.ranks line rank none given in
     let less : left_over after.ranks + 1 ≡ left_over before.ranks =
     rw given.set (left_over-set before.ranks line rank (rw peeling.ranked.counted within) none) in
     record {
       peeling = record {
-        ranked = IsRanking-given plan before.ranks after.ranks line rank peeling.ranked nominated within none next given;
+        ranked = IsRanking-given returns plan before.ranks after.ranks line rank peeling.ranked nominated within none next given;
         watches = rw watches peeling.watches;
         watched = λ element watch there.
             let was = peeling.watched element watch (subst (λ w. slice_get w.items element ≡ Some watch) watches there) in
             record {
-              watched = IsWatch-grows plan before.ranks after.ranks (inputs_of plan element) watch grows was.watched;
+              watched = IsWatch-grows returns plan before.ranks after.ranks (inputs_of plan element) watch grows was.watched;
               back = λ is_back other from other_nominated sent stands bundles left.
                   was.back is_back other from other_nominated sent (IsOpenInto-grows plan before.ranks after.ranks element from grows stands) bundles
                   (fewer (rank_at before.ranks) (rank_at after.ranks) grows other left);
@@ -173,7 +174,7 @@ IsMore-given plan before after line rank peeling nominated within none next give
       keeps = λ other kept. elim kept [
         | inl held ↦ elim (cases_eq held.0 line) [
           | inl same ↦
-              let meets : receiver_of plan line ≡ sender_of plan other = (hop_parts plan line other (subst (λ l. Hops plan l other) same held.1)).2 in
+              let meets : receiver_of plan line ≡ sender_of plan other = (hop_parts returns plan line other (subst (λ l. HopsBy returns plan l other) same held.1)).2 in
               inr (rw waiting (subst (λ e. Contains (before.waiting.items ++ receiver_of plan line ∷ []) e) meets (Contains-push before.waiting.items (receiver_of plan line))))
           | inr differs ↦ inl (held.0, held.1, given.others held.0 differs ∙ held.2)
         ]

@@ -4,6 +4,8 @@ use Rattle.std.specs.Prelude.{◌≢◌, slice_get, slice_set, if◌then◌else�
 use Rattle.std.specs.List.{All, Contains}
 use Rattle.std.proofs.lemmas.List.Elements.{Contains-append_cases, All-contains}
 use Rattle.sync_topo.specs.declared.input.LineId.{LineId}
+use Rattle.cycle_plan.specs.declared.returns.Returns.{Returns}
+use Rattle.cycle_plan.specs.Returns.{HopsBy, hops_by, number_in, number_out}
 use Rattle.cycle_plan.specs.Outputs.{kept, AreOutputs}
 use Rattle.std.specs.declared.alloc.Global.{Global}
 use Rattle.std.proofs.lemmas.Bool.{cases_lt, cases_eq, eqb-true}
@@ -11,9 +13,7 @@ use Rattle.std.proofs.lemmas.List.{get_or-set_same, get_or-set_other, length-set
 use Rattle.std.proofs.lemmas.Option.{same_Some, slice_get-get_or, slice_get_within}
 use Rattle.sync_topo.specs.Topology.{Topology}
 use Rattle.sync_topo.specs.WellFormed.{IsWellFormed}
-use Rattle.sync_topo.specs.Bundles.{line_bundle}
 use Rattle.sync_topo.specs.Lines.{line_count, is_nominated, IsNominated, sender_of, inputs_of}
-use Rattle.sync_topo.specs.Hops.{hops, Hops}
 use Rattle.sync_topo.proofs.LineLaws.{IsNominated-within}
 use Rattle.rank_cert.specs.Ranks.{Ranks, rank_at}
 use Rattle.sync_topo.specs.declared.input.InputId.{InputId}
@@ -29,16 +29,16 @@ use Rattle.cycle_plan.proofs.TopLemmas.{is_top-Some, is_top-other}
 use Rattle.cycle_plan.proofs.WatchLemmas.{open_line, closed_line, line_at_open, past_end}
 
 -- ranks are below the number of lines
-pub small : (plan : Topology) (ranks : Ranks) → IsWellFormed plan → IsRanking plan ranks → AreSmall ranks
-small plan ranks well_formed ranking line rank ranked =
+pub small : (returns : Returns) (plan : Topology) (ranks : Ranks) → IsWellFormed plan → IsRanking returns plan ranks → AreSmall ranks
+small returns plan ranks well_formed ranking line rank ranked =
     let below = ranking.below line rank ranked in
     omega (arith, below, well_formed.few_links)
 
 -- a line without a rank into an element holds each line out of it, but those of its own bundle
-held_by : (plan : Topology) (ranks : Ranks) (element line from : ℕ) → IsNominated plan line → sender_of plan line ≡ element
-    → IsOpenInto plan ranks element from → line_bundle plan from ≢ line_bundle plan line → IsHeld plan ranks line
-held_by plan ranks element line from nominated sent stands apart =
-    (from, hop_from plan from line stands.nominated nominated (stands.into ∙ sym sent) apart, stands.unranked)
+held_by : (returns : Returns) (plan : Topology) (ranks : Ranks) (element line from : ℕ) → IsNominated plan line → sender_of plan line ≡ element
+    → IsOpenInto plan ranks element from → number_in returns plan from ≢ number_out returns plan line → IsHeld returns plan ranks line
+held_by returns plan ranks element line from nominated sent stands apart =
+    (from, hop_from returns plan from line stands.nominated nominated (stands.into ∙ sym sent) apart, stands.unranked)
 
 -- an open input is a nominated line into the element that has no rank
 pub open_into : (plan : Topology) (ranks : Ranks) (element place line : ℕ) → IsOpenLine ranks (inputs_of plan element) place line → IsOpenInto plan ranks element line
@@ -54,30 +54,30 @@ open_place plan ranks element line stands =
     (at.0, record { here = at.1; unranked = stands.unranked })
 
 -- two open inputs of two bundles hold every line out of the element
-pub settled_by_two : (plan : Topology) (ranks : Ranks) (element : ℕ) (watch : Watch) → AreFirstOpen plan ranks (inputs_of plan element) watch
-    → watch.second < length (inputs_of plan element) → IsSettled plan ranks element
-settled_by_two plan ranks element watch places two line nominated sent none =
+pub settled_by_two : (returns : Returns) (plan : Topology) (ranks : Ranks) (element : ℕ) (watch : Watch) → AreFirstOpen returns plan ranks (inputs_of plan element) watch
+    → watch.second < length (inputs_of plan element) → IsSettled returns plan ranks element
+settled_by_two returns plan ranks element watch places two line nominated sent none =
     let inputs : List InputId = inputs_of plan element in
     let apart = places.apart two in
     let one = open_line ranks inputs watch.first (places.first (omega (arith, apart, two))) in
     let other = open_line ranks inputs watch.second (places.second two) in
     let differ = places.differ one.0 other.0 one.1.here other.1.here in
-    elim (cases_eq (line_bundle plan one.0) (line_bundle plan line)) [
+    elim (cases_eq (number_in returns plan one.0) (number_out returns plan line)) [
       | inl same ↦
-          held_by plan ranks element line other.0 nominated sent (open_into plan ranks element watch.second other.0 other.1)
+          held_by returns plan ranks element line other.0 nominated sent (open_into plan ranks element watch.second other.0 other.1)
           (λ also. differ (same ∙ sym also))
-      | inr differs ↦ held_by plan ranks element line one.0 nominated sent (open_into plan ranks element watch.first one.0 one.1) differs
+      | inr differs ↦ held_by returns plan ranks element line one.0 nominated sent (open_into plan ranks element watch.first one.0 one.1) differs
     ]
 
 -- an element that is done holds nothing
-pub settled_if_done : (plan : Topology) (ranks : Ranks) (element : ℕ) (watch : Watch) → IsWatched plan ranks element watch → watch.done ≡ true → IsSettled plan ranks element
-settled_if_done plan ranks element watch watched done line nominated sent none = absurd (watched.done done line nominated sent none)
+pub settled_if_done : (returns : Returns) (plan : Topology) (ranks : Ranks) (element : ℕ) (watch : Watch) → IsWatched returns plan ranks element watch → watch.done ≡ true → IsSettled returns plan ranks element
+settled_if_done returns plan ranks element watch watched done line nominated sent none = absurd (watched.done done line nominated sent none)
 
 -- where all open inputs are of one bundle, each line into the element without a rank is of it
-pub open_of_bundle : (plan : Topology) (ranks : Ranks) (element : ℕ) (watch : Watch) (last line : ℕ) → AreFirstOpen plan ranks (inputs_of plan element) watch
+pub open_of_bundle : (returns : Returns) (plan : Topology) (ranks : Ranks) (element : ℕ) (watch : Watch) (last line : ℕ) → AreFirstOpen returns plan ranks (inputs_of plan element) watch
     → length (inputs_of plan element) ≤ watch.second → line_at (inputs_of plan element) watch.first ≡ Some last → IsOpenInto plan ranks element line
-    → line_bundle plan line ≡ line_bundle plan last
-open_of_bundle plan ranks element watch last line places one here stands =
+    → number_in returns plan line ≡ number_in returns plan last
+open_of_bundle returns plan ranks element watch last line places one here stands =
     let inputs : List InputId = inputs_of plan element in
     let at = open_place plan ranks element line stands in
     let inside = line_at_within inputs at.0 line at.1.here in
@@ -90,9 +90,9 @@ open_of_bundle plan ranks element watch last line places one here stands =
     ]
 
 -- with no open input, no line into the element is without a rank
-pub none_open : (plan : Topology) (ranks : Ranks) (element : ℕ) (watch : Watch) (line : ℕ) → AreFirstOpen plan ranks (inputs_of plan element) watch
+pub none_open : (returns : Returns) (plan : Topology) (ranks : Ranks) (element : ℕ) (watch : Watch) (line : ℕ) → AreFirstOpen returns plan ranks (inputs_of plan element) watch
     → line_at (inputs_of plan element) watch.first ≡ None → IsOpenInto plan ranks element line → ⊥
-none_open plan ranks element watch line places none stands =
+none_open returns plan ranks element watch line places none stands =
     let inputs : List InputId = inputs_of plan element in
     let at = open_place plan ranks element line stands in
     let inside = line_at_within inputs at.0 line at.1.here in
@@ -100,64 +100,64 @@ none_open plan ranks element watch line places none stands =
     closed_line ranks inputs at.0 line (places.watched.before at.0 (omega (arith, inside, end))) at.1
 
 -- then each line out of the element is free
-pub free_all : (plan : Topology) (ranks : Ranks) (element : ℕ) (watch : Watch) → AreFirstOpen plan ranks (inputs_of plan element) watch
-    → line_at (inputs_of plan element) watch.first ≡ None → AreFree plan ranks element None
-free_all plan ranks element watch places none line from nominated sent among hop left =
-    let parts = hop_parts plan from line hop in
-    none_open plan ranks element watch from places none (record { nominated = parts.0; into = parts.2 ∙ sent; unranked = left })
+pub free_all : (returns : Returns) (plan : Topology) (ranks : Ranks) (element : ℕ) (watch : Watch) → AreFirstOpen returns plan ranks (inputs_of plan element) watch
+    → line_at (inputs_of plan element) watch.first ≡ None → AreFree returns plan ranks element None
+free_all returns plan ranks element watch places none line from nominated sent among hop left =
+    let parts = hop_parts returns plan from line hop in
+    none_open returns plan ranks element watch from places none (record { nominated = parts.0; into = parts.2 ∙ sent; unranked = left })
 
 -- and where all open inputs are of one bundle, those of this bundle are
-pub free_of_bundle : (plan : Topology) (ranks : Ranks) (element : ℕ) (watch : Watch) (last : ℕ) → AreFirstOpen plan ranks (inputs_of plan element) watch
+pub free_of_bundle : (returns : Returns) (plan : Topology) (ranks : Ranks) (element : ℕ) (watch : Watch) (last : ℕ) → AreFirstOpen returns plan ranks (inputs_of plan element) watch
     → length (inputs_of plan element) ≤ watch.second → line_at (inputs_of plan element) watch.first ≡ Some last
-    → AreFree plan ranks element (Some (line_bundle plan last))
-free_of_bundle plan ranks element watch last places one here line from nominated sent among hop left =
-    let parts = hop_parts plan from line hop in
-    let bundles = open_of_bundle plan ranks element watch last from places one here (record { nominated = parts.0; into = parts.2 ∙ sent; unranked = left }) in
+    → AreFree returns plan ranks element (Some (number_in returns plan last))
+free_of_bundle returns plan ranks element watch last places one here line from nominated sent among hop left =
+    let parts = hop_parts returns plan from line hop in
+    let bundles = open_of_bundle returns plan ranks element watch last from places one here (record { nominated = parts.0; into = parts.2 ∙ sent; unranked = left }) in
     parts.3 (bundles ∙ sym (eqb-true _ _ among))
 
 -- once the lines out over the bundle of an open input have ranks, this input holds all others
-pub settled_by_one : (plan : Topology) (ranks : Ranks) (element last : ℕ) → IsOpenInto plan ranks element last
-    → ((line : ℕ) → IsNominated plan line → sender_of plan line ≡ element → line_bundle plan last ≡ line_bundle plan line → rank_at ranks line ≢ None)
-    → IsSettled plan ranks element
-settled_by_one plan ranks element last stands given line nominated sent left = elim (cases_eq (line_bundle plan last) (line_bundle plan line)) [
+pub settled_by_one : (returns : Returns) (plan : Topology) (ranks : Ranks) (element last : ℕ) → IsOpenInto plan ranks element last
+    → ((line : ℕ) → IsNominated plan line → sender_of plan line ≡ element → number_in returns plan last ≡ number_out returns plan line → rank_at ranks line ≢ None)
+    → IsSettled returns plan ranks element
+settled_by_one returns plan ranks element last stands given line nominated sent left = elim (cases_eq (number_in returns plan last) (number_out returns plan line)) [
   | inl same ↦ absurd (given line nominated sent same left)
-  | inr differs ↦ held_by plan ranks element line last nominated sent stands differs
+  | inr differs ↦ held_by returns plan ranks element line last nominated sent stands differs
 ]
 
 -- the rank after the top is the next
-pub IsTopOf-from : (plan : Topology) (ranks : Ranks) (element : ℕ) (top : Top) → IsRanking plan ranks
-    → IsTop plan ranks (inputs_of plan element) (length (inputs_of plan element)) top → IsTopOf plan ranks element top
-IsTopOf-from plan ranks element top ranking is_top_of line nominated sent ranked =
-    cases (is_top top (line_bundle plan line)) refl
+pub IsTopOf-from : (returns : Returns) (plan : Topology) (ranks : Ranks) (element : ℕ) (top : Top) → IsRanking returns plan ranks
+    → IsTop returns plan ranks (inputs_of plan element) (length (inputs_of plan element)) top → IsTopOf returns plan ranks element top
+IsTopOf-from returns plan ranks element top ranking is_top_of line nominated sent ranked =
+    cases (is_top top (number_out returns plan line)) refl
   where
     inputs : List InputId
     inputs = inputs_of plan element
 
     -- a line that hops there stands among the inputs with its rank
-    some : (from : ℕ) → Hops plan from line → (rank : ℕ) × IsRankedAt ranks inputs (length inputs) from rank
+    some : (from : ℕ) → HopsBy returns plan from line → (rank : ℕ) × IsRankedAt ranks inputs (length inputs) from rank
     some from hop = by_rank (rank_at ranks from) refl
       where
         by_rank : (o : Option ℕ) → rank_at ranks from ≡ o → (rank : ℕ) × IsRankedAt ranks inputs (length inputs) from rank
         by_rank None e = absurd (ranked from hop e)
         by_rank (Some rank) e =
-            let parts = hop_parts plan from line hop in
+            let parts = hop_parts returns plan from line hop in
             let at = input_place plan element from parts.0 (parts.2 ∙ sent) in
             (rank, record { place = at.0; low = line_at_within inputs at.0 from at.1; here = at.1; ranked = e })
 
     -- a line among the inputs that has a rank hops to the line, unless it is of its bundle
-    hop_of : (from rank : ℕ) → IsRankedAt ranks inputs (length inputs) from rank → line_bundle plan from ≢ line_bundle plan line → Hops plan from line
+    hop_of : (from rank : ℕ) → IsRankedAt ranks inputs (length inputs) from rank → number_in returns plan from ≢ number_out returns plan line → HopsBy returns plan from line
     hop_of from rank stands apart =
         let from_nominated = ranking.only from rank stands.ranked in
         let is = input_is plan element stands.place from stands.here in
-        hop_from plan from line from_nominated nominated (is.1 ∙ sym sent) apart
+        hop_from returns plan from line from_nominated nominated (is.1 ∙ sym sent) apart
 
-    cases : (b : Bool) → is_top top (line_bundle plan line) ≡ b → IsNext (hops plan) (rank_at ranks) line (if b then top.next_without else top.next)
+    cases : (b : Bool) → is_top top (number_out returns plan line) ≡ b → IsNext (hops_by returns plan) (rank_at ranks) line (if b then top.next_without else top.next)
     cases true is_own =
-        let own : top.bundle ≡ Some (line_bundle plan line) = is_top-Some top (line_bundle plan line) is_own in
+        let own : top.bundle ≡ Some (number_out returns plan line) = is_top-Some top (number_out returns plan line) is_own in
         record {
           above = λ from hop.
               let rank = some from hop in
-              let parts = hop_parts plan from line hop in (
+              let parts = hop_parts returns plan from line hop in (
                 rank.0,
                 rank.1.ranked,
                 is_top_of.above_others from rank.0 rank.1 (λ same. parts.3 (same_Some _ _ (sym same ∙ own))),
@@ -180,7 +180,7 @@ IsTopOf-from plan ranks element top ranking is_top_of line nominated sent ranked
         | inr found ↦ inr (
           found.0,
           found.1,
-          hop_of found.0 found.1 found.2 (λ same. is_top-other top (line_bundle plan line) not_own (found.4 ∙ ap (λ b. Some b) same)),
+          hop_of found.0 found.1 found.2 (λ same. is_top-other top (number_out returns plan line) not_own (found.4 ∙ ap (λ b. Some b) same)),
           found.2.ranked,
           found.3,
         )
@@ -188,23 +188,23 @@ IsTopOf-from plan ranks element top ranking is_top_of line nominated sent ranked
     }
 
 -- the lines that are meant come next after the top
-pub AreNext-top : (plan : Topology) (ranks : Ranks) (element : ℕ) (only : Option ℕ) (top : Top) → IsTopOf plan ranks element top → AreFree plan ranks element only
-    → AreNext plan ranks element only top
-AreNext-top plan ranks element only top is_top free line nominated sent among =
+pub AreNext-top : (returns : Returns) (plan : Topology) (ranks : Ranks) (element : ℕ) (only : Option ℕ) (top : Top) → IsTopOf returns plan ranks element top → AreFree returns plan ranks element only
+    → AreNext returns plan ranks element only top
+AreNext-top returns plan ranks element only top is_top free line nominated sent among =
     is_top line nominated sent (λ from hop. free line from nominated sent among hop)
 
 -- what is said of the next ranks stays so
-pub AreNext-grows : (plan : Topology) (before after : Ranks) (element : ℕ) (only : Option ℕ) (top : Top) → Grows (rank_at before) (rank_at after)
-    → AreNext plan before element only top → AreNext plan after element only top
-AreNext-grows plan before after element only top grows next line nominated sent among =
-    IsNext-grows (hops plan) (rank_at before) (rank_at after) line (rank_after top (line_bundle plan line)) grows (next line nominated sent among)
+pub AreNext-grows : (returns : Returns) (plan : Topology) (before after : Ranks) (element : ℕ) (only : Option ℕ) (top : Top) → Grows (rank_at before) (rank_at after)
+    → AreNext returns plan before element only top → AreNext returns plan after element only top
+AreNext-grows returns plan before after element only top grows next line nominated sent among =
+    IsNext-grows (hops_by returns plan) (rank_at before) (rank_at after) line (rank_after top (number_out returns plan line)) grows (next line nominated sent among)
 
 -- more and yet more
-pub IsMore-same : (plan : Topology) (ranking : Ranking) → IsPeeling plan ranking → IsMore plan ranking ranking
-IsMore-same plan ranking peeling = record { peeling = peeling; grows = λ line rank ranked. ranked; keeps = λ line kept. kept; work = omega arith }
+pub IsMore-same : (returns : Returns) (plan : Topology) (ranking : Ranking) → IsPeeling returns plan ranking → IsMore returns plan ranking ranking
+IsMore-same returns plan ranking peeling = record { peeling = peeling; grows = λ line rank ranked. ranked; keeps = λ line kept. kept; work = omega arith }
 
-pub IsMore-trans : (plan : Topology) (one two three : Ranking) → IsMore plan one two → IsMore plan two three → IsMore plan one three
-IsMore-trans plan one two three first second = record {
+pub IsMore-trans : (returns : Returns) (plan : Topology) (one two three : Ranking) → IsMore returns plan one two → IsMore returns plan two three → IsMore returns plan one three
+IsMore-trans returns plan one two three first second = record {
   peeling = second.peeling;
   grows = λ line rank ranked. second.grows line rank (first.grows line rank ranked);
   keeps = λ line kept. second.keeps line (first.keeps line kept);
@@ -212,10 +212,10 @@ IsMore-trans plan one two three first second = record {
 }
 
 -- an element's watch is set
-pub IsMore-watch : (plan : Topology) (before after : Ranking) (element : ℕ) (watch : Watch) → IsPeeling plan before → element < length plan.elements
-    → IsWatched plan before.ranks element watch → after.ranks ≡ before.ranks → after.waiting ≡ before.waiting
-    → after.watches.items ≡ slice_set before.watches.items element watch → IsMore plan before after
-IsMore-watch plan before after element watch peeling within watched ranks waiting watches = record {
+pub IsMore-watch : (returns : Returns) (plan : Topology) (before after : Ranking) (element : ℕ) (watch : Watch) → IsPeeling returns plan before → element < length plan.elements
+    → IsWatched returns plan before.ranks element watch → after.ranks ≡ before.ranks → after.waiting ≡ before.waiting
+    → after.watches.items ≡ slice_set before.watches.items element watch → IsMore returns plan before after
+IsMore-watch returns plan before after element watch peeling within watched ranks waiting watches = record {
   peeling = record {
     ranked = rw ranks peeling.ranked;
     watches = rw watches (length-set before.watches.items element watch ∙ peeling.watches);
@@ -227,7 +227,7 @@ IsMore-watch plan before after element watch peeling within watched ranks waitin
           ∙ ap (λ w. Some w) (get_or-set_same before.watches.items element watch watch (rw peeling.watches within)) in
           let is : watch ≡ other_watch =
           same_Some watch other_watch (sym here ∙ ap (λ e. slice_get (slice_set before.watches.items element watch) e) (sym same) ∙ subst (λ w. slice_get w other ≡ Some other_watch) watches there) in
-          subst (λ e. IsWatched plan after.ranks e other_watch) (sym same) (subst (λ w. IsWatched plan after.ranks element w) is (rw ranks watched))
+          subst (λ e. IsWatched returns plan after.ranks e other_watch) (sym same) (subst (λ w. IsWatched returns plan after.ranks element w) is (rw ranks watched))
       | inr differs ↦
           let there_set = subst (λ w. slice_get w other ≡ Some other_watch) watches there in
           let inside_set = slice_get_within (slice_set before.watches.items element watch) other other_watch there_set in
@@ -246,18 +246,18 @@ IsMore-watch plan before after element watch peeling within watched ranks waitin
 }
 
 -- what is known of an element's new watch
-pub IsWatched-new : (plan : Topology) (ranks : Ranks) (element : ℕ) (old new : Watch) → IsWatched plan ranks element old → AreFirstOpen plan ranks (inputs_of plan element) new
-    → new.back ≡ old.back → new.done ≡ old.done → IsWatched plan ranks element new
-IsWatched-new plan ranks element old new was places back done = record {
+pub IsWatched-new : (returns : Returns) (plan : Topology) (ranks : Ranks) (element : ℕ) (old new : Watch) → IsWatched returns plan ranks element old → AreFirstOpen returns plan ranks (inputs_of plan element) new
+    → new.back ≡ old.back → new.done ≡ old.done → IsWatched returns plan ranks element new
+IsWatched-new returns plan ranks element old new was places back done = record {
   watched = places.watched;
   back = λ is_back. was.back (sym back ∙ is_back);
   done = λ is_done. was.done (sym done ∙ is_done);
 }
 
 -- what is kept after an element was taken from the waiting ones and settled
-pub kept_after : (plan : Topology) (before taken after : Ranking) (element : ℕ) → AreKept plan before → taken.ranks ≡ before.ranks
-    → before.waiting.items ≡ taken.waiting.items ++ element ∷ [] → IsMore plan taken after → IsSettled plan after.ranks element → AreKept plan after
-kept_after plan before taken after element kept ranks waiting more settled line nominated left =
+pub kept_after : (returns : Returns) (plan : Topology) (before taken after : Ranking) (element : ℕ) → AreKept returns plan before → taken.ranks ≡ before.ranks
+    → before.waiting.items ≡ taken.waiting.items ++ element ∷ [] → IsMore returns plan taken after → IsSettled returns plan after.ranks element → AreKept returns plan after
+kept_after returns plan before taken after element kept ranks waiting more settled line nominated left =
     let had : rank_at taken.ranks line ≡ None = fewer (rank_at taken.ranks) (rank_at after.ranks) more.grows line left in
     elim (kept line nominated (rw (← ranks) had)) [
       | inl held ↦ more.keeps line (inl (rw ranks held))
@@ -272,9 +272,9 @@ kept_after plan before taken after element kept ranks waiting more settled line 
     only_one one other (suc place, low, is) = absurd (omega arith)
 
 -- once no element waits, all that can be ranked is ranked
-pub peeled_at_end : (plan : Topology) (ranking : Ranking) → IsPeeling plan ranking → AreKept plan ranking → length ranking.waiting.items ≡ 0
-    → IsPeeled (hops plan) (is_nominated plan) (rank_at ranking.ranks)
-peeled_at_end plan ranking peeling kept none = record {
+pub peeled_at_end : (returns : Returns) (plan : Topology) (ranking : Ranking) → IsPeeling returns plan ranking → AreKept returns plan ranking → length ranking.waiting.items ≡ 0
+    → IsPeeled (hops_by returns plan) (is_nominated plan) (rank_at ranking.ranks)
+peeled_at_end returns plan ranking peeling kept none = record {
   exact = peeling.ranked.exact;
   only = peeling.ranked.only;
   stuck = λ line nominated left. elim (kept line nominated left) [
@@ -284,20 +284,20 @@ peeled_at_end plan ranking peeling kept none = record {
 }
 
 -- once the outputs that are kept for an element and are meant have ranks, all lines out of it that are meant have
-pub ranked_outputs : (plan : Topology) (ranks : Ranks) (outputs : List (Vec LineId Global)) (element : ℕ) (own : List LineId) (only : Option ℕ)
+pub ranked_outputs : (returns : Returns) (plan : Topology) (ranks : Ranks) (outputs : List (Vec LineId Global)) (element : ℕ) (own : List LineId) (only : Option ℕ)
     → AreOutputs plan (line_count plan) outputs → kept outputs element ≡ own
-    → All (λ (line : LineId). IsAmong plan only line.0 → rank_at ranks line.0 ≢ None) own
-    → (line : ℕ) → IsNominated plan line → sender_of plan line ≡ element → IsAmong plan only line → rank_at ranks line ≢ None
-ranked_outputs plan ranks outputs element own only are_outputs own_is ranked line nominated sent =
+    → All (λ (line : LineId). IsAmong returns plan only line.0 → rank_at ranks line.0 ≢ None) own
+    → (line : ℕ) → IsNominated plan line → sender_of plan line ≡ element → IsAmong returns plan only line → rank_at ranks line ≢ None
+ranked_outputs returns plan ranks outputs element own only are_outputs own_is ranked line nominated sent =
     let stands : Contains (kept outputs (sender_of plan line)) (record { 0 = line }) =
     are_outputs.each (record { 0 = line }) (IsNominated-within plan line nominated) nominated in
     let here : Contains own (record { 0 = line }) = subst (λ lines. Contains lines (record { 0 = line })) (ap (λ e. kept outputs e) sent ∙ own_is) stands in
-    All-contains (λ (l : LineId). IsAmong plan only l.0 → rank_at ranks l.0 ≢ None) own (record { 0 = line }) ranked here
+    All-contains (λ (l : LineId). IsAmong returns plan only l.0 → rank_at ranks l.0 ≢ None) own (record { 0 = line }) ranked here
 
 -- the line at the first open place has no rank
-pub first_line : (plan : Topology) (ranks : Ranks) (element : ℕ) (watch : Watch) (line : ℕ) → AreFirstOpen plan ranks (inputs_of plan element) watch
+pub first_line : (returns : Returns) (plan : Topology) (ranks : Ranks) (element : ℕ) (watch : Watch) (line : ℕ) → AreFirstOpen returns plan ranks (inputs_of plan element) watch
     → line_at (inputs_of plan element) watch.first ≡ Some line → IsOpenInto plan ranks element line
-first_line plan ranks element watch line places here =
+first_line returns plan ranks element watch line places here =
     let inputs : List InputId = inputs_of plan element in
     open_into plan ranks element watch.first line
     (line_at_open ranks inputs watch.first line here (places.first (line_at_within inputs watch.first line here)))
@@ -313,11 +313,11 @@ open_stays plan before after element line well stands others = record {
 }
 
 -- once the lines out of the element over the bundle of its open inputs have ranks, the ways back are done
-pub back_done : (plan : Topology) (before after : Ranks) (element : ℕ) (watch : Watch) (last : ℕ) → AreFirstOpen plan before (inputs_of plan element) watch
+pub back_done : (returns : Returns) (plan : Topology) (before after : Ranks) (element : ℕ) (watch : Watch) (last : ℕ) → AreFirstOpen returns plan before (inputs_of plan element) watch
     → length (inputs_of plan element) ≤ watch.second → line_at (inputs_of plan element) watch.first ≡ Some last → Grows (rank_at before) (rank_at after)
-    → ((line : ℕ) → IsNominated plan line → sender_of plan line ≡ element → IsAmong plan (Some (line_bundle plan last)) line → rank_at after line ≢ None)
+    → ((line : ℕ) → IsNominated plan line → sender_of plan line ≡ element → IsAmong returns plan (Some (number_in returns plan last)) line → rank_at after line ≢ None)
     → (line from : ℕ) → IsNominated plan line → sender_of plan line ≡ element → IsOpenInto plan after element from
-    → line_bundle plan from ≡ line_bundle plan line → rank_at after line ≢ None
-back_done plan before after element watch last places one here grows given line from nominated sent stands bundles =
-    let of_last = open_of_bundle plan before element watch last from places one here (IsOpenInto-grows plan before after element from grows stands) in
+    → number_in returns plan from ≡ number_out returns plan line → rank_at after line ≢ None
+back_done returns plan before after element watch last places one here grows given line from nominated sent stands bundles =
+    let of_last = open_of_bundle returns plan before element watch last from places one here (IsOpenInto-grows plan before after element from grows stands) in
     given line nominated sent (eq-eqb _ _ (sym bundles ∙ of_last))

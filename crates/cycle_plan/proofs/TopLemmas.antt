@@ -5,9 +5,10 @@ use Rattle.std.specs.Option.{option_map_or}
 use Rattle.std.proofs.lemmas.Bool.{true≢false, cases_lt, leb-true, leb-false, eqb-true, eq-eqb}
 use Rattle.std.proofs.lemmas.Option.{none-some, same_Some}
 use Rattle.sync_topo.specs.Topology.{Topology}
-use Rattle.sync_topo.specs.Bundles.{line_bundle}
 use Rattle.rank_cert.specs.Ranks.{Ranks, rank_at}
 use Rattle.sync_topo.specs.declared.input.InputId.{InputId}
+use Rattle.cycle_plan.specs.declared.returns.Returns.{Returns}
+use Rattle.cycle_plan.specs.Returns.{number_in}
 use Rattle.cycle_plan.specs.Inputs.{line_at}
 use Rattle.cycle_plan.specs.Tops.{IsRankedAt, IsTop, is_top, raised}
 use Rattle.cycle_plan.specs.declared.top.Top.{Top}
@@ -42,9 +43,9 @@ is_top-other top bundle never = cases top.bundle never
     cases (Some number) e same = true≢false (sym (eq-eqb number bundle (same_Some number bundle same)) ∙ e)
 
 -- an input without a rank changes nothing
-pub IsTop-same : (plan : Topology) (ranks : Ranks) (inputs : List InputId) (n : ℕ) (top : Top) → ((line rank : ℕ) → line_at inputs n ≡ Some line → rank_at ranks line ≡ Some rank → ⊥)
-    → IsTop plan ranks inputs n top → IsTop plan ranks inputs (n + 1) top
-IsTop-same plan ranks inputs n top unranked before = record {
+pub IsTop-same : (returns : Returns) (plan : Topology) (ranks : Ranks) (inputs : List InputId) (n : ℕ) (top : Top) → ((line rank : ℕ) → line_at inputs n ≡ Some line → rank_at ranks line ≡ Some rank → ⊥)
+    → IsTop returns plan ranks inputs n top → IsTop returns plan ranks inputs (n + 1) top
+IsTop-same returns plan ranks inputs n top unranked before = record {
   above = λ line rank stands. elim (one_less ranks inputs n line rank stands) [
     | inl inside ↦ before.above line rank inside
     | inr last ↦ absurd (unranked line rank last.0 last.1)
@@ -78,10 +79,10 @@ last_stands : (ranks : Ranks) (inputs : List InputId) (n line rank : ℕ) → Is
 last_stands ranks inputs n line rank is = record { place = n; low = omega arith; here = is.here; ranked = is.ranked }
 
 -- one more line of the bundle with the greatest rank
-more_of_top : (plan : Topology) (ranks : Ranks) (inputs : List InputId) (n : ℕ) (top : Top) (line rank : ℕ) → IsLast ranks inputs n line rank
-    → IsTop plan ranks inputs n top → top.bundle ≡ Some (line_bundle plan line)
-    → IsTop plan ranks inputs (n + 1) (record { bundle = top.bundle; next = max top.next (rank + 1); next_without = top.next_without })
-more_of_top plan ranks inputs n top line rank last before same_bundle = record {
+more_of_top : (returns : Returns) (plan : Topology) (ranks : Ranks) (inputs : List InputId) (n : ℕ) (top : Top) (line rank : ℕ) → IsLast ranks inputs n line rank
+    → IsTop returns plan ranks inputs n top → top.bundle ≡ Some (number_in returns plan line)
+    → IsTop returns plan ranks inputs (n + 1) (record { bundle = top.bundle; next = max top.next (rank + 1); next_without = top.next_without })
+more_of_top returns plan ranks inputs n top line rank last before same_bundle = record {
   above = λ other lower stands. elim (one_less ranks inputs n other lower stands) [
     | inl inside ↦ let less = before.above other lower inside in omega (arith, less)
     | inr here ↦ let same = same_last ranks inputs n line rank other lower last here in omega (arith, same.1)
@@ -90,7 +91,7 @@ more_of_top plan ranks inputs n top line rank last before same_bundle = record {
     | inl inside ↦ before.above_others other lower inside differs
     | inr here ↦
         let same = same_last ranks inputs n line rank other lower last here in
-        absurd (differs (same_bundle ∙ ap (λ l. Some (line_bundle plan l)) same.0))
+        absurd (differs (same_bundle ∙ ap (λ l. Some (number_in returns plan l)) same.0))
   ];
   reached = elim (cases_lt rank top.next) [
     | inl low ↦ elim before.reached [
@@ -106,10 +107,10 @@ more_of_top plan ranks inputs n top line rank last before same_bundle = record {
 }
 
 -- a greatest rank of another bundle: the one so far is now the greatest of the others
-new_top : (plan : Topology) (ranks : Ranks) (inputs : List InputId) (n : ℕ) (top : Top) (line rank : ℕ) → IsLast ranks inputs n line rank
-    → IsTop plan ranks inputs n top → top.bundle ≢ Some (line_bundle plan line) → top.next ≤ rank
-    → IsTop plan ranks inputs (n + 1) (record { bundle = Some (line_bundle plan line); next = rank + 1; next_without = top.next })
-new_top plan ranks inputs n top line rank last before apart high = record {
+new_top : (returns : Returns) (plan : Topology) (ranks : Ranks) (inputs : List InputId) (n : ℕ) (top : Top) (line rank : ℕ) → IsLast ranks inputs n line rank
+    → IsTop returns plan ranks inputs n top → top.bundle ≢ Some (number_in returns plan line) → top.next ≤ rank
+    → IsTop returns plan ranks inputs (n + 1) (record { bundle = Some (number_in returns plan line); next = rank + 1; next_without = top.next })
+new_top returns plan ranks inputs n top line rank last before apart high = record {
   above = λ other lower stands. elim (one_less ranks inputs n other lower stands) [
     | inl inside ↦ let less = before.above other lower inside in omega (arith, less, high)
     | inr here ↦ let same = same_last ranks inputs n line rank other lower last here in omega (arith, same.1)
@@ -118,7 +119,7 @@ new_top plan ranks inputs n top line rank last before apart high = record {
     | inl inside ↦ before.above other lower inside
     | inr here ↦
         let same = same_last ranks inputs n line rank other lower last here in
-        absurd (differs (ap (λ l. Some (line_bundle plan l)) same.0))
+        absurd (differs (ap (λ l. Some (number_in returns plan l)) same.0))
   ];
   reached = inr (line, rank, last_stands ranks inputs n line rank last, refl, refl);
   reached_by_others = elim before.reached [
@@ -134,10 +135,10 @@ new_top plan ranks inputs n top line rank last before apart high = record {
 }
 
 -- the greatest rank of the others
-new_second : (plan : Topology) (ranks : Ranks) (inputs : List InputId) (n : ℕ) (top : Top) (line rank : ℕ) → IsLast ranks inputs n line rank
-    → IsTop plan ranks inputs n top → top.bundle ≢ Some (line_bundle plan line) → rank < top.next → top.next_without ≤ rank
-    → IsTop plan ranks inputs (n + 1) (record { bundle = top.bundle; next = top.next; next_without = rank + 1 })
-new_second plan ranks inputs n top line rank last before apart low high = record {
+new_second : (returns : Returns) (plan : Topology) (ranks : Ranks) (inputs : List InputId) (n : ℕ) (top : Top) (line rank : ℕ) → IsLast ranks inputs n line rank
+    → IsTop returns plan ranks inputs n top → top.bundle ≢ Some (number_in returns plan line) → rank < top.next → top.next_without ≤ rank
+    → IsTop returns plan ranks inputs (n + 1) (record { bundle = top.bundle; next = top.next; next_without = rank + 1 })
+new_second returns plan ranks inputs n top line rank last before apart low high = record {
   above = λ other lower stands. elim (one_less ranks inputs n other lower stands) [
     | inl inside ↦ before.above other lower inside
     | inr here ↦ let same = same_last ranks inputs n line rank other lower last here in omega (arith, same.1, low)
@@ -154,9 +155,9 @@ new_second plan ranks inputs n top line rank last before apart low high = record
 }
 
 -- a rank below both
-no_top : (plan : Topology) (ranks : Ranks) (inputs : List InputId) (n : ℕ) (top : Top) (line rank : ℕ) → IsLast ranks inputs n line rank
-    → IsTop plan ranks inputs n top → rank < top.next → rank < top.next_without → IsTop plan ranks inputs (n + 1) top
-no_top plan ranks inputs n top line rank last before low lower = record {
+no_top : (returns : Returns) (plan : Topology) (ranks : Ranks) (inputs : List InputId) (n : ℕ) (top : Top) (line rank : ℕ) → IsLast ranks inputs n line rank
+    → IsTop returns plan ranks inputs n top → rank < top.next → rank < top.next_without → IsTop returns plan ranks inputs (n + 1) top
+no_top returns plan ranks inputs n top line rank last before low lower = record {
   above = λ other least stands. elim (one_less ranks inputs n other least stands) [
     | inl inside ↦ before.above other least inside
     | inr here ↦ let same = same_last ranks inputs n line rank other least last here in omega (arith, same.1, low)
@@ -176,18 +177,18 @@ no_top plan ranks inputs n top line rank last before low lower = record {
 }
 
 -- one more line
-pub IsTop-raised : (plan : Topology) (ranks : Ranks) (inputs : List InputId) (n : ℕ) (top : Top) (line rank : ℕ) → IsLast ranks inputs n line rank
-    → IsTop plan ranks inputs n top → IsTop plan ranks inputs (n + 1) (raised top (line_bundle plan line) rank)
-IsTop-raised plan ranks inputs n top line rank last before =
-    cases (is_top top (line_bundle plan line)) (nat_le top.next rank) (nat_le top.next_without rank) refl refl refl
+pub IsTop-raised : (returns : Returns) (plan : Topology) (ranks : Ranks) (inputs : List InputId) (n : ℕ) (top : Top) (line rank : ℕ) → IsLast ranks inputs n line rank
+    → IsTop returns plan ranks inputs n top → IsTop returns plan ranks inputs (n + 1) (raised top (number_in returns plan line) rank)
+IsTop-raised returns plan ranks inputs n top line rank last before =
+    cases (is_top top (number_in returns plan line)) (nat_le top.next rank) (nat_le top.next_without rank) refl refl refl
   where
-    cases : (a b c : Bool) → is_top top (line_bundle plan line) ≡ a → nat_le top.next rank ≡ b → nat_le top.next_without rank ≡ c
-        → IsTop plan ranks inputs (n + 1)
+    cases : (a b c : Bool) → is_top top (number_in returns plan line) ≡ a → nat_le top.next rank ≡ b → nat_le top.next_without rank ≡ c
+        → IsTop returns plan ranks inputs (n + 1)
         (if a then record { bundle = top.bundle; next = max top.next (rank + 1); next_without = top.next_without }
-        else if b then record { bundle = Some (line_bundle plan line); next = rank + 1; next_without = top.next }
+        else if b then record { bundle = Some (number_in returns plan line); next = rank + 1; next_without = top.next }
         else if c then record { bundle = top.bundle; next = top.next; next_without = rank + 1 } else top)
-    cases true b c same high other = more_of_top plan ranks inputs n top line rank last before (is_top-Some top (line_bundle plan line) same)
-    cases false true c apart high other = new_top plan ranks inputs n top line rank last before (is_top-other top (line_bundle plan line) apart) (leb-true _ _ high)
+    cases true b c same high other = more_of_top returns plan ranks inputs n top line rank last before (is_top-Some top (number_in returns plan line) same)
+    cases false true c apart high other = new_top returns plan ranks inputs n top line rank last before (is_top-other top (number_in returns plan line) apart) (leb-true _ _ high)
     cases false false true apart high other =
-        new_second plan ranks inputs n top line rank last before (is_top-other top (line_bundle plan line) apart) (leb-false _ _ high) (leb-true _ _ other)
-    cases false false false apart high other = no_top plan ranks inputs n top line rank last before (leb-false _ _ high) (leb-false _ _ other)
+        new_second returns plan ranks inputs n top line rank last before (is_top-other top (number_in returns plan line) apart) (leb-false _ _ high) (leb-true _ _ other)
+    cases false false false apart high other = no_top returns plan ranks inputs n top line rank last before (leb-false _ _ high) (leb-false _ _ other)

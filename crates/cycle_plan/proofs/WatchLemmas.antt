@@ -5,9 +5,10 @@ use Rattle.std.specs.Option.{option_map_or}
 use Rattle.std.proofs.lemmas.Bool.{true≢false, cases_lt, cases_eq, and_parts, eqb-false, not-true, ne_eqb}
 use Rattle.std.proofs.lemmas.Option.{none-some, same_Some}
 use Rattle.sync_topo.specs.Topology.{Topology}
-use Rattle.sync_topo.specs.Bundles.{line_bundle}
 use Rattle.rank_cert.specs.Ranks.{Ranks, rank_at}
 use Rattle.sync_topo.specs.declared.input.InputId.{InputId}
+use Rattle.cycle_plan.specs.declared.returns.Returns.{Returns}
+use Rattle.cycle_plan.specs.Returns.{number_in}
 use Rattle.cycle_plan.specs.Inputs.{line_at, is_open, is_other, IsOpenLine, IsWatch, AreFirstOpen}
 use Rattle.cycle_plan.specs.declared.inputs.Watch.{Watch}
 use Rattle.cycle_plan.proofs.HopFacts.{line_at_within}
@@ -41,26 +42,26 @@ pub closed_line : (ranks : Ranks) (inputs : List InputId) (place line : ℕ) →
 closed_line ranks inputs place line closed stands = true≢false (sym (line_open ranks inputs place line stands) ∙ closed)
 
 -- an open input that isn't of another bundle is of this one
-same_bundle : (plan : Topology) (ranks : Ranks) (inputs : List InputId) (bundle place line : ℕ) → is_other plan ranks inputs bundle place ≡ false
-    → IsOpenLine ranks inputs place line → line_bundle plan line ≡ bundle
-same_bundle plan ranks inputs bundle place line never stands = elim (cases_eq (line_bundle plan line) bundle) [
+same_bundle : (returns : Returns) (plan : Topology) (ranks : Ranks) (inputs : List InputId) (bundle place line : ℕ) → is_other returns plan ranks inputs bundle place ≡ false
+    → IsOpenLine ranks inputs place line → number_in returns plan line ≡ bundle
+same_bundle returns plan ranks inputs bundle place line never stands = elim (cases_eq (number_in returns plan line) bundle) [
   | inl same ↦ same
   | inr apart ↦
-      let other : is_other plan ranks inputs bundle place ≡ true = rw (stands.here, stands.unranked, ne_eqb _ _ apart) refl in
+      let other : is_other returns plan ranks inputs bundle place ≡ true = rw (stands.here, stands.unranked, ne_eqb _ _ apart) refl in
       absurd (true≢false (sym other ∙ never))
 ]
 
 -- an open input of another bundle
-other_line : (plan : Topology) (ranks : Ranks) (inputs : List InputId) (bundle place : ℕ) → is_other plan ranks inputs bundle place ≡ true
-    → (line : ℕ) × IsOpenLine ranks inputs place line × (line_bundle plan line ≢ bundle)
-other_line plan ranks inputs bundle place is_it = cases (line_at inputs place) refl is_it
+other_line : (returns : Returns) (plan : Topology) (ranks : Ranks) (inputs : List InputId) (bundle place : ℕ) → is_other returns plan ranks inputs bundle place ≡ true
+    → (line : ℕ) × IsOpenLine ranks inputs place line × (number_in returns plan line ≢ bundle)
+other_line returns plan ranks inputs bundle place is_it = cases (line_at inputs place) refl is_it
   where
     cases : (o : Option ℕ) → line_at inputs place ≡ o
-        → option_map_or (λ line. is_none (rank_at ranks line) && not (nat_eq (line_bundle plan line) bundle)) o false ≡ true
-        → (line : ℕ) × IsOpenLine ranks inputs place line × (line_bundle plan line ≢ bundle)
+        → option_map_or (λ line. is_none (rank_at ranks line) && not (nat_eq (number_in returns plan line) bundle)) o false ≡ true
+        → (line : ℕ) × IsOpenLine ranks inputs place line × (number_in returns plan line ≢ bundle)
     cases None at e = absurd (true≢false (sym e))
     cases (Some line) at e =
-        let parts = and_parts (is_none (rank_at ranks line)) (not (nat_eq (line_bundle plan line) bundle)) e in
+        let parts = and_parts (is_none (rank_at ranks line)) (not (nat_eq (number_in returns plan line) bundle)) e in
         (line, record { here = at; unranked = none_from (rank_at ranks line) parts.0 }, eqb-false _ _ (not-true _ parts.1))
 
 -- where no line stands, though an open one would stand there inside the list, the list has ended
@@ -81,24 +82,24 @@ pub record IsNextOpen (ranks : Ranks) (inputs : List InputId) (from found : ℕ)
   pub open_there : found < length inputs → is_open ranks inputs found ≡ true
 
 -- no place before the next open one is open
-closed_before : (plan : Topology) (ranks : Ranks) (inputs : List InputId) (watch : Watch) (first : ℕ) → IsWatch plan ranks inputs watch
+closed_before : (returns : Returns) (plan : Topology) (ranks : Ranks) (inputs : List InputId) (watch : Watch) (first : ℕ) → IsWatch returns plan ranks inputs watch
     → IsNextOpen ranks inputs watch.first first → (place : ℕ) → place < first → is_open ranks inputs place ≡ false
-closed_before plan ranks inputs watch first was next place low = elim (cases_lt place watch.first) [
+closed_before returns plan ranks inputs watch first was next place low = elim (cases_lt place watch.first) [
   | inl before ↦ was.before place before
   | inr not_before ↦ next.closed place not_before low
 ]
 
 -- where no line is left there, both places are the end
-pub AreFirstOpen-none : (plan : Topology) (ranks : Ranks) (inputs : List InputId) (watch : Watch) (first : ℕ) (back done : Bool) → IsWatch plan ranks inputs watch
+pub AreFirstOpen-none : (returns : Returns) (plan : Topology) (ranks : Ranks) (inputs : List InputId) (watch : Watch) (first : ℕ) (back done : Bool) → IsWatch returns plan ranks inputs watch
     → IsNextOpen ranks inputs watch.first first → line_at inputs first ≡ None
-    → AreFirstOpen plan ranks inputs (record { first = first; second = length inputs; back = back; done = done })
-AreFirstOpen-none plan ranks inputs watch first back done was next none =
+    → AreFirstOpen returns plan ranks inputs (record { first = first; second = length inputs; back = back; done = done })
+AreFirstOpen-none returns plan ranks inputs watch first back done was next none =
     let past = past_end ranks inputs first next.open_there none in
     record {
       watched = record {
         first_within = next.within;
         second_within = omega arith;
-        before = closed_before plan ranks inputs watch first was next;
+        before = closed_before returns plan ranks inputs watch first was next;
         between = λ place other line after from_first low other_from other_low here there. absurd (omega (arith, past, from_first, low));
       };
       first = next.open_there;
@@ -108,23 +109,23 @@ AreFirstOpen-none plan ranks inputs watch first back done was next none =
     }
 
 -- what a search for the next open place of another bundle finds
-pub record IsNextOther (plan : Topology) (ranks : Ranks) (inputs : List InputId) (bundle from found : ℕ) : Type 0 where
+pub record IsNextOther (returns : Returns) (plan : Topology) (ranks : Ranks) (inputs : List InputId) (bundle from found : ℕ) : Type 0 where
   pub within : found ≤ length inputs
   pub behind : found < length inputs → from ≤ found
-  pub closed : (place : ℕ) → from ≤ place → place < found → is_other plan ranks inputs bundle place ≡ false
-  pub other_there : found < length inputs → is_other plan ranks inputs bundle found ≡ true
+  pub closed : (place : ℕ) → from ≤ place → place < found → is_other returns plan ranks inputs bundle place ≡ false
+  pub other_there : found < length inputs → is_other returns plan ranks inputs bundle found ≡ true
 
 -- each open place from the first up to the second is of the first's bundle
-near : (plan : Topology) (ranks : Ranks) (inputs : List InputId) (watch : Watch) (first second from line : ℕ) → IsWatch plan ranks inputs watch
-    → watch.first ≤ first → IsOpenLine ranks inputs first line → IsNextOther plan ranks inputs (line_bundle plan line) from second
+near : (returns : Returns) (plan : Topology) (ranks : Ranks) (inputs : List InputId) (watch : Watch) (first second from line : ℕ) → IsWatch returns plan ranks inputs watch
+    → watch.first ≤ first → IsOpenLine ranks inputs first line → IsNextOther returns plan ranks inputs (number_in returns plan line) from second
     → first < from → (watch.second ≤ from) → ((watch.second ≡ from) ⊎ (from ≡ first + 1))
-    → (place other : ℕ) → first ≤ place → place < second → IsOpenLine ranks inputs place other → line_bundle plan other ≡ line_bundle plan line
-near plan ranks inputs watch first second from line was low here next after bound is place other not_before before there = elim (cases_lt place from) [
-  | inr behind ↦ same_bundle plan ranks inputs (line_bundle plan line) place other (next.closed place behind before) there
+    → (place other : ℕ) → first ≤ place → place < second → IsOpenLine ranks inputs place other → number_in returns plan other ≡ number_in returns plan line
+near returns plan ranks inputs watch first second from line was low here next after bound is place other not_before before there = elim (cases_lt place from) [
+  | inr behind ↦ same_bundle returns plan ranks inputs (number_in returns plan line) place other (next.closed place behind before) there
   | inl in_front ↦ elim (cases_eq place first) [
     | inl same ↦
         let lines : other ≡ line = same_Some other line (sym there.here ∙ ap (λ p. line_at inputs p) same ∙ here.here) in
-        ap (λ l. line_bundle plan l) lines
+        ap (λ l. number_in returns plan l) lines
     | inr differs ↦ elim is [
       | inl old ↦ was.between place first other line (omega (arith, low, not_before)) (omega (arith, old, in_front)) low (omega (arith, old, after)) there here
       | inr new ↦ absurd (omega (arith, new, in_front, not_before, differs))
@@ -133,32 +134,32 @@ near plan ranks inputs watch first second from line was low here next after boun
 ]
 
 -- the first open place, and the first open one of another bundle
-pub AreFirstOpen-other : (plan : Topology) (ranks : Ranks) (inputs : List InputId) (watch : Watch) (first second from line : ℕ) (back done : Bool)
-    → IsWatch plan ranks inputs watch → IsNextOpen ranks inputs watch.first first → line_at inputs first ≡ Some line → first < length inputs
-    → IsNextOther plan ranks inputs (line_bundle plan line) from second → first < from → (watch.second ≤ from) → ((watch.second ≡ from) ⊎ (from ≡ first + 1))
-    → AreFirstOpen plan ranks inputs (record { first = first; second = second; back = back; done = done })
-AreFirstOpen-other plan ranks inputs watch first second from line back done was next at inside other after bound is =
+pub AreFirstOpen-other : (returns : Returns) (plan : Topology) (ranks : Ranks) (inputs : List InputId) (watch : Watch) (first second from line : ℕ) (back done : Bool)
+    → IsWatch returns plan ranks inputs watch → IsNextOpen ranks inputs watch.first first → line_at inputs first ≡ Some line → first < length inputs
+    → IsNextOther returns plan ranks inputs (number_in returns plan line) from second → first < from → (watch.second ≤ from) → ((watch.second ≡ from) ⊎ (from ≡ first + 1))
+    → AreFirstOpen returns plan ranks inputs (record { first = first; second = second; back = back; done = done })
+AreFirstOpen-other returns plan ranks inputs watch first second from line back done was next at inside other after bound is =
     let found = open_line ranks inputs first (next.open_there inside) in
     let same : found.0 ≡ line = same_Some found.0 line (sym found.1.here ∙ at) in
     let here : IsOpenLine ranks inputs first line = subst (λ l. IsOpenLine ranks inputs first l) same found.1 in
-    let one = near plan ranks inputs watch first second from line was next.behind here other after bound is in
+    let one = near returns plan ranks inputs watch first second from line was next.behind here other after bound is in
     record {
       watched = record {
         first_within = next.within;
         second_within = other.within;
-        before = closed_before plan ranks inputs watch first was next;
+        before = closed_before returns plan ranks inputs watch first was next;
         between = λ place later there after_it from_first low later_from later_low stands also.
             one place there from_first low stands ∙ sym (one later after_it later_from later_low also);
       };
       first = next.open_there;
       second = λ second_inside.
-          let there = other_line plan ranks inputs (line_bundle plan line) second (other.other_there second_inside) in
+          let there = other_line returns plan ranks inputs (number_in returns plan line) second (other.other_there second_inside) in
           line_open ranks inputs second there.0 there.1;
       apart = λ second_inside. omega (arith, other.behind second_inside, after);
       differ = λ one_line other_line_there first_is second_is bundles.
           let second_inside = line_at_within inputs second other_line_there second_is in
-          let there = other_line plan ranks inputs (line_bundle plan line) second (other.other_there second_inside) in
+          let there = other_line returns plan ranks inputs (number_in returns plan line) second (other.other_there second_inside) in
           let ones : one_line ≡ line = same_Some one_line line (sym first_is ∙ at) in
           let others : there.0 ≡ other_line_there = same_Some there.0 other_line_there (sym there.1.here ∙ second_is) in
-          there.2 (ap (λ l. line_bundle plan l) others ∙ sym bundles ∙ ap (λ l. line_bundle plan l) ones);
+          there.2 (ap (λ l. number_in returns plan l) others ∙ sym bundles ∙ ap (λ l. number_in returns plan l) ones);
     }

@@ -4,8 +4,9 @@ use Rattle.std.specs.Option.{option_map_or, option_and_then}
 use Rattle.sync_topo.specs.declared.input.InputId.{InputId}
 use Rattle.sync_topo.specs.declared.input.InputId.TheVariants.{Line, Source}
 use Rattle.sync_topo.specs.Topology.{Topology}
-use Rattle.sync_topo.specs.Bundles.{line_bundle}
 use Rattle.rank_cert.specs.Ranks.{Ranks, rank_at}
+use Rattle.cycle_plan.specs.declared.returns.Returns.{Returns}
+use Rattle.cycle_plan.specs.Returns.{number_in}
 use Rattle.cycle_plan.specs.declared.inputs.Watch.{Watch}
 
 -- the line that an input is; a source is none
@@ -26,9 +27,9 @@ abbrev pub is_open : Ranks → List InputId → ℕ → Bool
 is_open ranks inputs place = option_map_or (λ line. is_none (rank_at ranks line)) (line_at inputs place) false
 
 -- and it is of another bundle
-abbrev pub is_other : Topology → Ranks → List InputId → ℕ → ℕ → Bool
-is_other plan ranks inputs bundle place =
-    option_map_or (λ line. is_none (rank_at ranks line) && not (line_bundle plan line == bundle)) (line_at inputs place) false
+abbrev pub is_other : Returns → Topology → Ranks → List InputId → ℕ → ℕ → Bool
+is_other returns plan ranks inputs bundle place =
+    option_map_or (λ line. is_none (rank_at ranks line) && not (number_in returns plan line == bundle)) (line_at inputs place) false
 
 -- the input at a place is this line, and it has no rank
 pub record IsOpenLine (ranks : Ranks) (inputs : List InputId) (place line : ℕ) : Type 0 where
@@ -36,18 +37,18 @@ pub record IsOpenLine (ranks : Ranks) (inputs : List InputId) (place line : ℕ)
   pub unranked : rank_at ranks line ≡ None
 
 -- no input before the first place is open, and all that are open from there up to the second are of one bundle
-pub record IsWatch (plan : Topology) (ranks : Ranks) (inputs : List InputId) (watch : Watch) : Type 0 where
+pub record IsWatch (returns : Returns) (plan : Topology) (ranks : Ranks) (inputs : List InputId) (watch : Watch) : Type 0 where
   pub first_within : watch.first ≤ length inputs
   pub second_within : watch.second ≤ length inputs
   pub before : (place : ℕ) → place < watch.first → is_open ranks inputs place ≡ false
   pub between : (place other line next : ℕ) → watch.first ≤ place → place < watch.second → watch.first ≤ other → other < watch.second
-      → IsOpenLine ranks inputs place line → IsOpenLine ranks inputs other next → line_bundle plan line ≡ line_bundle plan next
+      → IsOpenLine ranks inputs place line → IsOpenLine ranks inputs other next → number_in returns plan line ≡ number_in returns plan next
 
 -- the places are those of the first open input and of the first open one of another bundle, or the end where there is none
-pub record AreFirstOpen (plan : Topology) (ranks : Ranks) (inputs : List InputId) (watch : Watch) : Type 0 where
-  pub watched : IsWatch plan ranks inputs watch
+pub record AreFirstOpen (returns : Returns) (plan : Topology) (ranks : Ranks) (inputs : List InputId) (watch : Watch) : Type 0 where
+  pub watched : IsWatch returns plan ranks inputs watch
   pub first : watch.first < length inputs → is_open ranks inputs watch.first ≡ true
   pub second : watch.second < length inputs → is_open ranks inputs watch.second ≡ true
   pub apart : watch.second < length inputs → watch.first < watch.second
   pub differ : (line other : ℕ) → line_at inputs watch.first ≡ Some line → line_at inputs watch.second ≡ Some other
-      → line_bundle plan line ≢ line_bundle plan other
+      → number_in returns plan line ≢ number_in returns plan other

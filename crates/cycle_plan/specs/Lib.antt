@@ -1,3 +1,4 @@
+pub mod Returns
 pub mod Ranked
 pub mod Repeats
 pub mod Inputs

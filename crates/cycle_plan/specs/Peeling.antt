@@ -2,11 +2,11 @@
 use Rattle.std.specs.Prelude.{◌≡◌, ◌≢◌, ℕ, ◌+◌, ◌*◌, ◌<◌, ◌≤◌, ◌⊎◌, Bool, true, ◌==◌, IsTrue, length, Option, Some, None, slice_get, is_none}
 use Rattle.std.specs.List.{All, Contains, count_by}
 use Rattle.sync_topo.specs.Topology.{Topology}
-use Rattle.sync_topo.specs.Bundles.{line_bundle}
 use Rattle.sync_topo.specs.Lines.{line_count, IsNominated, sender_of, receiver_of, inputs_of}
-use Rattle.sync_topo.specs.Hops.{hops, Hops}
 use Rattle.sync_topo.specs.Ranks.{HopTest}
 use Rattle.rank_cert.specs.Ranks.{Ranks, rank_at}
+use Rattle.cycle_plan.specs.declared.returns.Returns.{Returns}
+use Rattle.cycle_plan.specs.Returns.{HopsBy, hops_by, number_in, number_out}
 use Rattle.cycle_plan.specs.Inputs.{IsWatch}
 use Rattle.cycle_plan.specs.Tops.{rank_after}
 use Rattle.cycle_plan.specs.declared.top.Top.{Top}
@@ -33,9 +33,9 @@ abbrev pub left_over : Ranks → ℕ
 left_over ranks = count_by is_none ranks
 
 -- the ranks so far
-pub record IsRanking (plan : Topology) (ranks : Ranks) : Type 0 where
+pub record IsRanking (returns : Returns) (plan : Topology) (ranks : Ranks) : Type 0 where
   pub counted : length ranks ≡ line_count plan
-  pub exact : AreExact (hops plan) (rank_at ranks)
+  pub exact : AreExact (hops_by returns plan) (rank_at ranks)
   pub only : (line rank : ℕ) → rank_at ranks line ≡ Some rank → IsNominated plan line
   pub below : (line rank : ℕ) → rank_at ranks line ≡ Some rank → rank + left_over ranks < line_count plan
 
@@ -47,67 +47,67 @@ pub record IsOpenInto (plan : Topology) (ranks : Ranks) (element line : ℕ) : T
 
 -- the element's inputs are watched; where the ways back are done, each nominated output over the bundle of an open input
 -- has a rank, and where the element is done, each nominated output has one
-pub record IsWatched (plan : Topology) (ranks : Ranks) (element : ℕ) (watch : Watch) : Type 0 where
-  pub watched : IsWatch plan ranks (inputs_of plan element) watch
+pub record IsWatched (returns : Returns) (plan : Topology) (ranks : Ranks) (element : ℕ) (watch : Watch) : Type 0 where
+  pub watched : IsWatch returns plan ranks (inputs_of plan element) watch
   pub back : watch.back ≡ true → (line from : ℕ) → IsNominated plan line → sender_of plan line ≡ element → IsOpenInto plan ranks element from
-      → line_bundle plan from ≡ line_bundle plan line → rank_at ranks line ≢ None
+      → number_in returns plan from ≡ number_out returns plan line → rank_at ranks line ≢ None
   pub done : watch.done ≡ true → (line : ℕ) → IsNominated plan line → sender_of plan line ≡ element → rank_at ranks line ≢ None
 
 -- how things stand while lines are ranked
-pub record IsPeeling (plan : Topology) (ranking : Ranking) : Type 0 where
-  pub ranked : IsRanking plan ranking.ranks
+pub record IsPeeling (returns : Returns) (plan : Topology) (ranking : Ranking) : Type 0 where
+  pub ranked : IsRanking returns plan ranking.ranks
   pub watches : length ranking.watches.items ≡ length plan.elements
-  pub watched : (element : ℕ) (watch : Watch) → slice_get ranking.watches.items element ≡ Some watch → IsWatched plan ranking.ranks element watch
+  pub watched : (element : ℕ) (watch : Watch) → slice_get ranking.watches.items element ≡ Some watch → IsWatched returns plan ranking.ranks element watch
   pub waiting : All (λ element. element < length plan.elements) ranking.waiting.items
 
 -- a line hops to the line that has no rank
-abbrev pub IsHeld : Topology → Ranks → ℕ → Type 0
-IsHeld plan ranks line = (from : ℕ) × Hops plan from line × (rank_at ranks from ≡ None)
+abbrev pub IsHeld : Returns → Topology → Ranks → ℕ → Type 0
+IsHeld returns plan ranks line = (from : ℕ) × HopsBy returns plan from line × (rank_at ranks from ≡ None)
 
 -- the line is held, or its sender waits to be looked at
-abbrev pub IsKept : Topology → Ranking → ℕ → Type 0
-IsKept plan ranking line = IsHeld plan ranking.ranks line ⊎ Contains ranking.waiting.items (sender_of plan line)
+abbrev pub IsKept : Returns → Topology → Ranking → ℕ → Type 0
+IsKept returns plan ranking line = IsHeld returns plan ranking.ranks line ⊎ Contains ranking.waiting.items (sender_of plan line)
 
 -- a bound on the work that is left
 abbrev pub work : Ranking → ℕ
 work ranking = 2 * left_over ranking.ranks + length ranking.waiting.items
 
 -- more lines are ranked, none loses its rank, and what was kept is kept
-pub record IsMore (plan : Topology) (before after : Ranking) : Type 0 where
-  pub peeling : IsPeeling plan after
+pub record IsMore (returns : Returns) (plan : Topology) (before after : Ranking) : Type 0 where
+  pub peeling : IsPeeling returns plan after
   pub grows : (line rank : ℕ) → rank_at before.ranks line ≡ Some rank → rank_at after.ranks line ≡ Some rank
-  pub keeps : (line : ℕ) → IsKept plan before line → IsKept plan after line
+  pub keeps : (line : ℕ) → IsKept returns plan before line → IsKept returns plan after line
   pub work : work after ≤ work before
 
 -- each nominated line without a rank is kept
-abbrev pub AreKept : Topology → Ranking → Type 0
-AreKept plan ranking = (line : ℕ) → IsNominated plan line → rank_at ranking.ranks line ≡ None → IsKept plan ranking line
+abbrev pub AreKept : Returns → Topology → Ranking → Type 0
+AreKept returns plan ranking = (line : ℕ) → IsNominated plan line → rank_at ranking.ranks line ≡ None → IsKept returns plan ranking line
 
 -- no line out of the element waits for a rank that it could have
-abbrev pub IsSettled : Topology → Ranks → ℕ → Type 0
-IsSettled plan ranks element = (line : ℕ) → IsNominated plan line → sender_of plan line ≡ element → rank_at ranks line ≡ None → IsHeld plan ranks line
+abbrev pub IsSettled : Returns → Topology → Ranks → ℕ → Type 0
+IsSettled returns plan ranks element = (line : ℕ) → IsNominated plan line → sender_of plan line ≡ element → rank_at ranks line ≡ None → IsHeld returns plan ranks line
 
 -- the line is one of those that are meant: of the bundle, if one is named
-abbrev pub is_among : Topology → Option ℕ → ℕ → Bool
-is_among plan None line = true
-is_among plan (Some bundle) line = line_bundle plan line == bundle
+abbrev pub is_among : Returns → Topology → Option ℕ → ℕ → Bool
+is_among returns plan None line = true
+is_among returns plan (Some bundle) line = number_out returns plan line == bundle
 
-abbrev pub IsAmong : Topology → Option ℕ → ℕ → Type 0
-IsAmong plan only line = IsTrue (is_among plan only line)
+abbrev pub IsAmong : Returns → Topology → Option ℕ → ℕ → Type 0
+IsAmong returns plan only line = IsTrue (is_among returns plan only line)
 
 -- no line without a rank hops to one of the lines out of the element that are meant
-abbrev pub AreFree : Topology → Ranks → ℕ → Option ℕ → Type 0
-AreFree plan ranks element only =
-    (line from : ℕ) → IsNominated plan line → sender_of plan line ≡ element → IsAmong plan only line → Hops plan from line → rank_at ranks from ≢ None
+abbrev pub AreFree : Returns → Topology → Ranks → ℕ → Option ℕ → Type 0
+AreFree returns plan ranks element only =
+    (line from : ℕ) → IsNominated plan line → sender_of plan line ≡ element → IsAmong returns plan only line → HopsBy returns plan from line → rank_at ranks from ≢ None
 
 -- each of them comes next after all inputs of the element but those of its own bundle
-abbrev pub AreNext : Topology → Ranks → ℕ → Option ℕ → Top → Type 0
-AreNext plan ranks element only top =
-    (line : ℕ) → IsNominated plan line → sender_of plan line ≡ element → IsAmong plan only line
-    → IsNext (hops plan) (rank_at ranks) line (rank_after top (line_bundle plan line))
+abbrev pub AreNext : Returns → Topology → Ranks → ℕ → Option ℕ → Top → Type 0
+AreNext returns plan ranks element only top =
+    (line : ℕ) → IsNominated plan line → sender_of plan line ≡ element → IsAmong returns plan only line
+    → IsNext (hops_by returns plan) (rank_at ranks) line (rank_after top (number_out returns plan line))
 
 -- the same, for any line to which no line without a rank hops
-abbrev pub IsTopOf : Topology → Ranks → ℕ → Top → Type 0
-IsTopOf plan ranks element top =
-    (line : ℕ) → IsNominated plan line → sender_of plan line ≡ element → ((from : ℕ) → Hops plan from line → rank_at ranks from ≢ None)
-    → IsNext (hops plan) (rank_at ranks) line (rank_after top (line_bundle plan line))
+abbrev pub IsTopOf : Returns → Topology → Ranks → ℕ → Top → Type 0
+IsTopOf returns plan ranks element top =
+    (line : ℕ) → IsNominated plan line → sender_of plan line ≡ element → ((from : ℕ) → HopsBy returns plan from line → rank_at ranks from ≢ None)
+    → IsNext (hops_by returns plan) (rank_at ranks) line (rank_after top (number_out returns plan line))

@@ -4,9 +4,10 @@ use Rattle.std.specs.List.{All}
 use Rattle.sync_topo.specs.declared.input.LineId.{LineId}
 use Rattle.sync_topo.specs.Topology.{Topology}
 use Rattle.sync_topo.specs.Lines.{line_count, is_nominated, IsNominated}
-use Rattle.sync_topo.specs.Hops.{hops}
 use Rattle.sync_topo.specs.Ranks.{HopTest, IsBefore, StepsBack, Leads}
 use Rattle.rank_cert.specs.Ranks.{Ranks, rank_at}
+use Rattle.cycle_plan.specs.declared.returns.Returns.{Returns}
+use Rattle.cycle_plan.specs.Returns.{hops_by}
 use Rattle.cycle_plan.specs.Peeling.{IsPeeling, IsPeeled}
 use Rattle.cycle_plan.specs.declared.ranking.Ranking.{Ranking}
 
@@ -17,9 +18,9 @@ pub record IsLeft (plan : Topology) (ranks : Ranks) (line : ℕ) : Type 0 where
   pub unranked : rank_at ranks line ≡ None
 
 -- all that can be ranked is ranked
-pub record IsDone (plan : Topology) (ranking : Ranking) : Type 0 where
-  pub peeling : IsPeeling plan ranking
-  pub peeled : IsPeeled (hops plan) (is_nominated plan) (rank_at ranking.ranks)
+pub record IsDone (returns : Returns) (plan : Topology) (ranking : Ranking) : Type 0 where
+  pub peeling : IsPeeling returns plan ranking
+  pub peeled : IsPeeled (hops_by returns plan) (is_nominated plan) (rank_at ranking.ranks)
 
 -- the lowest of the first lines that one comes to by going back
 pub record IsLowOn (hop : HopTest) (start steps low : ℕ) : Type 0 where

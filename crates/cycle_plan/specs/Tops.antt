@@ -3,8 +3,9 @@ use Rattle.std.specs.Prelude.{◌≡◌, ◌≢◌, ℕ, ◌+◌, ◌^◌, ◌<�
 use Rattle.std.specs.Option.{option_map_or}
 use Rattle.sync_topo.specs.declared.input.InputId.{InputId}
 use Rattle.sync_topo.specs.Topology.{Topology}
-use Rattle.sync_topo.specs.Bundles.{line_bundle}
 use Rattle.rank_cert.specs.Ranks.{Ranks, rank_at}
+use Rattle.cycle_plan.specs.declared.returns.Returns.{Returns}
+use Rattle.cycle_plan.specs.Returns.{number_in}
 use Rattle.cycle_plan.specs.Inputs.{line_at}
 use Rattle.cycle_plan.specs.declared.top.Top.{Top}
 
@@ -20,14 +21,14 @@ pub record IsRankedAt (ranks : Ranks) (inputs : List InputId) (n line rank : ℕ
   pub ranked : rank_at ranks line ≡ Some rank
 
 -- among the first n inputs: the rank after all of them, and the rank after all but those of the bundle with the greatest
-pub record IsTop (plan : Topology) (ranks : Ranks) (inputs : List InputId) (n : ℕ) (top : Top) : Type 0 where
+pub record IsTop (returns : Returns) (plan : Topology) (ranks : Ranks) (inputs : List InputId) (n : ℕ) (top : Top) : Type 0 where
   pub above : (line rank : ℕ) → IsRankedAt ranks inputs n line rank → rank < top.next
-  pub above_others : (line rank : ℕ) → IsRankedAt ranks inputs n line rank → top.bundle ≢ Some (line_bundle plan line)
+  pub above_others : (line rank : ℕ) → IsRankedAt ranks inputs n line rank → top.bundle ≢ Some (number_in returns plan line)
       → rank < top.next_without
   pub reached : (top.next ≡ 0) ⊎ ((line : ℕ) × (rank : ℕ) × IsRankedAt ranks inputs n line rank × (top.next ≡ rank + 1)
-      × (top.bundle ≡ Some (line_bundle plan line)))
+      × (top.bundle ≡ Some (number_in returns plan line)))
   pub reached_by_others : (top.next_without ≡ 0) ⊎ ((line : ℕ) × (rank : ℕ) × IsRankedAt ranks inputs n line rank
-      × (top.next_without ≡ rank + 1) × (top.bundle ≢ Some (line_bundle plan line)))
+      × (top.next_without ≡ rank + 1) × (top.bundle ≢ Some (number_in returns plan line)))
 
 -- the bundle is that with the greatest rank
 abbrev pub is_top : Top → ℕ → Bool

@@ -1,10 +1,10 @@
 ghost use Rattle.std.specs.Prelude.{◌≡◌, ◌<◌, ◌≤◌, ℕ, true, false, length};
 ghost use Rattle.std.specs.Option.{option_map};
-ghost use Rattle.sync_topo.specs.Bundles.{line_bundle};
 ghost use Rattle.sync_topo.specs.Lines.{line_count, inputs_of};
 ghost use Rattle.sync_topo.specs.WellFormed.{IsWellFormed};
 ghost use Rattle.cycle_plan.specs.Inputs.{line_at, AreWithin, is_open, is_other, IsWatch, AreFirstOpen};
 
+use crate::returns::Returns;
 use rank_cert::Cert;
 use sync_topo::{InputId, LineId, Plan};
 
@@ -13,7 +13,7 @@ use sync_topo::{InputId, LineId, Plan};
 pub(crate) struct Watch {
     /// Each line before this place has a rank.
     pub(crate) first: usize,
-    /// The lines without a rank from the first place up to this one are of one bundle.
+    /// The lines without a rank from the first place up to this one are of one number, as ways in.
     pub(crate) second: usize,
     /// Each nominated line out of the element that goes back from a line without a rank has a rank.
     pub(crate) back: bool,
@@ -29,14 +29,6 @@ pub(crate) fn inputs_of(plan: &Plan, element: u32) -> &[InputId]
     ensures well_formed { IsWellFormed plan.now }
 {
     plan.inputs(element)
-}
-
-/// The number that the bundle of a line's link goes by.
-pub(crate) fn bundle_of(plan: &Plan, line: LineId) -> u32
-    requires { line.0 < line_count plan.now }
-    ensures { result ≡ line_bundle plan.now line.0 }
-{
-    plan.bundle(line.0 / 2)
 }
 
 /// The line at a place, if one stands there.
@@ -79,45 +71,65 @@ fn next_open(cert: &Cert, inputs: &[InputId], from: usize) -> usize
     inputs.len()
 }
 
-/// The input at a place is a line without a rank, of another bundle.
-fn is_other(plan: &Plan, cert: &Cert, inputs: &[InputId], bundle: u32, place: usize) -> bool
+/// The input at a place is a line without a rank, of another number.
+fn is_other(
+    returns: Returns,
+    plan: &Plan,
+    cert: &Cert,
+    inputs: &[InputId],
+    bundle: u32,
+    place: usize,
+) -> bool
     requires counted { length cert.now ≡ line_count plan.now }
     requires within { AreWithin (length cert.now) inputs.now }
-    ensures { result ≡ is_other plan.now cert.now inputs.now bundle place }
+    ensures { result ≡ is_other returns plan.now cert.now inputs.now bundle place }
 {
     match line_at(inputs, place) {
-        Some(line) => cert.rank(line).is_none() && bundle_of(plan, line) != bundle,
+        Some(line) => cert.rank(line).is_none() && returns.number_in(plan, line) != bundle,
         None => false,
     }
 }
 
-/// The first place from this one on whose input is a line without a rank of another bundle, or the
+/// The first place from this one on whose input is a line without a rank of another number, or the
 /// end.
-fn next_other(plan: &Plan, cert: &Cert, inputs: &[InputId], bundle: u32, from: usize) -> usize
+fn next_other(
+    returns: Returns,
+    plan: &Plan,
+    cert: &Cert,
+    inputs: &[InputId],
+    bundle: u32,
+    from: usize,
+) -> usize
     requires counted { length cert.now ≡ line_count plan.now }
     requires inputs { AreWithin (length cert.now) inputs.now }
     ensures within { result ≤ length inputs.now }
     ensures after { result < length inputs.now → from ≤ result }
     ensures closed { (place : ℕ) → from ≤ place → place < result
-        → is_other plan.now cert.now inputs.now bundle place ≡ false }
+        → is_other returns plan.now cert.now inputs.now bundle place ≡ false }
     ensures found { result < length inputs.now
-        → is_other plan.now cert.now inputs.now bundle result ≡ true }
+        → is_other returns plan.now cert.now inputs.now bundle result ≡ true }
 {
     for place in from..inputs.len() {
-        if is_other(plan, cert, inputs, bundle, place) {
+        if is_other(returns, plan, cert, inputs, bundle, place) {
             return place;
         }
     }
     inputs.len()
 }
 
-/// The places of the first line without a rank, and of the first one of another bundle, from what
+/// The places of the first line without a rank, and of the first one of another number, from what
 /// is known of earlier ones.
-pub(crate) fn first_open(plan: &Plan, cert: &Cert, inputs: &[InputId], watch: Watch) -> Watch
+pub(crate) fn first_open(
+    returns: Returns,
+    plan: &Plan,
+    cert: &Cert,
+    inputs: &[InputId],
+    watch: Watch,
+) -> Watch
     requires counted { length cert.now ≡ line_count plan.now }
     requires within { AreWithin (length cert.now) inputs.now }
-    requires watch { IsWatch plan.now cert.now inputs.now watch }
-    ensures places { AreFirstOpen plan.now cert.now inputs.now result }
+    requires watch { IsWatch returns plan.now cert.now inputs.now watch }
+    ensures places { AreFirstOpen returns plan.now cert.now inputs.now result }
     ensures back { result.back ≡ watch.back }
     ensures done { result.done ≡ watch.done }
 {
@@ -130,8 +142,15 @@ pub(crate) fn first_open(plan: &Plan, cert: &Cert, inputs: &[InputId], watch: Wa
             done: watch.done,
         };
     };
-    let bundle = bundle_of(plan, line);
-    let second = next_other(plan, cert, inputs, bundle, watch.second.max(first + 1));
+    let bundle = returns.number_in(plan, line);
+    let second = next_other(
+        returns,
+        plan,
+        cert,
+        inputs,
+        bundle,
+        watch.second.max(first + 1),
+    );
     Watch {
         first,
         second,

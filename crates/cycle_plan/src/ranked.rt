@@ -2,12 +2,14 @@ ghost use Rattle.std.specs.Prelude.{◌≡◌, ◌<◌, ℕ};
 ghost use Rattle.std.specs.List.{All};
 ghost use Rattle.sync_topo.specs.Lines.{is_nominated, line_count};
 ghost use Rattle.sync_topo.specs.Hops.{hops, IsRising, IsCycle};
-ghost use Rattle.sync_topo.specs.Ranks.{AreLeastRanks, IsFirstCycle};
+ghost use Rattle.sync_topo.specs.Ranks.{AreLeastRanks, IsFirstCycle, Rises, Circles};
 ghost use Rattle.rank_cert.specs.Ranks.{rank_at, rank_of, IsRanked, RanksNoOther, Judges};
 ghost use Rattle.rank_cert.specs.declared.rising.Verdict.{Verdict};
+ghost use Rattle.cycle_plan.specs.Returns.{hops_by};
 ghost use Rattle.cycle_plan.specs.Ranked.{IfRanks, IfCycle};
 
 use crate::ranking::Ranking;
+use crate::returns::Returns;
 use rank_cert::Cert;
 use std::alloc::Global;
 use sync_edge::{NoMemory, Rows};
@@ -45,9 +47,28 @@ pub fn rank_plan(alloc: Global, plan: &Plan) -> Result<Ranked, NoMemory>
     ensures within { IfCycle result (All (λ line. line < line_count plan.now)) }
     ensures never { IfCycle result (λ lines. (rank : ℕ → ℕ) → IsRising plan.now rank → ⊥) }
 {
-    let ranking = Ranking::of(alloc, plan)?;
-    match ranking.first_left(plan) {
-        Some(start) => Ok(Ranked::Cycle(ranking.first_cycle(alloc, plan, start)?)),
+    rank_with(alloc, Returns::Barred, plan)
+}
+
+/// The least ranks of a plan or, where no ranks rise, its first cycle, over hops by either rule of
+/// returns.
+///
+/// It is [`rank_plan`] where returns are barred. This project's own.
+pub fn rank_with(alloc: Global, returns: Returns, plan: &Plan) -> Result<Ranked, NoMemory>
+    ensures least { IfRanks result (λ ranks. AreLeastRanks (hops_by returns plan.now)
+        (is_nominated plan.now) (rank_at ranks)) }
+    ensures rising { IfRanks result (λ ranks. Rises (hops_by returns plan.now) (rank_of ranks)) }
+    ensures ranked { IfRanks result (IsRanked plan.now) }
+    ensures no_other { IfRanks result (RanksNoOther plan.now) }
+    ensures first { IfCycle result (IsFirstCycle (hops_by returns plan.now)) }
+    ensures cycle { IfCycle result (Circles (hops_by returns plan.now)) }
+    ensures within { IfCycle result (All (λ line. line < line_count plan.now)) }
+    ensures never { IfCycle result (λ lines. (rank : ℕ → ℕ) →
+        Rises (hops_by returns plan.now) rank → ⊥) }
+{
+    let ranking = Ranking::of(alloc, returns, plan)?;
+    match ranking.first_left(returns, plan) {
+        Some(start) => Ok(Ranked::Cycle(ranking.first_cycle(alloc, returns, plan, start)?)),
         None => Ok(Ranked::Ranks(ranking.ranks)),
     }
 }

@@ -1,17 +1,17 @@
 ghost use Rattle.std.specs.Prelude.{◌≡◌, ◌≢◌, ◌<◌, ◌&&◌, ℕ, length, is_none, Some, None, OnOk, IfOk};
 ghost use Rattle.std.specs.List.{All, Contains};
-ghost use Rattle.sync_topo.specs.Bundles.{line_bundle};
 ghost use Rattle.sync_topo.specs.Lines.{line_count, is_nominated, IsNominated, sender_of, inputs_of};
-ghost use Rattle.sync_topo.specs.Hops.{hops};
 ghost use Rattle.rank_cert.specs.Ranks.{rank_at};
+ghost use Rattle.cycle_plan.specs.Returns.{hops_by, number_out};
 ghost use Rattle.cycle_plan.specs.Inputs.{AreFirstOpen};
 ghost use Rattle.cycle_plan.specs.Outputs.{AreOutputs, IsOutput};
 ghost use Rattle.cycle_plan.specs.Tops.{rank_after};
 ghost use Rattle.cycle_plan.specs.Rings.{IsDone};
 ghost use Rattle.cycle_plan.specs.Peeling.{IsRanking, IsPeeling, IsPeeled, IsMore, IsNext, IsSettled, AreKept, IsWatched, is_among, IsAmong, AreFree, IsTopOf};
 
-use crate::inputs::{Watch, bundle_of, first_open, inputs_of, line_at};
+use crate::inputs::{Watch, first_open, inputs_of, line_at};
 use crate::outputs::outputs;
+use crate::returns::Returns;
 use crate::top::{Top, top_of};
 use rank_cert::Cert;
 use std::alloc::Global;
@@ -31,19 +31,19 @@ pub(crate) struct Ranking {
 
 impl Ranking {
     /// All ranks that can be given.
-    pub(crate) fn of(alloc: Global, plan: &Plan) -> Result<Ranking, NoMemory>
-        ensures { IfOk result (IsDone plan.now) }
+    pub(crate) fn of(alloc: Global, returns: Returns, plan: &Plan) -> Result<Ranking, NoMemory>
+        ensures { IfOk result (IsDone returns plan.now) }
     {
         let outputs = outputs(alloc, plan)?;
-        let mut ranking = Ranking::new(alloc, plan)?;
-        ranking.peel(plan, outputs.as_slice())?;
+        let mut ranking = Ranking::new(alloc, returns, plan)?;
+        ranking.peel(returns, plan, outputs.as_slice())?;
         Ok(ranking)
     }
 
     /// No line has a rank, and each element waits to be looked at.
-    fn new(alloc: Global, plan: &Plan) -> Result<Ranking, NoMemory>
-        ensures peeling { IfOk result (IsPeeling plan.now) }
-        ensures kept { IfOk result (AreKept plan.now) }
+    fn new(alloc: Global, returns: Returns, plan: &Plan) -> Result<Ranking, NoMemory>
+        ensures peeling { IfOk result (IsPeeling returns plan.now) }
+        ensures kept { IfOk result (AreKept returns plan.now) }
     {
         let ranks = Cert::new(alloc, plan)?;
         let watch = Watch {
@@ -64,13 +64,19 @@ impl Ranking {
     }
 
     /// Gives a line its rank.
-    fn give(&mut self, plan: &Plan, line: LineId, rank: u64) -> Result<(), NoMemory>
-        requires peeling { IsPeeling plan.now self.old }
+    fn give(
+        &mut self,
+        returns: Returns,
+        plan: &Plan,
+        line: LineId,
+        rank: u64,
+    ) -> Result<(), NoMemory>
+        requires peeling { IsPeeling returns plan.now self.old }
         requires nominated { IsNominated plan.now line.0 }
         requires within { line.0 < line_count plan.now }
         requires left { rank_at self.old.ranks line.0 ≡ None }
-        requires next { IsNext (hops plan.now) (rank_at self.old.ranks) line.0 rank }
-        ensures more { OnOk result (IsMore plan.now self.old self.new) }
+        requires next { IsNext (hops_by returns plan.now) (rank_at self.old.ranks) line.0 rank }
+        ensures more { OnOk result (IsMore returns plan.now self.old self.new) }
         ensures given { OnOk result (rank_at self.new.ranks line.0 ≡ Some rank) }
         ensures others { OnOk result ((other : ℕ) → other ≢ line.0
             → rank_at self.new.ranks other ≡ rank_at self.old.ranks other) }
@@ -96,132 +102,162 @@ impl Ranking {
     /// Gives a line its rank, where it is nominated, is one of those that are meant, and has none yet.
     fn give_next(
         &mut self,
+        returns: Returns,
         plan: &Plan,
         only: Option<u32>,
         line: LineId,
         top: Top,
     ) -> Result<(), NoMemory>
-        requires peeling { IsPeeling plan.now self.old }
+        requires peeling { IsPeeling returns plan.now self.old }
         requires within { line.0 < line_count plan.now }
-        requires next { IsNominated plan.now line.0 → IsAmong plan.now only line.0
-            → IsNext (hops plan.now) (rank_at self.old.ranks) line.0
-            (rank_after top (line_bundle plan.now line.0)) }
-        ensures more { OnOk result (IsMore plan.now self.old self.new) }
-        ensures given { OnOk result (IsNominated plan.now line.0 → IsAmong plan.now only line.0
+        requires next { IsNominated plan.now line.0 → IsAmong returns plan.now only line.0
+            → IsNext (hops_by returns plan.now) (rank_at self.old.ranks) line.0
+            (rank_after top (number_out returns plan.now line.0)) }
+        ensures more { OnOk result (IsMore returns plan.now self.old self.new) }
+        ensures given { OnOk result (IsNominated plan.now line.0 → IsAmong returns plan.now only line.0
             → rank_at self.new.ranks line.0 ≢ None) }
         ensures others { OnOk result ((other : ℕ) → other ≢ line.0
             → rank_at self.new.ranks other ≡ rank_at self.old.ranks other) }
     {
-        if !is_among(plan, only, line) {
+        if !is_among(returns, plan, only, line) {
             return Ok(());
         }
         if !self.lacks_rank(plan, line) {
             return Ok(());
         }
-        self.give(plan, line, top.rank_of(bundle_of(plan, line)))?;
+        self.give(
+            returns,
+            plan,
+            line,
+            top.rank_of(returns.number_out(plan, line)),
+        )?;
         Ok(())
     }
 
     /// What the ranks of all inputs of an element come to.
-    fn top(&self, plan: &Plan, element: u32) -> Top
-        requires ranking { IsRanking plan.now self.now.ranks }
+    fn top(&self, returns: Returns, plan: &Plan, element: u32) -> Top
+        requires ranking { IsRanking returns plan.now self.now.ranks }
         requires within { element < length plan.now.elements }
-        ensures { IsTopOf plan.now self.now.ranks element result }
+        ensures { IsTopOf returns plan.now self.now.ranks element result }
     {
-        top_of(plan, &self.ranks, inputs_of(plan, element))
+        top_of(returns, plan, &self.ranks, inputs_of(plan, element))
     }
 
     /// Gives the lines out of an element that are meant their ranks, once no line without a rank
     /// hops to one of them.
     fn give_all(
         &mut self,
+        returns: Returns,
         plan: &Plan,
         outputs: &[LineId],
         element: u32,
         only: Option<u32>,
     ) -> Result<(), NoMemory>
-        requires peeling { IsPeeling plan.now self.old }
+        requires peeling { IsPeeling returns plan.now self.old }
         requires within { element < length plan.now.elements }
         requires outputs { All (IsOutput plan.now element) outputs.now }
-        requires free { AreFree plan.now self.old.ranks element only }
-        ensures more { OnOk result (IsMore plan.now self.old self.new) }
-        ensures given { OnOk result (All (λ line. IsAmong plan.now only line.0
+        requires free { AreFree returns plan.now self.old.ranks element only }
+        ensures more { OnOk result (IsMore returns plan.now self.old self.new) }
+        ensures given { OnOk result (All (λ line. IsAmong returns plan.now only line.0
             → rank_at self.new.ranks line.0 ≢ None) outputs.now) }
         ensures others { OnOk result ((other : ℕ) → sender_of plan.now other ≢ element
             → rank_at self.new.ranks other ≡ rank_at self.old.ranks other) }
     {
-        let top = self.top(plan, element);
+        let top = self.top(returns, plan, element);
         for line in outputs {
-            self.give_next(plan, only, *line, top)?;
+            self.give_next(returns, plan, only, *line, top)?;
         }
         Ok(())
     }
 
     /// Finds out how far the inputs of an element have ranks by now.
-    fn watch(&mut self, plan: &Plan, element: u32) -> Watch
-        requires peeling { IsPeeling plan.now self.old }
+    fn watch(&mut self, returns: Returns, plan: &Plan, element: u32) -> Watch
+        requires peeling { IsPeeling returns plan.now self.old }
         requires within { element < length plan.now.elements }
-        ensures more { IsMore plan.now self.old self.new }
+        ensures more { IsMore returns plan.now self.old self.new }
         ensures ranks { self.new.ranks ≡ self.old.ranks }
-        ensures places { AreFirstOpen plan.now self.new.ranks (inputs_of plan.now element) result }
-        ensures watched { IsWatched plan.now self.new.ranks element result }
+        ensures places { AreFirstOpen returns plan.now self.new.ranks (inputs_of plan.now element) result }
+        ensures watched { IsWatched returns plan.now self.new.ranks element result }
     {
         let inputs = inputs_of(plan, element);
-        let watch = first_open(plan, &self.ranks, inputs, self.watches[element as usize]);
+        let watch = first_open(
+            returns,
+            plan,
+            &self.ranks,
+            inputs,
+            self.watches[element as usize],
+        );
         self.watches[element as usize] = watch;
         watch
     }
 
     /// Ranks the lines out of an element that no line without a rank holds back.
-    fn settle(&mut self, plan: &Plan, outputs: &[Vec<LineId>], element: u32) -> Result<(), NoMemory>
-        requires peeling { IsPeeling plan.now self.old }
+    fn settle(
+        &mut self,
+        returns: Returns,
+        plan: &Plan,
+        outputs: &[Vec<LineId>],
+        element: u32,
+    ) -> Result<(), NoMemory>
+        requires peeling { IsPeeling returns plan.now self.old }
         requires outputs { AreOutputs plan.now (line_count plan.now) outputs.now }
         requires within { element < length plan.now.elements }
-        ensures more { OnOk result (IsMore plan.now self.old self.new) }
-        ensures settled { OnOk result (IsSettled plan.now self.new.ranks element) }
+        ensures more { OnOk result (IsMore returns plan.now self.old self.new) }
+        ensures settled { OnOk result (IsSettled returns plan.now self.new.ranks element) }
     {
         let inputs = inputs_of(plan, element);
         let own = outputs[element as usize].as_slice();
-        let watch = self.watch(plan, element);
+        let watch = self.watch(returns, plan, element);
         if watch.done || watch.second < inputs.len() {
             return Ok(());
         }
         let Some(last) = line_at(inputs, watch.first) else {
-            self.give_all(plan, own, element, None)?;
+            self.give_all(returns, plan, own, element, None)?;
             self.watches[element as usize].done = true;
             return Ok(());
         };
         if watch.back {
             return Ok(());
         }
-        self.give_all(plan, own, element, Some(bundle_of(plan, last)))?;
+        self.give_all(
+            returns,
+            plan,
+            own,
+            element,
+            Some(returns.number_in(plan, last)),
+        )?;
         self.watches[element as usize].back = true;
         Ok(())
     }
 
     /// Ranks lines for as long as an element waits to be looked at.
-    fn peel(&mut self, plan: &Plan, outputs: &[Vec<LineId>]) -> Result<(), NoMemory>
-        requires peeling { IsPeeling plan.now self.old }
+    fn peel(
+        &mut self,
+        returns: Returns,
+        plan: &Plan,
+        outputs: &[Vec<LineId>],
+    ) -> Result<(), NoMemory>
+        requires peeling { IsPeeling returns plan.now self.old }
         requires outputs { AreOutputs plan.now (line_count plan.now) outputs.now }
-        requires kept { AreKept plan.now self.old }
-        ensures peeling { OnOk result (IsPeeling plan.now self.new) }
+        requires kept { AreKept returns plan.now self.old }
+        ensures peeling { OnOk result (IsPeeling returns plan.now self.new) }
         ensures peeled { OnOk result
-            (IsPeeled (hops plan.now) (is_nominated plan.now) (rank_at self.new.ranks)) }
+            (IsPeeled (hops_by returns plan.now) (is_nominated plan.now) (rank_at self.new.ranks)) }
     {
         while let Some(element) = self.waiting.pop() {
-            self.settle(plan, outputs, element)?;
+            self.settle(returns, plan, outputs, element)?;
         }
         Ok(())
     }
 }
 
-/// The line is one of those that are meant: of the bundle, if one is named.
-fn is_among(plan: &Plan, only: Option<u32>, line: LineId) -> bool
+/// The line is one of those that are meant: of the number as a way out, if one is given.
+fn is_among(returns: Returns, plan: &Plan, only: Option<u32>, line: LineId) -> bool
     requires { line.0 < line_count plan.now }
-    ensures { result ≡ is_among plan.now only line.0 }
+    ensures { result ≡ is_among returns plan.now only line.0 }
 {
     match only {
-        Some(bundle) => bundle_of(plan, line) == bundle,
+        Some(bundle) => returns.number_out(plan, line) == bundle,
         None => true,
     }
 }

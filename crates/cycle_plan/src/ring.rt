@@ -1,24 +1,25 @@
 ghost use Rattle.std.specs.Prelude.{◌≡◌, ◌≢◌, ◌<◌, ◌≤◌, ◌⊎◌, ℕ, ◌∷◌, reverse, None, IfOk, IfSome, IsNone};
 ghost use Rattle.sync_topo.specs.Lines.{line_count, IsNominated};
-ghost use Rattle.sync_topo.specs.Hops.{hops};
 ghost use Rattle.sync_topo.specs.Ranks.{IsBefore, StepsBack, IsFirstCycle, IsLowestResidue};
 ghost use Rattle.rank_cert.specs.Ranks.{rank_at};
+ghost use Rattle.cycle_plan.specs.Returns.{hops_by};
 ghost use Rattle.cycle_plan.specs.Rings.{IsLeft, IsDone, IsLowOn, HasRound, IsLowest, IsWalked, numbers};
 
-use crate::inputs::{bundle_of, first_open, inputs_of, line_at};
+use crate::inputs::{first_open, inputs_of, line_at};
 use crate::ranking::Ranking;
+use crate::returns::Returns;
 use std::alloc::Global;
 use sync_edge::{NoMemory, Rows};
 use sync_topo::{LineId, Plan};
 
 impl Ranking {
     /// The lowest-numbered nominated line without a rank.
-    pub(crate) fn first_left(&self, plan: &Plan) -> Option<LineId>
-        requires { IsDone plan.now self.now }
+    pub(crate) fn first_left(&self, returns: Returns, plan: &Plan) -> Option<LineId>
+        requires { IsDone returns plan.now self.now }
         ensures none { IsNone result → (line : ℕ) → IsNominated plan.now line
             → rank_at self.now.ranks line ≢ None }
         ensures left { IfSome result (λ line. IsLeft plan.now self.now.ranks line.0) }
-        ensures lowest { IfSome result (λ line. IsLowestResidue (hops plan.now) line.0) }
+        ensures lowest { IfSome result (λ line. IsLowestResidue (hops_by returns plan.now) line.0) }
     {
         for number in 0..plan.lines() {
             let line = LineId(number);
@@ -30,19 +31,25 @@ impl Ranking {
     }
 
     /// Of the lines without a rank that hop to one without a rank, the lowest-numbered.
-    fn before(&self, plan: &Plan, line: LineId) -> LineId
-        requires done { IsDone plan.now self.now }
+    fn before(&self, returns: Returns, plan: &Plan, line: LineId) -> LineId
+        requires done { IsDone returns plan.now self.now }
         requires left { IsLeft plan.now self.now.ranks line.0 }
-        ensures before { IsBefore (hops plan.now) result.0 line.0 }
+        ensures before { IsBefore (hops_by returns plan.now) result.0 line.0 }
         ensures left { IsLeft plan.now self.now.ranks result.0 }
     {
         let sender = plan.from(line);
         let inputs = inputs_of(plan, sender);
-        let watch = first_open(plan, &self.ranks, inputs, self.watches[sender as usize]);
+        let watch = first_open(
+            returns,
+            plan,
+            &self.ranks,
+            inputs,
+            self.watches[sender as usize],
+        );
         let Some(first) = line_at(inputs, watch.first) else {
             unreachable!();
         };
-        if bundle_of(plan, first) != bundle_of(plan, line) {
+        if returns.number_in(plan, first) != returns.number_out(plan, line) {
             return first;
         }
         let Some(second) = line_at(inputs, watch.second) else {
@@ -52,50 +59,56 @@ impl Ranking {
     }
 
     /// A line on the ring to which one comes by going back from this one.
-    fn come_round(&self, plan: &Plan, start: LineId) -> LineId
-        requires done { IsDone plan.now self.now }
+    fn come_round(&self, returns: Returns, plan: &Plan, start: LineId) -> LineId
+        requires done { IsDone returns plan.now self.now }
         requires left { IsLeft plan.now self.now.ranks start.0 }
-        ensures back { StepsBack (hops plan.now) (line_count plan.now) start.0 result.0 }
+        ensures back { StepsBack (hops_by returns plan.now) (line_count plan.now) start.0 result.0 }
         ensures left { IsLeft plan.now self.now.ranks result.0 }
     {
         let mut at = start;
         for _step in 0..plan.lines() {
-            at = self.before(plan, at);
+            at = self.before(returns, plan, at);
         }
         at
     }
 
     /// The lowest-numbered line of the ring.
-    fn lowest_of_ring(&self, plan: &Plan, on: LineId) -> LineId
-        requires done { IsDone plan.now self.now }
+    fn lowest_of_ring(&self, returns: Returns, plan: &Plan, on: LineId) -> LineId
+        requires done { IsDone returns plan.now self.now }
         requires left { IsLeft plan.now self.now.ranks on.0 }
-        ensures low { IsLowOn (hops plan.now) on.0 (line_count plan.now) result.0 }
+        ensures low { IsLowOn (hops_by returns plan.now) on.0 (line_count plan.now) result.0 }
         ensures left { IsLeft plan.now self.now.ranks result.0 }
     {
         let mut low = on;
         let mut at = on;
         for _step in 0..plan.lines() {
-            at = self.before(plan, at);
+            at = self.before(returns, plan, at);
             low = lower(low, at);
         }
         low
     }
 
     /// The other lines of a ring, going back from its lowest-numbered line.
-    fn ring_behind(&self, alloc: Global, plan: &Plan, low: LineId) -> Result<Vec<LineId>, NoMemory>
-        requires done { IsDone plan.now self.now }
+    fn ring_behind(
+        &self,
+        alloc: Global,
+        returns: Returns,
+        plan: &Plan,
+        low: LineId,
+    ) -> Result<Vec<LineId>, NoMemory>
+        requires done { IsDone returns plan.now self.now }
         requires left { IsLeft plan.now self.now.ranks low.0 }
-        requires round { HasRound (hops plan.now) (line_count plan.now) low.0 }
-        requires lowest { IsLowest (hops plan.now) low.0 }
-        ensures { IfOk result (λ lines. IsWalked (hops plan.now) low.0 low.0 lines.items) }
+        requires round { HasRound (hops_by returns plan.now) (line_count plan.now) low.0 }
+        requires lowest { IsLowest (hops_by returns plan.now) low.0 }
+        ensures { IfOk result (λ lines. IsWalked (hops_by returns plan.now) low.0 low.0 lines.items) }
     {
         let mut lines = Vec::new(alloc);
-        let mut at = self.before(plan, low);
+        let mut at = self.before(returns, plan, low);
         while at != low {
             let Ok(()) = lines.push(at) else {
                 return Err(NoMemory);
             };
-            at = self.before(plan, at);
+            at = self.before(returns, plan, at);
         }
         Ok(lines)
     }
@@ -104,17 +117,18 @@ impl Ranking {
     pub(crate) fn first_cycle(
         &self,
         alloc: Global,
+        returns: Returns,
         plan: &Plan,
         start: LineId,
     ) -> Result<Rows<LineId>, NoMemory>
-        requires done { IsDone plan.now self.now }
+        requires done { IsDone returns plan.now self.now }
         requires left { IsLeft plan.now self.now.ranks start.0 }
-        requires lowest { IsLowestResidue (hops plan.now) start.0 }
-        ensures { IfOk result (λ lines. IsFirstCycle (hops plan.now) (numbers lines)) }
+        requires lowest { IsLowestResidue (hops_by returns plan.now) start.0 }
+        ensures { IfOk result (λ lines. IsFirstCycle (hops_by returns plan.now) (numbers lines)) }
     {
-        let on = self.come_round(plan, start);
-        let low = self.lowest_of_ring(plan, on);
-        let behind = self.ring_behind(alloc, plan, low)?;
+        let on = self.come_round(returns, plan, start);
+        let low = self.lowest_of_ring(returns, plan, on);
+        let behind = self.ring_behind(alloc, returns, plan, low)?;
         in_hop_order(alloc, low, behind)
     }
 }

@@ -3,27 +3,29 @@ ghost use Rattle.sync_topo.specs.Lines.{line_count};
 ghost use Rattle.cycle_plan.specs.Inputs.{AreWithin};
 ghost use Rattle.cycle_plan.specs.Tops.{AreSmall, IsTop, raised, rank_after};
 
-use crate::inputs::{bundle_of, line_at};
+use crate::inputs::line_at;
+use crate::returns::Returns;
 use rank_cert::Cert;
 use sync_topo::{InputId, Plan};
 
-/// The greatest rank among an element's inputs, and the greatest among those of other bundles.
+/// The greatest rank among an element's inputs, and the greatest among those of other numbers, as ways
+/// in.
 #[derive(Clone, Copy, Debug, Drop)]
 pub(crate) struct Top {
-    /// The bundle of a line with the greatest rank.
+    /// The number of a line with the greatest rank.
     pub(crate) bundle: Option<u32>,
     /// One more than the greatest rank, or 0 without any.
     pub(crate) next: u64,
-    /// The same among the lines of other bundles.
+    /// The same among the lines of other numbers.
     pub(crate) next_without: u64,
 }
 
 /// What the ranks of all inputs of an element come to.
-pub(crate) fn top_of(plan: &Plan, cert: &Cert, inputs: &[InputId]) -> Top
+pub(crate) fn top_of(returns: Returns, plan: &Plan, cert: &Cert, inputs: &[InputId]) -> Top
     requires counted { length cert.now ≡ line_count plan.now }
     requires within { AreWithin (length cert.now) inputs.now }
     requires small { AreSmall cert.now }
-    ensures { IsTop plan.now cert.now inputs.now (length inputs.now) result }
+    ensures { IsTop returns plan.now cert.now inputs.now (length inputs.now) result }
 {
     let mut top = Top {
         bundle: None,
@@ -31,29 +33,36 @@ pub(crate) fn top_of(plan: &Plan, cert: &Cert, inputs: &[InputId]) -> Top
         next_without: 0,
     };
     for place in 0..inputs.len() {
-        top = raised_by(plan, cert, inputs, place, top);
+        top = raised_by(returns, plan, cert, inputs, place, top);
     }
     top
 }
 
 /// What the ranks come to with one more input.
-fn raised_by(plan: &Plan, cert: &Cert, inputs: &[InputId], place: usize, top: Top) -> Top
+fn raised_by(
+    returns: Returns,
+    plan: &Plan,
+    cert: &Cert,
+    inputs: &[InputId],
+    place: usize,
+    top: Top,
+) -> Top
     requires counted { length cert.now ≡ line_count plan.now }
     requires within { AreWithin (length cert.now) inputs.now }
     requires small { AreSmall cert.now }
-    requires top { IsTop plan.now cert.now inputs.now place top }
-    ensures { IsTop plan.now cert.now inputs.now (place + 1) result }
+    requires top { IsTop returns plan.now cert.now inputs.now place top }
+    ensures { IsTop returns plan.now cert.now inputs.now (place + 1) result }
 {
     let Some(line) = line_at(inputs, place) else {
         return top;
     };
     match cert.rank(line) {
-        Some(rank) => raised(top, bundle_of(plan, line), rank),
+        Some(rank) => raised(top, returns.number_in(plan, line), rank),
         None => top,
     }
 }
 
-/// What the ranks come to with one more line, of this bundle.
+/// What the ranks come to with one more line, of this number.
 fn raised(top: Top, bundle: u32, rank: u64) -> Top
     requires { rank < 2 ^ 32 }
     ensures { result ≡ raised top bundle rank }
@@ -82,7 +91,7 @@ fn raised(top: Top, bundle: u32, rank: u64) -> Top
 }
 
 impl Top {
-    /// The rank of a line out of the element, after all inputs but those of its own bundle.
+    /// The rank of a line out of the element of this number, after all inputs but those of the same one.
     pub(crate) fn rank_of(self, bundle: u32) -> u64
         ensures { result ≡ rank_after self bundle }
     {

@@ -6,7 +6,7 @@ use Rattle.cycle_plan.proofs.inputs.first_open.Goals as goal
 
 pub returns-clause-places : goal.returns-clause-places
 returns-clause-places c =
-    AreFirstOpen-other c.args.plan.now c.args.cert.now c.args.inputs.now c.args.watch c.next_open-first.result c.next_other-second.result c.max.result c.in-Some.line.0
+    AreFirstOpen-other c.args.returns c.args.plan.now c.args.cert.now c.args.inputs.now c.args.watch c.next_open-first.result c.next_other-second.result c.max.result c.in-Some.line.0
     c.args.watch.back c.args.watch.done c.requires.watch
     (record {
       within = c.next_open-first.ensures.within;
@@ -15,7 +15,7 @@ returns-clause-places c =
       open_there = c.next_open-first.ensures.found;
     })
     (sym c.in-Some.ensures) (line_at_within c.args.inputs.now c.next_open-first.result c.in-Some.line.0 (sym c.in-Some.ensures))
-    (rw (← c.bundle_of-bundle.ensures)
+    (rw (← c.number_in-bundle.ensures)
     (record {
       within = c.next_other-second.ensures.within;
       behind = c.next_other-second.ensures.after;

@@ -3,4 +3,4 @@ use Rattle.cycle_plan.specs.Inputs.{is_other}
 use Rattle.cycle_plan.proofs.inputs.next_other.Given as goal
 
 abbrev pub invariant-loop-place : goal.invariant-loop-place
-invariant-loop-place l = (place : ℕ) → l.from ≤ place → place < l.place → is_other l.plan l.cert l.inputs l.bundle place ≡ false
+invariant-loop-place l = (place : ℕ) → l.from ≤ place → place < l.place → is_other l.returns l.plan l.cert l.inputs l.bundle place ≡ false

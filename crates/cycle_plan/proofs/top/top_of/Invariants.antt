@@ -2,4 +2,4 @@ use Rattle.cycle_plan.specs.Tops.{IsTop}
 use Rattle.cycle_plan.proofs.top.top_of.Given as goal
 
 abbrev pub invariant-loop-place : goal.invariant-loop-place
-invariant-loop-place l = IsTop l.plan l.cert l.inputs l.place l.top
+invariant-loop-place l = IsTop l.returns l.plan l.cert l.inputs l.place l.top

@@ -14,39 +14,39 @@ first_open-watch-requires-clause-watch c =
 
 pub unreachable-requires : goal.unreachable-requires
 unreachable-requires c =
-    first_there c.args.plan.now c.args.self.now.ranks c.first_open-watch.result c.args.line.0 c.requires.done.peeled
+    first_there c.args.returns c.args.plan.now c.args.self.now.ranks c.first_open-watch.result c.args.line.0 c.requires.done.peeled
     (rw (← c.from-sender.ensures.sender, ← c.inputs_of-inputs.ensures.inputs) c.first_open-watch.ensures.places) c.requires.left
     (rw (← c.from-sender.ensures.sender, ← c.inputs_of-inputs.ensures.inputs) (sym c.in_default.ensures))
 
-pub bundle_of-requires : goal.bundle_of-requires
-bundle_of-requires c = c.inputs_of-inputs.ensures.within c.first_open-watch.result.first c.in-Some.first.0 (sym c.in-Some.ensures)
+pub number_in-requires : goal.number_in-requires
+number_in-requires c = c.inputs_of-inputs.ensures.within c.first_open-watch.result.first c.in-Some.first.0 (sym c.in-Some.ensures)
 
-pub returns-then-bundle_of-clause-before : goal.returns-then-bundle_of-clause-before
-returns-then-bundle_of-clause-before c =
-    (before_first c.args.plan.now c.args.self.now.ranks c.first_open-watch.result c.args.line.0 c.in-Some.first.0 c.requires.done.peeled
+pub returns-then-number_in-number_out-clause-before : goal.returns-then-number_in-number_out-clause-before
+returns-then-number_in-number_out-clause-before c =
+    (before_first c.args.returns c.args.plan.now c.args.self.now.ranks c.first_open-watch.result c.args.line.0 c.in-Some.first.0 c.requires.done.peeled
     (rw (← c.from-sender.ensures.sender, ← c.inputs_of-inputs.ensures.inputs) c.first_open-watch.ensures.places) c.requires.left
     (rw (← c.from-sender.ensures.sender, ← c.inputs_of-inputs.ensures.inputs) (sym c.in-Some.ensures))
-    (rw (c.bundle_of.ensures, c.bundle_of-2.ensures) at c.if-bundle_of.true)).1
+    (rw (c.number_in.ensures, c.number_out.ensures) at c.if-number_in-number_out.true)).1
 
-pub returns-then-bundle_of-clause-left : goal.returns-then-bundle_of-clause-left
-returns-then-bundle_of-clause-left c =
-    residue_left c.args.plan.now c.args.self.now.ranks c.in-Some.first.0 c.requires.done.peeled (returns-then-bundle_of-clause-before c).residue
+pub returns-then-number_in-number_out-clause-left : goal.returns-then-number_in-number_out-clause-left
+returns-then-number_in-number_out-clause-left c =
+    residue_left c.args.returns c.args.plan.now c.args.self.now.ranks c.in-Some.first.0 c.requires.done.peeled (returns-then-number_in-number_out-clause-before c).residue
 
 pub unreachable-requires-in_default-line_at : goal.unreachable-requires-in_default-line_at
 unreachable-requires-in_default-line_at c =
-    second_there c.args.plan.now c.args.self.now.ranks c.first_open-watch.result c.args.line.0 c.in-Some.first.0 c.requires.done.peeled
+    second_there c.args.returns c.args.plan.now c.args.self.now.ranks c.first_open-watch.result c.args.line.0 c.in-Some.first.0 c.requires.done.peeled
     (rw (← c.from-sender.ensures.sender, ← c.inputs_of-inputs.ensures.inputs) c.first_open-watch.ensures.places) c.requires.left
     (rw (← c.from-sender.ensures.sender, ← c.inputs_of-inputs.ensures.inputs) (sym c.in-Some.ensures))
-    (rw (c.bundle_of.ensures, c.bundle_of-2.ensures) at c.if-bundle_of.false)
+    (rw (c.number_in.ensures, c.number_out.ensures) at c.if-number_in-number_out.false)
     (rw (← c.from-sender.ensures.sender, ← c.inputs_of-inputs.ensures.inputs) (sym c.in_default-line_at.ensures))
 
 pub returns-clause-before : goal.returns-clause-before
 returns-clause-before c =
-    (before_second c.args.plan.now c.args.self.now.ranks c.first_open-watch.result c.args.line.0 c.in-Some.first.0 c.in-Some-line_at.second.0 c.requires.done.peeled (rw (← c.from-sender.ensures.sender, ← c.inputs_of-inputs.ensures.inputs) c.first_open-watch.ensures.places) c.requires.left
+    (before_second c.args.returns c.args.plan.now c.args.self.now.ranks c.first_open-watch.result c.args.line.0 c.in-Some.first.0 c.in-Some-line_at.second.0 c.requires.done.peeled (rw (← c.from-sender.ensures.sender, ← c.inputs_of-inputs.ensures.inputs) c.first_open-watch.ensures.places) c.requires.left
     (rw (← c.from-sender.ensures.sender, ← c.inputs_of-inputs.ensures.inputs) (sym c.in-Some.ensures))
-    (rw (c.bundle_of.ensures, c.bundle_of-2.ensures) at c.if-bundle_of.false)
+    (rw (c.number_in.ensures, c.number_out.ensures) at c.if-number_in-number_out.false)
     (rw (← c.from-sender.ensures.sender, ← c.inputs_of-inputs.ensures.inputs) (sym c.in-Some-line_at.ensures))).1
 
 pub returns-clause-left : goal.returns-clause-left
 returns-clause-left c =
-    residue_left c.args.plan.now c.args.self.now.ranks c.in-Some-line_at.second.0 c.requires.done.peeled (returns-clause-before c).residue
+    residue_left c.args.returns c.args.plan.now c.args.self.now.ranks c.in-Some-line_at.second.0 c.requires.done.peeled (returns-clause-before c).residue

@@ -1,10 +1,10 @@
-use Rattle.sync_topo.specs.Hops.{hops}
 use Rattle.sync_topo.specs.Ranks.{StepsBack}
+use Rattle.cycle_plan.specs.Returns.{hops_by}
 use Rattle.cycle_plan.specs.Rings.{IsLeft}
 use Rattle.cycle_plan.proofs.ranking.Ranking.come_round.Given as goal
 
 abbrev pub invariant-loop-step : goal.invariant-loop-step
 invariant-loop-step l = record {
-  back : StepsBack (hops l.plan) l._step l.fn.start.0 l.at.0;
+  back : StepsBack (hops_by l.returns l.plan) l._step l.fn.start.0 l.at.0;
   left : IsLeft l.plan l.self.ranks l.at.0;
 }

@@ -1,30 +1,30 @@
 use Rattle.std.proofs.Common.{◌≡◌, ◌∷◌, reverse}
 use Rattle.std.proofs.lemmas.Result.{IfOk-weaker}
 use Rattle.sync_topo.specs.Ranks.{IsFirstCycle}
+use Rattle.cycle_plan.specs.Returns.{hops_by}
 use Rattle.cycle_plan.specs.Rings.{numbers}
 use Rattle.sync_topo.specs.Lines.{line_count}
-use Rattle.sync_topo.specs.Hops.{hops}
 use Rattle.cycle_plan.proofs.Before.{round_there}
 use Rattle.cycle_plan.proofs.Rounds.{ring_low, round_low, first_from, numbers-reverse}
 use Rattle.cycle_plan.proofs.ranking.Ranking.first_cycle.Goals as goal
 
 pub ring_behind-requires-clause-round : goal.ring_behind-requires-clause-round
 ring_behind-requires-clause-round c =
-    round_low (hops c.args.plan.now) c.come_round-on.result.0 (line_count c.args.plan.now) c.lowest_of_ring-low.result.0
-    (round_there c.args.plan.now c.args.self.now.ranks c.args.start.0 c.come_round-on.result.0 c.requires.done.peeled c.requires.left c.come_round-on.ensures.back)
+    round_low (hops_by c.args.returns c.args.plan.now) c.come_round-on.result.0 (line_count c.args.plan.now) c.lowest_of_ring-low.result.0
+    (round_there c.args.returns c.args.plan.now c.args.self.now.ranks c.args.start.0 c.come_round-on.result.0 c.requires.done.peeled c.requires.left c.come_round-on.ensures.back)
     c.lowest_of_ring-low.ensures.low
 
 pub ring_behind-requires-clause-lowest : goal.ring_behind-requires-clause-lowest
 ring_behind-requires-clause-lowest c =
-    ring_low (hops c.args.plan.now) c.come_round-on.result.0 (line_count c.args.plan.now) c.lowest_of_ring-low.result.0
-    (round_there c.args.plan.now c.args.self.now.ranks c.args.start.0 c.come_round-on.result.0 c.requires.done.peeled c.requires.left c.come_round-on.ensures.back)
+    ring_low (hops_by c.args.returns c.args.plan.now) c.come_round-on.result.0 (line_count c.args.plan.now) c.lowest_of_ring-low.result.0
+    (round_there c.args.returns c.args.plan.now c.args.self.now.ranks c.args.start.0 c.come_round-on.result.0 c.requires.done.peeled c.requires.left c.come_round-on.ensures.back)
     c.lowest_of_ring-low.ensures.low
 
 pub returns : goal.returns
 returns c =
-    IfOk-weaker c.in_hop_order.result (λ lines. lines ≡ c.lowest_of_ring-low.result ∷ reverse c.in_ok-behind.behind.items) (λ lines. IsFirstCycle (hops c.args.plan.now) (numbers lines))
+    IfOk-weaker c.in_hop_order.result (λ lines. lines ≡ c.lowest_of_ring-low.result ∷ reverse c.in_ok-behind.behind.items) (λ lines. IsFirstCycle (hops_by c.args.returns c.args.plan.now) (numbers lines))
     (λ lines is.
     rw (is, numbers-reverse c.in_ok-behind.behind.items)
-    (first_from (hops c.args.plan.now) c.args.start.0 (line_count c.args.plan.now) c.come_round-on.result.0 c.lowest_of_ring-low.result.0 c.in_ok-behind.behind.items
+    (first_from (hops_by c.args.returns c.args.plan.now) c.args.start.0 (line_count c.args.plan.now) c.come_round-on.result.0 c.lowest_of_ring-low.result.0 c.in_ok-behind.behind.items
     c.requires.lowest c.come_round-on.ensures.back c.lowest_of_ring-low.ensures.low c.in_ok-behind.ensures))
     c.in_hop_order.ensures

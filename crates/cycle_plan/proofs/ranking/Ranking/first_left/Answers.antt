@@ -9,7 +9,7 @@ use Rattle.cycle_plan.proofs.ranking.Ranking.first_left.Goals as goal
 
 pub returns-then-lacks_rank-clause-lowest : goal.returns-then-lacks_rank-clause-lowest
 returns-then-lacks_rank-clause-lowest c =
-    lowest_left c.args.plan.now c.args.self.now.ranks c.loop-number.number c.requires.peeled
+    lowest_left c.args.returns c.args.plan.now c.args.self.now.ranks c.loop-number.number c.requires.peeled
     (left_from c.args.plan.now c.args.self.now.ranks c.loop-number.number (sym c.if-lacks_rank.ensures))
     (λ other left. elim (cases_lt other c.loop-number.number) [
       | inl before ↦

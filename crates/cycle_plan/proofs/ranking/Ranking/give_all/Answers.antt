@@ -15,11 +15,11 @@ loop-line-preserved c =
     let more = c.in_ok-give_next.ensures.more in
     let output = c.requires.outputs c.loop-line.line-index (record { 0 = 0 }) c.loop-line-test.true in
     record {
-      more = IsMore-trans c.args.plan.now c.args.self.now c.loop-line.self c.give_next.new.self c.loop-line.invariant.more more;
-      next = AreNext-grows c.args.plan.now c.loop-line.self.ranks c.give_next.new.self.ranks c.args.element c.args.only c.top-top.result more.grows c.loop-line.invariant.next;
+      more = IsMore-trans c.args.returns c.args.plan.now c.args.self.now c.loop-line.self c.give_next.new.self c.loop-line.invariant.more more;
+      next = AreNext-grows c.args.returns c.args.plan.now c.loop-line.self.ranks c.give_next.new.self.ranks c.args.element c.args.only c.top-top.result more.grows c.loop-line.invariant.next;
       given =
-          All-more (λ (line : LineId). IsAmong c.args.plan.now c.args.only line.0 → rank_at c.give_next.new.self.ranks line.0 ≢ None) c.args.outputs.now c.loop-line.line-index (record { 0 = 0 }) c.loop-line-test.true
-          (All-weaker (λ (line : LineId). IsAmong c.args.plan.now c.args.only line.0 → rank_at c.loop-line.self.ranks line.0 ≢ None) (λ (line : LineId). IsAmong c.args.plan.now c.args.only line.0 → rank_at c.give_next.new.self.ranks line.0 ≢ None)
+          All-more (λ (line : LineId). IsAmong c.args.returns c.args.plan.now c.args.only line.0 → rank_at c.give_next.new.self.ranks line.0 ≢ None) c.args.outputs.now c.loop-line.line-index (record { 0 = 0 }) c.loop-line-test.true
+          (All-weaker (λ (line : LineId). IsAmong c.args.returns c.args.plan.now c.args.only line.0 → rank_at c.loop-line.self.ranks line.0 ≢ None) (λ (line : LineId). IsAmong c.args.returns c.args.plan.now c.args.only line.0 → rank_at c.give_next.new.self.ranks line.0 ≢ None)
           (λ line some among none. some among (fewer (rank_at c.loop-line.self.ranks) (rank_at c.give_next.new.self.ranks) more.grows line.0 none))
           (take c.loop-line.line-index c.args.outputs.now) c.loop-line.invariant.given)
           (c.in_ok-give_next.ensures.given output.nominated);
@@ -30,5 +30,5 @@ loop-line-preserved c =
 
 pub returns-clause-given : goal.returns-clause-given
 returns-clause-given c =
-    subst (λ lines. All (λ (line : LineId). IsAmong c.args.plan.now c.args.only line.0 → rank_at c.loop-line.self.ranks line.0 ≢ None) lines)
+    subst (λ lines. All (λ (line : LineId). IsAmong c.args.returns c.args.plan.now c.args.only line.0 → rank_at c.loop-line.self.ranks line.0 ≢ None) lines)
     (take_all c.loop-line.line-index c.args.outputs.now c.loop-line-test.false) c.loop-line.invariant.given

@@ -6,11 +6,11 @@ pub loop-element-preserved : goal.loop-element-preserved
 loop-element-preserved c = record {
   peeling = c.in_ok-settle.ensures.more.peeling;
   kept =
-      kept_after c.args.plan.now c.loop-element.self (record c.loop-element.self { waiting = c.pop.new.self }) c.settle.new.self c.in-Some.element
+      kept_after c.args.returns c.args.plan.now c.loop-element.self (record c.loop-element.self { waiting = c.pop.new.self }) c.settle.new.self c.in-Some.element
       c.loop-element.invariant.kept refl c.in-Some.ensures.items c.in_ok-settle.ensures.more c.in_ok-settle.ensures.settled;
 }
 
 pub returns-clause-peeled : goal.returns-clause-peeled
 returns-clause-peeled c =
-    peeled_at_end c.args.plan.now c.loop-element.self c.loop-element.invariant.peeling c.loop-element.invariant.kept
+    peeled_at_end c.args.returns c.args.plan.now c.loop-element.self c.loop-element.invariant.peeling c.loop-element.invariant.kept
     (omega (arith, c.loop-element.self.waiting.ok, c.in_default.ensures.cases.0))

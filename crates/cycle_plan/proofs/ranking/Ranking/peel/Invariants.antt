@@ -3,8 +3,8 @@ use Rattle.cycle_plan.proofs.ranking.Ranking.peel.Given as goal
 
 abbrev pub invariant-loop-element : goal.invariant-loop-element
 invariant-loop-element l = record {
-  peeling : IsPeeling l.plan l.self;
-  kept : AreKept l.plan l.self;
+  peeling : IsPeeling l.returns l.plan l.self;
+  kept : AreKept l.returns l.plan l.self;
 }
 
 abbrev pub decreases-loop-element : goal.decreases-loop-element
