@@ -1,0 +1,4 @@
+pub mod Messages
+pub mod LineLaws
+pub mod ElementLaws
+pub mod NetLaws

@@ -1,0 +1,11 @@
+use Rattle.std.proofs.Common.{◌<◌, ◌-◌, ℕ, List}
+use Rattle.sync_topo.specs.declared.event.Event.{Event}
+use Rattle.sync_net.specs.Standing.{StandsFor}
+use Rattle.settle_trace.specs.Now.{signals_of}
+use Rattle.settle_trace.specs.Resting.{AreSteady}
+use Rattle.settle_trace.proofs.settling.are_inputs_steady.Given as goal
+
+-- the inputs of the elements behind are steady
+abbrev pub invariant-loop-e : goal.invariant-loop-e
+invariant-loop-e l = (all : List Event) → StandsFor l.net all l.net.next
+    → (k : ℕ) → k < l.e → AreSteady l.net.plan (signals_of l.net all) (l.net.next - 1) k
