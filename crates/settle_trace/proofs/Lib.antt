@@ -2,3 +2,6 @@ pub mod Messages
 pub mod LineLaws
 pub mod ElementLaws
 pub mod NetLaws
+pub mod TakenLaws
+pub mod FollowLaws
+pub mod TracedNow

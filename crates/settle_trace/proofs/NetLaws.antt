@@ -20,7 +20,7 @@ use Rattle.net_rules.proofs.PlanLaws.{receiver-within}
 use Rattle.settle_trace.specs.Resting.{IsLineSettled, AreSteady}
 
 -- the element of an input is one of the plan
-input-within : (plan : Topology) → IsWellFormed plan → (input : InputId) → IsInput plan input → element_of plan input < length plan.elements
+pub input-within : (plan : Topology) → IsWellFormed plan → (input : InputId) → IsInput plan input → element_of plan input < length plan.elements
 input-within plan well (Line line) within = receiver-within plan well line.0 within
 input-within plan well (Source source) within = elim (slice_get_cases plan.sources source).1 [
   | inl there ↦ rw there.2 ((well.sources_fit source there.0 there.2).at_is_element)

@@ -1,2 +1,5 @@
 pub mod Now
 pub mod Resting
+pub mod Taking
+pub mod Traces
+pub mod Following

@@ -1,0 +1,18 @@
+use Rattle.std.proofs.Common.{ap, ◌∙◌}
+use Rattle.std.specs.Prelude.{option_and_then, slice_get}
+use Rattle.sync_topo.specs.Lines.{inputs_of}
+use Rattle.settle_trace.specs.Now.{signals_of, out_of}
+use Rattle.settle_trace.proofs.TakenLaws.{own-input, taken-now}
+use Rattle.settle_trace.proofs.taking.taken_input.Goals as goal
+
+pub returns-clause-own : goal.returns-clause-own
+returns-clause-own c =
+    own-input c.args.net.now.plan c.args.e c.selected.result c.input_at.result
+    (c.input_at.ensures ∙ ap (λ inputs. option_and_then (slice_get inputs) c.selected.result) (c.inputs.ensures.inputs ∙ ap (λ p. inputs_of p c.args.e) c.plan.ensures))
+
+pub returns-clause-now : goal.returns-clause-now
+returns-clause-now c = λ all stands.
+    let net = c.args.net.now in
+    taken-now net.plan (signals_of net all) (out_of net all) c.args.e net.next c.element.result.now c.selected.result c.input_at.result c.requires.stepped
+    (c.element.ensures.stands all net.next stands) c.selected.ensures.selected
+    (c.input_at.ensures ∙ ap (λ inputs. option_and_then (slice_get inputs) c.selected.result) (c.inputs.ensures.inputs ∙ ap (λ p. inputs_of p c.args.e) c.plan.ensures))
