@@ -5,3 +5,5 @@ pub mod NetLaws
 pub mod TakenLaws
 pub mod FollowLaws
 pub mod TracedNow
+pub mod Rings
+pub mod KnownLaws

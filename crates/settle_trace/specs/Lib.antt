@@ -3,3 +3,4 @@ pub mod Resting
 pub mod Taking
 pub mod Traces
 pub mod Following
+pub mod Known

@@ -1,7 +1,9 @@
 -- Traces as they are answered.
-use Rattle.std.specs.Prelude.{ℕ, List, map}
+use Rattle.std.specs.Prelude.{◌≡◌, ℕ, List, length, map}
 use Rattle.sync_topo.specs.declared.input.LineId.{LineId}
-use Rattle.net_rules.specs.Walks.{TraceEnd, at_source, at_clock, at_loop}
+use Rattle.sync_topo.specs.Topology.{Topology}
+use Rattle.net_rules.specs.Walks.{Taken, TraceEnd, at_source, at_clock, at_loop, IsTrace}
+use Rattle.settle_trace.specs.declared.traced.Ending.{Ending}
 use Rattle.settle_trace.specs.declared.traced.End.{End}
 use Rattle.settle_trace.specs.declared.traced.End.TheVariants.{Source, OwnClock, Loop}
 
@@ -14,3 +16,8 @@ end_of (Loop element) = at_loop element
 -- the lines' numbers
 abbrev pub numbers : List LineId → List ℕ
 numbers lines = map (λ line. line.0) lines
+
+-- the trace of an element has so many lines, and ends so
+abbrev pub EndsSo : Topology → Taken → ℕ → Ending → Type 0
+EndsSo plan taken element ending =
+    (lines : List ℕ) × (length lines ≡ ending.lines) × IsTrace plan taken element lines (end_of ending.end)

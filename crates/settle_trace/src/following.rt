@@ -27,7 +27,7 @@ pub enum Next {
 }
 
 // What comes after an element, by what it takes.
-fn next_of(taken: Option<InputId>, element: u32) -> Next
+pub fn next_of(taken: Option<InputId>, element: u32) -> Next
     ensures { result ≡ next_of taken element }
 {
     match taken {

@@ -3,19 +3,22 @@
 //! | who asks | what |
 //! |---|---|
 //! | whether anything would still change | [`settled`] |
-//! | whence an element has its timing | [`trace`] |
+//! | whence an element has its timing | [`trace`], and of all elements [`traces`] |
 //!
 //! After ITU-T G.781 and G.803, that timing must not go round; settled milliseconds, traces and
 //! closed walks are this project's own.
 #![tactic(auto)]
 
+mod endings;
 mod following;
 mod lines;
 mod settling;
 mod taking;
 mod traced;
 mod tracing;
+mod tracings;
 
 pub use settling::settled;
-pub use traced::{End, Traced};
+pub use traced::{End, Ending, Traced};
 pub use tracing::trace;
+pub use tracings::traces;

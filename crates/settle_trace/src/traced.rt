@@ -28,3 +28,14 @@ pub struct Traced {
     /// The end.
     pub end: End,
 }
+
+/// How the trace of an element ends: how many lines are followed, and the end.
+///
+/// This project's own.
+#[derive(Clone, Copy, Debug, PartialEq, Eq, Drop)]
+pub struct Ending {
+    /// The number of lines.
+    pub lines: u32,
+    /// The end.
+    pub end: End,
+}
