@@ -10,3 +10,4 @@ pub mod Rounds
 pub mod CycleLaws
 pub mod OneCycle
 pub mod WatchLemmas
+mod BoundLemmas

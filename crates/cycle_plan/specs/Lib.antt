@@ -6,3 +6,4 @@ pub mod Outputs
 pub mod Tops
 pub mod Peeling
 pub mod Rings
+pub mod BoundParts

@@ -11,6 +11,7 @@
 //! The tests are worked plans.
 #![tactic(auto)]
 
+mod bound;
 mod inputs;
 mod laws;
 mod outputs;
@@ -22,6 +23,7 @@ mod ring;
 mod tests;
 mod top;
 
+pub use bound::settling_bound;
 pub use laws::{first_cycle_law, least_rank_law};
 pub use ranked::{Ranked, rank_plan, rank_with};
 pub use returns::Returns;

@@ -1,4 +1,4 @@
-ghost use Rattle.std.specs.Prelude.{◌≡◌, ◌<◌, ℕ};
+ghost use Rattle.std.specs.Prelude.{◌≡◌, ◌<◌, ℕ, Some, length};
 ghost use Rattle.std.specs.List.{All};
 ghost use Rattle.sync_topo.specs.Lines.{is_nominated, line_count};
 ghost use Rattle.sync_topo.specs.Hops.{hops, IsRising, IsCycle};
@@ -37,6 +37,9 @@ pub fn rank_plan(alloc: Global, plan: &Plan) -> Result<Ranked, NoMemory>
     ensures rising { IfRanks result (λ ranks. IsRising plan.now (rank_of ranks)) }
     ensures ranked { IfRanks result (IsRanked plan.now) }
     ensures no_other { IfRanks result (RanksNoOther plan.now) }
+    ensures few { IfRanks result (λ ranks. (line rank : ℕ) → rank_at ranks line ≡ Some rank
+        → rank < line_count plan.now) }
+    ensures counted { IfRanks result (λ ranks. length ranks ≡ line_count plan.now) }
 
     // So whatever the test of ranks may find of them is that they rise.
     ensures accepted { IfRanks result (λ ranks. (verdict : Verdict) → Judges plan.now ranks verdict
@@ -60,6 +63,9 @@ pub fn rank_with(alloc: Global, returns: Returns, plan: &Plan) -> Result<Ranked,
     ensures rising { IfRanks result (λ ranks. Rises (hops_by returns plan.now) (rank_of ranks)) }
     ensures ranked { IfRanks result (IsRanked plan.now) }
     ensures no_other { IfRanks result (RanksNoOther plan.now) }
+    ensures few { IfRanks result (λ ranks. (line rank : ℕ) → rank_at ranks line ≡ Some rank
+        → rank < line_count plan.now) }
+    ensures counted { IfRanks result (λ ranks. length ranks ≡ line_count plan.now) }
     ensures first { IfCycle result (IsFirstCycle (hops_by returns plan.now)) }
     ensures cycle { IfCycle result (Circles (hops_by returns plan.now)) }
     ensures within { IfCycle result (All (λ line. line < line_count plan.now)) }
