@@ -71,7 +71,7 @@ pub trace-begins : (plan : Topology) (taken : Taken) (before : List ℕ) (from :
     → IsOnTrace plan taken before from met [] from
 trace-begins plan taken before from met marked = record { passed = before; marked = marked; goes_on = λ rest end trace. trace }
 
-numbers-then : (lines : List LineId) (line : LineId) (rest : List ℕ) → numbers lines ++ line.0 ∷ rest ≡ numbers (lines ++ line ∷ []) ++ rest
+pub numbers-then : (lines : List LineId) (line : LineId) (rest : List ℕ) → numbers lines ++ line.0 ∷ rest ≡ numbers (lines ++ line ∷ []) ++ rest
 numbers-then [] line rest = refl
 numbers-then (first ∷ lines) line rest = ap (λ ls. first.0 ∷ ls) (numbers-then lines line rest)
 

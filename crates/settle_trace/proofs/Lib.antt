@@ -7,3 +7,4 @@ pub mod FollowLaws
 pub mod TracedNow
 pub mod Rings
 pub mod KnownLaws
+pub mod LoopLaws

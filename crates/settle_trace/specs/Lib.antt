@@ -4,3 +4,5 @@ pub mod Taking
 pub mod Traces
 pub mod Following
 pub mod Known
+pub mod Loops
+pub mod Listing

@@ -4,6 +4,7 @@
 //! |---|---|
 //! | whether anything would still change | [`settled`] |
 //! | whence an element has its timing | [`trace`], and of all elements [`traces`] |
+//! | which loops stand | [`loops`] |
 //!
 //! After ITU-T G.781 and G.803, that timing must not go round; settled milliseconds, traces and
 //! closed walks are this project's own.
@@ -12,13 +13,16 @@
 mod endings;
 mod following;
 mod lines;
+mod listing;
+mod looping;
 mod settling;
 mod taking;
 mod traced;
 mod tracing;
 mod tracings;
 
+pub use looping::loops;
 pub use settling::settled;
-pub use traced::{End, Ending, Traced};
+pub use traced::{End, Ending, Traced, Walk};
 pub use tracing::trace;
 pub use tracings::traces;

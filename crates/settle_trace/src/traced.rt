@@ -39,3 +39,9 @@ pub struct Ending {
     /// The end.
     pub end: End,
 }
+
+/// A closed walk: its lines, of which each begins where the one before ends, and the first where the
+/// last ends.
+///
+/// This project's own.
+pub type Walk = Rows<LineId>;
