@@ -4,7 +4,7 @@ ghost use Rattle.std.specs.Prelude.{◌<◌, map};
 ghost use Rattle.std.specs.List.{All};
 ghost use Rattle.sync_topo.specs.Lines.{line_count};
 
-use crate::{Ranked, rank_plan, settling_bound};
+use crate::{Ranked, rank_plan};
 use rank_cert::{Verdict, check, read_cert, write_cert};
 use std::alloc::Global;
 use std::process::Abort;
@@ -258,29 +258,6 @@ fn worked_plans_have_their_ranks_or_cycle(rt: HostRuntime) -> Result<(), Fail> {
         let answer = answer(alloc, &plan)?;
         assert_eq!(&rt; answer.bytes(), row.text, "{}", row.shows);
     }
-    Ok(())
-}
-
-#[test]
-fn a_bundle_with_lines_in_both_directions_has_no_settling_bound(
-    rt: HostRuntime,
-) -> Result<(), Fail> {
-    let alloc = rt.alloc();
-    let elements: [&[u8]; 3] = [b"A", b"B", b"C"];
-    let chain: [Joined; 2] = [
-        (b"L1", b"A", b"B", None, ONE, None),
-        (b"L2", b"B", b"C", None, ONE, None),
-    ];
-    let both_ways: [Joined; 2] = [
-        (b"L1", b"A", b"B", None, ONE, T),
-        (b"L2", b"A", b"B", ONE, None, T),
-    ];
-    let plan = plan_of(alloc, &elements, &chain)?;
-    let bound = settling_bound(alloc, &plan, 1000)?;
-    assert_eq!(&rt; bound, Some(301_003));
-    let plan = plan_of(alloc, &elements, &both_ways)?;
-    let bound = settling_bound(alloc, &plan, 1000)?;
-    assert_eq!(&rt; bound, None);
     Ok(())
 }
 
