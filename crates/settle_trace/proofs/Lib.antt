@@ -8,3 +8,4 @@ pub mod TracedNow
 pub mod Rings
 pub mod KnownLaws
 pub mod LoopLaws
+mod WithinLaws

@@ -6,3 +6,4 @@ pub mod Following
 pub mod Known
 pub mod Loops
 pub mod Listing
+pub mod Within

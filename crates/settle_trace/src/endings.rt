@@ -179,6 +179,7 @@ pub fn endings_of(
     ensures each { IfOk result (λ endings. (element : ℕ) (ending : Ending) →
         slice_get endings element ≡ Some ending →
         EndsSo plan.now (taken_in_list taken.now) element ending) }
+    ensures well_formed { IsWellFormed plan.now }
 {
     let mut met = no_marks(alloc, plan.elements())?;
     let mut known = none_known(alloc, plan.elements())?;

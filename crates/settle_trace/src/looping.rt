@@ -1,6 +1,7 @@
 //! The closed walks that stand.
 
 ghost use Rattle.std.specs.Prelude.{◌≡◌, ◌<◌, ℕ, false, List, map, IfOk};
+ghost use Rattle.std.specs.List.{All};
 ghost use Rattle.sync_topo.specs.declared.event.Event.{Event};
 ghost use Rattle.sync_topo.specs.Hops.{IsRising};
 ghost use Rattle.net_rules.specs.Walks.{Each, IsFacingPair};
@@ -8,6 +9,7 @@ ghost use Rattle.sync_net.specs.Standing.{StandsFor};
 ghost use Rattle.settle_trace.specs.Now.{taken_now};
 ghost use Rattle.settle_trace.specs.Traces.{numbers};
 ghost use Rattle.settle_trace.specs.Loops.{AreLoops};
+ghost use Rattle.settle_trace.specs.Within.{AreLinesOf};
 
 use crate::listing::walks_of;
 use crate::taking::taken_inputs;
@@ -27,6 +29,7 @@ pub fn loops(alloc: Global, net: &Net<'_>) -> Result<Rows<Walk>, NoMemory>
     requires stepped { 0 < net.now.next }
     ensures exact { IfOk result (λ walks. (all : List Event) → StandsFor net.now all net.now.next →
         AreLoops net.now.plan (taken_now net.now all) (map numbers walks)) }
+    ensures of_plan { IfOk result (All (AreLinesOf net.now.plan)) }
 
     // Where ranks rise, each is two elements that face each other on one link or bundle.
     ensures facing { IfOk result (λ walks. (all : List Event) (rank : ℕ → ℕ) →

@@ -1,11 +1,13 @@
 //! How the traces of all elements end.
 
 ghost use Rattle.std.specs.Prelude.{◌≡◌, ◌<◌, ℕ, false, List, length, slice_get, Some, IfOk};
+ghost use Rattle.std.specs.List.{All};
 ghost use Rattle.sync_topo.specs.declared.event.Event.{Event};
 ghost use Rattle.sync_net.specs.Standing.{StandsFor};
 ghost use Rattle.settle_trace.specs.declared.traced.Ending.{Ending};
 ghost use Rattle.settle_trace.specs.Now.{taken_now};
 ghost use Rattle.settle_trace.specs.Traces.{EndsSo};
+ghost use Rattle.settle_trace.specs.Within.{IsEndOf};
 
 use crate::endings::endings_of;
 use crate::taking::taken_inputs;
@@ -26,6 +28,7 @@ pub fn traces(alloc: Global, net: &Net<'_>) -> Result<Rows<Ending>, NoMemory>
     ensures exact { IfOk result (λ endings. (all : List Event) → StandsFor net.now all net.now.next →
         (element : ℕ) (ending : Ending) → slice_get endings element ≡ Some ending →
         EndsSo net.now.plan (taken_now net.now all) element ending) }
+    ensures of_plan { IfOk result (All (IsEndOf net.now.plan)) }
 {
     let taken = taken_inputs(alloc, net)?;
     endings_of(alloc, net.plan(), taken.as_slice())

@@ -1,4 +1,5 @@
-use Rattle.std.proofs.Common.{ℕ, List, map, subst}
+use Rattle.std.proofs.Common.{ℕ, List, map, IfOk, subst, sym}
+use Rattle.std.specs.List.{All}
 use Rattle.std.proofs.lemmas.Result.{IfOk-weaker}
 use Rattle.sync_topo.specs.declared.event.Event.{Event}
 use Rattle.sync_topo.specs.Hops.{IsRising}
@@ -6,10 +7,12 @@ use Rattle.sync_topo.specs.WellFormed.{IsWellFormed}
 use Rattle.net_rules.specs.Walks.{Each, IsFacingPair}
 use Rattle.sync_net.specs.Standing.{StandsFor}
 use Rattle.settle_trace.specs.Now.{now_of, signals_of, out_of, taken_now}
-use Rattle.settle_trace.specs.Taking.{taken_in_list}
+use Rattle.settle_trace.specs.Taking.{taken_in_list, AreTaken}
+use Rattle.settle_trace.specs.Within.{AreLinesOf}
 use Rattle.settle_trace.specs.Traces.{numbers}
 use Rattle.settle_trace.specs.Loops.{AreLoops}
 use Rattle.settle_trace.proofs.TracedNow.{loops-now, loops-facing}
+use Rattle.settle_trace.proofs.WithinLaws.{walks-answered}
 use Rattle.settle_trace.proofs.looping.loops.Goals as goal
 
 pub returns-clause-exact : goal.returns-clause-exact
@@ -35,3 +38,11 @@ returns-clause-facing c =
     (loops-now net c.plan.result.now c.as_slice.result.now c.in_ok-taken.taken.items (map numbers walks)
     c.plan.ensures c.as_slice.ensures.value c.in_ok-taken.ensures.now is all stands))
     c.walks_of.ensures.loops
+
+pub returns-clause-of_plan : goal.returns-clause-of_plan
+returns-clause-of_plan c =
+    let net = c.args.net.now in
+    let taken = subst (AreTaken net.plan) (sym c.as_slice.ensures.value) c.in_ok-taken.ensures.taken in
+    subst (λ plan. IfOk c.walks_of.result (All (AreLinesOf plan))) c.plan.ensures
+    (walks-answered c.plan.result.now c.as_slice.result.now c.walks_of.result
+    (subst (λ plan. AreTaken plan c.as_slice.result.now) (sym c.plan.ensures) taken) c.walks_of.ensures.loops)

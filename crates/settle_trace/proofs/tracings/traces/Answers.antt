@@ -1,13 +1,16 @@
-use Rattle.std.proofs.Common.{◌≡◌, ℕ, List}
+use Rattle.std.proofs.Common.{◌≡◌, ℕ, List, IfOk, subst, sym}
+use Rattle.std.specs.List.{All}
 use Rattle.std.specs.Prelude.{Some, slice_get}
 use Rattle.std.proofs.lemmas.Result.{IfOk-weaker}
 use Rattle.sync_topo.specs.declared.event.Event.{Event}
 use Rattle.sync_net.specs.Standing.{StandsFor}
 use Rattle.settle_trace.specs.declared.traced.Ending.{Ending}
 use Rattle.settle_trace.specs.Now.{taken_now}
-use Rattle.settle_trace.specs.Taking.{taken_in_list}
+use Rattle.settle_trace.specs.Taking.{taken_in_list, AreTaken}
+use Rattle.settle_trace.specs.Within.{IsEndOf}
 use Rattle.settle_trace.specs.Traces.{end_of, EndsSo}
 use Rattle.settle_trace.proofs.TracedNow.{trace-now}
+use Rattle.settle_trace.proofs.WithinLaws.{ends-answered}
 use Rattle.settle_trace.proofs.tracings.traces.Goals as goal
 
 pub returns-clause-exact : goal.returns-clause-exact
@@ -25,3 +28,11 @@ returns-clause-exact c =
           c.plan.ensures c.as_slice.ensures.value c.in_ok-taken.ensures.now ends.2 all stands,
     ))
     c.endings_of.ensures.each
+
+pub returns-clause-of_plan : goal.returns-clause-of_plan
+returns-clause-of_plan c =
+    let net = c.args.net.now in
+    let taken = subst (AreTaken net.plan) (sym c.as_slice.ensures.value) c.in_ok-taken.ensures.taken in
+    subst (λ plan. IfOk c.endings_of.result (All (IsEndOf plan))) c.plan.ensures
+    (ends-answered c.plan.result.now c.as_slice.result.now c.endings_of.result c.endings_of.ensures.well_formed
+    (subst (λ plan. AreTaken plan c.as_slice.result.now) (sym c.plan.ensures) taken) c.endings_of.ensures.count c.endings_of.ensures.each)
