@@ -1,5 +1,5 @@
 -- What stands behind the rows of a report.
-use Rattle.std.proofs.Common.{◌≡◌, ◌<◌, ◌+◌, ◌-◌, ℕ, suc, List, [], ◌∷◌, ◌++◌, length, map, take, Some, slice_get, sym, ap, ◌∙◌, arith}
+use Rattle.std.proofs.Common.{◌≡◌, ◌<◌, ◌+◌, ◌-◌, ℕ, suc, List, [], ◌∷◌, ◌++◌, length, map, take, Some, slice_get, refl, sym, ap, ◌∙◌, arith}
 use Rattle.std.specs.List.{concat, range_with_len}
 use Rattle.std.proofs.Math.ListN.{get_or}
 use Rattle.std.proofs.lemmas.List.{length-map, append_assoc, append-nil, map_more}
@@ -80,3 +80,16 @@ one-number f n old before row so_far is =
     let rows : List ℕ = concat (map f (range_with_len 0 n)) in
     ap (λ front. front ++ row) so_far ∙ append_assoc old rows row ∙ ap (λ r. old ++ (rows ++ r)) (is ∙ sym (append-nil (f n)))
     ∙ ap (λ r. old ++ r) (sym (ap concat (map-range_with_len_more f 0 n n (omega arith)) ∙ concat-append (map f (range_with_len 0 n)) (f n ∷ [])))
+
+-- a row of what is made of an item
+pub map-map : {A B C : Type 0} (g : B → C) (f : A → B) (xs : List A) → map (λ x. g (f x)) xs ≡ map g (map f xs)
+map-map g f [] = refl
+map-map g f (x ∷ xs) = ap (λ rest. g (f x) ∷ rest) (map-map g f xs)
+
+-- three texts put one after another
+pub three-parts : (old one two three first second third : List ℕ) → one ≡ old ++ first → two ≡ one ++ second → three ≡ two ++ third
+    → three ≡ old ++ (first ++ second ++ third)
+three-parts old one two three first second third is_one is_two is_three =
+    is_three ∙ ap (λ t. t ++ third) (is_two ∙ ap (λ t. t ++ second) is_one)
+    ∙ ap (λ t. t ++ third) (append_assoc old first second)
+    ∙ append_assoc old (first ++ second) third

@@ -1,5 +1,5 @@
--- The report of a run of a network: all changes, and the conditions of all inputs at its end. This
--- project's own.
+-- The report of a run of a network: all changes, the conditions of all inputs at its end, whence each
+-- element has its timing then, which loops stand, and whether it is settled. This project's own.
 use Rattle.std.specs.Prelude.{◌≡◌, ℕ, suc, false, List, ◌++◌, length, map, codes, Option, Some, IsSome, unwrap_or}
 use Rattle.std.specs.List.{range_with_len, concat}
 use Rattle.std.specs.Fmt.{decimal}
@@ -16,6 +16,7 @@ use Rattle.event_sim.specs.declared.change.Reach.TheVariants.{Until, Stopped}
 use Rattle.event_sim.specs.Rows.{rows_until}
 use Rattle.event_sim.specs.SimState.{SimState}
 use Rattle.trace_report.specs.Words.{change_row, input_row}
+use Rattle.trace_report.specs.LastParts.{AreLastParts}
 
 -- the changes, each a row
 abbrev pub changes_part : Topology → List Change → List ℕ
@@ -35,11 +36,11 @@ inputs_part plan condition =
 abbrev pub conditions_at : Topology → List Event → ℕ → InputId → Cond
 conditions_at plan events t input = condition_by plan (signals_by plan events) input t
 
--- the report up to a millisecond, where all changes up to there fit; and where they don't, up to the
--- last one up to which all fit
-abbrev pub whole_report : Topology → List Event → ℕ → List ℕ
-whole_report plan events until =
-    changes_part plan (rows_until plan events (suc until)) ++ inputs_part plan (conditions_at plan events until)
+-- the report up to a millisecond, where all changes up to there fit: the changes, the inputs, and the
+-- last parts; and where they don't, up to the last one up to which all fit
+abbrev pub IsWholeReport : Topology → List Event → ℕ → List ℕ → Type 0
+IsWholeReport plan events until text = (last : List ℕ) × AreLastParts plan events until last
+    × (text ≡ changes_part plan (rows_until plan events (suc until)) ++ inputs_part plan (conditions_at plan events until) ++ last)
 
 abbrev pub stopped_part : ℕ → List ℕ
 stopped_part t = codes "stopped," ++ decimal t ++ codes "\n"
@@ -48,9 +49,9 @@ abbrev pub stopped_report : Topology → List Event → ℕ → List ℕ
 stopped_report plan events t = changes_part plan (rows_until plan events (suc t)) ++ stopped_part t
 
 -- the report of a simulator that has reached a millisecond, by what its last advance answered
-abbrev pub report_text : Topology → List Event → Option ℕ → Reach → List ℕ
-report_text plan events reached Until = whole_report plan events (unwrap_or reached 0)
-report_text plan events reached (Stopped t) = stopped_report plan events t
+abbrev pub IsReportText : Topology → List Event → Option ℕ → Reach → List ℕ → Type 0
+IsReportText plan events reached Until text = IsWholeReport plan events (unwrap_or reached 0) text
+IsReportText plan events reached (Stopped t) text = text ≡ stopped_report plan events t
 
 -- a simulator's last advance may have answered this
 abbrev pub IsLastAnswer : SimState → Reach → Type 0

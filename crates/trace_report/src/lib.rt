@@ -1,14 +1,18 @@
 //! The report of a run, as text.
 //!
 //! [`report`] writes what a simulator has noted and how its network stands: all changes, each a row,
-//! and then the conditions of all inputs; its text is `report_text`, over the rules' history of the
-//! plan and all events. This project's own.
+//! the conditions of all inputs, whence each element has its timing, which loops stand, and whether
+//! the network is settled. Its text is one of `IsReportText`, over the rules' history of the plan and
+//! all events, and [`one_report_law`] says that there is one. This project's own.
 #![tactic(auto)]
 
 mod changes;
 mod conditions;
 mod inputs;
+mod last_parts;
+mod laws;
 mod words;
 mod writing;
 
+pub use laws::one_report_law;
 pub use writing::report;

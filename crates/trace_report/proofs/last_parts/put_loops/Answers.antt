@@ -1,0 +1,25 @@
+use Rattle.std.proofs.Common.{◌≡◌, ◌≤◌, ◌++◌, length, take, map, List, ap, sym, ◌∙◌, arith, refl}
+use Rattle.std.specs.Prelude.{codes}
+use Rattle.std.specs.List.{concat}
+use Rattle.std.proofs.lemmas.List.{append_assoc, take_all}
+use Rattle.sync_topo.specs.declared.input.LineId.{LineId}
+use Rattle.settle_trace.specs.Traces.{numbers}
+use Rattle.trace_report.specs.LastParts.{walk_row}
+use Rattle.trace_report.proofs.ReportLaws.{one-row, map-map}
+use Rattle.trace_report.proofs.last_parts.put_loops.Goals as goal
+
+pub loop-walk-preserved : goal.loop-walk-preserved
+loop-walk-preserved c =
+    let row = λ (walk : List LineId). walk_row c.args.plan.now (numbers walk) in
+    c.in_ok-put_walk.ensures.put
+    ∙ one-row row c.args.walks.now c.loop-walk.walk-index c.walk-item.result (c.args.text.now ++ codes "loops\n") c.loop-walk.text
+    (row c.as_slice.result.now) c.loop-walk-test.true c.loop-walk.invariant (ap row (c.as_slice.ensures ∙ c.walk-item.is))
+
+pub returns : goal.returns
+returns c = record {
+  put =
+      c.loop-walk.invariant
+      ∙ ap (λ walks. c.args.text.now ++ codes "loops\n" ++ concat (map (λ (walk : List LineId). walk_row c.args.plan.now (numbers walk)) walks)) (take_all c.loop-walk.walk-index c.args.walks.now c.loop-walk-test.false)
+      ∙ ap (λ rows. c.args.text.now ++ codes "loops\n" ++ concat rows) (map-map (walk_row c.args.plan.now) numbers c.args.walks.now)
+      ∙ append_assoc c.args.text.now (codes "loops\n") (concat (map (walk_row c.args.plan.now) (map numbers c.args.walks.now)));
+}

@@ -1,0 +1,154 @@
+//! Whence each element has its timing, which loops stand, and whether the network is settled.
+
+ghost use Rattle.std.specs.Prelude.{◌≡◌, ◌<◌, ◌+◌, ◌++◌, ℕ, false, List, length, map, codes, OnOk};
+ghost use Rattle.std.specs.List.{All};
+ghost use Rattle.sync_topo.specs.declared.event.Event.{Event};
+ghost use Rattle.sync_topo.specs.Lines.{line_count, line_name};
+ghost use Rattle.sync_net.specs.Standing.{StandsFor};
+ghost use Rattle.settle_trace.specs.Now.{now_of};
+ghost use Rattle.settle_trace.specs.Traces.{numbers};
+ghost use Rattle.settle_trace.specs.Within.{IsEndOf, AreLinesOf};
+ghost use Rattle.trace_report.specs.Report.{inputs_part, conditions_at};
+ghost use Rattle.trace_report.specs.LastParts.{AreLastParts, end_name, end_word, loops_part, rest_text, settled_part, trace_row, traces_part, walk_row};
+
+use crate::inputs::put_inputs;
+use settle_trace::{End, Ending, Walk, loops, settled, traces};
+use std::alloc::Global;
+use sync_edge::{NoMemory, Text};
+use sync_net::Net;
+use sync_topo::{InputId, LineId, Plan};
+
+// Puts how the network stands in the millisecond of its last step.
+pub fn put_end(alloc: Global, text: &mut Text, net: &Net<'_>, until: u64) -> Result<(), NoMemory>
+    requires live { net.now.spent ≡ false }
+    requires next { net.now.next ≡ until + 1 }
+    ensures put { OnOk result ((all : List Event) → StandsFor net.now all (until + 1) →
+        (last : List ℕ) × AreLastParts net.now.plan all until last
+        × (text.new ≡ text.old ++ inputs_part net.now.plan (conditions_at net.now.plan all until) ++ last)) }
+{
+    put_inputs(alloc, text, net, until)?;
+    put_last_parts(alloc, text, net)?;
+    Ok(())
+}
+
+// Puts the last parts, as they are in the millisecond of the last step.
+fn put_last_parts(alloc: Global, text: &mut Text, net: &Net<'_>) -> Result<(), NoMemory>
+    requires live { net.now.spent ≡ false }
+    requires stepped { 0 < net.now.next }
+    ensures put { OnOk result ((all : List Event) → StandsFor net.now all net.now.next →
+        (last : List ℕ) × AreLastParts net.now.plan all (now_of net.now) last
+        × (text.new ≡ text.old ++ last)) }
+{
+    let endings = traces(alloc, net)?;
+    let walks = loops(alloc, net)?;
+    put_traces(text, net.plan(), endings.as_slice())?;
+    put_loops(alloc, text, net.plan(), walks.as_slice())?;
+    put_settled(text, settled(net))?;
+    Ok(())
+}
+
+// Puts how the traces of all elements end.
+fn put_traces(text: &mut Text, plan: &Plan, endings: &[Ending]) -> Result<(), NoMemory>
+    requires count { length endings.now ≡ length plan.now.elements }
+    requires of_plan { All (IsEndOf plan.now) endings.now }
+    ensures put { OnOk result (text.new ≡ text.old ++ traces_part plan.now endings.now) }
+{
+    text.put(b"traces\n")?;
+    for e in 0..plan.elements() {
+        put_trace(text, plan, e, endings[e as usize])?;
+    }
+    Ok(())
+}
+
+// Puts how the trace of one element ends.
+fn put_trace(text: &mut Text, plan: &Plan, e: u32, ending: Ending) -> Result<(), NoMemory>
+    requires within { e < length plan.now.elements }
+    requires of_plan { IsEndOf plan.now ending }
+    ensures put { OnOk result (text.new ≡ text.old ++ trace_row plan.now e ending) }
+{
+    text.put(plan.element(e).name.bytes())?;
+    text.put(b",")?;
+    text.put_number(u64::from(ending.lines))?;
+    text.put(b",")?;
+    text.put(end_word(ending.end))?;
+    text.put(b",")?;
+    text.put(end_name(plan, ending))?;
+    text.put(b"\n")
+}
+
+// The kind of an end, in a word.
+fn end_word(end: End) -> &'static [u8]
+    ensures { result.now ≡ end_word end }
+{
+    match end {
+        End::Source(_) => b"source",
+        End::OwnClock(_) => b"own",
+        End::Loop(_) => b"loop",
+    }
+}
+
+// The name of the source or element at which a trace ends.
+fn end_name(plan: &Plan, ending: Ending) -> &[u8]
+    requires of_plan { IsEndOf plan.now ending }
+    ensures { result.now ≡ end_name plan.now ending.end }
+{
+    match ending.end {
+        End::Source(source) => plan.source(source).name.bytes(),
+        End::OwnClock(element) | End::Loop(element) => plan.element(element).name.bytes(),
+    }
+}
+
+// Puts all closed walks.
+fn put_loops(alloc: Global, text: &mut Text, plan: &Plan, walks: &[Walk]) -> Result<(), NoMemory>
+    requires of_plan { All (AreLinesOf plan.now) walks.now }
+    ensures put { OnOk result (text.new ≡ text.old ++ loops_part plan.now (map numbers walks.now)) }
+{
+    text.put(b"loops\n")?;
+    for walk in walks {
+        put_walk(alloc, text, plan, walk.as_slice())?;
+    }
+    Ok(())
+}
+
+// Puts one closed walk.
+fn put_walk(alloc: Global, text: &mut Text, plan: &Plan, lines: &[LineId]) -> Result<(), NoMemory>
+    requires of_plan { AreLinesOf plan.now lines.now }
+    ensures put { OnOk result (text.new ≡ text.old ++ walk_row plan.now (numbers lines.now)) }
+{
+    if let Some((first, rest)) = lines.split_first() {
+        plan.put_input_name(alloc, text, InputId::Line(*first))?;
+        put_rest(alloc, text, plan, rest)?;
+    }
+    text.put(b"\n")
+}
+
+// Puts the lines of a closed walk after its first.
+fn put_rest(alloc: Global, text: &mut Text, plan: &Plan, rest: &[LineId]) -> Result<(), NoMemory>
+    requires of_plan { AreLinesOf plan.now rest.now }
+    ensures put { OnOk result (text.new ≡ text.old ++ rest_text plan.now (numbers rest.now)) }
+{
+    for line in rest {
+        put_line(alloc, text, plan, *line)?;
+    }
+    Ok(())
+}
+
+// Puts a blank and a line.
+fn put_line(alloc: Global, text: &mut Text, plan: &Plan, line: LineId) -> Result<(), NoMemory>
+    requires of_plan { line.0 < line_count plan.now }
+    ensures put { OnOk result (text.new ≡ text.old ++ (codes " " ++ line_name plan.now line.0)) }
+{
+    text.put(b" ")?;
+    plan.put_input_name(alloc, text, InputId::Line(line))
+}
+
+// Puts whether the network is settled.
+fn put_settled(text: &mut Text, settled: bool) -> Result<(), NoMemory>
+    ensures put { OnOk result (text.new ≡ text.old ++ settled_part settled) }
+{
+    if settled {
+        text.put(b"settled yes\n")
+    } else {
+        text.put(b"settled no\n")
+    }
+}
