@@ -1,0 +1,5 @@
+pub mod HopCount
+pub mod LocalFacts
+pub mod Marks
+pub mod Outputs
+pub mod Searching

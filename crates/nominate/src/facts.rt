@@ -1,0 +1,156 @@
+ghost use Rattle.std.specs.Prelude.{◌≡◌, ◌<◌, ◌+◌, ◌↔◌, false, length, replicate, Some, IsTrue};
+ghost use Rattle.sync_topo.specs.Lines.{line_count};
+ghost use Rattle.nominate.specs.HopCount.{count_at, IsRoot, AreHopCounts};
+ghost use Rattle.nominate.specs.LocalFacts.{AreNear, AreRootsRight, AreEndsNear, HaveCloser, AreLocallyRight};
+ghost use Rattle.nominate.specs.Marks.{is_one_less, is_above, AreMarks};
+
+use crate::hops::Hops;
+use crate::search::is_root;
+use sync_topo::{LineId, Plan};
+
+/// The most elements that a plan has.
+const MOST_ELEMENTS: usize = 2000;
+
+/// Tests that the list is the counts that [`least_hops`](crate::least_hops) gives.
+///
+/// It looks at each element and at each link once: just the elements with a nominated source have 0,
+/// the two ends of a link have no count or counts that differ by at most 1, and each other element
+/// with a count has a link to one with one less. It takes no memory. This project's own.
+pub fn hops_ok(plan: &Plan, hops: &Hops) -> bool
+    requires { length hops.now ≡ length plan.now.elements }
+    ensures local { IsTrue result ↔ AreLocallyRight plan.now hops.now }
+    ensures exact { IsTrue result ↔ AreHopCounts plan.now hops.now }
+{
+    let _elements = plan.elements();
+    facts_ok(plan, hops)
+}
+
+/// The three facts hold.
+fn facts_ok(plan: &Plan, hops: &Hops) -> bool
+    requires { length hops.now ≡ length plan.now.elements }
+    ensures { IsTrue result ↔ AreLocallyRight plan.now hops.now }
+{
+    roots_ok(plan, hops) && near_ok(plan, hops) && closer_ok(plan, hops)
+}
+
+/// Just the roots have 0.
+fn roots_ok(plan: &Plan, hops: &Hops) -> bool
+    requires { length hops.now ≡ length plan.now.elements }
+    ensures { IsTrue result ↔ AreRootsRight plan.now hops.now }
+{
+    for element in 0..plan.elements() {
+        if !root_ok(plan, hops, element) {
+            return false;
+        }
+    }
+    true
+}
+
+/// The element has 0 just where it is a root.
+fn root_ok(plan: &Plan, hops: &Hops, element: u32) -> bool
+    requires counted { length hops.now ≡ length plan.now.elements }
+    requires within { element < length plan.now.elements }
+    ensures { IsTrue result ↔ ((count_at hops.now element ≡ Some 0) ↔ IsRoot plan.now element) }
+{
+    if is_root(plan, element) {
+        hops.of(element) == Some(0)
+    } else {
+        hops.of(element) != Some(0)
+    }
+}
+
+/// The two ends of each link are near.
+fn near_ok(plan: &Plan, hops: &Hops) -> bool
+    requires { length hops.now ≡ length plan.now.elements }
+    ensures { IsTrue result ↔ AreEndsNear plan.now hops.now }
+{
+    for number in 0..plan.lines() {
+        let line = LineId(number);
+        if !are_near(hops.of(plan.from(line)), hops.of(plan.to(line))) {
+            return false;
+        }
+    }
+    true
+}
+
+/// Both have no count, or counts that differ by at most 1.
+fn are_near(one: Option<u32>, other: Option<u32>) -> bool
+    ensures { IsTrue result ↔ AreNear one other }
+{
+    match (one, other) {
+        (None, None) => true,
+        (Some(one), Some(other)) => one.abs_diff(other) <= 1,
+        _ => false,
+    }
+}
+
+/// Each element with a count above 0 has a link to one with one less.
+fn closer_ok(plan: &Plan, hops: &Hops) -> bool
+    requires { length hops.now ≡ length plan.now.elements }
+    ensures { IsTrue result ↔ HaveCloser plan.now hops.now }
+{
+    let mut marks = [false; MOST_ELEMENTS];
+    mark_all(plan, hops, &mut marks);
+    all_marked(plan, hops, &marks)
+}
+
+/// Marks the elements that a line from one with one less leads to.
+fn mark_all(plan: &Plan, hops: &Hops, marks: &mut [bool])
+    requires counted { length hops.now ≡ length plan.now.elements }
+    requires none { marks.old ≡ replicate MOST_ELEMENTS false }
+    ensures { AreMarks plan.now hops.now (line_count plan.now) marks.new }
+{
+    for number in 0..plan.lines() {
+        mark(plan, hops, marks, LineId(number));
+    }
+}
+
+/// Marks the element where the line ends, if the line begins at one with one less.
+fn mark(plan: &Plan, hops: &Hops, marks: &mut [bool], line: LineId)
+    requires counted { length hops.now ≡ length plan.now.elements }
+    requires room { length marks.old ≡ MOST_ELEMENTS }
+    requires within { line.0 < line_count plan.now }
+    requires before { AreMarks plan.now hops.now line.0 marks.old }
+    ensures { AreMarks plan.now hops.now (line.0 + 1) marks.new }
+{
+    let receiver = plan.to(line);
+    if is_one_less(hops.of(plan.from(line)), hops.of(receiver)) {
+        marks[receiver as usize] = true;
+    }
+}
+
+/// Both have counts, and the first one's is one less.
+fn is_one_less(one: Option<u32>, other: Option<u32>) -> bool
+    ensures { result ≡ is_one_less one other }
+{
+    match (one, other) {
+        (Some(one), Some(other)) => one.checked_add(1) == Some(other),
+        _ => false,
+    }
+}
+
+/// Each element with a count above 0 is marked.
+fn all_marked(plan: &Plan, hops: &Hops, marks: &[bool]) -> bool
+    requires counted { length hops.now ≡ length plan.now.elements }
+    requires room { length marks.now ≡ MOST_ELEMENTS }
+    requires marks { AreMarks plan.now hops.now (line_count plan.now) marks.now }
+    ensures { IsTrue result ↔ HaveCloser plan.now hops.now }
+{
+    for element in 0..plan.elements() {
+        let marked = marks[element as usize];
+        if !marked && is_above(hops.of(element)) {
+            return false;
+        }
+    }
+    true
+}
+
+/// There is a count, and it is above 0.
+fn is_above(count: Option<u32>) -> bool
+    ensures { result ≡ is_above count }
+{
+    match count {
+        Some(hops) => 0 < hops,
+        None => false,
+    }
+}
