@@ -4,3 +4,13 @@ pub mod OutputLemmas
 pub mod SearchLemmas
 pub mod HopLaws
 pub mod MarkLemmas
+pub mod BelowLemmas
+pub mod OwnLemmas
+pub mod NumberLemmas
+pub mod CandidateLaws
+pub mod PlanFacts
+pub mod OrderLaws
+pub mod NominatedLaws
+pub mod RowLemmas
+pub mod PlaceLemmas
+pub mod CertLaws

@@ -18,6 +18,7 @@ use Rattle.nominate.specs.Searching.{left_over, work, IsSearching, IsClose, IsLe
 use Rattle.std.specs.declared.alloc.Global.{Global}
 use Rattle.std.specs.Prelude.{Vec}
 use Rattle.nominate.specs.declared.search.Search.{Search}
+use Rattle.nominate.specs.HopCount.{AreBounded}
 use Rattle.nominate.proofs.CountLemmas.{count-set_here, count-set_there, count-push_before, count-push_last, count-within}
 use Rattle.nominate.proofs.SourceLemmas.{root-within}
 
@@ -278,3 +279,12 @@ close-there plan search element hops searching is = elim (searching.low element 
   | inl low ↦ (hops, is, omega (arith, low))
   | inr deep ↦ let here : hops ≡ suc search.depth = deep.0 in (hops, is, omega (arith, here))
 ]
+
+-- no count is above the number of elements
+pub bounded-search : (plan : Topology) (search : Search) → IsSearching plan search → AreBounded plan search.counts.items
+bounded-search plan search searching element hops is =
+    let bound = searching.bound in
+    elim (searching.low element hops is) [
+      | inl low ↦ omega (arith, low, bound)
+      | inr deep ↦ let more : hops ≡ suc search.depth = deep.0 in let some = deep.1 in omega (arith, more, some, bound)
+    ]

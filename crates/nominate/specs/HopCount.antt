@@ -36,3 +36,7 @@ IsCountOf plan element (Some hops) = IsHopCount plan element hops
 pub record AreHopCounts (plan : Topology) (counts : Counts) : Type 0 where
   pub counted : length counts ≡ length plan.elements
   pub each : (element : ℕ) → element < length plan.elements → IsCountOf plan element (count_at counts element)
+
+-- no count is above the number of elements
+abbrev pub AreBounded : Topology → Counts → Type 0
+AreBounded plan counts = (element hops : ℕ) → count_at counts element ≡ Some hops → hops ≤ length plan.elements

@@ -120,7 +120,7 @@ fn mark(plan: &Plan, hops: &Hops, marks: &mut [bool], line: LineId)
 }
 
 /// Both have counts, and the first one's is one less.
-fn is_one_less(one: Option<u32>, other: Option<u32>) -> bool
+pub(crate) fn is_one_less(one: Option<u32>, other: Option<u32>) -> bool
     ensures { result ≡ is_one_less one other }
 {
     match (one, other) {

@@ -1,5 +1,5 @@
 ghost use Rattle.std.specs.Prelude.{◌≡◌, ◌<◌, length, IfOk};
-ghost use Rattle.nominate.specs.HopCount.{Counts, count_at, AreHopCounts};
+ghost use Rattle.nominate.specs.HopCount.{Counts, count_at, AreHopCounts, AreBounded};
 
 use crate::outputs::outputs;
 use crate::search::Search;
@@ -48,6 +48,9 @@ pub fn least_hops(alloc: Global, plan: &Plan) -> Result<Hops, NoMemory>
     // There is one such list.
     ensures only { IfOk result (λ hops. (counts : Counts) → AreHopCounts plan.now counts
         → counts ≡ hops) }
+
+    // No count is above the number of elements.
+    ensures bounded { IfOk result (AreBounded plan.now) }
 {
     let outputs = outputs(alloc, plan)?;
     let mut search = Search::new(alloc, plan)?;

@@ -1,13 +1,28 @@
-//! Hop counts: over how few links each element of a plan is reached from one with a clock.
+//! Priorities by fewest hops: a plan that has links and clocks but no priorities gets some with which
+//! no timing loop can form.
 //!
-//! [`least_hops`] gives the counts, and [`hops_ok`] tests a list by looking at each element and each
-//! link once. What a count is stands in `HopCount`, and the facts that are tested in `LocalFacts`.
+//! [`least_hops`] counts over how few links each element is reached from one with a clock, and
+//! [`hops_ok`] tests a list of counts by looking at each element and each link once. [`nominate`]
+//! gives the plan with the new priorities, and [`order_cert`] the certificate that
+//! [`check`](rank_cert::check) accepts for it.
+//!
+//! What a count is stands in `HopCount`, the facts that are tested in `LocalFacts`, and the order of
+//! elements, the candidates and their priorities in `Nomination`.
+//!
+//! That memory is found is tested, on worked plans.
 #![tactic(auto)]
 
+mod certificate;
 mod facts;
 mod hops;
+mod nominated;
+mod numbering;
 mod outputs;
+mod placing;
+mod rows;
 mod search;
 
+pub use certificate::order_cert;
 pub use facts::hops_ok;
 pub use hops::{Hops, least_hops};
+pub use nominated::nominate;

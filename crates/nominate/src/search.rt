@@ -131,7 +131,7 @@ pub(crate) fn is_root(plan: &Plan, element: u32) -> bool
 }
 
 /// The input is a source.
-fn is_source(input: InputId) -> bool
+pub(crate) fn is_source(input: InputId) -> bool
     ensures { result ≡ is_source input }
 {
     match input {

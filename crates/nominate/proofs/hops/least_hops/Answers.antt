@@ -1,3 +1,4 @@
+use Rattle.nominate.proofs.SearchLemmas.{bounded-search}
 use Rattle.nominate.proofs.HopLaws.{facts-by_search, counts-by_facts, one-list}
 use Rattle.nominate.proofs.hops.least_hops.Goals as goal
 
@@ -8,3 +9,6 @@ returns-clause-least c =
 
 pub returns-clause-only : goal.returns-clause-only
 returns-clause-only c = λ counts are. one-list c.args.plan.now counts c.run.new.self.counts.items are (returns-clause-least c)
+
+pub returns-clause-bounded : goal.returns-clause-bounded
+returns-clause-bounded c = bounded-search c.args.plan.now c.run.new.self c.in_ok-run.ensures.searching
