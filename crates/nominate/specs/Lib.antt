@@ -1,6 +1,7 @@
 pub mod HopCount
 pub mod LocalFacts
 pub mod Nomination
+pub mod Examples
 pub mod Marks
 pub mod Outputs
 pub mod Searching
