@@ -3,3 +3,4 @@ pub mod OneAnswer
 pub mod Accepted
 pub mod LoopFree
 pub mod Reports
+pub mod RowsOfHops

@@ -19,7 +19,7 @@ use Rattle.rank_cert.specs.Ranks.{Ranks, rank_of}
 use Rattle.rank_cert.specs.CertificateText.{certificate_of}
 use Rattle.sync_top.specs.declared.status.Status.{Status}
 use Rattle.sync_top.specs.declared.status.Status.TheVariants.{Done, Refuted, Usage, BadPlan, BadCert, BadEvents, BadFrames, ReadFault, WriteFault, TooLong, NoMemory, Stopped}
-use Rattle.sync_top.specs.Form.{Form, check, rank, decode, encode, pcap_decode, pcap_encode, gen, sim, form_of}
+use Rattle.sync_top.specs.Form.{Form, check, rank, hops, nominate, decode, encode, pcap_decode, pcap_encode, gen, sim, form_of}
 use Rattle.sync_top.specs.Reading.{End, no_file, answered, file_limit, plan_in, Answered}
 use Rattle.sync_top.specs.Forms.Check.{ranks_in, documents, IsVerdict}
 use Rattle.sync_top.specs.Answer.{FormAnswer, IsAnswer, MissesFile}
@@ -105,6 +105,8 @@ form-loop_free : (form : Option Form) (files : Contents) (text : List ℕ) → F
 form-loop_free None files text answer = tt
 form-loop_free (Some (check plan_name name)) files text answer = checked-loop_free plan_name name text files answer
 form-loop_free (Some (rank plan_name)) files text answer = tt
+form-loop_free (Some (hops plan_name)) files text answer = tt
+form-loop_free (Some (nominate plan_name)) files text answer = tt
 form-loop_free (Some (decode option name)) files text answer = tt
 form-loop_free (Some (encode option name)) files text answer = tt
 form-loop_free (Some (pcap_decode option name)) files text answer = tt

@@ -20,15 +20,19 @@ use Rattle.event_sim.specs.declared.limits.TheConstants.{MOST_CHANGES}
 use Rattle.event_sim.specs.Rows.{rows_until}
 use Rattle.event_sim.specs.Answers.{IsLastFit}
 use Rattle.event_sim.proofs.LaterRows.{rows-grow}
-use Rattle.trace_report.specs.Report.{whole_report, stopped_report}
+use Rattle.trace_report.specs.Report.{IsWholeReport, stopped_report}
 use Rattle.capture_text.specs.Capture.{decoded_text, encoded_text}
 use Rattle.pcap_file.specs.Timed.{encoded_pcap}
 use Rattle.sync_top.specs.declared.status.Status.{Status}
 use Rattle.sync_top.specs.declared.status.Status.TheVariants.{Done, Refuted, Usage, BadPlan, BadCert, BadEvents, BadFrames, ReadFault, WriteFault, TooLong, NoMemory, Stopped}
+use Rattle.sync_top.specs.Form as asked
 use Rattle.sync_top.specs.Form.{Form, check, rank, decode, encode, pcap_decode, pcap_encode, gen, sim, form_of}
 use Rattle.sync_top.specs.Reading.{End, no_file, answered, text_line, plan_in, Answered, IsText}
 use Rattle.sync_top.specs.Forms.Check.{documents, IsVerdict}
 use Rattle.sync_top.specs.Forms.Rank.{IsPlanned, cycle_text}
+use Rattle.sync_top.specs.Forms.Hops.{AreHopRows, hops_text}
+use Rattle.sync_top.specs.Forms.Nominate.{IsNominatedText}
+use Rattle.nominate.proofs.HopLaws.{one-list}
 use Rattle.sync_top.specs.Forms.Captures.{captured, pcap_rows}
 use Rattle.sync_top.specs.Forms.Sim.{plan_and_events, IsReport}
 use Rattle.sync_top.specs.Answer.{FormAnswer, IsAnswer}
@@ -190,7 +194,7 @@ one_asked given status other text another first second = (first.0 ∙ sym second
 -- what a run may give
 abbrev Whole : Topology → List Event → ℕ → Status → List ℕ → Type 0
 Whole plan events until status text =
-    (status ≡ Done) × (length (rows_until plan events (suc until)) ≤ MOST_CHANGES) × (text ≡ whole_report plan events until)
+    (status ≡ Done) × (length (rows_until plan events (suc until)) ≤ MOST_CHANGES) × IsWholeReport plan events until text
 
 abbrev Short : Topology → List Event → ℕ → Status → List ℕ → Type 0
 Short plan events until status text =
@@ -225,65 +229,86 @@ one_last plan events until t u first second = elim (dec_lt t u) [
   ]
 ]
 
--- a run gives one report
-one_report : (plan : Topology) (events : List Event) (until : ℕ) → IsOne (IsReport plan events until)
-one_report plan events until status other text another first second =
-    elim (either_report plan events until status text first) [
-      | inl whole ↦ elim (either_report plan events until other another second) [
-        | inl also ↦ (whole.0 ∙ sym also.0, whole.2 ∙ sym also.2)
-        | inr short ↦ absurd (omega (arith, whole.1, short.1.1.all))
+module _ (one_whole : (plan : Topology) (events : List Event) (until : ℕ) (text another : List ℕ) → IsWholeReport plan events until text → IsWholeReport plan events until another → text ≡ another) where
+  -- a run gives one report
+  one_report : (plan : Topology) (events : List Event) (until : ℕ) → IsOne (IsReport plan events until)
+  one_report plan events until status other text another first second =
+      elim (either_report plan events until status text first) [
+        | inl whole ↦ elim (either_report plan events until other another second) [
+          | inl also ↦ (whole.0 ∙ sym also.0, one_whole plan events until text another whole.2 also.2)
+          | inr short ↦ absurd (omega (arith, whole.1, short.1.1.all))
+        ]
+        | inr short ↦ elim (either_report plan events until other another second) [
+          | inl whole ↦ absurd (omega (arith, whole.1, short.1.1.all))
+          | inr also ↦
+              (short.0 ∙ sym also.0, short.1.2 ∙ ap (stopped_report plan events) (one_last plan events until short.1.0 also.1.0 short.1.1 also.1.1) ∙ sym also.1.2)
+        ]
       ]
-      | inr short ↦ elim (either_report plan events until other another second) [
-        | inl whole ↦ absurd (omega (arith, whole.1, short.1.1.all))
-        | inr also ↦
-            (short.0 ∙ sym also.0, short.1.2 ∙ ap (stopped_report plan events) (one_last plan events until short.1.0 also.1.0 short.1.1 also.1.1) ∙ sym also.1.2)
-      ]
-    ]
 
--- a form has one status
-form_status : (form : Option Form) (files : Contents) (status other : Status) (text another : List ℕ) → FormAnswer form files status text
-    → FormAnswer form files other another → status ≡ other
-form_status None files status other text another first second = first.0 ∙ sym second.0
-form_status (Some (check plan cert)) files status other text another first second =
-    (one_answered (λ read. IsVerdict read.0 read.1) (λ read. one_verdict read.0 read.1) (documents plan cert files) status other text another first second).0
-form_status (Some (rank plan)) files status other text another first second =
-    (one_answered IsPlanned one_planned (plan_in plan files) status other text another first second).0
-form_status (Some (decode option name)) files status other text another first second =
-    (one_answered IsText one_asked (captured decoded_text option name files) status other text another first second).0
-form_status (Some (encode option name)) files status other text another first second =
-    (one_answered IsText one_asked (captured encoded_text option name files) status other text another first second).0
-form_status (Some (pcap_decode option name)) files status other text another first second =
-    (one_answered IsText one_asked (pcap_rows option name files) status other text another first second).0
-form_status (Some (pcap_encode option name)) files status other text another first second =
-    (one_answered IsText one_asked (captured encoded_pcap option name files) status other text another first second).0
-form_status (Some (gen n)) files status other text another first second = first.0 ∙ sym second.0
-form_status (Some (sim plan events until)) files status other text another first second =
-    (one_answered (λ read. IsReport read.0 read.1 until) (λ read. one_report read.0 read.1 until) (plan_and_events plan events files) status other text another first second).0
+  -- the rows of hop counts are one
+  one_hop_rows : (plan : Topology) → IsOne (AreHopRows plan)
+  one_hop_rows plan status other text another first second =
+      let same = one-list plan first.1.0 second.1.0 first.1.1 second.1.1 in
+      (first.0 ∙ sym second.0, first.1.2 ∙ ap (hops_text plan) same ∙ sym second.1.2)
 
--- and one text, but for `gen`
-form_text : (form : Option Form) (files : Contents) (status other : Status) (text another : List ℕ) → FormAnswer form files status text
-    → FormAnswer form files other another → has_one_text form ≡ true → text ≡ another
-form_text None files status other text another first second one = first.1 ∙ sym second.1
-form_text (Some (check plan cert)) files status other text another first second one =
-    (one_answered (λ read. IsVerdict read.0 read.1) (λ read. one_verdict read.0 read.1) (documents plan cert files) status other text another first second).1
-form_text (Some (rank plan)) files status other text another first second one =
-    (one_answered IsPlanned one_planned (plan_in plan files) status other text another first second).1
-form_text (Some (decode option name)) files status other text another first second one =
-    (one_answered IsText one_asked (captured decoded_text option name files) status other text another first second).1
-form_text (Some (encode option name)) files status other text another first second one =
-    (one_answered IsText one_asked (captured encoded_text option name files) status other text another first second).1
-form_text (Some (pcap_decode option name)) files status other text another first second one =
-    (one_answered IsText one_asked (pcap_rows option name files) status other text another first second).1
-form_text (Some (pcap_encode option name)) files status other text another first second one =
-    (one_answered IsText one_asked (captured encoded_pcap option name files) status other text another first second).1
-form_text (Some (gen n)) files status other text another first second one = absurd (true≢false (sym one))
-form_text (Some (sim plan events until)) files status other text another first second one =
-    (one_answered (λ read. IsReport read.0 read.1 until) (λ read. one_report read.0 read.1 until) (plan_and_events plan events files) status other text another first second).1
+  -- a nominated plan has one status
+  one_nominated : (read : Result Topology End) (status other : Status) (text another : List ℕ) → Answered IsNominatedText read status text
+      → Answered IsNominatedText read other another → status ≡ other
+  one_nominated (Ok plan) status other text another first second = first.0 ∙ sym second.0
+  one_nominated (Err no_file) status other text another first second = absurd first
+  one_nominated (Err (answered known written)) status other text another first second = first.0 ∙ sym second.0
 
-pub one_status : (words : List (List ℕ)) (files : Contents) (status other : Status) (text another : List ℕ) → IsAnswer words files status text
-    → IsAnswer words files other another → status ≡ other
-one_status words files = form_status (form_of words) files
+  -- a form has one status
+  form_status : (form : Option Form) (files : Contents) (status other : Status) (text another : List ℕ) → FormAnswer form files status text
+      → FormAnswer form files other another → status ≡ other
+  form_status None files status other text another first second = first.0 ∙ sym second.0
+  form_status (Some (check plan cert)) files status other text another first second =
+      (one_answered (λ read. IsVerdict read.0 read.1) (λ read. one_verdict read.0 read.1) (documents plan cert files) status other text another first second).0
+  form_status (Some (rank plan)) files status other text another first second =
+      (one_answered IsPlanned one_planned (plan_in plan files) status other text another first second).0
+  form_status (Some (asked.hops plan)) files status other text another first second =
+      (one_answered AreHopRows one_hop_rows (plan_in plan files) status other text another first second).0
+  form_status (Some (asked.nominate plan)) files status other text another first second =
+      one_nominated (plan_in plan files) status other text another first second
+  form_status (Some (decode option name)) files status other text another first second =
+      (one_answered IsText one_asked (captured decoded_text option name files) status other text another first second).0
+  form_status (Some (encode option name)) files status other text another first second =
+      (one_answered IsText one_asked (captured encoded_text option name files) status other text another first second).0
+  form_status (Some (pcap_decode option name)) files status other text another first second =
+      (one_answered IsText one_asked (pcap_rows option name files) status other text another first second).0
+  form_status (Some (pcap_encode option name)) files status other text another first second =
+      (one_answered IsText one_asked (captured encoded_pcap option name files) status other text another first second).0
+  form_status (Some (gen n)) files status other text another first second = first.0 ∙ sym second.0
+  form_status (Some (sim plan events until)) files status other text another first second =
+      (one_answered (λ read. IsReport read.0 read.1 until) (λ read. one_report read.0 read.1 until) (plan_and_events plan events files) status other text another first second).0
 
-pub one_text : (words : List (List ℕ)) (files : Contents) (status other : Status) (text another : List ℕ) → IsAnswer words files status text
-    → IsAnswer words files other another → has_one_text (form_of words) ≡ true → text ≡ another
-one_text words files = form_text (form_of words) files
+  -- and one text, but for `gen` and `nominate`
+  form_text : (form : Option Form) (files : Contents) (status other : Status) (text another : List ℕ) → FormAnswer form files status text
+      → FormAnswer form files other another → has_one_text form ≡ true → text ≡ another
+  form_text None files status other text another first second one = first.1 ∙ sym second.1
+  form_text (Some (check plan cert)) files status other text another first second one =
+      (one_answered (λ read. IsVerdict read.0 read.1) (λ read. one_verdict read.0 read.1) (documents plan cert files) status other text another first second).1
+  form_text (Some (rank plan)) files status other text another first second one =
+      (one_answered IsPlanned one_planned (plan_in plan files) status other text another first second).1
+  form_text (Some (asked.hops plan)) files status other text another first second one =
+      (one_answered AreHopRows one_hop_rows (plan_in plan files) status other text another first second).1
+  form_text (Some (asked.nominate plan)) files status other text another first second one = absurd (true≢false (sym one))
+  form_text (Some (decode option name)) files status other text another first second one =
+      (one_answered IsText one_asked (captured decoded_text option name files) status other text another first second).1
+  form_text (Some (encode option name)) files status other text another first second one =
+      (one_answered IsText one_asked (captured encoded_text option name files) status other text another first second).1
+  form_text (Some (pcap_decode option name)) files status other text another first second one =
+      (one_answered IsText one_asked (pcap_rows option name files) status other text another first second).1
+  form_text (Some (pcap_encode option name)) files status other text another first second one =
+      (one_answered IsText one_asked (captured encoded_pcap option name files) status other text another first second).1
+  form_text (Some (gen n)) files status other text another first second one = absurd (true≢false (sym one))
+  form_text (Some (sim plan events until)) files status other text another first second one =
+      (one_answered (λ read. IsReport read.0 read.1 until) (λ read. one_report read.0 read.1 until) (plan_and_events plan events files) status other text another first second).1
+
+  pub one_status : (words : List (List ℕ)) (files : Contents) (status other : Status) (text another : List ℕ) → IsAnswer words files status text
+      → IsAnswer words files other another → status ≡ other
+  one_status words files = form_status (form_of words) files
+
+  pub one_text : (words : List (List ℕ)) (files : Contents) (status other : Status) (text another : List ℕ) → IsAnswer words files status text
+      → IsAnswer words files other another → has_one_text (form_of words) ≡ true → text ≡ another
+  one_text words files = form_text (form_of words) files

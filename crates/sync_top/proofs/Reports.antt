@@ -13,7 +13,7 @@ use Rattle.event_sim.specs.Rows.{rows_until}
 use Rattle.event_sim.specs.SimState.{SimState, first_after}
 use Rattle.event_sim.specs.Standing.{StandsFor, watched_rows}
 use Rattle.event_sim.specs.Answers.{IsLastFit}
-use Rattle.trace_report.specs.Report.{report_text}
+use Rattle.trace_report.specs.Report.{IsReportText}
 use Rattle.sync_top.specs.declared.status.Status.{Status}
 use Rattle.sync_top.specs.declared.status.Status.TheVariants as status
 use Rattle.sync_top.specs.Form.{sim}
@@ -24,11 +24,11 @@ use Rattle.sync_top.proofs.Cuts.{outside}
 
 -- all changes up to the end fit
 pub whole : (run : SimState) (plan : Topology) (events : List Event) (until : ℕ) (text : List ℕ) → run.net.plan ≡ plan → run.watch ≡ Changes
-    → run.reached ≡ Some until → length run.changes ≤ MOST_CHANGES → StandsFor run events → text ≡ report_text run.net.plan events run.reached Until
+    → run.reached ≡ Some until → length run.changes ≤ MOST_CHANGES → StandsFor run events → IsReportText run.net.plan events run.reached Until text
     → IsReport plan events until status.Done text
 whole run plan events until text same watches reached few stands is = (
   subst (λ (rows : List Change). length rows ≤ MOST_CHANGES) rows few,
-  is ∙ ap (λ (p : Topology). report_text p events run.reached Until) same ∙ ap (λ (r : Option ℕ). report_text plan events r Until) reached,
+  subst (λ (r : Option ℕ). IsReportText plan events r Until text) reached (subst (λ (p : Topology). IsReportText p events run.reached Until text) same is),
 )
   where
     rows : run.changes ≡ rows_until plan events (suc until)
@@ -37,8 +37,8 @@ whole run plan events until text same watches reached few stands is = (
 
 -- they don't
 pub short : (run : SimState) (plan : Topology) (events : List Event) (until t : ℕ) (text : List ℕ) → run.net.plan ≡ plan → IsLastFit plan events t until
-    → text ≡ report_text run.net.plan events run.reached (Stopped t) → IsReport plan events until status.Stopped text
-short run plan events until t text same last is = (t, last, is ∙ ap (λ (p : Topology). report_text p events run.reached (Stopped t)) same)
+    → IsReportText run.net.plan events run.reached (Stopped t) text → IsReport plan events until status.Stopped text
+short run plan events until t text same last is = (t, last, subst (λ (p : Topology). IsReportText p events run.reached (Stopped t) text) same is)
 
 -- a report of what was read is an answer, and ends the work
 module _ (plan_name events_name : List ℕ) (until : ℕ) (plan : Topology) (events : List Event) where

@@ -9,10 +9,12 @@ use Rattle.sync_top.specs.declared.status.Status.{Status}
 use Rattle.sync_top.specs.declared.status.Status.TheVariants.{Usage}
 use Rattle.capture_text.specs.Capture.{decoded_text, encoded_text}
 use Rattle.pcap_file.specs.Timed.{encoded_pcap}
-use Rattle.sync_top.specs.Form.{Form, check, rank, decode, encode, pcap_decode, pcap_encode, gen, form_of, sim}
+use Rattle.sync_top.specs.Form.{Form, check, rank, hops, nominate, decode, encode, pcap_decode, pcap_encode, gen, form_of, sim}
 use Rattle.sync_top.specs.Reading.{text_line, no_file, plan_in}
 use Rattle.sync_top.specs.Forms.Check.{documents, CheckAnswer}
 use Rattle.sync_top.specs.Forms.Rank.{RankAnswer}
+use Rattle.sync_top.specs.Forms.Hops.{HopsAnswer}
+use Rattle.sync_top.specs.Forms.Nominate.{NominateAnswer}
 use Rattle.sync_top.specs.Forms.Captures.{captured, CaptureAnswer, pcap_rows, PcapAnswer}
 use Rattle.sync_top.specs.Forms.Gen.{GenAnswer}
 use Rattle.sync_top.specs.Forms.Sim.{plan_and_events, SimAnswer}
@@ -22,6 +24,8 @@ abbrev pub FormAnswer : Option Form → Contents → Status → List ℕ → Typ
 FormAnswer None files status text = (status ≡ Usage) × (text ≡ text_line (codes "usage"))
 FormAnswer (Some (check plan_name certificate_name)) files status text = CheckAnswer plan_name certificate_name files status text
 FormAnswer (Some (rank plan_name)) files status text = RankAnswer plan_name files status text
+FormAnswer (Some (hops plan_name)) files status text = HopsAnswer plan_name files status text
+FormAnswer (Some (nominate plan_name)) files status text = NominateAnswer plan_name files status text
 FormAnswer (Some (decode option name)) files status text = CaptureAnswer decoded_text option name files status text
 FormAnswer (Some (encode option name)) files status text = CaptureAnswer encoded_text option name files status text
 FormAnswer (Some (pcap_decode option name)) files status text = PcapAnswer option name files status text
@@ -38,6 +42,8 @@ abbrev pub FormMissesFile : Option Form → Contents → Type 0
 FormMissesFile None files = ⊥
 FormMissesFile (Some (check plan_name certificate_name)) files = documents plan_name certificate_name files ≡ Err no_file
 FormMissesFile (Some (rank plan_name)) files = plan_in plan_name files ≡ Err no_file
+FormMissesFile (Some (hops plan_name)) files = plan_in plan_name files ≡ Err no_file
+FormMissesFile (Some (nominate plan_name)) files = plan_in plan_name files ≡ Err no_file
 FormMissesFile (Some (decode option name)) files = captured decoded_text option name files ≡ Err no_file
 FormMissesFile (Some (encode option name)) files = captured encoded_text option name files ≡ Err no_file
 FormMissesFile (Some (pcap_decode option name)) files = pcap_rows option name files ≡ Err no_file

@@ -13,6 +13,10 @@ pub data Form : Type 0 where
   check : List ℕ → List ℕ → Form
   -- the least ranks of a plan, or its first cycle
   rank : List ℕ → Form
+  -- the hop counts of a plan
+  hops : List ℕ → Form
+  -- the plan with priorities by fewest hops
+  nominate : List ℕ → Form
   -- the rows of captured frames
   decode : NetOption → List ℕ → Form
   -- the frames of rows
@@ -37,6 +41,10 @@ check_form plan certificate = if is_file_word plan && is_file_word certificate t
 -- the form `rank`, if the word may name a file
 abbrev pub rank_form : List ℕ → Option Form
 rank_form plan = if is_file_word plan then Some (rank plan) else None
+
+-- a form on a plan, if the word may name its file
+abbrev pub plan_form : (List ℕ → Form) → List ℕ → Option Form
+plan_form form plan = if is_file_word plan then Some (form plan) else None
 
 -- the network option of a word
 abbrev pub option_of : List ℕ → Option NetOption
@@ -75,6 +83,8 @@ abbrev pub file_count : Option Form → ℕ
 file_count None = 0
 file_count (Some (check plan certificate)) = 2
 file_count (Some (rank plan)) = 1
+file_count (Some (hops plan)) = 1
+file_count (Some (nominate plan)) = 1
 file_count (Some (decode option name)) = 1
 file_count (Some (encode option name)) = 1
 file_count (Some (pcap_decode option name)) = 1
@@ -87,6 +97,8 @@ abbrev pub form_of : List (List ℕ) → Option Form
 form_of (word ∷ second ∷ []) =
     if bytes_eq word (codes "rank") then rank_form second
     else if bytes_eq word (codes "gen") then gen_form second
+    else if bytes_eq word (codes "hops") then plan_form hops second
+    else if bytes_eq word (codes "nominate") then plan_form nominate second
     else None
 form_of (word ∷ second ∷ third ∷ []) =
     if bytes_eq word (codes "check") then check_form second third

@@ -4,3 +4,5 @@ pub mod Rank
 pub mod Captures
 pub mod Gen
 pub mod Sim
+pub mod Hops
+pub mod Nominate

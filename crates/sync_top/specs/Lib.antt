@@ -8,3 +8,4 @@ pub mod Examples
 pub mod Work
 pub mod FormSeen
 pub mod LoopFree
+pub mod HopRows

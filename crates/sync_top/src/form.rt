@@ -20,6 +20,10 @@ pub(crate) enum Form<'a> {
     },
     /// The least ranks of a plan or its first cycle, by the name of its file.
     Rank(&'a str),
+    /// The hop counts of a plan, by the name of its file.
+    Hops(&'a str),
+    /// The plan with priorities by fewest hops, by the name of its file.
+    Nominate(&'a str),
     /// The rows of captured frames, by the option of their levels and the name of their file.
     Decode(NetOption, &'a str),
     /// The frames of rows.
@@ -67,6 +71,12 @@ fn form_of_two<'a>(word: &str, second: &'a str) -> Option<Form<'a>>
     }
     if word == "gen" {
         return gen_form(second);
+    }
+    if word == "hops" && !second.is_empty() {
+        return Some(Form::Hops(second));
+    }
+    if word == "nominate" && !second.is_empty() {
+        return Some(Form::Nominate(second));
     }
     None
 }

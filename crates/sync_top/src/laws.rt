@@ -9,8 +9,10 @@ ghost use Rattle.sync_top.specs.Answer.{IsAnswer};
 ghost use Rattle.sync_top.specs.Form.{form_of};
 ghost use Rattle.sync_top.specs.OneAnswer.{has_one_text};
 
-/// The law of the one answer: over given files some words have one status, and but for `gen` one
-/// text.
+use trace_report::one_report_law;
+
+/// The law of the one answer: over given files some words have one status, and but for `gen` and
+/// `nominate` one text.
 ///
 /// It does nothing: its contract is the law. This project's own.
 pub fn one_answer_law()
@@ -20,7 +22,9 @@ pub fn one_answer_law()
     ensures text { (words : List (List ℕ)) → (files : Contents) → (status other : Status)
         → (text another : List ℕ) → IsAnswer words files status text
         → IsAnswer words files other another → has_one_text (form_of words) ≡ true → text ≡ another }
-{}
+{
+    one_report_law();
+}
 
 /// The law that the test of ranks accepts what the planner wrote: where `rank` of a plan was done,
 /// `check` of the plan and of a file of nonempty name that holds what was written is done too.

@@ -11,9 +11,11 @@
 mod check;
 mod form;
 mod frames;
+mod hops;
 mod input;
 mod ladder;
 mod laws;
+mod nomination;
 mod pcap;
 mod plan_input;
 mod planner;

@@ -12,7 +12,9 @@ ghost use Rattle.sync_top.specs.Work.{Replies, EndsIn, UsageWhere, status_of};
 use crate::check::check;
 use crate::form::{Form, form_of};
 use crate::frames::{decode, encode};
+use crate::hops::hops;
 use crate::ladder::ladder_text;
+use crate::nomination::nominate_plan;
 use crate::pcap::{pcap_decode, pcap_encode};
 use crate::planner::rank;
 use crate::reply::{Reply, Stop, line_text};
@@ -34,6 +36,8 @@ fn work<F: Folder>(alloc: Global, words: &[String], folder: &mut F) -> Result<Re
     match form_of(words) {
         Some(Form::Check { plan, cert }) => check(alloc, folder, plan, cert),
         Some(Form::Rank(plan)) => rank(alloc, folder, plan),
+        Some(Form::Hops(plan)) => hops(alloc, folder, plan),
+        Some(Form::Nominate(plan)) => nominate_plan(alloc, folder, plan),
         Some(Form::Decode(option, name)) => decode(alloc, folder, option, name),
         Some(Form::Encode(option, name)) => encode(alloc, folder, option, name),
         Some(Form::PcapDecode(option, name)) => pcap_decode(alloc, folder, option, name),
@@ -76,7 +80,8 @@ fn reply_to<F: Folder>(alloc: Global, words: &[String], folder: &mut F) -> Resul
 /// Runs the program: does what the words ask for, writes the answer, and gives the exit status.
 ///
 /// The words are those after the program's name. `check PLAN CERT` tests the ranks of a certificate
-/// on a plan, and `rank PLAN` gives the least ranks as a certificate, or the first cycle.
+/// on a plan, and `rank PLAN` gives the least ranks as a certificate, or the first cycle. `hops PLAN`
+/// gives the hop counts, and `nominate PLAN` the plan with priorities by fewest hops.
 /// `decode OPTION FILE` gives the rows of captured frames, and `encode OPTION FILE` the frames of
 /// rows. `pcap-decode OPTION FILE` and `pcap-encode OPTION FILE` do the same for a classic pcap
 /// capture and rows with times. `sim PLAN EVENTS UNTIL` runs the plan's network from 0 to UNTIL with

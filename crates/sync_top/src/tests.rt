@@ -6,6 +6,7 @@ use std::process::Abort;
 use std::test::Fail;
 use sync_edge::{MemFile, MemFolder, MemSink, NoMemory, Rows, Text};
 
+mod hop_forms;
 mod simulated;
 mod sizes;
 

@@ -12,7 +12,7 @@ use Rattle.event_file.specs.Refusal.{number_of as event_number}
 use Rattle.event_sim.specs.declared.limits.TheConstants.{MOST_CHANGES}
 use Rattle.event_sim.specs.Rows.{rows_until}
 use Rattle.event_sim.specs.Answers.{IsLastFit}
-use Rattle.trace_report.specs.Report.{whole_report, stopped_report}
+use Rattle.trace_report.specs.Report.{IsWholeReport, stopped_report}
 use Rattle.sync_top.specs.declared.status.Status.{Status}
 use Rattle.sync_top.specs.declared.status.Status.TheVariants.{Done, BadEvents, Stopped}
 use Rattle.sync_top.specs.Reading.{text_line, End, answered, Answered, file, refusal_line, plan_in}
@@ -55,7 +55,7 @@ plan_and_events plan_name events_name files = do
 -- which all fit
 abbrev pub IsReport : Topology → List Event → ℕ → Status → List ℕ → Type 0
 IsReport plan events until Done text =
-    (length (rows_until plan events (suc until)) ≤ MOST_CHANGES) × (text ≡ whole_report plan events until)
+    (length (rows_until plan events (suc until)) ≤ MOST_CHANGES) × IsWholeReport plan events until text
 IsReport plan events until Stopped text =
     (t : ℕ) × IsLastFit plan events t until × (text ≡ stopped_report plan events t)
 IsReport plan events until status text = ⊥

@@ -1,0 +1,224 @@
+ghost use Rattle.std.specs.Prelude.{◌≡◌, ◌≢◌, ◌+◌, ◌++◌, ◌<◌, ◌≤◌, length, replicate, ℕ, Some, None, IfOk, IfSome, OnOk, option_map};
+ghost use Rattle.std.specs.Fmt.{decimal};
+ghost use Rattle.std.specs.Option.{option_map_or};
+ghost use Rattle.sync_edge.specs.Contents.{KeepsFolder};
+ghost use Rattle.sync_topo.specs.Lines.{line_count, input_name, IsInput};
+ghost use Rattle.nominate.specs.HopCount.{count_at};
+ghost use Rattle.sync_topo.specs.declared.input.InputId.TheVariants.{Line, Source};
+ghost use Rattle.sync_top.specs.Forms.Hops.{none_text, from_text, hops_row, hops_text, AreHopRows, HopsAnswer};
+ghost use Rattle.sync_top.specs.HopRows.{first_source, line_at, is_next, from_name, AreLinesFrom};
+ghost use Rattle.sync_top.specs.Answer.{across, FormMissesFile};
+ghost use Rattle.sync_top.specs.Form.{hops};
+ghost use Rattle.sync_top.specs.Work.{Replies, NeverUsage};
+
+use crate::plan_input::plan_in;
+use crate::reply::{Reply, Stop};
+use crate::status::Status;
+use nominate::{Hops, least_hops};
+use std::alloc::Global;
+use sync_edge::{Folder, NoMemory, Text};
+use sync_topo::{InputId, LineId, Plan};
+
+/// For each element with a count above 0 the lowest-numbered line from one with one less.
+fn lines_from(alloc: Global, plan: &Plan, hops: &Hops) -> Result<Vec<Option<LineId>>, NoMemory>
+    requires { length hops.now ≡ length plan.now.elements }
+    ensures { IfOk result (λ lines. AreLinesFrom plan.now hops.now (line_count plan.now) lines.items) }
+{
+    let mut lines = no_lines(alloc, plan)?;
+    for number in 0..plan.lines() {
+        keep_line(plan, hops, &mut lines, LineId(number));
+    }
+    Ok(lines)
+}
+
+/// For each element no line.
+fn no_lines(alloc: Global, plan: &Plan) -> Result<Vec<Option<LineId>>, NoMemory>
+    ensures { IfOk result (λ lines. lines.items ≡ replicate (length plan.now.elements) None) }
+{
+    match vec![in alloc; None; plan.elements() as usize] {
+        Ok(lines) => Ok(lines),
+        Err(_) => Err(NoMemory),
+    }
+}
+
+/// Keeps the line for the element where it ends, if it is the first from one with one less.
+fn keep_line(plan: &Plan, hops: &Hops, lines: &mut Vec<Option<LineId>>, line: LineId)
+    requires counted { length hops.now ≡ length plan.now.elements }
+    requires within { line.0 < line_count plan.now }
+    requires before { AreLinesFrom plan.now hops.now line.0 lines.old.items }
+    ensures { AreLinesFrom plan.now hops.now (line.0 + 1) lines.new.items }
+{
+    let receiver = plan.to(line);
+    if !is_next(hops.of(plan.from(line)), hops.of(receiver)) {
+        return;
+    }
+    if lines[receiver as usize].is_some() {
+        return;
+    }
+    lines[receiver as usize] = Some(line);
+}
+
+/// Both have counts, and the second one's is one more.
+fn is_next(one: Option<u32>, other: Option<u32>) -> bool
+    ensures { result ≡ is_next one other }
+{
+    match (one, other) {
+        (Some(one), Some(other)) => one.checked_add(1) == Some(other),
+        _ => false,
+    }
+}
+
+/// The first source among some inputs.
+fn first_source(inputs: &[InputId]) -> Option<InputId>
+    ensures { result ≡ option_map Source (first_source inputs.now) }
+{
+    for input in inputs {
+        if let InputId::Source(_) = *input {
+            return Some(*input);
+        }
+    }
+    None
+}
+
+/// Puts a count, or `none`.
+fn put_count(text: &mut Text, count: Option<u32>) -> Result<(), NoMemory>
+    ensures { OnOk result (text.new ≡ text.old ++ option_map_or decimal count none_text) }
+{
+    match count {
+        Some(count) => text.put_number(u64::from(count)),
+        None => text.put(b"none"),
+    }
+}
+
+/// Puts the name of an input, or `none`.
+fn put_input(
+    alloc: Global,
+    text: &mut Text,
+    plan: &Plan,
+    input: Option<InputId>,
+) -> Result<(), NoMemory>
+    requires { IfSome input (IsInput plan.now) }
+    ensures { OnOk result (text.new ≡ text.old ++ option_map_or (input_name plan.now) input none_text) }
+{
+    match input {
+        Some(input) => plan.put_input_name(alloc, text, input),
+        None => text.put(b"none"),
+    }
+}
+
+/// Where an element of this count would take its timing from: its first nominated source, or else
+/// the first line from one with one less.
+fn from_of(
+    plan: &Plan,
+    lines: &[Option<LineId>],
+    element: u32,
+    count: Option<u32>,
+) -> Option<InputId>
+    requires within { element < length plan.now.elements }
+    requires lines { length lines.now ≡ length plan.now.elements }
+    requires kept { (line : ℕ) → line_at lines.now element ≡ Some line → line < line_count plan.now }
+    ensures input { option_map (input_name plan.now) result
+        ≡ from_name plan.now (line_at lines.now element) element count }
+    ensures within { IfSome result (IsInput plan.now) }
+{
+    let Some(hops) = count else {
+        return None;
+    };
+    if hops == 0 {
+        return first_source(plan.inputs(element));
+    }
+    line_input(lines[element as usize])
+}
+
+/// The line as an input, if there is one.
+fn line_input(line: Option<LineId>) -> Option<InputId>
+    ensures { result ≡ option_map Line line }
+{
+    match line {
+        Some(line) => Some(InputId::Line(line)),
+        None => None,
+    }
+}
+
+/// Puts where an element of this count would take its timing from.
+fn put_from(
+    alloc: Global,
+    text: &mut Text,
+    plan: &Plan,
+    hops: &Hops,
+    lines: &[Option<LineId>],
+    element: u32,
+) -> Result<(), NoMemory>
+    requires within { element < length plan.now.elements }
+    requires counted { length hops.now ≡ length plan.now.elements }
+    requires lines { AreLinesFrom plan.now hops.now (line_count plan.now) lines.now }
+    ensures { OnOk result (text.new ≡ text.old
+        ++ from_text plan.now hops.now element (count_at hops.now element)) }
+{
+    let from = from_of(plan, lines, element, hops.of(element));
+    put_input(alloc, text, plan, from)
+}
+
+/// Puts the row of an element.
+fn put_row(
+    alloc: Global,
+    text: &mut Text,
+    plan: &Plan,
+    hops: &Hops,
+    lines: &[Option<LineId>],
+    element: u32,
+) -> Result<(), NoMemory>
+    requires within { element < length plan.now.elements }
+    requires counted { length hops.now ≡ length plan.now.elements }
+    requires lines { AreLinesFrom plan.now hops.now (line_count plan.now) lines.now }
+    ensures { OnOk result (text.new ≡ text.old ++ hops_row plan.now hops.now element) }
+{
+    text.put(plan.element(element).name.bytes())?;
+    text.put(b",")?;
+    put_count(text, hops.of(element))?;
+    text.put(b",")?;
+    put_from(alloc, text, plan, hops, lines, element)?;
+    text.put(b"\n")
+}
+
+/// The rows of the hop counts.
+fn hops_text(alloc: Global, plan: &Plan, hops: &Hops) -> Result<Text, NoMemory>
+    requires { length hops.now ≡ length plan.now.elements }
+    ensures { IfOk result (λ text. text ≡ hops_text plan.now hops.now) }
+{
+    let lines = lines_from(alloc, plan, hops)?;
+    let mut text = Text::new(alloc);
+    text.put(b"element,hops,from\n")?;
+    for element in 0..plan.elements() {
+        put_row(alloc, &mut text, plan, hops, lines.as_slice(), element)?;
+    }
+    Ok(text)
+}
+
+/// The reply to a plan: the rows of its hop counts.
+fn counted(alloc: Global, plan: &Plan) -> Result<Reply, NoMemory>
+    ensures rows { IfOk result (λ reply. AreHopRows plan.now reply.status reply.text) }
+    ensures form { IfOk result (λ reply. reply.status ≢ Status.Usage) }
+{
+    let hops = least_hops(alloc, plan)?;
+    Ok(Reply {
+        status: Status::Done,
+        text: hops_text(alloc, plan, &hops)?,
+    })
+}
+
+/// The work of `hops`.
+pub(crate) fn hops<F: Folder>(alloc: Global, folder: &mut F, plan: &str) -> Result<Reply, Stop>
+    ensures replies { Replies (HopsAnswer plan.now) (FormMissesFile (Some (hops plan.now)))
+        (across F.contents F.steady F.faults folder.old folder.new) result }
+    ensures form { NeverUsage result }
+    ensures done { IfOk result (λ reply. reply.status ≢ Status.Usage) }
+    ensures keeps { KeepsFolder F.contents F.steady F.faults folder.old folder.new }
+    ensures once { F.tries folder.new ≤ F.tries folder.old + 1 }
+{
+    let plan = plan_in(alloc, folder, plan)?;
+    match counted(alloc, &plan) {
+        Ok(reply) => Ok(reply),
+        Err(_) => Err(Stop::OutOfMemory),
+    }
+}
