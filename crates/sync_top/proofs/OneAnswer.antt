@@ -15,6 +15,7 @@ use Rattle.rank_cert.specs.CertificateText.{certificate_text, nominated_lines, r
 use Rattle.rank_cert.proofs.RankLaws.{IsRising-no_cycle}
 use Rattle.cycle_plan.proofs.Walks.{one_least}
 use Rattle.cycle_plan.proofs.OneCycle.{one_cycle}
+use Rattle.cycle_plan.specs.declared.returns.Returns.TheVariants.{Barred}
 use Rattle.cycle_plan.proofs.CycleLaws.{IsCycle-first}
 use Rattle.event_sim.specs.declared.limits.TheConstants.{MOST_CHANGES}
 use Rattle.event_sim.specs.Rows.{rows_until}
@@ -169,7 +170,7 @@ either_planned plan Stopped text planned = absurd planned
 -- where ranks rise there is no first cycle
 no_first_cycle : (plan : Topology) (ranks : Ranks) (lines : List ℕ) → IsRising plan (rank_of ranks) → IsFirstCycle (hops plan) lines → ⊥
 no_first_cycle plan ranks lines rising cycle =
-    IsRising-no_cycle plan (rank_of ranks) rising lines (IsCycle-first plan lines cycle)
+    IsRising-no_cycle plan (rank_of ranks) rising lines (IsCycle-first Barred plan lines cycle)
 
 -- the planner finds one thing
 one_planned : (plan : Topology) → IsOne (IsPlanned plan)

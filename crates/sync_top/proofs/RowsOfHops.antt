@@ -1,24 +1,23 @@
 -- The first source of an element, and the first line from one with one less.
-use Rattle.std.proofs.Common.{◌≡◌, ◌≢◌, ℕ, zero, suc, ◌+◌, ◌<◌, ◌≤◌, Bool, true, false, ◌&&◌, ◌==◌, List, [], ◌∷◌, ◌++◌, length, map, Option, Some, None, refl, sym, ap, subst, ◌∙◌, inl, inr, slice_get, slice_set, arith}
-use Rattle.std.specs.Prelude.{find, option_map, replicate, ◌⊎◌, if◌then◌else◌, IfSome, is_some}
-use Rattle.std.specs.Option.{option_flatten, option_map_or, option_or}
+use Rattle.std.proofs.Common.{◌≡◌, ◌≢◌, ℕ, zero, suc, ◌+◌, ◌<◌, Bool, true, false, ◌==◌, List, [], ◌∷◌, ◌++◌, length, map, Option, Some, None, refl, sym, ap, ◌∙◌, inl, inr, slice_get, slice_set, arith}
+use Rattle.std.specs.Prelude.{find, option_map, replicate, if◌then◌else◌, IfSome, is_some}
+use Rattle.std.specs.Option.{option_flatten, option_or}
 use Rattle.std.specs.List.{range_with_len, All}
 use Rattle.std.proofs.Common.{get_or}
 use Rattle.std.proofs.lemmas.List.Elements.{All-head, All-tail}
-use Rattle.std.proofs.lemmas.Bool.{cases_lt, cases_eq, cases_Bool, eq-eqb, ne_eqb, eqb-true, true≢false, and_parts, false_from_ne_true}
+use Rattle.std.proofs.lemmas.Bool.{cases_eq, eq-eqb, ne_eqb, eqb-true, true≢false, and_parts, false_from_ne_true}
 use Rattle.std.proofs.lemmas.List.{length-set, length-replicate, map-id}
 use Rattle.std.proofs.lemmas.List.Folds.{find-append}
 use Rattle.std.proofs.lemmas.List.FromFn.{map-range_with_len_more}
-use Rattle.std.proofs.lemmas.Option.{none-some, same_Some, slice_get_cases, slice_get_read, slice_get-get_or}
+use Rattle.std.proofs.lemmas.Option.{none-some, same_Some, slice_get_read, slice_get-get_or}
 use Rattle.sync_topo.specs.declared.input.InputId.{InputId}
 use Rattle.sync_topo.specs.declared.input.InputId.TheVariants.{Line, Source}
 use Rattle.sync_topo.specs.declared.input.LineId.{LineId}
 use Rattle.sync_topo.specs.Topology.{Topology}
 use Rattle.sync_topo.specs.Lines.{line_count, line_input, sender_of, receiver_of, lines_into, sources_at, inputs_of, line_name, source_name, input_name, IsInput}
 use Rattle.sync_topo.proofs.Lists.{slice_get-set_same, slice_get-set_other}
-use Rattle.sync_topo.proofs.LineLaws.{find_range-Some, find_range-None}
 use Rattle.nominate.specs.HopCount.{Counts, count_at}
-use Rattle.sync_top.specs.Forms.Hops.{none_text, is_count, leads_from, line_from, from_text}
+use Rattle.sync_top.specs.Forms.Hops.{is_count, leads_from}
 use Rattle.sync_top.specs.HopRows.{first_source, line_at, AreLinesFrom, is_next, from_name}
 
 first-inputs : (lines sources : List ℕ) → first_source (map line_input lines ++ map Source sources) ≡ slice_get sources 0

@@ -23,6 +23,11 @@ link = [{ name = 'L1', a = 'A', b = 'B', priority_a = 1, priority_b = 1, delay_a
 const TWO_SOURCES: &[u8] = b"element = [{ name = 'A', wtr = 0 }]\n\
 source = [{ name = 'S1', at = 'A', level = 'QL-PRC' }, { name = 'S2', at = 'A', level = 'QL-PRC' }]\n";
 
+const RING: &[u8] = b"element = [{ name = 'A' }, { name = 'B' }, { name = 'C' }]\n\
+link = [{ name = 'L1', a = 'A', b = 'B', priority_a = 1, priority_b = 1 },\n\
+ { name = 'L2', a = 'B', b = 'C', priority_a = 1, priority_b = 1 },\n\
+ { name = 'L3', a = 'C', b = 'A', priority_a = 1, priority_b = 1 }]\n";
+
 const MANUAL: &[u8] = b"element = [{ name = 'A' }]\n\
 source = [{ name = 'S1', at = 'A', level = 'QL-PRC' },\n\
  { name = 'S2', at = 'A', level = 'QL-SSU-A', priority = 2 }]\n";
@@ -30,14 +35,15 @@ source = [{ name = 'S1', at = 'A', level = 'QL-PRC' },\n\
 /// A plan, its events, the last millisecond, and the report.
 type Row = (&'static [u8], &'static [u8], &'static str, &'static [u8]);
 
-const RUNS: [Row; 14] = [
+const RUNS: [Row; 15] = [
     (
         CHAIN,
         b"at,what,target,value\n",
         "100",
         b"changes\n0,A,auto,S,QL-PRC,locked\n10,B,auto,L1>B,QL-PRC,locked\n\
 10,C,auto,L2>C,QL-SEC,locked\n20,C,auto,L2>C,QL-PRC,locked\n\
-inputs\nA,S,good,0\nB,L1>B,good,0\nC,L2>C,good,0\n",
+inputs\nA,S,good,0\nB,L1>B,good,0\nC,L2>C,good,0\n\
+traces\nA,0,source,S\nB,1,source,S\nC,2,source,S\nloops\nsettled yes\n",
     ),
     // Down for no longer than the hold-off time.
     (
@@ -46,7 +52,8 @@ inputs\nA,S,good,0\nB,L1>B,good,0\nC,L2>C,good,0\n",
         "2000",
         b"changes\n0,A,auto,S,QL-PRC,locked\n10,B,auto,L1>B,QL-PRC,locked\n\
 10,C,auto,L2>C,QL-SEC,locked\n20,C,auto,L2>C,QL-PRC,locked\n\
-inputs\nA,S,good,0\nB,L1>B,good,0\nC,L2>C,good,0\n",
+inputs\nA,S,good,0\nB,L1>B,good,0\nC,L2>C,good,0\n\
+traces\nA,0,source,S\nB,1,source,S\nC,2,source,S\nloops\nsettled yes\n",
     ),
     (
         CHAIN,
@@ -56,7 +63,8 @@ inputs\nA,S,good,0\nB,L1>B,good,0\nC,L2>C,good,0\n",
 10,C,auto,L2>C,QL-SEC,locked\n20,C,auto,L2>C,QL-PRC,locked\n\
 1300,A,auto,none,QL-SEC,holdover\n1310,B,auto,L1>B,QL-SEC,locked\n\
 1320,C,auto,L2>C,QL-SEC,locked\n\
-inputs\nA,S,restoring,299301\nB,L1>B,good,0\nC,L2>C,good,0\n",
+inputs\nA,S,restoring,299301\nB,L1>B,good,0\nC,L2>C,good,0\n\
+traces\nA,0,own,A\nB,1,own,A\nC,2,own,A\nloops\nsettled no\n",
     ),
     (
         CHAIN,
@@ -67,7 +75,8 @@ inputs\nA,S,restoring,299301\nB,L1>B,good,0\nC,L2>C,good,0\n",
 1300,A,auto,none,QL-SEC,holdover\n1310,B,auto,L1>B,QL-SEC,locked\n\
 1320,C,auto,L2>C,QL-SEC,locked\n305000,A,auto,S,QL-PRC,locked\n\
 305010,B,auto,L1>B,QL-PRC,locked\n305020,C,auto,L2>C,QL-PRC,locked\n\
-inputs\nA,S,good,0\nB,L1>B,good,0\nC,L2>C,good,0\n",
+inputs\nA,S,good,0\nB,L1>B,good,0\nC,L2>C,good,0\n\
+traces\nA,0,source,S\nB,1,source,S\nC,2,source,S\nloops\nsettled yes\n",
     ),
     // An input that fails while it waits to be restored waits anew.
     (
@@ -78,7 +87,8 @@ inputs\nA,S,good,0\nB,L1>B,good,0\nC,L2>C,good,0\n",
 10,C,auto,L2>C,QL-SEC,locked\n20,C,auto,L2>C,QL-PRC,locked\n\
 1300,A,auto,none,QL-SEC,holdover\n1310,B,auto,L1>B,QL-SEC,locked\n\
 1320,C,auto,L2>C,QL-SEC,locked\n500001,A,auto,S,QL-PRC,locked\n\
-inputs\nA,S,good,0\nB,L1>B,good,0\nC,L2>C,good,0\n",
+inputs\nA,S,good,0\nB,L1>B,good,0\nC,L2>C,good,0\n\
+traces\nA,0,source,S\nB,1,source,S\nC,2,source,S\nloops\nsettled no\n",
     ),
     (
         CHAIN,
@@ -89,7 +99,8 @@ inputs\nA,S,good,0\nB,L1>B,good,0\nC,L2>C,good,0\n",
 1300,A,auto,none,QL-SEC,holdover\n1310,B,auto,L1>B,QL-SEC,locked\n\
 1320,C,auto,L2>C,QL-SEC,locked\n6000,A,auto,S,QL-PRC,locked\n\
 6010,B,auto,L1>B,QL-PRC,locked\n6020,C,auto,L2>C,QL-PRC,locked\n\
-inputs\nA,S,good,0\nB,L1>B,good,0\nC,L2>C,good,0\n",
+inputs\nA,S,good,0\nB,L1>B,good,0\nC,L2>C,good,0\n\
+traces\nA,0,source,S\nB,1,source,S\nC,2,source,S\nloops\nsettled yes\n",
     ),
     // The last message arrived at 2010, and is forgotten after five seconds.
     (
@@ -99,7 +110,8 @@ inputs\nA,S,good,0\nB,L1>B,good,0\nC,L2>C,good,0\n",
         b"changes\n0,A,auto,S,QL-PRC,locked\n10,B,auto,L1>B,QL-PRC,locked\n\
 10,C,auto,L2>C,QL-SEC,locked\n20,C,auto,L2>C,QL-PRC,locked\n\
 7010,B,auto,none,QL-SEC,holdover\n7020,C,auto,L2>C,QL-SEC,locked\n\
-inputs\nA,S,good,0\nB,L1>B,good,0\nC,L2>C,good,0\n",
+inputs\nA,S,good,0\nB,L1>B,good,0\nC,L2>C,good,0\n\
+traces\nA,0,source,S\nB,0,own,B\nC,1,own,B\nloops\nsettled yes\n",
     ),
     // A source that is down keeps its level until it is up.
     (
@@ -110,7 +122,8 @@ inputs\nA,S,good,0\nB,L1>B,good,0\nC,L2>C,good,0\n",
 10,C,auto,L2>C,QL-SEC,locked\n20,C,auto,L2>C,QL-PRC,locked\n\
 1200,A,auto,S,QL-SSU-A,locked\n1210,B,auto,L1>B,QL-SSU-A,locked\n\
 1220,C,auto,L2>C,QL-SSU-A,locked\n\
-inputs\nA,S,good,0\nB,L1>B,good,0\nC,L2>C,good,0\n",
+inputs\nA,S,good,0\nB,L1>B,good,0\nC,L2>C,good,0\n\
+traces\nA,0,source,S\nB,1,source,S\nC,2,source,S\nloops\nsettled yes\n",
     ),
     // The message of 1000 is lost, and one is sent as the line comes up.
     (
@@ -121,7 +134,8 @@ inputs\nA,S,good,0\nB,L1>B,good,0\nC,L2>C,good,0\n",
 10,C,auto,L2>C,QL-SEC,locked\n20,C,auto,L2>C,QL-PRC,locked\n\
 1000,A,auto,S,QL-SSU-A,locked\n1016,B,auto,L1>B,QL-SSU-A,locked\n\
 1026,C,auto,L2>C,QL-SSU-A,locked\n\
-inputs\nA,S,good,0\nB,L1>B,good,0\nC,L2>C,good,0\n",
+inputs\nA,S,good,0\nB,L1>B,good,0\nC,L2>C,good,0\n\
+traces\nA,0,source,S\nB,1,source,S\nC,2,source,S\nloops\nsettled yes\n",
     ),
     // Events after the end have no effect.
     (
@@ -130,14 +144,16 @@ inputs\nA,S,good,0\nB,L1>B,good,0\nC,L2>C,good,0\n",
         "100",
         b"changes\n0,A,auto,S,QL-PRC,locked\n10,B,auto,L1>B,QL-PRC,locked\n\
 10,C,auto,L2>C,QL-SEC,locked\n20,C,auto,L2>C,QL-PRC,locked\n\
-inputs\nA,S,holdoff,250\nB,L1>B,good,0\nC,L2>C,good,0\n",
+inputs\nA,S,holdoff,250\nB,L1>B,good,0\nC,L2>C,good,0\n\
+traces\nA,0,source,S\nB,1,source,S\nC,2,source,S\nloops\nsettled no\n",
     ),
     (
         PAIR,
         b"at,what,target,value\n",
         "15",
         b"changes\n10,A,auto,L1>A,QL-SEC,locked\n10,B,auto,L1>B,QL-SEC,locked\n\
-inputs\nA,L1>A,good,0\nB,L1>B,good,0\n",
+inputs\nA,L1>A,good,0\nB,L1>B,good,0\n\
+traces\nA,2,loop,A\nB,2,loop,B\nloops\nL1>B L1>A\nsettled no\n",
     ),
     (
         PAIR,
@@ -145,7 +161,8 @@ inputs\nA,L1>A,good,0\nB,L1>B,good,0\n",
         "25",
         b"changes\n10,A,auto,L1>A,QL-SEC,locked\n10,B,auto,L1>B,QL-SEC,locked\n\
 20,A,auto,none,QL-SEC,holdover\n20,B,auto,none,QL-SEC,holdover\n\
-inputs\nA,L1>A,good,0\nB,L1>B,good,0\n",
+inputs\nA,L1>A,good,0\nB,L1>B,good,0\n\
+traces\nA,0,own,A\nB,0,own,B\nloops\nsettled no\n",
     ),
     // On a tie the current input stays.
     (
@@ -153,7 +170,8 @@ inputs\nA,L1>A,good,0\nB,L1>B,good,0\n",
         b"at,what,target,value\n1000,down,S1,\n2000,up,S1,\n",
         "3000",
         b"changes\n0,A,auto,S1,QL-PRC,locked\n1300,A,auto,S2,QL-PRC,locked\n\
-inputs\nA,S1,good,0\nA,S2,good,0\n",
+inputs\nA,S1,good,0\nA,S2,good,0\n\
+traces\nA,0,source,S2\nloops\nsettled yes\n",
     ),
     (
         MANUAL,
@@ -161,7 +179,20 @@ inputs\nA,S1,good,0\nA,S2,good,0\n",
 4000,unlock,S2,\n4500,level,S2,QL-SSU-A\n5000,manual,S2,\n",
         "6000",
         b"changes\n0,A,auto,S1,QL-PRC,locked\n2000,A,forced,none,QL-SEC,holdover\n\
-3000,A,auto,S1,QL-PRC,locked\ninputs\nA,S1,good,0\nA,S2,good,0\n",
+3000,A,auto,S1,QL-PRC,locked\ninputs\nA,S1,good,0\nA,S2,good,0\n\
+traces\nA,0,source,S1\nloops\nsettled yes\n",
+    ),
+    // In a ring that is forced timing goes round for ever.
+    (
+        RING,
+        b"at,what,target,value\n0,forced,L1>B,\n0,forced,L2>C,\n0,forced,L3>A,\n",
+        "5",
+        b"changes\n0,A,forced,none,QL-SEC,freerun\n0,B,forced,none,QL-SEC,freerun\n\
+0,C,forced,none,QL-SEC,freerun\n1,A,forced,L3>A,QL-SEC,locked\n\
+1,B,forced,L1>B,QL-SEC,locked\n1,C,forced,L2>C,QL-SEC,locked\n\
+inputs\nA,L1>A,good,0\nA,L3>A,good,0\nB,L1>B,good,0\nB,L2>B,good,0\n\
+C,L2>C,good,0\nC,L3>C,good,0\n\
+traces\nA,3,loop,A\nB,3,loop,B\nC,3,loop,C\nloops\nL1>B L2>C L3>A\nsettled yes\n",
     ),
 ];
 

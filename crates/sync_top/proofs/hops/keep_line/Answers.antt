@@ -1,9 +1,8 @@
-use Rattle.std.proofs.Common.{◌≡◌, length, None, Some, true, false, refl, sym, ap, ◌∙◌}
+use Rattle.std.proofs.Common.{◌≡◌, length, None, Some, refl, sym, ap, ◌∙◌}
 use Rattle.sync_topo.specs.declared.input.LineId.{LineId}
 use Rattle.std.specs.Prelude.{option_map}
 use Rattle.sync_topo.specs.Lines.{sender_of, receiver_of}
-use Rattle.nominate.specs.HopCount.{count_at}
-use Rattle.sync_top.specs.HopRows.{is_next, line_at}
+use Rattle.sync_top.specs.HopRows.{line_at}
 use Rattle.sync_top.proofs.RowsOfHops.{AreLinesFrom-not, AreLinesFrom-later, AreLinesFrom-first, line-read, line_some, line_none, next-told}
 use Rattle.sync_top.proofs.hops.keep_line.Goals as goal
 
