@@ -1,0 +1,7 @@
+pub mod AnyHops
+pub mod Finds
+pub mod FallLaws
+pub mod LoopLaws
+pub mod DistinctInputs
+pub mod RingLaws
+pub mod ForcedLaws

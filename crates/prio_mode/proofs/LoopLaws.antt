@@ -1,0 +1,64 @@
+-- Where ranks rise over every hop, elements that choose by priority alone never go round in a loop.
+use Rattle.std.proofs.Common.{◌≡◌, ℕ, suc, List, [], ◌∷◌, Option, None, Some, slice_get}
+use Rattle.std.specs.Prelude.{IsTrue, ◌&&◌, ◌==◌, option_and_then}
+use Rattle.std.specs.Cmp.Derive.{both_true}
+use Rattle.std.proofs.lemmas.Bool.{eq-eqb}
+use Rattle.std.proofs.lemmas.Option.{none-some}
+use Rattle.sync_ql.specs.Moment.{Moment, selection_at}
+use Rattle.sync_topo.specs.declared.input.InputId.{InputId}
+use Rattle.sync_topo.specs.Topology.{Topology}
+use Rattle.sync_topo.specs.Lines.{line_input, sender_of, receiver_of, is_nominated, IsNominated, inputs_of}
+use Rattle.sync_topo.specs.Ranks.{Rises, Circles, Leads}
+use Rattle.net_rules.specs.Inputs.{IsInputOf}
+use Rattle.net_rules.specs.Signals.{Signals, signals_by}
+use Rattle.net_rules.specs.Walks.{Taken, Each, IsTaken, Joins, IsClosedWalk}
+use Rattle.net_rules.proofs.InputLaws.{inputs-are}
+use Rattle.net_rules.proofs.NetLaws.{each-at}
+use Rattle.net_rules.proofs.WalkLaws.{AreNominated, walks-leads, no_cycle}
+use Rattle.prio_mode.specs.PriorityHops.{hops_any}
+use Rattle.prio_mode.specs.PriorityAlone.{priority_settings, priority_past, priority_taken_by, priority_taken_at, priority_taken_in}
+use Rattle.prio_mode.specs.PriorityLoops.{NeverLoops}
+
+-- what an element takes after a past is an input of its own
+pub taken-own : (plan : Topology) (element : ℕ) (past : List Moment) (input : InputId)
+    → priority_taken_by plan element past ≡ Some input → IsInputOf plan element input
+taken-own plan element past input taken = by (selection_at (priority_settings plan element) past) taken
+  where
+    by : (o : Option ℕ) → option_and_then (slice_get (inputs_of plan element)) o ≡ Some input → IsInputOf plan element input
+    by None is = absurd (none-some input is)
+    by (Some place) is = each-at (IsInputOf plan element) (inputs_of plan element) place input (inputs-are plan element) is
+
+pub taken-nominated : (plan : Topology) (signals : Signals) (t : ℕ) → AreNominated plan (priority_taken_in plan signals t)
+unfolding priority_taken_at
+taken-nominated plan signals t line taken =
+    (taken-own plan (receiver_of plan line) (priority_past plan signals (receiver_of plan line) (suc t)) (line_input line) taken).nominated
+
+-- lines that are taken and join hop from one to the next
+step : (plan : Topology) (line next : ℕ) → IsNominated plan line → IsNominated plan next → Joins plan line next
+    → IsTrue (hops_any plan line next)
+step plan line next here there joins =
+    both_true {s = is_nominated plan line && is_nominated plan next} {t = receiver_of plan line == sender_of plan next}
+    (both_true {s = is_nominated plan line} {t = is_nominated plan next} here there) (eq-eqb (receiver_of plan line) (sender_of plan next) joins)
+
+hops_along : (plan : Topology) (line : ℕ) (rest : List ℕ) (end : ℕ) → Each (IsNominated plan) (line ∷ rest) → IsNominated plan end
+    → Leads (Joins plan) line rest end → Leads (λ one next. IsTrue (hops_any plan one next)) line rest end
+hops_along plan line [] end each last joins = step plan line end each.0 last joins
+hops_along plan line (next ∷ rest) end each last joins =
+    (step plan line next each.0 each.1.0 joins.0, hops_along plan next rest end each.1 last joins.1)
+
+each_nominated : (plan : Topology) (taken : Taken) → AreNominated plan taken → (lines : List ℕ) → Each (IsTaken plan taken) lines → Each (IsNominated plan) lines
+each_nominated plan taken nominated [] each = tt
+each_nominated plan taken nominated (line ∷ rest) each = (nominated line each.0, each_nominated plan taken nominated rest each.1)
+
+-- a closed walk of nominated lines goes round in hops
+pub walk-circles : (plan : Topology) (taken : Taken) → AreNominated plan taken → (lines : List ℕ) → IsClosedWalk plan taken lines
+    → Circles (hops_any plan) lines
+walk-circles plan taken nominated [] walk = walk
+walk-circles plan taken nominated (first ∷ rest) walk =
+    let each = each_nominated plan taken nominated (first ∷ rest) walk.each_taken in
+    walks-leads (hops_any plan) first rest first (hops_along plan first rest first each each.0 walk.joined)
+
+pub never_loops : (plan : Topology) (rank : ℕ → ℕ) → Rises (hops_any plan) rank → NeverLoops plan
+never_loops plan rank rises events valid t lines walk =
+    no_cycle (hops_any plan) rank rises lines
+    (walk-circles plan (priority_taken_in plan (signals_by plan events) t) (taken-nominated plan (signals_by plan events) t) lines walk)

@@ -1,0 +1,99 @@
+-- The first cycle over hops that include returns: none of its lines stands twice, and no two have one receiver.
+use Rattle.std.proofs.Common.{◌≡◌, ◌≢◌, ◌≤◌, ◌<◌, ℕ, List, [], ◌∷◌, map, refl, sym, subst, ◌∙◌, inl, inr, arith}
+use Rattle.std.specs.Prelude.{◌&&◌, ◌==◌}
+use Rattle.std.specs.Cmp.Derive.{both_true}
+use Rattle.std.proofs.lemmas.Bool.{and_parts, eqb-true, eq-eqb}
+use Rattle.sync_topo.specs.Topology.{Topology}
+use Rattle.sync_topo.specs.Lines.{sender_of, receiver_of, is_nominated, IsNominated}
+use Rattle.sync_topo.specs.Ranks.{HopTest, IsBefore, Leads, IsFirstCycleFrom}
+use Rattle.net_rules.specs.Walks.{Each, AreApart, IsOneOf, Joins}
+use Rattle.net_rules.proofs.EventLaws.{each-all}
+use Rattle.cycle_plan.proofs.Back.{before_same}
+use Rattle.prio_mode.specs.PriorityHops.{hops_any, HopsAny}
+
+-- what isn't one of a list differs from each
+others : (n : ℕ) (xs : List ℕ) → (IsOneOf n xs → ⊥) → Each (λ other. n ≢ other) xs
+others n [] fresh = tt
+others n (x ∷ xs) fresh = (λ same. fresh (inl same), others n xs (λ more. fresh (inr more)))
+
+-- what stands in a list that leads on has one before it
+one_before : (R : ℕ → ℕ → Type 0) (first : ℕ) (rest : List ℕ) (end x : ℕ) → Leads R first rest end → IsOneOf x rest
+    → (before : ℕ) × R before x × IsOneOf before (first ∷ rest)
+one_before R first [] end x leads among = absurd among
+one_before R first (next ∷ rest) end x leads (inl same) = (first, subst (λ n. R first n) (sym same) leads.0, inl refl)
+one_before R first (next ∷ rest) end x leads (inr more) =
+    let found = one_before R next rest end x leads.1 more in
+    (found.0, found.1, inr found.2)
+
+-- where the one before is always one, and the first doesn't stand again, none stands twice
+stand_once : (R : ℕ → ℕ → Type 0) → ((x one other : ℕ) → R one x → R other x → one ≡ other)
+    → (first : ℕ) (rest : List ℕ) (end : ℕ) → Leads R first rest end → (IsOneOf first rest → ⊥) → AreApart (first ∷ rest)
+stand_once R one first [] end leads fresh = (tt, tt)
+stand_once R one first (next ∷ rest) end leads fresh = (
+  others first (next ∷ rest) fresh,
+  stand_once R one next rest end leads.1 (λ again.
+      let found = one_before R next rest end next leads.1 again in
+      fresh (subst (λ line. IsOneOf line (next ∷ rest)) (one next found.0 first found.1 leads.0) found.2)),
+)
+
+not_lower : (n : ℕ) (xs : List ℕ) → Each (λ other. n < other) xs → IsOneOf n xs → ⊥
+not_lower n [] above among = among
+not_lower n (x ∷ xs) above (inl same) = absurd (omega (arith, above.0, same))
+not_lower n (x ∷ xs) above (inr more) = not_lower n xs above.1 more
+
+-- each line of the ring is before another
+abbrev pub IsFollowed : HopTest → ℕ → Type 0
+IsFollowed hop line = (next : ℕ) × IsBefore hop line next
+
+pub each_followed : (hop : HopTest) (first : ℕ) (rest : List ℕ) (end : ℕ) → Leads (IsBefore hop) first rest end → Each (IsFollowed hop) (first ∷ rest)
+each_followed hop first [] end leads = ((end, leads), tt)
+each_followed hop first (next ∷ rest) end leads = ((next, leads.0), each_followed hop next rest end leads.1)
+
+-- what a hop says
+pub hop_any_parts : (plan : Topology) (line next : ℕ) → HopsAny plan line next
+    → IsNominated plan line × IsNominated plan next × (receiver_of plan line ≡ sender_of plan next)
+hop_any_parts plan line next hop =
+    let ends = and_parts (is_nominated plan line && is_nominated plan next) (receiver_of plan line == sender_of plan next) hop in
+    let both = and_parts (is_nominated plan line) (is_nominated plan next) ends.0 in
+    (both.0, both.1, eqb-true _ _ ends.1)
+
+pub hop_any_from : (plan : Topology) (line next : ℕ) → IsNominated plan line → IsNominated plan next → receiver_of plan line ≡ sender_of plan next
+    → HopsAny plan line next
+hop_any_from plan line next here there joins =
+    both_true {s = is_nominated plan line && is_nominated plan next} {t = receiver_of plan line == sender_of plan next}
+    (both_true {s = is_nominated plan line} {t = is_nominated plan next} here there) (eq-eqb (receiver_of plan line) (sender_of plan next) joins)
+
+-- of two followed lines with one receiver each may be taken for the other
+low_of : (plan : Topology) (line other : ℕ) → IsFollowed (hops_any plan) line → IsFollowed (hops_any plan) other
+    → receiver_of plan line ≡ receiver_of plan other → line ≤ other
+low_of plan line other here there same =
+    let mine = hop_any_parts plan line here.0 here.1.hops in
+    let theirs = hop_any_parts plan other there.0 there.1.hops in
+    here.1.lowest other there.1.residue (hop_any_from plan other here.0 theirs.0 mine.1 (sym same ∙ mine.2))
+
+one_receiver : (plan : Topology) (line other : ℕ) → IsFollowed (hops_any plan) line → IsFollowed (hops_any plan) other
+    → receiver_of plan line ≡ receiver_of plan other → line ≡ other
+one_receiver plan line other here there same =
+    let low = low_of plan line other here there same in
+    let high = low_of plan other line there here (sym same) in
+    omega (arith, low, high)
+
+pub receivers_differ : (plan : Topology) (line : ℕ) (rest : List ℕ) → IsFollowed (hops_any plan) line → Each (IsFollowed (hops_any plan)) rest
+    → Each (λ other. line ≢ other) rest → Each (λ receiver. receiver_of plan line ≢ receiver) (map (receiver_of plan) rest)
+receivers_differ plan line [] here each apart = tt
+receivers_differ plan line (other ∷ rest) here each apart =
+    (λ same. apart.0 (one_receiver plan line other here each.0 same), receivers_differ plan line rest here each.1 apart.1)
+
+pub receivers_apart : (plan : Topology) (lines : List ℕ) → Each (IsFollowed (hops_any plan)) lines → AreApart lines → AreApart (map (receiver_of plan) lines)
+receivers_apart plan [] each apart = tt
+receivers_apart plan (line ∷ rest) each apart =
+    (receivers_differ plan line rest each.0 each.1 apart.0, receivers_apart plan rest each.1 apart.1)
+
+pub ring_apart : (hop : HopTest) (line : ℕ) (rest : List ℕ) → IsFirstCycleFrom hop line rest → AreApart (line ∷ rest)
+ring_apart hop line rest cycle =
+    stand_once (IsBefore hop) (λ x one other. before_same hop x one other) line rest line cycle.ring
+    (not_lower line rest (each-all (λ other. line < other) rest cycle.lowest))
+
+pub ring_joins : (plan : Topology) (first : ℕ) (rest : List ℕ) (end : ℕ) → Leads (IsBefore (hops_any plan)) first rest end → Leads (Joins plan) first rest end
+ring_joins plan first [] end leads = (hop_any_parts plan first end leads.hops).2
+ring_joins plan first (next ∷ rest) end leads = ((hop_any_parts plan first next leads.0.hops).2, ring_joins plan next rest end leads.1)

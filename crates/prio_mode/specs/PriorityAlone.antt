@@ -1,0 +1,70 @@
+-- Elements that choose by priority alone: each input has one and the same level in every millisecond, so that
+-- levels decide nothing. After G.781, selection, external commands, and hold-off and wait-to-restore times; the
+-- rest is this project's own.
+use Rattle.std.specs.Prelude.{ℕ, suc, List, map, slice_get, Option, None, Some, option_and_then}
+use Rattle.std.proofs.Common.{lit<}
+use Rattle.sync_ql.specs.declared.levels.NetOption.{NetOption}
+use Rattle.sync_ql.specs.declared.levels.NetOption.TheVariants.{I, II}
+use Rattle.sync_ql.specs.declared.levels.Level.{Level}
+use Rattle.sync_ql.specs.declared.rules.Mode.{Mode}
+use Rattle.sync_ql.specs.declared.rules.ClockState.{ClockState}
+use Rattle.sync_ql.specs.Pasts.{past_of}
+use Rattle.sync_ql.specs.Moment.{InputMoment, Moment, Settings, selection_at}
+use Rattle.sync_ql.specs.Output.{mode_at, state_at}
+use Rattle.sync_topo.specs.declared.input.InputId.{InputId}
+use Rattle.sync_topo.specs.Topology.{Topology}
+use Rattle.sync_topo.specs.Lines.{inputs_of, input_priority}
+use Rattle.net_rules.specs.Signals.{Signals}
+use Rattle.net_rules.specs.History.{own_level, timers_of, signal_at}
+use Rattle.net_rules.specs.Walks.{Taken}
+
+-- the level that every input has: the option's first
+abbrev pub one_level : NetOption → Level
+one_level I = record { option = I; place = 0; is_row = lit< tt }
+one_level II = record { option = II; place = 0; is_row = lit< tt }
+
+-- what an element of a plan is set to: its times and priorities, one level for each input, no floor, and no bundles
+unfoldable pub priority_settings : Topology → ℕ → Settings
+priority_settings plan element = record {
+  own = own_level plan element;
+  timers = timers_of plan element;
+  floor = None;
+  priorities = map (input_priority plan) (inputs_of plan element);
+  first_levels = map (λ input. Some (one_level plan.option)) (inputs_of plan element);
+  bundles = map (λ input. 0) (inputs_of plan element);
+}
+
+-- an input in a millisecond: its signal, and the one level
+abbrev pub priority_input : Topology → Signals → ℕ → InputId → InputMoment
+priority_input plan signals t input = record { signal = signal_at signals input t; level = Some (one_level plan.option) }
+
+-- an element in a millisecond
+unfoldable pub priority_moment : Topology → Signals → ℕ → ℕ → Moment
+priority_moment plan signals element t = record {
+  inputs = map (priority_input plan signals t) (inputs_of plan element);
+  commands = signals.commands element t;
+}
+
+-- its first n milliseconds
+abbrev pub priority_past : Topology → Signals → ℕ → ℕ → List Moment
+priority_past plan signals element n = past_of (priority_moment plan signals element) n
+
+-- the input that an element takes after a past
+abbrev pub priority_taken_by : Topology → ℕ → List Moment → Option InputId
+priority_taken_by plan element past =
+    option_and_then (slice_get (inputs_of plan element)) (selection_at (priority_settings plan element) past)
+
+-- the input that an element takes in a millisecond
+unfoldable pub priority_taken_at : Topology → Signals → ℕ → ℕ → Option InputId
+priority_taken_at plan signals element t = priority_taken_by plan element (priority_past plan signals element (suc t))
+
+-- what each element takes in a millisecond
+abbrev pub priority_taken_in : Topology → Signals → ℕ → Taken
+priority_taken_in plan signals t element = priority_taken_at plan signals element t
+
+-- an element's mode and its state in a millisecond
+abbrev pub priority_mode_at : Topology → Signals → ℕ → ℕ → Mode
+priority_mode_at plan signals element t = mode_at (priority_settings plan element) (priority_past plan signals element (suc t))
+
+abbrev pub priority_state_at : Topology → Signals → ℕ → ℕ → ClockState
+priority_state_at plan signals element t = state_at (priority_settings plan element) (priority_past plan signals element (suc t))
