@@ -1,0 +1,31 @@
+-- Private to this crate: the elements of each state among the first n.
+use Rattle.std.specs.Prelude.{◌≡◌, ◌+◌, ℕ, Bool, true, false, List}
+use Rattle.std.specs.List.{count_by, range_with_len}
+use Rattle.sync_ql.specs.declared.rules.ClockState.{ClockState}
+use Rattle.sync_ql.specs.declared.rules.ClockState.TheVariants.{FreeRun, Locked, Holdover}
+use Rattle.sync_topo.specs.declared.event.Event.{Event}
+use Rattle.sync_topo.specs.Topology.{Topology}
+use Rattle.event_sim.specs.Rows.{is_same_state}
+use Rattle.sync_sweep.specs.declared.counting.States.{States}
+use Rattle.sync_sweep.specs.Sweep.{is_in}
+
+-- how many are counted
+abbrev pub counted : States → ℕ
+counted states = states.locked + states.holdover + states.free
+
+-- 1 for a truth
+abbrev pub one_if : Bool → ℕ
+one_if true = 1
+one_if false = 0
+
+-- one more element is counted, in its state
+pub record IsOneMore (before : States) (state : ClockState) (after : States) : Type 0 where
+  pub locked : after.locked ≡ before.locked + one_if (is_same_state state Locked)
+  pub holdover : after.holdover ≡ before.holdover + one_if (is_same_state state Holdover)
+  pub free : after.free ≡ before.free + one_if (is_same_state state FreeRun)
+  pub all : counted after ≡ counted before + 1
+
+pub record AreCounted (plan : Topology) (events : List Event) (t n : ℕ) (states : States) : Type 0 where
+  pub locked : states.locked ≡ count_by (is_in Locked plan events t) (range_with_len 0 n)
+  pub holdover : states.holdover ≡ count_by (is_in Holdover plan events t) (range_with_len 0 n)
+  pub free : states.free ≡ count_by (is_in FreeRun plan events t) (range_with_len 0 n)

@@ -1,0 +1,5 @@
+pub mod Sweep
+pub mod Chunks
+pub mod Counts
+pub mod Base
+pub mod SweepText

@@ -1,0 +1,9 @@
+//! What may be sent to another thread, and what may be shared between threads.
+
+use crate::row::SweepRow;
+
+fn crosses<T: Send + Sync>() {}
+
+fn all_cross() {
+    crosses::<SweepRow>();
+}

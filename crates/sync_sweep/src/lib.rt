@@ -1,0 +1,23 @@
+//! Link failures: what becomes of a network where one link alone fails, for each link.
+//!
+//! [`sweep`] works the links in chunks that run at once where there are processors, and
+//! [`sweep_text`] writes its rows as a table. Up to the failure the run of every link is the same:
+//! it is made once, and each link goes on from a copy of it. The row of a link is `IsSweepRow`,
+//! whichever chunk it is worked in. [`Gate`] lets a test see that chunks run at once.
+//!
+//! This project's own.
+#![tactic(auto)]
+
+mod chunks;
+mod counting;
+mod crossing;
+mod gate;
+mod links;
+mod row;
+mod sweeping;
+mod table;
+
+pub use gate::{FreeGate, Gate};
+pub use row::SweepRow;
+pub use sweeping::sweep;
+pub use table::sweep_text;

@@ -1,0 +1,98 @@
+//! The table of a sweep.
+
+ghost use Rattle.std.specs.Prelude.{◌≡◌, ◌++◌, ◌<◌, length, IfOk, OnOk};
+ghost use Rattle.std.specs.List.{All};
+ghost use Rattle.sync_ql.specs.Level.{name_of as level_name};
+ghost use Rattle.sync_sweep.specs.SweepText.{bound_word, counts_text, link_name, results_text, row_text, settled_word, table_text};
+
+use crate::row::SweepRow;
+use std::alloc::Global;
+use sync_edge::{NoMemory, Rows, Text};
+use sync_ql::{Level, name_of};
+use sync_topo::Plan;
+
+/// The rows of a sweep over a plan, as text: a head, and then a row for each link with its name,
+/// whether it is settled, the numbers of elements in each state and of closed walks, the worst
+/// level, and the settling bound or `none`.
+///
+/// The rows are of links of this plan. `NoMemory` comes for want of memory alone. This project's own.
+pub fn sweep_text(alloc: Global, plan: &Plan, rows: &Rows<SweepRow>) -> Result<Text, NoMemory>
+    requires of_plan { All (λ row. row.link < length plan.now.links) rows.now }
+    ensures text { IfOk result (λ text. text ≡ table_text plan.now rows.now) }
+{
+    let mut text = Text::new(alloc);
+    text.put(b"link,settled,locked,holdover,freerun,loops,worst,bound\n")?;
+    for row in rows.as_slice() {
+        put_row(&mut text, plan, row)?;
+    }
+    Ok(text)
+}
+
+// Puts one row.
+fn put_row(text: &mut Text, plan: &Plan, row: &SweepRow) -> Result<(), NoMemory>
+    requires of_plan { row.now.link < length plan.now.links }
+    ensures put { OnOk result (text.new ≡ text.old ++ row_text plan.now row.now) }
+{
+    text.put(link_name(plan, row.link))?;
+    text.put(b",")?;
+    put_results(text, row)?;
+    text.put(b"\n")
+}
+
+// The name of a link.
+fn link_name(plan: &Plan, link: u32) -> &[u8]
+    requires of_plan { link < length plan.now.links }
+    ensures { result.now ≡ link_name plan.now link }
+{
+    plan.link(link).name.bytes()
+}
+
+// Puts all of a row but the link's name.
+fn put_results(text: &mut Text, row: &SweepRow) -> Result<(), NoMemory>
+    ensures put { OnOk result (text.new ≡ text.old ++ results_text row.now) }
+{
+    text.put(settled_word(row.settled))?;
+    text.put(b",")?;
+    put_counts(text, row)?;
+    text.put(b",")?;
+    put_level(text, row.worst)?;
+    text.put(b",")?;
+    put_bound(text, row.bound)
+}
+
+// Puts the name of a level.
+fn put_level(text: &mut Text, level: Level) -> Result<(), NoMemory>
+    ensures put { OnOk result (text.new ≡ text.old ++ level_name level) }
+{
+    text.put(name_of(level).as_bytes())
+}
+
+// Puts how many elements are in each state, and how many closed walks there are.
+fn put_counts(text: &mut Text, row: &SweepRow) -> Result<(), NoMemory>
+    ensures put { OnOk result (text.new ≡ text.old ++ counts_text row.now) }
+{
+    text.put_number(u64::from(row.locked))?;
+    text.put(b",")?;
+    text.put_number(u64::from(row.holdover))?;
+    text.put(b",")?;
+    text.put_number(u64::from(row.free))?;
+    text.put(b",")?;
+    text.put_number(u64::from(row.loops))
+}
+
+// Puts the settling bound, or that there is none.
+fn put_bound(text: &mut Text, bound: Option<u64>) -> Result<(), NoMemory>
+    ensures put { OnOk result (text.new ≡ text.old ++ bound_word bound) }
+{
+    match bound {
+        Some(bound) => text.put_number(bound),
+        None => text.put(b"none"),
+    }
+}
+
+// Whether a row is settled, in a word.
+fn settled_word(settled: bool) -> &'static [u8]
+    ensures { result.now ≡ settled_word settled }
+{
+    if settled { b"yes" } else { b"no" }
+}
