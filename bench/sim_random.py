@@ -1,5 +1,5 @@
 #!/usr/bin/env python3
-"""Compares the reports of `sim` on random plans and events with those of the reference, up to the part `inputs`.
+"""Compares the reports of `sim` on random plans and events with those of the reference.
 
 usage: sim_random.py PROGRAM [--plans N] [--seed N] [--sweep] [--long] [--keep FOLDER]
 
@@ -48,8 +48,7 @@ def expected_and_words(form, case, folder):
     read = read_plan(texts["plan"])
     if form == "sweep":
         return sweep_text(read, until // 3, until), ["sweep", paths["plan"], until // 3, until]
-    # The program writes the parts up to the inputs.
-    expected = sim_text(read, read_events(read, texts["events"]), until).partition("traces\n")[0]
+    expected = sim_text(read, read_events(read, texts["events"]), until)
     return expected, ["sim", paths["plan"], paths["events"], until]
 
 
