@@ -16,6 +16,8 @@ mod links;
 mod row;
 mod sweeping;
 mod table;
+#[cfg(test)]
+mod tests;
 
 pub use gate::{FreeGate, Gate};
 pub use row::SweepRow;
