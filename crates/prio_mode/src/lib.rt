@@ -8,10 +8,14 @@
 //!
 //! Which input is taken is the choice of one element (`sync_ql`), over inputs that all have one level.
 //! After ITU-T G.781, selection by priority, external commands, hold-off and wait-to-restore times.
+//!
+//! The tests are worked plans.
 #![tactic(auto)]
 
 mod checking;
 mod planning;
+#[cfg(test)]
+mod tests;
 
 pub use checking::{hop_any, prio_check};
 pub use planning::{PrioRanked, prio_plan};
