@@ -33,7 +33,8 @@ use Rattle.net_rules.proofs.NetLaws.{map-at}
 use Rattle.prio_mode.specs.PriorityHops.{hops_any}
 use Rattle.prio_mode.specs.PriorityAlone.{one_level, priority_settings, priority_input, priority_moment, priority_taken_at, priority_taken_in}
 use Rattle.prio_mode.specs.ForcedLoop.{forced_on, IsForcedLoop}
-use Rattle.prio_mode.proofs.DistinctInputs.{place-at, no-place-there, stands-there}
+use Rattle.sync_net.proofs.DistinctInputs.{place-at}
+use Rattle.sync_net.proofs.PlaceLemmas.{no-place-there, stands-there}
 use Rattle.prio_mode.proofs.RingLaws.{IsFollowed, each_followed, hop_any_parts, receivers_apart, ring_apart, ring_joins}
 
 -- up in its first millisecond, an input isn't failed

@@ -2,6 +2,15 @@ pub mod AnyHops
 pub mod Finds
 pub mod FallLaws
 pub mod LoopLaws
-pub mod DistinctInputs
+pub mod EventTimes
+pub mod ShownLemmas
+pub mod Standing
+pub mod Visiting
+pub mod Turning
+pub mod Advancing
+pub mod NewRuns
+pub mod BackLoops
+pub mod Reporting
+pub mod OneReport
 pub mod RingLaws
 pub mod ForcedLaws

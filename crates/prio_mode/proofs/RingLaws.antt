@@ -1,13 +1,14 @@
 -- The first cycle over hops that include returns: none of its lines stands twice, and no two have one receiver.
 use Rattle.std.proofs.Common.{◌≡◌, ◌≢◌, ◌≤◌, ◌<◌, ℕ, List, [], ◌∷◌, map, refl, sym, subst, ◌∙◌, inl, inr, arith}
-use Rattle.std.specs.Prelude.{◌&&◌, ◌==◌}
+use Rattle.std.specs.Prelude.{IsTrue, ◌&&◌, ◌==◌}
 use Rattle.std.specs.Cmp.Derive.{both_true}
 use Rattle.std.proofs.lemmas.Bool.{and_parts, eqb-true, eq-eqb}
 use Rattle.sync_topo.specs.Topology.{Topology}
 use Rattle.sync_topo.specs.Lines.{sender_of, receiver_of, is_nominated, IsNominated}
-use Rattle.sync_topo.specs.Ranks.{HopTest, IsBefore, Leads, IsFirstCycleFrom}
+use Rattle.sync_topo.specs.Ranks.{HopTest, IsBefore, Leads, IsFirstCycleFrom, IsFirstCycle, Circles}
 use Rattle.net_rules.specs.Walks.{Each, AreApart, IsOneOf, Joins}
 use Rattle.net_rules.proofs.EventLaws.{each-all}
+use Rattle.net_rules.proofs.WalkLaws.{walks-leads}
 use Rattle.cycle_plan.proofs.Back.{before_same}
 use Rattle.prio_mode.specs.PriorityHops.{hops_any, HopsAny}
 
@@ -97,3 +98,12 @@ ring_apart hop line rest cycle =
 pub ring_joins : (plan : Topology) (first : ℕ) (rest : List ℕ) (end : ℕ) → Leads (IsBefore (hops_any plan)) first rest end → Leads (Joins plan) first rest end
 ring_joins plan first [] end leads = (hop_any_parts plan first end leads.hops).2
 ring_joins plan first (next ∷ rest) end leads = ((hop_any_parts plan first next leads.0.hops).2, ring_joins plan next rest end leads.1)
+
+-- the first cycle goes round in hops, over any test
+leads-hops : (hop : HopTest) (first : ℕ) (rest : List ℕ) (end : ℕ) → Leads (IsBefore hop) first rest end → Leads (λ one next. IsTrue (hop one next)) first rest end
+leads-hops hop first [] end leads = leads.hops
+leads-hops hop first (next ∷ rest) end leads = (leads.0.hops, leads-hops hop next rest end leads.1)
+
+pub first-circles : (hop : HopTest) (lines : List ℕ) → IsFirstCycle hop lines → Circles hop lines
+first-circles hop [] cycle = cycle
+first-circles hop (line ∷ rest) cycle = walks-leads hop line rest line (leads-hops hop line rest line cycle.ring)

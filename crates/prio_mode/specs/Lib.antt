@@ -3,4 +3,11 @@ pub mod PriorityAlone
 pub mod PriorityLoops
 pub mod PriorityRanked
 pub mod ForcedLoop
+pub mod PriorityRows
+pub mod Loops
+pub mod PriorityReport
 pub mod FirstFall
+pub mod GoingBack
+pub mod Running
+pub mod Configured
+pub mod EventTimes

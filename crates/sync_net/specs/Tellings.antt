@@ -1,4 +1,4 @@
--- Private to this crate: the lists of what elements are told, and which elements are told
+-- The lists of what elements are told, and which elements are told
 -- something.
 use Rattle.std.specs.Prelude.{◌≡◌, ℕ, Bool, true, false, ◌||◌, List, [], ◌∷◌, ◌++◌, length, slice_index_or}
 use Rattle.sync_ql.specs.declared.rules.InputEvent.{InputEvent}

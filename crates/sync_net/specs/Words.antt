@@ -1,4 +1,4 @@
--- Private to this crate: the words in which elements are told of events.
+-- The words in which elements are told of events.
 use Rattle.std.specs.Prelude.{ℕ, ◌+◌, ◌*◌, Bool, true, false, nat_eq, if◌then◌else◌, List, [], ◌∷◌, ◌++◌, Option, None, Some}
 use Rattle.sync_ql.specs.declared.rules.Cmd.TheVariants as command
 use Rattle.sync_ql.specs.declared.rules.InputEvent.{InputEvent}

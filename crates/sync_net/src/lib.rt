@@ -42,3 +42,8 @@ mod wording;
 
 pub use laws::{elements_law, gap_law, later_events_law};
 pub use net::Net;
+pub use places::places_of;
+pub use starting::new_tellings;
+pub use tellings::Tellings;
+pub use told::Told;
+pub use wording::tell_events;

@@ -20,8 +20,8 @@ pub struct InputPlace {
     pub place: u32,
 }
 
-// The place of each input by its number, first the lines and then the sources; 0 for one that isn't
-// nominated.
+/// The place of each input by its number, first the lines and then the sources; 0 for one that isn't
+/// nominated. This project's own.
 pub fn places_of(alloc: Global, plan: &Plan) -> Result<Vec<u32>, NoMemory>
     ensures { IfOk result (λ places. ArePlaces plan.now places.items) }
 {

@@ -204,8 +204,8 @@ fn no_levels(alloc: Global, plan: &Plan) -> Result<Vec<Option<Level>>, NoMemory>
     Ok(levels.into_vec())
 }
 
-// No element is told anything.
-fn new_tellings(alloc: Global, plan: &Plan) -> Result<Tellings, NoMemory>
+/// No element is told anything. This project's own.
+pub fn new_tellings(alloc: Global, plan: &Plan) -> Result<Tellings, NoMemory>
     ensures changes { IfOk result (λ tellings.
         tellings.changes.items ≡ replicate (length plan.now.elements) []) }
     ensures active { IfOk result (λ tellings.

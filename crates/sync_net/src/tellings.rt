@@ -9,15 +9,19 @@ use agenda::Marks;
 use sync_edge::NoMemory;
 use sync_ql::rules::InputEvent;
 
-// What each element is told, by its number, and the elements that are told something.
+/// What each element is told, by its number, and the elements that are told something.
+///
+/// This project's own.
 #[derive(Debug, Drop)]
 pub struct Tellings {
+    /// What each element is told.
     pub changes: Vec<Told>,
+    /// The elements that are told something.
     pub active: Marks,
 }
 
 impl Tellings {
-    // An element is told of an event more.
+    /// An element is told of an event more. This project's own.
     pub fn tell(&mut self, element: u32, event: InputEvent) -> Result<(), NoMemory>
         requires list { element < length self.old.changes.items }
         requires flag { element < length self.old.active.flags }

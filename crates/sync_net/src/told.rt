@@ -7,7 +7,9 @@ use std::marker::Model;
 use sync_edge::NoMemory;
 use sync_ql::rules::InputEvent;
 
-// What an element is told, in order. It keeps its room when it is cleared.
+/// What an element is told, in order. It keeps its room when it is cleared.
+///
+/// This project's own.
 #[derive(Debug, Drop)]
 pub struct Told {
     events: Vec<InputEvent>,
@@ -23,7 +25,7 @@ impl Model for Told {
 }
 
 impl Told {
-    // Nothing is told. It takes no memory.
+    /// Nothing is told. It takes no memory. This project's own.
     pub fn new(alloc: Global) -> Told
         ensures { result ≡ [] }
     {
@@ -32,7 +34,7 @@ impl Told {
         }
     }
 
-    // The same once more.
+    /// The same once more. This project's own.
     pub fn try_clone(&self, alloc: Global) -> Result<Told, NoMemory>
         ensures { IfOk result (λ told. told ≡ self.now) }
     {
@@ -42,7 +44,7 @@ impl Told {
         }
     }
 
-    // One event more is told; where memory runs out, nothing changes.
+    /// One event more is told; where memory runs out, nothing changes. This project's own.
     pub fn push(&mut self, event: InputEvent) -> Result<(), NoMemory>
         ensures ok { OnOk result (self.new ≡ self.old ++ event ∷ []) }
         ensures err { OnErr result (self.new ≡ self.old) }
@@ -53,14 +55,14 @@ impl Told {
         }
     }
 
-    // All that is told.
+    /// All that is told. This project's own.
     pub fn as_slice(&self) -> &[InputEvent]
         ensures { result.now ≡ self.now }
     {
         self.events.as_slice()
     }
 
-    // Nothing is told any more.
+    /// Nothing is told any more. This project's own.
     pub fn clear(&mut self)
         ensures { self.new ≡ [] }
     {

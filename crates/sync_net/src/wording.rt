@@ -15,7 +15,9 @@ use sync_edge::NoMemory;
 use sync_ql::rules::{Cmd, InputEvent};
 use sync_topo::{Event, InputId, LineId, Part, Plan, What};
 
-// Tells elements of events in their order: of all but levels.
+/// Tells elements of events in their order: of all but levels.
+///
+/// The places are those of the plan's inputs ([`places_of`](crate::places_of)). This project's own.
 pub fn tell_events(
     plan: &Plan,
     places: &[u32],

@@ -1,0 +1,144 @@
+-- A run before its first millisecond.
+use Rattle.std.proofs.Common.{◌≡◌, ◌≤◌, ◌<◌, ◌+◌, ℕ, false, List, [], ◌∷◌, ◌++◌, length, map, replicate, None, Some, IfSome, slice_get, refl, ap, sym, subst, ◌∙◌, inl, inr, arith}
+use Rattle.std.specs.Prelude.{slice_index_or}
+use Rattle.std.specs.List.{All}
+use Rattle.std.proofs.Math.Decide.{dec_lt}
+use Rattle.std.proofs.lemmas.Bool.{ltb-true, cases_lt}
+use Rattle.std.proofs.Math.ListN.{get_or-append}
+use Rattle.std.proofs.Math.Seq.{get_or-append_seam}
+use Rattle.std.proofs.lemmas.List.{length-append, get_or-replicate, length-replicate, get_or_past}
+use Rattle.std.proofs.lemmas.List.Elements.{All-map, All-nil, All-cons}
+use Rattle.sync_ql.specs.declared.levels.NetOption.{NetOption}
+use Rattle.sync_ql.specs.declared.levels.NetOption.TheVariants.{I, II}
+use Rattle.sync_ql.specs.declared.levels.Level.{Level}
+use Rattle.sync_ql.specs.Told.{IsOfOption, moments_until}
+use Rattle.agenda.specs.Marked.{none_marked}
+use Rattle.sync_element.specs.declared.config.InputConfig.{InputConfig}
+use Rattle.sync_element.specs.Configured as configured
+use Rattle.sync_element.specs.ElementState.{ElementState}
+use Rattle.sync_element.specs.StandsFor as Element
+use Rattle.sync_topo.specs.declared.element.Element as elements
+use Rattle.sync_topo.specs.declared.event.Event.{Event}
+use Rattle.sync_topo.specs.Topology.{Topology}
+use Rattle.sync_topo.specs.Lines.{inputs_of}
+use Rattle.net_rules.specs.Signals.{signals_by}
+use Rattle.net_rules.specs.Inputs.{IsInputOf}
+use Rattle.net_rules.specs.Walks.{Each}
+use Rattle.net_rules.proofs.Lists.{Each-map}
+use Rattle.net_rules.proofs.InputLaws.{inputs-are}
+use Rattle.sync_net.specs.Beginning.{AreEach}
+use Rattle.sync_net.specs.Places.{ArePlaces}
+use Rattle.prio_mode.specs.declared.shown.Shown.{Shown}
+use Rattle.prio_mode.specs.declared.running.Run.{Run}
+use Rattle.prio_mode.specs.Configured.{config_of, IsNewElement, AreShown}
+use Rattle.prio_mode.specs.PriorityAlone.{one_level, priority_settings, priority_past}
+use Rattle.prio_mode.proofs.Visiting.{read-any}
+use Rattle.prio_mode.specs.Running.{Shows, IsRun, RunStands, element_in}
+
+-- what holds of each of a list holds at each of its places
+all-from : {A : Type 0} (P : A → Type 0) (xs : List A) → Each P xs → All P xs
+all-from P [] each = All-nil P
+all-from P (x ∷ xs) each = All-cons P x xs each.0 (all-from P xs each.1)
+
+-- a list made twice over is made once
+map-map : {A B C : Type 0} (f : A → B) (g : B → C) (xs : List A) → map g (map f xs) ≡ map (λ x. g (f x)) xs
+map-map f g [] = refl
+map-map f g (x ∷ xs) = ap (λ ys. g (f x) ∷ ys) (map-map f g xs)
+
+-- the priorities of an element's inputs are at least 1
+pub priorities-fit : (plan : Topology) (place : ℕ) (configs : List InputConfig) → configs ≡ map (config_of plan) (inputs_of plan place) → All (λ input. 1 ≤ input.priority) configs
+priorities-fit plan place configs is =
+    subst (All (λ input. 1 ≤ input.priority)) (sym is)
+    (All-map (λ input. 1 ≤ input.priority) (config_of plan) (inputs_of plan place)
+    (all-from (λ input. 1 ≤ (config_of plan input).priority) (inputs_of plan place)
+    (Each-map (IsInputOf plan place) (λ input. 1 ≤ (config_of plan input).priority) (λ input of. ltb-true 0 (config_of plan input).priority of.nominated) (inputs_of plan place) (inputs-are plan place))))
+
+-- the one level is of its option
+one-option : (option : NetOption) → (one_level option).option ≡ option
+one-option I = refl
+one-option II = refl
+
+pub firsts-fit : (plan : Topology) (place : ℕ) (own : Level) (configs : List InputConfig) → own.option ≡ plan.option → configs ≡ map (config_of plan) (inputs_of plan place)
+    → All (λ input. IsOfOption own.option input.first) configs
+firsts-fit plan place own configs own_is is =
+    subst (λ o. All (λ input. IsOfOption o input.first) configs) (sym own_is)
+    (subst (All (λ input. IsOfOption plan.option input.first)) (sym is)
+    (All-map (λ input. IsOfOption plan.option input.first) (config_of plan) (inputs_of plan place)
+    (λ k d inside. one-option plan.option)))
+
+-- an element set to what the plan says has the plan's settings
+pub settings-are : (plan : Topology) (place : ℕ) (element : elements.Element) (configs : List InputConfig) → slice_get plan.elements place ≡ Some element → configs ≡ map (config_of plan) (inputs_of plan place)
+    → configured.settings_of (record { own = element.own; floor = None; holdoff = element.holdoff; wtr = element.wtr; inputs = configs }) ≡ priority_settings plan place
+unfolding priority_settings
+settings-are plan place element configs is configs_are =
+    rw (
+      is,
+      configs_are,
+      map-map (config_of plan) (λ input. input.priority) (inputs_of plan place),
+      map-map (config_of plan) (λ input. input.first) (inputs_of plan place),
+      map-map (config_of plan) (λ input. input.bundle) (inputs_of plan place),
+    ) refl
+
+-- one more is kept
+pub shown-more : (plan : Topology) (elements : List ElementState) (n : ℕ) (before after : List Shown) (shown : Shown) → AreShown plan elements n before → after ≡ before ++ shown ∷ []
+    → ((other : ElementState) → Shows plan n (slice_index_or elements n other) shown) → AreShown plan elements (n + 1) after
+shown-more plan elements n before after shown so_far more last = subst (AreShown plan elements (n + 1)) (sym more) (record {
+  count = length-append before (shown ∷ []) ∙ ap (λ k. k + 1) so_far.count;
+  each = λ place other none early. elim (dec_lt place n) [
+    | yes earlier ↦ subst (Shows plan place (slice_index_or elements place other)) (sym (get_or-append before (shown ∷ []) none place (omega (arith, so_far.count, earlier)))) (so_far.each place other none earlier)
+    | no here ↦
+        let same : place ≡ n = omega (arith, here, early) in
+        subst (Shows plan place (slice_index_or elements place other))
+        (sym (ap (λ k. slice_index_or (before ++ shown ∷ []) k none) (same ∙ sym so_far.count) ∙ get_or-append_seam before shown [] none))
+        (subst (λ k. Shows plan k (slice_index_or elements k other) shown) (sym same) (last other))
+  ];
+})
+
+none-replicated : {A : Type 0} (n i : ℕ) (a : A) → slice_index_or (replicate n a) i a ≡ a
+none-replicated n i a = elim (cases_lt i n) [
+  | inl low ↦ get_or-replicate n i a a low
+  | inr high ↦ get_or_past (replicate n a) i a (let long : length (replicate n a) ≡ n = length-replicate n a in omega (arith, long, high))
+]
+
+-- new elements, and what they show, are a run
+pub begun : (plan : Topology) (run : Run) → AreEach (IsNewElement plan) (length plan.elements) run.elements.items
+    → AreShown plan run.elements.items (length plan.elements) run.shown.items
+    → run.tellings.changes.items ≡ replicate (length plan.elements) [] → run.tellings.active ≡ none_marked (length plan.elements)
+    → ArePlaces plan run.places.items → IsRun plan 0 run
+begun plan run elements shown changes active places = record {
+  counted = record {
+    elements = elements.count;
+    shown = shown.count;
+    changes = ap length changes ∙ length-replicate (length plan.elements) [];
+    flags = ap (λ a. length a.flags) active ∙ length-replicate (length plan.elements) false;
+    places = places;
+  };
+  ready = λ place element none within. let is = elements.each place element within in record {
+    settings = is.settings;
+    in_time = record { first = λ never. refl; later = (let next = is.next in omega (arith, next)); until_due = subst (λ o. IfSome o (λ due. 0 ≤ due)) (sym is.due) tt };
+    shows = shown.each place element none within;
+  };
+  untold = λ place. ap (λ xs. slice_index_or xs place []) changes ∙ none-replicated (length plan.elements) place [];
+  idle = λ place. ap (λ a. slice_index_or a.flags place false) active ∙ none-replicated (length plan.elements) place false;
+}
+
+pub begun-stands : (plan : Topology) (run : Run) → AreEach (IsNewElement plan) (length plan.elements) run.elements.items
+    → (all : List Event) → RunStands plan all 0 run
+begun-stands plan run elements all place element within =
+    let is = elements.each place element within in
+    record {
+      stands = subst (λ n. Element.StandsFor (element_in run place element) (priority_past plan (signals_by plan all) place n)) (sym is.next) is.stands;
+      quiet = subst (λ n. priority_past plan (signals_by plan all) place 0 ≡ moments_until (priority_settings plan place) 0 (priority_past plan (signals_by plan all) place n)) (sym is.next) refl;
+    }
+
+-- what the element that is read shows
+pub shows-at : (plan : Topology) (elements : List ElementState) (place : ℕ) (element : ElementState) (shown : Shown) → length elements ≡ length plan.elements → place < length plan.elements
+    → element ≡ slice_index_or elements place element → Shows plan place element shown → (other : ElementState) → Shows plan place (slice_index_or elements place other) shown
+shows-at plan elements place element shown counted within at shows other =
+    subst (λ e. Shows plan place e shown) (sym (read-any elements (length plan.elements) place element other counted within at)) shows
+
+-- the element that is read has the plan's settings
+pub settings-at : (plan : Topology) (elements : List ElementState) (place : ℕ) (element : ElementState) → AreEach (IsNewElement plan) (length plan.elements) elements → place < length plan.elements
+    → element ≡ slice_index_or elements place element → element.settings ≡ priority_settings plan place
+settings-at plan elements place element are within at =
+    subst (λ e. e.settings ≡ priority_settings plan place) (sym at) (are.each place element within).settings

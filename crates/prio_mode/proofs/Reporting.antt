@@ -1,0 +1,97 @@
+-- What a run shows at its end is what the elements take by the rules.
+use Rattle.std.proofs.Common.{◌≡◌, ◌≤◌, ◌<◌, ◌+◌, ℕ, suc, false, List, [], length, Option, None, Some, IfSome, refl, ap, sym, subst, ◌∙◌, inl, inr, arith, add-one}
+use Rattle.std.specs.Prelude.{◌++◌, codes}
+use Rattle.std.proofs.Math.Path.{fun_ext}
+use Rattle.std.proofs.lemmas.Bool.{cases_lt}
+use Rattle.std.proofs.lemmas.List.{get_or_past}
+use Rattle.std.proofs.lemmas.Option.{slice_get_cases}
+use Rattle.sync_ql.specs.declared.rules.Mode.TheVariants.{Auto}
+use Rattle.sync_ql.specs.declared.rules.ClockState.TheVariants.{FreeRun}
+use Rattle.sync_element.specs.ElementState.{ElementState, IsInTime}
+use Rattle.sync_topo.specs.declared.event.Event.{Event}
+use Rattle.sync_topo.specs.declared.input.InputId.{InputId}
+use Rattle.sync_topo.specs.declared.input.InputId.TheVariants.{Line, Source}
+use Rattle.sync_topo.specs.Topology.{Topology}
+use Rattle.sync_topo.specs.WellFormed.{IsWellFormed}
+use Rattle.sync_topo.specs.Lines.{IsInput}
+use Rattle.net_rules.proofs.PlanLaws.{receiver-within}
+use Rattle.net_rules.specs.Inputs.{IsInputOf, element_of}
+use Rattle.net_rules.specs.Signals.{signals_by}
+use Rattle.net_rules.specs.Walks.{Taken}
+use Rattle.prio_mode.specs.declared.shown.Shown.{Shown}
+use Rattle.prio_mode.specs.declared.running.Run.{Run}
+use Rattle.prio_mode.specs.PriorityAlone.{priority_settings, priority_past, priority_taken_at, priority_taken_in}
+use Rattle.prio_mode.specs.PriorityRows.{shown_after, rows_until}
+use Rattle.prio_mode.specs.Loops.{AreLoops, walk_rows}
+use Rattle.prio_mode.specs.PriorityReport.{IsPriorityReport}
+use Rattle.prio_mode.specs.Running.{IsRun, RunStands, element_in, shown_in}
+use Rattle.prio_mode.specs.GoingBack.{taken_by, TakeOwn}
+use Rattle.prio_mode.proofs.LoopLaws.{taken-own}
+use Rattle.prio_mode.proofs.Standing.{shown-is}
+
+-- an input of the plan is of one of its elements
+element-within : (plan : Topology) (input : InputId) → IsWellFormed plan → IsInput plan input → element_of plan input < length plan.elements
+element-within plan (Line line) well has = receiver-within plan well line.0 has
+element-within plan (Source source) well has = elim (slice_get_cases plan.sources source).1 [
+  | inl there ↦ rw there.2 (well.sources_fit source there.0 there.2).at_is_element
+  | inr past ↦ absurd (omega (arith, has, past.0))
+]
+
+any : Topology → ElementState
+any plan = record {
+  settings = priority_settings plan 0;
+  next = 0;
+  due = None;
+  later_steps = 0;
+  kept = record {
+    inputs = record { watched = []; dues = []; candidates = [] };
+    switches = record { locked = []; forced = None; manual = None };
+    selection = None;
+    was_locked = false;
+  };
+}
+
+module _ (plan : Topology) (events : List Event) (until : ℕ) (run : Run) (well : IsWellFormed plan) (is : IsRun plan (until + 1) run) (stood : RunStands plan events (suc until) run) where
+  inside : (e : ℕ) → e < length plan.elements → taken_by run.shown.items e ≡ priority_taken_in plan (signals_by plan events) until e
+  unfolding shown_after priority_taken_at
+  inside e within =
+      let ready = is.ready e (any plan) (record { mode = Auto; input = None; state = FreeRun }) within in
+      let on_time : IsInTime (element_in run e (any plan)) (suc until) = subst (IsInTime (element_in run e (any plan))) (add-one until) ready.in_time in
+      ap (λ (shown : Shown). shown.input)
+      (shown-is plan events e (suc until) (element_in run e (any plan)) (shown_in run e (record { mode = Auto; input = None; state = FreeRun })) ready.shows on_time (stood e (any plan) within))
+
+  beyond : (e : ℕ) → length plan.elements ≤ e → (o : Option InputId) → priority_taken_in plan (signals_by plan events) until e ≡ o → o ≡ None
+  unfolding priority_taken_at
+  beyond e past None taken = refl
+  beyond e past (Some input) taken =
+      let of = taken-own plan e (priority_past plan (signals_by plan events) e (suc until)) input taken in
+      let within = element-within plan input well of.has in
+      let at = of.of_element in
+      absurd (omega (arith, within, at, past))
+
+  pub taken-same : taken_by run.shown.items ≡ priority_taken_in plan (signals_by plan events) until
+  taken-same = fun_ext (λ e. elim (cases_lt e (length plan.elements)) [
+    | inl within ↦ inside e within
+    | inr past ↦
+        ap (λ (shown : Shown). shown.input) (get_or_past run.shown.items e (record { mode = Auto; input = None; state = FreeRun }) (let count = is.counted.shown in omega (arith, count, past)))
+        ∙ sym (beyond e past (priority_taken_in plan (signals_by plan events) until e) refl)
+  ])
+
+  pub take-own : TakeOwn plan run.shown.items
+  unfolding priority_taken_at
+  take-own e = subst (λ (taken : Taken). IfSome (taken e) (IsInputOf plan e)) (sym taken-same) (by (priority_taken_in plan (signals_by plan events) until e) refl)
+    where
+      by : (o : Option InputId) → priority_taken_in plan (signals_by plan events) until e ≡ o → IfSome o (IsInputOf plan e)
+      by None taken = tt
+      by (Some input) taken = taken-own plan e (priority_past plan (signals_by plan events) e (suc until)) input taken
+
+  -- the parts that were put are the report
+  pub reported : (shown : List Shown) (first second third whole : List ℕ) → shown ≡ run.shown.items → first ≡ codes "changes\n"
+      → second ≡ first ++ rows_until plan events (suc until) → third ≡ second ++ codes "loops\n"
+      → (walks : List (List ℕ)) × AreLoops plan (taken_by shown) walks × (whole ≡ third ++ walk_rows plan walks)
+      → IsPriorityReport plan events until whole
+  reported shown first second third whole listed one two three put = record {
+    walks = put.0;
+    loops = subst (λ (taken : Taken). AreLoops plan taken put.0) taken-same (subst (λ (xs : List Shown). AreLoops plan (taken_by xs) put.0) listed put.1);
+    text_is = put.2 ∙ ap (λ front. front ++ walk_rows plan put.0) (three ∙ ap (λ front. front ++ codes "loops\n") (two ∙ ap (λ front. front ++ rows_until plan events (suc until)) one));
+  }

@@ -1,0 +1,57 @@
+-- What an element shows, by what it answers.
+use Rattle.std.proofs.Common.{◌≡◌, ℕ, zero, suc, List, [], ◌∷◌, sym, subst, ap, ◌∙◌}
+use Rattle.std.specs.Prelude.{Option, None, Some, IfSome, option_and_then, slice_get}
+use Rattle.std.specs.List.{All}
+use Rattle.sync_ql.specs.declared.rules.Mode.{Mode}
+use Rattle.sync_ql.specs.declared.rules.ClockState.{ClockState}
+use Rattle.sync_ql.specs.Moment.{Moment, selection_at}
+use Rattle.sync_ql.specs.Told.{moments_until}
+use Rattle.sync_ql.specs.Output.{mode_at, state_at}
+use Rattle.sync_element.specs.ElementState.{ElementState, IsInTime}
+use Rattle.sync_element.specs.StandsFor as Element
+use Rattle.sync_topo.specs.declared.input.InputId.{InputId}
+use Rattle.sync_topo.specs.Topology.{Topology}
+use Rattle.sync_topo.specs.Lines.{IsInput, inputs_of}
+use Rattle.net_rules.specs.Walks.{Each}
+use Rattle.net_rules.proofs.EventLaws.{each-all}
+use Rattle.prio_mode.specs.declared.shown.Shown.{Shown}
+use Rattle.prio_mode.specs.PriorityAlone.{priority_settings, priority_taken_by}
+use Rattle.prio_mode.specs.PriorityRows.{shown_after}
+use Rattle.prio_mode.specs.Running.{Shows}
+
+-- what stands at a place of a list
+item-at : {A : Type 0} (P : A → Type 0) (xs : List A) (i : ℕ) → Each P xs → IfSome (slice_get xs i) P
+item-at P [] i each = tt
+item-at P (x ∷ xs) zero each = each.0
+item-at P (x ∷ xs) (suc i) each = item-at P xs i each.1
+
+item-if : {A : Type 0} (P : A → Type 0) (xs : List A) (place : Option ℕ) → Each P xs → IfSome (option_and_then (slice_get xs) place) P
+item-if P xs None each = tt
+item-if P xs (Some i) each = item-at P xs i each
+
+-- what is put together from the answers of an element is what it shows
+pub shown-as : (plan : Topology) (place : ℕ) (element : ElementState)
+    (mode : Mode) (selected : Option ℕ) (input : Option InputId) (state : ClockState)
+    → element.settings ≡ priority_settings plan place
+    → ((past : List Moment) (n : ℕ) → Element.StandsFor element past → IsInTime element n → mode ≡ mode_at element.settings (moments_until element.settings n past))
+    → ((past : List Moment) (n : ℕ) → Element.StandsFor element past → IsInTime element n → selected ≡ selection_at element.settings (moments_until element.settings n past))
+    → input ≡ option_and_then (slice_get (inputs_of plan place)) selected → All (IsInput plan) (inputs_of plan place)
+    → ((past : List Moment) (n : ℕ) → Element.StandsFor element past → IsInTime element n → state ≡ state_at element.settings (moments_until element.settings n past))
+    → Shows plan place element (record { mode = mode; input = input; state = state })
+unfolding shown_after
+shown-as plan place element mode selected input state set mode_is selected_is input_is inputs_within state_is = record {
+  shows = λ past n is on_time.
+      let taken : input ≡ priority_taken_by plan place (moments_until (priority_settings plan place) n past) =
+      input_is ∙ ap (option_and_then (slice_get (inputs_of plan place)))
+      (subst (λ s. selected ≡ selection_at s (moments_until s n past)) set (selected_is past n is on_time)) in
+      joined _ _ _ _ _ _
+      (subst (λ s. mode ≡ mode_at s (moments_until s n past)) set (mode_is past n is on_time))
+      taken
+      (subst (λ s. state ≡ state_at s (moments_until s n past)) set (state_is past n is on_time));
+  input = subst (λ (o : Option InputId). IfSome o (IsInput plan)) (sym input_is)
+      (item-if (IsInput plan) (inputs_of plan place) selected (each-all (IsInput plan) (inputs_of plan place) inputs_within));
+}
+  where
+    joined : (m m_then : Mode) (i i_then : Option InputId) (s s_then : ClockState) → m ≡ m_then → i ≡ i_then → s ≡ s_then
+        → (let one : Shown = record { mode = m; input = i; state = s } in let other : Shown = record { mode = m_then; input = i_then; state = s_then } in one ≡ other)
+    joined m m_then i i_then s s_then p q t = cc

@@ -1,0 +1,13 @@
+use Rattle.prio_mode.proofs.EventTimes.{next-event, next-last}
+use Rattle.prio_mode.proofs.events.next_time.Goals as goal
+
+pub returns-in-Some : goal.returns-in-Some
+returns-in-Some c = λ plan from.
+    next-event plan c.args.next c.args.until c.earlier-last.result c.args.rest.now c.args.due c.in-Some.event.now c.in-Some.ensures.value from
+    c.if-next-eq0.false c.if-event-last.true c.earlier-last.ensures.up_to c.earlier-last.ensures.until_due
+
+pub returns-in_default : goal.returns-in_default
+returns-in_default c = λ plan from.
+    next-last plan c.args.next c.args.until c.earlier-last.result c.args.rest.now c.args.due c.in-Some.event.now c.in-Some.ensures.value from
+    c.if-next-eq0.false c.if-event-last.false (c.earlier-last.ensures.from c.args.next c.requires.later c.requires.due)
+    c.earlier-last.ensures.up_to c.earlier-last.ensures.until_due

@@ -1,0 +1,17 @@
+use Rattle.std.proofs.Common.{◌++◌, ◌∙◌, ap, sym, subst}
+use Rattle.std.specs.Prelude.{codes}
+use Rattle.prio_mode.specs.GoingBack.{TakeOwn}
+use Rattle.prio_mode.proofs.Reporting.{take-own, reported}
+use Rattle.prio_mode.proofs.simulating.prio_sim.Goals as goal
+
+pub put_loops-requires-clause-own : goal.put_loops-requires-clause-own
+put_loops-requires-clause-own c =
+    subst (TakeOwn c.args.plan.now) (sym c.as_slice.ensures.value)
+    (take-own c.args.plan.now c.args.events.now c.args.until c.advance.new.self c.elements-elements.ensures.well_formed c.in_ok-advance.ensures.run c.in_ok-advance.ensures.stands)
+
+pub returns : goal.returns
+returns c =
+    reported c.args.plan.now c.args.events.now c.args.until c.advance.new.self c.elements-elements.ensures.well_formed
+    c.in_ok-advance.ensures.run c.in_ok-advance.ensures.stands
+    c.as_slice.result.now c.put.new.self c.advance.new.text c.put-2.new.self c.put_loops.new.text c.as_slice.ensures.value
+    (c.in_ok-put.ensures.ok ∙ ap (λ front. front ++ codes "changes\n") c.new-text.ensures) c.in_ok-advance.ensures.text c.in_ok-put-2.ensures.ok c.in_ok-put_loops.ensures

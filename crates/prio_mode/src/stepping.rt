@@ -1,0 +1,52 @@
+//! One step of one element.
+
+ghost use Rattle.std.specs.Prelude.{◌≡◌, ◌≤◌, ◌<◌, [], All, length};
+ghost use Rattle.sync_ql.specs.Told.{FitsElement};
+ghost use Rattle.sync_element.specs.ElementState.{IsInTime};
+ghost use Rattle.prio_mode.specs.PriorityAlone.{priority_settings};
+ghost use Rattle.prio_mode.specs.Running.{IsStepped, Shows};
+
+use crate::shown::{Shown, shown_of};
+use std::marker::Brand;
+use std::sync::ledger::{Blank, Ledger};
+use sync_edge::Steps;
+use sync_element::{Element, InputEvent};
+use sync_net::Told;
+use sync_ql::limits::LAST_MILLISECOND;
+use sync_topo::Plan;
+
+/// Tells an element its words, lets it make its step, and answers what it shows then.
+pub(crate) fn step_told(
+    plan: &Plan,
+    place: u32,
+    element: &mut Element,
+    told: &mut Told,
+    now: u64,
+) -> Shown
+    requires within { place < length plan.now.elements }
+    requires settings { element.old.settings ≡ priority_settings plan.now place }
+    requires in_time { IsInTime element.old now }
+    requires in_range { now ≤ LAST_MILLISECOND }
+    requires fits { All (FitsElement element.old.settings) told.old }
+    ensures stepped { IsStepped now told.old element.old element.new }
+    ensures told { told.new ≡ [] }
+    ensures shows { Shows plan.now place element.new result }
+{
+    step::<Brand>(element, now, told.as_slice(), Blank::new(1));
+    told.clear();
+    shown_of(plan, place, element)
+}
+
+/// A step that nobody counts.
+fn step<L: Ledger>(element: &mut Element, now: u64, words: &[InputEvent], blank: Blank)
+    requires name { blank.name ≡ L.name }
+    requires parts { blank.parts ≡ L.parts }
+    requires some { 0 < blank.parts }
+    requires in_time { IsInTime element.old now }
+    requires in_range { now ≤ LAST_MILLISECOND }
+    requires fits { All (FitsElement element.old.settings) words.now }
+    ensures stepped { IsStepped now words.now element.old element.new }
+{
+    let mut steps = Steps::<L>::new(blank);
+    element.step(now, words, &mut steps);
+}
