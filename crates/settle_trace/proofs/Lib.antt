@@ -8,4 +8,5 @@ pub mod TracedNow
 pub mod Rings
 pub mod KnownLaws
 pub mod LoopLaws
+pub mod OneList
 mod WithinLaws

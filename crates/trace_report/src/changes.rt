@@ -31,8 +31,16 @@ pub fn put_changes(
     Ok(())
 }
 
-// Puts one change.
-fn put_change(alloc: Global, text: &mut Text, plan: &Plan, change: &Change) -> Result<(), NoMemory>
+/// Puts the row of one change of a plan: its millisecond, the element, what it chose, and its level and
+/// state.
+///
+/// `NoMemory` comes for want of memory alone. This project's own.
+pub fn put_change(
+    alloc: Global,
+    text: &mut Text,
+    plan: &Plan,
+    change: &Change,
+) -> Result<(), NoMemory>
     requires of_plan { IsChangeOf plan.now change.now }
     ensures put { OnOk result (text.new ≡ text.old ++ change_row plan.now change.now) }
 {

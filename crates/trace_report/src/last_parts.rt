@@ -142,8 +142,10 @@ fn put_line(alloc: Global, text: &mut Text, plan: &Plan, line: LineId) -> Result
     plan.put_input_name(alloc, text, InputId::Line(line))
 }
 
-// Puts whether the network is settled.
-fn put_settled(text: &mut Text, settled: bool) -> Result<(), NoMemory>
+/// Puts the line on whether a network is settled.
+///
+/// `NoMemory` comes for want of memory alone. This project's own.
+pub fn put_settled(text: &mut Text, settled: bool) -> Result<(), NoMemory>
     ensures put { OnOk result (text.new ≡ text.old ++ settled_part settled) }
 {
     if settled {

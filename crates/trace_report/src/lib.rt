@@ -3,7 +3,8 @@
 //! [`report`] writes what a simulator has noted and how its network stands: all changes, each a row,
 //! the conditions of all inputs, whence each element has its timing, which loops stand, and whether
 //! the network is settled. Its text is one of `IsReportText`, over the rules' history of the plan and
-//! all events, and [`one_report_law`] says that there is one. This project's own.
+//! all events, and [`one_report_law`] says that there is one. [`put_change`] and [`put_settled`]
+//! write a row and the last line alone. This project's own.
 #![tactic(auto)]
 
 mod changes;
@@ -14,5 +15,7 @@ mod laws;
 mod words;
 mod writing;
 
+pub use changes::put_change;
+pub use last_parts::put_settled;
 pub use laws::one_report_law;
 pub use writing::report;
