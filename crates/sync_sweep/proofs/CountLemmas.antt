@@ -81,8 +81,10 @@ counted-next plan events t n before after state was is more = record {
 }
 
 -- the worst level of the first element
-pub worst-first : (plan : Topology) (events : List Event) (t : ℕ) (worst : Level) → worst ≡ level_in plan events t 0 → IsWorstOf plan events t 1 worst
-worst-first plan events t worst is = record {
+pub worst-first : (plan : Topology) (events : List Event) (t : ℕ) (worst : Level) → worst.option ≡ plan.option
+    → worst ≡ level_in plan events t 0 → IsWorstOf plan events t 1 worst
+worst-first plan events t worst of_option is = record {
+  of_option = of_option;
   element = 0;
   within = omega arith;
   has = sym is;
@@ -93,9 +95,9 @@ worst-first plan events t worst is = record {
 
 -- the worse of what was the worst and of one more level
 pub worst-next : (plan : Topology) (events : List Event) (t n : ℕ) (worst level now : Level)
-    → IsWorstOf plan events t n worst → level ≡ level_in plan events t n → (now ≡ worst) ⊎ (now ≡ level) → ¬ IsBetter now worst → ¬ IsBetter now level
-    → IsWorstOf plan events t (n + 1) now
-worst-next plan events t n worst level now was is either not_one not_other = from either
+    → IsWorstOf plan events t n worst → level.option ≡ plan.option → level ≡ level_in plan events t n → (now ≡ worst) ⊎ (now ≡ level)
+    → ¬ IsBetter now worst → ¬ IsBetter now level → IsWorstOf plan events t (n + 1) now
+worst-next plan events t n worst level now was of_option is either not_one not_other = from either
   where
     none : (other : ℕ) → other < n + 1 → ¬ IsBetter now (level_in plan events t other)
     none other within better = elim (dec_lt other n) [
@@ -106,8 +108,8 @@ worst-next plan events t n worst level now was is either not_one not_other = fro
     ]
 
     from : (now ≡ worst) ⊎ (now ≡ level) → IsWorstOf plan events t (n + 1) now
-    from (inl same) = record { element = was.element; within = omega (arith, was.within); has = was.has ∙ sym same; none_worse = none }
-    from (inr same) = record { element = n; within = omega arith; has = sym (same ∙ is); none_worse = none }
+    from (inl same) = record { of_option = ap (λ (l : Level). l.option) same ∙ was.of_option; element = was.element; within = omega (arith, was.within); has = was.has ∙ sym same; none_worse = none }
+    from (inr same) = record { of_option = ap (λ (l : Level). l.option) same ∙ of_option; element = n; within = omega arith; has = sym (same ∙ is); none_worse = none }
 
 -- a plan with a link has elements
 pub some-element : (plan : Topology) (link : ℕ) → IsWellFormed plan → link < length plan.links → 0 < length plan.elements

@@ -4,3 +4,4 @@ pub mod CountLemmas
 pub mod LoopLemmas
 pub mod TableLemmas
 pub mod BoundLemmas
+pub mod OneSweep

@@ -37,8 +37,10 @@ count_in state plan events t = count_by (is_in state plan events t) (range_with_
 abbrev pub level_in : Topology → List Event → ℕ → ℕ → Level
 level_in plan events t element = level_at plan (signals_by plan events) (out_at plan (signals_by plan events)) element t
 
--- the worst level of the first n elements: one of them has it, and it is better than that of none
+-- the worst level of the first n elements: a level of the plan's option, which one of them has, and
+-- which is better than that of none
 pub record IsWorstOf (plan : Topology) (events : List Event) (t n : ℕ) (worst : Level) : Type 0 where
+  pub of_option : worst.option ≡ plan.option
   pub element : ℕ
   pub within : element < n
   pub has : level_in plan events t element ≡ worst

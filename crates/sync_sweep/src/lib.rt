@@ -3,7 +3,8 @@
 //! [`sweep`] works the links in chunks that run at once where there are processors, and
 //! [`sweep_text`] writes its rows as a table. Up to the failure the run of every link is the same:
 //! it is made once, and each link goes on from a copy of it. The row of a link is `IsSweepRow`,
-//! whichever chunk it is worked in. [`Gate`] lets a test see that chunks run at once.
+//! whichever chunk it is worked in; that there is one such table is [`one_sweep_law`]. [`Gate`] lets a
+//! test see that chunks run at once.
 //!
 //! This project's own.
 #![tactic(auto)]
@@ -12,6 +13,7 @@ mod chunks;
 mod counting;
 mod crossing;
 mod gate;
+mod laws;
 mod links;
 mod row;
 mod sweeping;
@@ -20,6 +22,7 @@ mod table;
 mod tests;
 
 pub use gate::{FreeGate, Gate};
+pub use laws::one_sweep_law;
 pub use row::SweepRow;
 pub use sweeping::sweep;
 pub use table::sweep_text;

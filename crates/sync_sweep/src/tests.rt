@@ -2,6 +2,8 @@
 
 ghost use Rattle.std.specs.Prelude.{◌≤◌, ◌<◌};
 
+mod plain;
+
 use crate::{FreeGate, Gate, sweep, sweep_text};
 use plan_gen::generate;
 use std::alloc::Global;

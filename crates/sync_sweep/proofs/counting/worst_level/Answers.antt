@@ -9,7 +9,8 @@ loop-e-init c = record {
   option = c.level_of-worst.ensures.option;
   each = λ all stands.
       let net = c.args.net.now in
-      worst-first net.plan all (now_of net) c.level_of-worst.result (c.level_of-worst.ensures.level all stands);
+      worst-first net.plan all (now_of net) c.level_of-worst.result c.level_of-worst.ensures.option
+      (c.level_of-worst.ensures.level all stands);
 }
 
 pub loop-e-preserved : goal.loop-e-preserved
@@ -21,7 +22,7 @@ loop-e-preserved c = record {
   each = λ all stands.
       let net = c.args.net.now in
       worst-next net.plan all (now_of net) c.loop-e.e c.loop-e.worst c.level_of.result c.worse_of-worst.result
-      (c.loop-e.invariant.each all stands) (c.level_of.ensures.level all stands)
+      (c.loop-e.invariant.each all stands) c.level_of.ensures.option (c.level_of.ensures.level all stands)
       c.worse_of-worst.ensures.either c.worse_of-worst.ensures.not_one c.worse_of-worst.ensures.not_other;
 }
 
