@@ -7,15 +7,18 @@ use std::process::ExitCode;
 use std::rt::Env;
 use std::{env, io};
 use sync_edge::{RealFolder, RealSink};
+use sync_sweep::FreeGate;
 use sync_top::{Status, run};
 
 fn main(rt: HostRuntime) -> ExitCode {
     let status = match words(&rt) {
         Ok(words) => run(
+            &rt,
             rt.alloc(),
             words.as_slice(),
             &mut RealFolder::new(&rt),
             &mut RealSink::new(&rt),
+            &FreeGate,
         ),
         Err(_) => Status::NoMemory,
     };

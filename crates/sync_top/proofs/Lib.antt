@@ -1,6 +1,15 @@
 pub mod Cuts
+pub mod OneText
+pub mod PriorityAnswers
 pub mod OneAnswer
 pub mod Accepted
 pub mod LoopFree
 pub mod Reports
 pub mod RowsOfHops
+pub mod LadderRises
+pub mod LastFits
+pub mod OneTrial
+pub mod TrialAnswers
+pub mod RunLaws
+pub mod PriorityRuns
+pub mod HighestRank

@@ -19,11 +19,14 @@ use Rattle.rank_cert.specs.Ranks.{Ranks, rank_of}
 use Rattle.rank_cert.specs.CertificateText.{certificate_of}
 use Rattle.sync_top.specs.declared.status.Status.{Status}
 use Rattle.sync_top.specs.declared.status.Status.TheVariants.{Done, Refuted, Usage, BadPlan, BadCert, BadEvents, BadFrames, ReadFault, WriteFault, TooLong, NoMemory, Stopped}
-use Rattle.sync_top.specs.Form.{Form, check, rank, hops, nominate, decode, encode, pcap_decode, pcap_encode, gen, sim, form_of}
+use Rattle.sync_top.specs.Form.{Form, check, rank, hops, nominate, decode, encode, pcap_decode, pcap_encode, gen, trial, sim, sweep, form_of, prio_check, prio_rank, prio_sim}
 use Rattle.sync_top.specs.Reading.{End, no_file, answered, file_limit, plan_in, Answered}
 use Rattle.sync_top.specs.Forms.Check.{ranks_in, documents, IsVerdict}
 use Rattle.sync_top.specs.Answer.{FormAnswer, IsAnswer, MissesFile}
 use Rattle.sync_top.specs.LoopFree.{IsCheckedLoopFree}
+use Rattle.sync_top.specs.Forms.Priority.{IsPriorityVerdict, IsCheckedForPriority}
+use Rattle.prio_mode.specs.PriorityLoops.{NeverLoops}
+use Rattle.prio_mode.proofs.LoopLaws.{never_loops}
 use Rattle.sync_top.specs.Work.{EndsIn}
 use Rattle.sync_top.proofs.Accepted.{never_done}
 use Rattle.sync_top.proofs.Cuts.{outside}
@@ -112,7 +115,12 @@ form-loop_free (Some (encode option name)) files text answer = tt
 form-loop_free (Some (pcap_decode option name)) files text answer = tt
 form-loop_free (Some (pcap_encode option name)) files text answer = tt
 form-loop_free (Some (gen n)) files text answer = tt
+form-loop_free (Some (trial n)) files text answer = answer.1.accepted
 form-loop_free (Some (sim plan_name events_name until)) files text answer = tt
+form-loop_free (Some (sweep plan_name at until)) files text answer = tt
+form-loop_free (Some (prio_check plan_name name)) files text answer = tt
+form-loop_free (Some (prio_rank plan_name)) files text answer = tt
+form-loop_free (Some (prio_sim plan_name events_name until)) files text answer = tt
 
 -- so it is where the work ended in this status
 pub loop_free-from : (words : List (List ℕ)) (told : Option Contents) (steady : Bool) (before now : ℕ) (status : Status) (text : List ℕ)
@@ -131,3 +139,67 @@ loop_free-from words (Some files) steady before now WriteFault text ends done = 
 loop_free-from words (Some files) steady before now TooLong text ends done = cc
 loop_free-from words (Some files) steady before now NoMemory text ends done = cc
 loop_free-from words (Some files) steady before now Stopped text ends done = cc
+
+-- where `prio-check` is done, no timing loop can form in the plan
+check-never_loops : (plan_name name text : List ℕ) (files : Contents) (plan : Topology) → plan_in plan_name files ≡ Ok plan
+    → Answered (λ (read : Topology × Ranks). IsPriorityVerdict read.0 read.1) (documents plan_name name files) Done text → NeverLoops plan
+check-never_loops plan_name name text files plan is answer = by (ranks_in plan name files) refl (rw is at answer)
+  where
+    by : (read : Result Ranks End) → ranks_in plan name files ≡ read
+        → Answered (λ (both : Topology × Ranks). IsPriorityVerdict both.0 both.1) (ranks_in plan name files >>= λ ranks. Ok (plan, ranks)) Done text → NeverLoops plan
+    by (Ok ranks) ranked answer =
+        let verdict : IsPriorityVerdict plan ranks Done text = rw ranked at answer in
+        never_loops plan (rank_of ranks) verdict.0
+    by (Err no_file) ranked answer = absurd (rw ranked at answer)
+    by (Err (answered known said)) ranked answer =
+        let ended : (Done ≡ known) × (text ≡ said) = rw ranked at answer in
+        absurd (ranks_never_done plan name files known said ranked (sym ended.0))
+
+-- and one was read
+checked-never_loops : (plan_name name text : List ℕ) (files : Contents)
+    → Answered (λ (read : Topology × Ranks). IsPriorityVerdict read.0 read.1) (documents plan_name name files) Done text
+    → (plan : Topology) × (plan_in plan_name files ≡ Ok plan) × NeverLoops plan
+checked-never_loops plan_name name text files answer = by (plan_in plan_name files) refl
+  where
+    by : (read : Result Topology End) → plan_in plan_name files ≡ read → (plan : Topology) × (plan_in plan_name files ≡ Ok plan) × NeverLoops plan
+    by (Ok plan) is = (plan, is, check-never_loops plan_name name text files plan is answer)
+    by (Err no_file) is = absurd (rw is at answer)
+    by (Err (answered known said)) is =
+        let ended : (Done ≡ known) × (text ≡ said) = rw is at answer in
+        absurd (never_done plan_name files known said is (sym ended.0))
+
+form-never_loops : (form : Option Form) (files : Contents) (text : List ℕ) → FormAnswer form files Done text → IsCheckedForPriority form files
+form-never_loops None files text answer = tt
+form-never_loops (Some (prio_check plan_name name)) files text answer = checked-never_loops plan_name name text files answer
+form-never_loops (Some (check plan_name name)) files text answer = tt
+form-never_loops (Some (rank plan_name)) files text answer = tt
+form-never_loops (Some (hops plan_name)) files text answer = tt
+form-never_loops (Some (nominate plan_name)) files text answer = tt
+form-never_loops (Some (decode option name)) files text answer = tt
+form-never_loops (Some (encode option name)) files text answer = tt
+form-never_loops (Some (pcap_decode option name)) files text answer = tt
+form-never_loops (Some (pcap_encode option name)) files text answer = tt
+form-never_loops (Some (gen n)) files text answer = tt
+form-never_loops (Some (trial n)) files text answer = tt
+form-never_loops (Some (sim plan_name events_name until)) files text answer = tt
+form-never_loops (Some (sweep plan_name at until)) files text answer = tt
+form-never_loops (Some (prio_rank plan_name)) files text answer = tt
+form-never_loops (Some (prio_sim plan_name events_name until)) files text answer = tt
+
+-- so it is where the work ended in this status
+pub never_loops-from : (words : List (List ℕ)) (told : Option Contents) (steady : Bool) (before now : ℕ) (status : Status) (text : List ℕ)
+    → EndsIn (IsAnswer words) (MissesFile words) (outside told steady before now) status text → status ≡ Done
+    → IfSome told (IsCheckedForPriority (form_of words))
+never_loops-from words None steady before now status text ends done = tt
+never_loops-from words (Some files) steady before now Done text ends done = form-never_loops (form_of words) files text ends.0
+never_loops-from words (Some files) steady before now Refuted text ends done = cc
+never_loops-from words (Some files) steady before now Usage text ends done = cc
+never_loops-from words (Some files) steady before now BadPlan text ends done = cc
+never_loops-from words (Some files) steady before now BadCert text ends done = cc
+never_loops-from words (Some files) steady before now BadEvents text ends done = cc
+never_loops-from words (Some files) steady before now BadFrames text ends done = cc
+never_loops-from words (Some files) steady before now ReadFault text ends done = cc
+never_loops-from words (Some files) steady before now WriteFault text ends done = cc
+never_loops-from words (Some files) steady before now TooLong text ends done = cc
+never_loops-from words (Some files) steady before now NoMemory text ends done = cc
+never_loops-from words (Some files) steady before now Stopped text ends done = cc

@@ -1,33 +1,28 @@
 -- That words over some files have one answer.
-use Rattle.std.proofs.Common.{◌≡◌, ◌≤◌, ◌<◌, ℕ, suc, length, true, List, [], ◌∷◌, ◌++◌, Option, Some, None, Result, Ok, Err, map, refl, sym, ◌∙◌, ap, inl, inr, arith, true≢false}
-use Rattle.std.specs.Prelude.{◌⊎◌, codes, slice_index_or, unwrap_or}
-use Rattle.std.specs.List.{All, concat, range_with_len}
-use Rattle.std.proofs.Math.Decide.{dec_lt}
-use Rattle.std.proofs.lemmas.List.Elements.{All-head, All-tail, filter_passes}
+use Rattle.std.proofs.Common.{◌≡◌, ◌≤◌, ℕ, suc, length, true, List, ◌++◌, Option, Some, None, Result, Ok, Err, refl, sym, ◌∙◌, ap, inl, inr, arith, true≢false}
+use Rattle.std.specs.Prelude.{◌⊎◌, codes}
 use Rattle.sync_edge.specs.Contents.{Contents}
 use Rattle.sync_topo.specs.declared.event.Event.{Event}
 use Rattle.sync_topo.specs.Topology.{Topology}
-use Rattle.sync_topo.specs.Lines.{line_count, line_name, is_nominated}
+use Rattle.sync_topo.specs.Lines.{line_name, is_nominated}
 use Rattle.sync_topo.specs.Hops.{hops, IsRising}
 use Rattle.sync_topo.specs.Ranks.{AreLeastRanks, IsFirstCycle}
 use Rattle.rank_cert.specs.Ranks.{Ranks, rank_at, rank_of, IsFirstFall}
-use Rattle.rank_cert.specs.CertificateText.{certificate_text, nominated_lines, row_text}
+use Rattle.rank_cert.specs.CertificateText.{certificate_text}
 use Rattle.rank_cert.proofs.RankLaws.{IsRising-no_cycle}
-use Rattle.cycle_plan.proofs.Walks.{one_least}
 use Rattle.cycle_plan.proofs.OneCycle.{one_cycle}
 use Rattle.cycle_plan.specs.declared.returns.Returns.TheVariants.{Barred}
 use Rattle.cycle_plan.proofs.CycleLaws.{IsCycle-first}
 use Rattle.event_sim.specs.declared.limits.TheConstants.{MOST_CHANGES}
 use Rattle.event_sim.specs.Rows.{rows_until}
 use Rattle.event_sim.specs.Answers.{IsLastFit}
-use Rattle.event_sim.proofs.LaterRows.{rows-grow}
 use Rattle.trace_report.specs.Report.{IsWholeReport, stopped_report}
 use Rattle.capture_text.specs.Capture.{decoded_text, encoded_text}
 use Rattle.pcap_file.specs.Timed.{encoded_pcap}
 use Rattle.sync_top.specs.declared.status.Status.{Status}
 use Rattle.sync_top.specs.declared.status.Status.TheVariants.{Done, Refuted, Usage, BadPlan, BadCert, BadEvents, BadFrames, ReadFault, WriteFault, TooLong, NoMemory, Stopped}
 use Rattle.sync_top.specs.Form as asked
-use Rattle.sync_top.specs.Form.{Form, check, rank, decode, encode, pcap_decode, pcap_encode, gen, sim, form_of}
+use Rattle.sync_top.specs.Form.{Form, check, rank, decode, encode, pcap_decode, pcap_encode, gen, trial, sim, sweep, form_of, prio_check, prio_rank, prio_sim}
 use Rattle.sync_top.specs.Reading.{End, no_file, answered, text_line, plan_in, Answered, IsText}
 use Rattle.sync_top.specs.Forms.Check.{documents, IsVerdict}
 use Rattle.sync_top.specs.Forms.Rank.{IsPlanned, cycle_text}
@@ -36,8 +31,18 @@ use Rattle.sync_top.specs.Forms.Nominate.{IsNominatedText}
 use Rattle.nominate.proofs.HopLaws.{one-list}
 use Rattle.sync_top.specs.Forms.Captures.{captured, pcap_rows}
 use Rattle.sync_top.specs.Forms.Sim.{plan_and_events, IsReport}
+use Rattle.sync_top.specs.Forms.Sweep.{IsSweepTable}
+use Rattle.sync_sweep.specs.SweepText.{table_text}
+use Rattle.sync_sweep.proofs.OneSweep.{one-sweep}
 use Rattle.sync_top.specs.Answer.{FormAnswer, IsAnswer}
+use Rattle.sync_top.proofs.OneText.{same_text}
+use Rattle.sync_top.proofs.PriorityAnswers.{one_priority_verdict, one_priority_planned, one_priority_run}
+use Rattle.sync_top.specs.Forms.Priority.{IsPriorityVerdict, IsPriorityPlanned, IsPriorityRun}
 use Rattle.sync_top.specs.OneAnswer.{has_one_text}
+use Rattle.plan_gen.specs.Ladder.{ladder}
+use Rattle.sync_top.specs.Forms.Trial.{TrialAnswer}
+use Rattle.sync_top.proofs.LastFits.{one_last}
+use Rattle.sync_top.proofs.OneTrial.{one_trial_text}
 
 -- one status, and one text
 abbrev Same : Status → Status → List ℕ → List ℕ → Type 0
@@ -117,33 +122,6 @@ one_verdict plan ranks status other text another first second =
       ]
     ]
 
--- what two functions make of each element is the same
-map_alike : (f g : ℕ → List ℕ) (xs : List ℕ) → All (λ x. f x ≡ g x) xs → map f xs ≡ map g xs
-map_alike f g [] alike = refl
-map_alike f g (x ∷ xs) alike =
-    ap (λ y. y ∷ map f xs) (All-head (λ y. f y ≡ g y) x xs alike)
-    ∙ ap (λ ys. g x ∷ ys) (map_alike f g xs (All-tail (λ y. f y ≡ g y) x xs alike))
-
--- a line that is nominated has one least rank
-same_rank : (plan : Topology) (ranks others : Ranks) (line : ℕ) → AreLeastRanks (hops plan) (is_nominated plan) (rank_at ranks)
-    → AreLeastRanks (hops plan) (is_nominated plan) (rank_at others) → is_nominated plan line ≡ true → rank_of ranks line ≡ rank_of others line
-same_rank plan ranks others line first second nominated =
-    let one = first.least line nominated in
-    let two = second.least line nominated in
-    ap (λ r. unwrap_or r 0) one.1
-    ∙ one_least (hops plan) line one.0 two.0 one.2 two.2
-    ∙ sym (ap (λ r. unwrap_or r 0) two.1)
-
--- so the text of the least ranks is one
-same_text : (plan : Topology) (ranks others : Ranks) → AreLeastRanks (hops plan) (is_nominated plan) (rank_at ranks)
-    → AreLeastRanks (hops plan) (is_nominated plan) (rank_at others) → certificate_text plan ranks ≡ certificate_text plan others
-same_text plan ranks others first second =
-    ap (λ rows. codes "line,rank\n" ++ concat rows)
-    (map_alike (λ line. row_text plan line (rank_of ranks line)) (λ line. row_text plan line (rank_of others line)) (nominated_lines plan)
-    (λ k d within. ap (λ rank. row_text plan (slice_index_or (nominated_lines plan) k d) rank)
-    (same_rank plan ranks others (slice_index_or (nominated_lines plan) k d) first second
-    (filter_passes (is_nominated plan) (range_with_len 0 (line_count plan)) k d within))))
-
 -- what the planner may find
 abbrev Ranked : Topology → Status → List ℕ → Type 0
 Ranked plan status text =
@@ -178,7 +156,7 @@ one_planned plan status other text another first second =
     elim (either_planned plan status text first) [
       | inl ranked ↦ elim (either_planned plan other another second) [
         | inl also ↦
-            (ranked.0 ∙ sym also.0, ranked.1.3 ∙ same_text plan ranked.1.0 also.1.0 ranked.1.1 also.1.1 ∙ sym also.1.3)
+            (ranked.0 ∙ sym also.0, ranked.1.3 ∙ same_text (hops plan) plan ranked.1.0 also.1.0 ranked.1.1 also.1.1 ∙ sym also.1.3)
         | inr cycles ↦ absurd (no_first_cycle plan ranked.1.0 cycles.1.0 ranked.1.2 cycles.1.1)
       ]
       | inr cycles ↦ elim (either_planned plan other another second) [
@@ -191,6 +169,11 @@ one_planned plan status other text another first second =
 -- a text that was asked for is one
 one_asked : (given : List ℕ) → IsOne (IsText given)
 one_asked given status other text another first second = (first.0 ∙ sym second.0, first.1 ∙ sym second.1)
+
+-- a trial has one answer
+one_trial : (n : ℕ) → IsOne (TrialAnswer n)
+one_trial n status other text another first second =
+    (first.0 ∙ sym second.0, one_trial_text n (ladder n) text another first.1 second.1)
 
 -- what a run may give
 abbrev Whole : Topology → List Event → ℕ → Status → List ℕ → Type 0
@@ -216,20 +199,6 @@ either_report plan events until WriteFault text report = absurd report
 either_report plan events until TooLong text report = absurd report
 either_report plan events until NoMemory text report = absurd report
 
--- there is one last millisecond up to which all changes fit
-no_later : (plan : Topology) (events : List Event) (until t u : ℕ) → IsLastFit plan events t until → IsLastFit plan events u until → t < u → ⊥
-no_later plan events until t u first second before =
-    omega (arith, first.full, second.fit, rows-grow plan events (suc (suc t)) (suc u) (omega (arith, before)))
-
-one_last : (plan : Topology) (events : List Event) (until t u : ℕ) → IsLastFit plan events t until → IsLastFit plan events u until → t ≡ u
-one_last plan events until t u first second = elim (dec_lt t u) [
-  | yes before ↦ absurd (no_later plan events until t u first second before)
-  | no not_before ↦ elim (dec_lt u t) [
-    | yes behind ↦ absurd (no_later plan events until u t second first behind)
-    | no not_behind ↦ omega (arith, not_before, not_behind)
-  ]
-]
-
 module _ (one_whole : (plan : Topology) (events : List Event) (until : ℕ) (text another : List ℕ) → IsWholeReport plan events until text → IsWholeReport plan events until another → text ≡ another) where
   -- a run gives one report
   one_report : (plan : Topology) (events : List Event) (until : ℕ) → IsOne (IsReport plan events until)
@@ -251,6 +220,12 @@ module _ (one_whole : (plan : Topology) (events : List Event) (until : ℕ) (tex
   one_hop_rows plan status other text another first second =
       let same = one-list plan first.1.0 second.1.0 first.1.1 second.1.1 in
       (first.0 ∙ sym second.0, first.1.2 ∙ ap (hops_text plan) same ∙ sym second.1.2)
+
+  -- a plan has one table of link failures
+  one_sweep_table : (plan : Topology) (at until : ℕ) → IsOne (IsSweepTable plan at until)
+  one_sweep_table plan at until status other text another first second =
+      let same = one-sweep plan at until first.1.0 second.1.0 first.1.1 second.1.1 in
+      (first.0 ∙ sym second.0, first.1.2 ∙ ap (table_text plan) same ∙ sym second.1.2)
 
   -- a nominated plan has one status
   one_nominated : (read : Result Topology End) (status other : Status) (text another : List ℕ) → Answered IsNominatedText read status text
@@ -280,8 +255,18 @@ module _ (one_whole : (plan : Topology) (events : List Event) (until : ℕ) (tex
   form_status (Some (pcap_encode option name)) files status other text another first second =
       (one_answered IsText one_asked (captured encoded_pcap option name files) status other text another first second).0
   form_status (Some (gen n)) files status other text another first second = first.0 ∙ sym second.0
+  form_status (Some (trial n)) files status other text another first second =
+      (one_trial n status other text another first second).0
   form_status (Some (sim plan events until)) files status other text another first second =
       (one_answered (λ read. IsReport read.0 read.1 until) (λ read. one_report read.0 read.1 until) (plan_and_events plan events files) status other text another first second).0
+  form_status (Some (sweep plan at until)) files status other text another first second =
+      (one_answered (λ read. IsSweepTable read at until) (λ read. one_sweep_table read at until) (plan_in plan files) status other text another first second).0
+  form_status (Some (prio_check plan cert)) files status other text another first second =
+      (one_answered (λ read. IsPriorityVerdict read.0 read.1) (λ read. one_priority_verdict read.0 read.1) (documents plan cert files) status other text another first second).0
+  form_status (Some (prio_rank plan)) files status other text another first second =
+      (one_answered IsPriorityPlanned one_priority_planned (plan_in plan files) status other text another first second).0
+  form_status (Some (prio_sim plan events until)) files status other text another first second =
+      (one_answered (λ read. IsPriorityRun read.0 read.1 until) (λ read. one_priority_run read.0 read.1 until) (plan_and_events plan events files) status other text another first second).0
 
   -- and one text, but for `gen` and `nominate`
   form_text : (form : Option Form) (files : Contents) (status other : Status) (text another : List ℕ) → FormAnswer form files status text
@@ -303,8 +288,18 @@ module _ (one_whole : (plan : Topology) (events : List Event) (until : ℕ) (tex
   form_text (Some (pcap_encode option name)) files status other text another first second one =
       (one_answered IsText one_asked (captured encoded_pcap option name files) status other text another first second).1
   form_text (Some (gen n)) files status other text another first second one = absurd (true≢false (sym one))
+  form_text (Some (trial n)) files status other text another first second one =
+      (one_trial n status other text another first second).1
   form_text (Some (sim plan events until)) files status other text another first second one =
       (one_answered (λ read. IsReport read.0 read.1 until) (λ read. one_report read.0 read.1 until) (plan_and_events plan events files) status other text another first second).1
+  form_text (Some (sweep plan at until)) files status other text another first second one =
+      (one_answered (λ read. IsSweepTable read at until) (λ read. one_sweep_table read at until) (plan_in plan files) status other text another first second).1
+  form_text (Some (prio_check plan cert)) files status other text another first second one =
+      (one_answered (λ read. IsPriorityVerdict read.0 read.1) (λ read. one_priority_verdict read.0 read.1) (documents plan cert files) status other text another first second).1
+  form_text (Some (prio_rank plan)) files status other text another first second one =
+      (one_answered IsPriorityPlanned one_priority_planned (plan_in plan files) status other text another first second).1
+  form_text (Some (prio_sim plan events until)) files status other text another first second one =
+      (one_answered (λ read. IsPriorityRun read.0 read.1 until) (λ read. one_priority_run read.0 read.1 until) (plan_and_events plan events files) status other text another first second).1
 
   pub one_status : (words : List (List ℕ)) (files : Contents) (status other : Status) (text another : List ℕ) → IsAnswer words files status text
       → IsAnswer words files other another → status ≡ other

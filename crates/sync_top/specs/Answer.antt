@@ -9,7 +9,7 @@ use Rattle.sync_top.specs.declared.status.Status.{Status}
 use Rattle.sync_top.specs.declared.status.Status.TheVariants.{Usage}
 use Rattle.capture_text.specs.Capture.{decoded_text, encoded_text}
 use Rattle.pcap_file.specs.Timed.{encoded_pcap}
-use Rattle.sync_top.specs.Form.{Form, check, rank, hops, nominate, decode, encode, pcap_decode, pcap_encode, gen, form_of, sim}
+use Rattle.sync_top.specs.Form.{Form, check, rank, hops, nominate, decode, encode, pcap_decode, pcap_encode, gen, trial, form_of, sim, sweep, prio_check, prio_rank, prio_sim}
 use Rattle.sync_top.specs.Reading.{text_line, no_file, plan_in}
 use Rattle.sync_top.specs.Forms.Check.{documents, CheckAnswer}
 use Rattle.sync_top.specs.Forms.Rank.{RankAnswer}
@@ -17,7 +17,10 @@ use Rattle.sync_top.specs.Forms.Hops.{HopsAnswer}
 use Rattle.sync_top.specs.Forms.Nominate.{NominateAnswer}
 use Rattle.sync_top.specs.Forms.Captures.{captured, CaptureAnswer, pcap_rows, PcapAnswer}
 use Rattle.sync_top.specs.Forms.Gen.{GenAnswer}
+use Rattle.sync_top.specs.Forms.Trial.{TrialAnswer}
 use Rattle.sync_top.specs.Forms.Sim.{plan_and_events, SimAnswer}
+use Rattle.sync_top.specs.Forms.Sweep.{SweepAnswer}
+use Rattle.sync_top.specs.Forms.Priority.{PrioCheckAnswer, PrioRankAnswer, PrioSimAnswer}
 
 -- the answer to a form, and to words that are none
 abbrev pub FormAnswer : Option Form → Contents → Status → List ℕ → Type 0
@@ -31,7 +34,12 @@ FormAnswer (Some (encode option name)) files status text = CaptureAnswer encoded
 FormAnswer (Some (pcap_decode option name)) files status text = PcapAnswer option name files status text
 FormAnswer (Some (pcap_encode option name)) files status text = CaptureAnswer encoded_pcap option name files status text
 FormAnswer (Some (gen n)) files status text = GenAnswer n status text
+FormAnswer (Some (trial n)) files status text = TrialAnswer n status text
 FormAnswer (Some (sim plan_name events_name until)) files status text = SimAnswer plan_name events_name until files status text
+FormAnswer (Some (sweep plan_name at until)) files status text = SweepAnswer plan_name at until files status text
+FormAnswer (Some (prio_check plan_name certificate_name)) files status text = PrioCheckAnswer plan_name certificate_name files status text
+FormAnswer (Some (prio_rank plan_name)) files status text = PrioRankAnswer plan_name files status text
+FormAnswer (Some (prio_sim plan_name events_name until)) files status text = PrioSimAnswer plan_name events_name until files status text
 
 -- the program's answer to some words
 abbrev pub IsAnswer : List (List ℕ) → Contents → Status → List ℕ → Type 0
@@ -49,7 +57,12 @@ FormMissesFile (Some (encode option name)) files = captured encoded_text option 
 FormMissesFile (Some (pcap_decode option name)) files = pcap_rows option name files ≡ Err no_file
 FormMissesFile (Some (pcap_encode option name)) files = captured encoded_pcap option name files ≡ Err no_file
 FormMissesFile (Some (gen n)) files = ⊥
+FormMissesFile (Some (trial n)) files = ⊥
 FormMissesFile (Some (sim plan_name events_name until)) files = plan_and_events plan_name events_name files ≡ Err no_file
+FormMissesFile (Some (sweep plan_name at until)) files = plan_in plan_name files ≡ Err no_file
+FormMissesFile (Some (prio_check plan_name certificate_name)) files = documents plan_name certificate_name files ≡ Err no_file
+FormMissesFile (Some (prio_rank plan_name)) files = plan_in plan_name files ≡ Err no_file
+FormMissesFile (Some (prio_sim plan_name events_name until)) files = plan_and_events plan_name events_name files ≡ Err no_file
 
 -- words whose answer comes to a file that isn't there
 abbrev pub MissesFile : List (List ℕ) → Contents → Type 0

@@ -1,9 +1,23 @@
--- The words of the command line.
-use Rattle.std.specs.Prelude.{◌≡◌, ◌∷◌, [], codes, Some, None, refl}
-use Rattle.sync_top.specs.Form.{check, form_of}
+-- The words of the command line, and the link that goes down in a trial.
+use Rattle.std.specs.Prelude.{◌≡◌, ◌∷◌, [], ℕ, suc, codes, Some, None, slice_get, refl}
+use Rattle.std.specs.Fmt.{digits}
+use Rattle.std.proofs.Math.Decide.{dec_lt}
+use Rattle.sync_edge.specs.Number.{number_of}
+use Rattle.sync_topo.specs.Names.{link_names}
+use Rattle.plan_gen.specs.Ladder.{ladder}
+use Rattle.sync_top.specs.Form.{check, trial, form_of}
 
 pub check_has_two_files : form_of (codes "check" ∷ codes "p" ∷ codes "c" ∷ []) ≡ Some (check (codes "p") (codes "c"))
 check_has_two_files = refl
 
 pub empty_word_names_no_file : form_of (codes "check" ∷ [] ∷ codes "c" ∷ []) ≡ None
 empty_word_names_no_file = refl
+
+pub trial_has_no_file : form_of (codes "trial" ∷ codes "10" ∷ []) ≡ Some (trial 10)
+unfolding digits dec_lt number_of
+trial_has_no_file = refl
+
+-- link 0 of a ladder is S1, which goes down in a trial
+pub first_link_is_S1 : (n : ℕ) → slice_get (link_names (ladder (suc (suc n))).links) 0 ≡ Some (codes "S1")
+unfolding digits dec_lt
+first_link_is_S1 n = refl

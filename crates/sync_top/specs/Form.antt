@@ -27,20 +27,26 @@ pub data Form : Type 0 where
   pcap_encode : NetOption → List ℕ → Form
   -- the ladder of so many elements
   gen : ℕ → Form
+  -- what is found of the ladder of so many elements
+  trial : ℕ → Form
   -- the report of a run of a plan with events, up to a millisecond
   sim : List ℕ → List ℕ → ℕ → Form
+  -- what becomes of a plan where one link alone fails in a millisecond, at the end of another, for each link
+  sweep : List ℕ → ℕ → ℕ → Form
+  -- the test of ranks, where elements choose by priority alone
+  prio_check : List ℕ → List ℕ → Form
+  -- the least ranks then, or the forced switches that make the first loop
+  prio_rank : List ℕ → Form
+  -- the report of a run then
+  prio_sim : List ℕ → List ℕ → ℕ → Form
 
 -- a word that may name a file: any but the empty one
 abbrev pub is_file_word : List ℕ → Bool
 is_file_word word = nat_lt 0 (length word)
 
--- the form `check`, if both words may name a file
-abbrev pub check_form : List ℕ → List ℕ → Option Form
-check_form plan certificate = if is_file_word plan && is_file_word certificate then Some (check plan certificate) else None
-
--- the form `rank`, if the word may name a file
-abbrev pub rank_form : List ℕ → Option Form
-rank_form plan = if is_file_word plan then Some (rank plan) else None
+-- the form `check` or `prio-check`, if both words may name a file
+abbrev pub check_form : (List ℕ → List ℕ → Form) → List ℕ → List ℕ → Option Form
+check_form form plan certificate = if is_file_word plan && is_file_word certificate then Some (form plan certificate) else None
 
 -- a form on a plan, if the word may name its file
 abbrev pub plan_form : (List ℕ → Form) → List ℕ → Option Form
@@ -58,24 +64,40 @@ capture_form form option name = if is_file_word name then option_map (λ o. form
 abbrev pub is_ladder_size : ℕ → Bool
 is_ladder_size n = nat_le 2 n && nat_le n 2000
 
--- the form `gen`, if the word is such a number
-abbrev pub gen_form : List ℕ → Option Form
-gen_form word = option_and_then sized (number_of word)
+-- such a number, if the word is one
+abbrev pub ladder_size : List ℕ → Option ℕ
+ladder_size word = option_and_then sized (number_of word)
   where
-    sized : ℕ → Option Form
-    sized n = if is_ladder_size n then Some (gen n) else None
+    sized : ℕ → Option ℕ
+    sized n = if is_ladder_size n then Some n else None
 
--- the form `sim`, if the words may name files and are followed by a millisecond up to the last one
-abbrev pub sim_form : List ℕ → List ℕ → List ℕ → Option Form
-sim_form plan events word = if is_file_word plan && is_file_word events then option_and_then up_to (number_of word) else None
+-- a form on a ladder, if the word is such a number
+abbrev pub ladder_form : (ℕ → Form) → List ℕ → Option Form
+ladder_form form word = option_map form (ladder_size word)
+
+-- the form `sim` or `prio-sim`, if the words may name files and are followed by a millisecond up to the last one
+abbrev pub sim_form : (List ℕ → List ℕ → ℕ → Form) → List ℕ → List ℕ → List ℕ → Option Form
+sim_form form plan events word = if is_file_word plan && is_file_word events then option_and_then up_to (number_of word) else None
   where
     up_to : ℕ → Option Form
-    up_to until = if nat_le until LAST_MILLISECOND then Some (sim plan events until) else None
+    up_to until = if nat_le until LAST_MILLISECOND then Some (form plan events until) else None
+
+-- the form `sweep`, if the word may name a file and is followed by two milliseconds up to the last one, the first of
+-- them not the later
+abbrev pub sweep_form : List ℕ → List ℕ → List ℕ → Option Form
+sweep_form plan at_word until_word = if is_file_word plan then option_and_then from (number_of at_word) else None
+  where
+    up_to : ℕ → ℕ → Option Form
+    up_to at until = if nat_le at until && nat_le until LAST_MILLISECOND then Some (sweep plan at until) else None
+
+    from : ℕ → Option Form
+    from at = option_and_then (up_to at) (number_of until_word)
 
 -- the form reads a file
 abbrev pub reads_file : Option Form → Bool
 reads_file None = false
 reads_file (Some (gen n)) = false
+reads_file (Some (trial n)) = false
 reads_file (Some form) = true
 
 -- how many files the form names
@@ -90,22 +112,34 @@ file_count (Some (encode option name)) = 1
 file_count (Some (pcap_decode option name)) = 1
 file_count (Some (pcap_encode option name)) = 1
 file_count (Some (gen n)) = 0
+file_count (Some (trial n)) = 0
 file_count (Some (sim plan events until)) = 2
+file_count (Some (sweep plan at until)) = 1
+file_count (Some (prio_check plan certificate)) = 2
+file_count (Some (prio_rank plan)) = 1
+file_count (Some (prio_sim plan events until)) = 2
 
 -- the form of the words, if they have one
 abbrev pub form_of : List (List ℕ) → Option Form
 form_of (word ∷ second ∷ []) =
-    if bytes_eq word (codes "rank") then rank_form second
-    else if bytes_eq word (codes "gen") then gen_form second
+    if bytes_eq word (codes "rank") then plan_form rank second
+    else if bytes_eq word (codes "gen") then ladder_form gen second
+    else if bytes_eq word (codes "trial") then ladder_form trial second
     else if bytes_eq word (codes "hops") then plan_form hops second
     else if bytes_eq word (codes "nominate") then plan_form nominate second
+    else if bytes_eq word (codes "prio-rank") then plan_form prio_rank second
     else None
 form_of (word ∷ second ∷ third ∷ []) =
-    if bytes_eq word (codes "check") then check_form second third
+    if bytes_eq word (codes "check") then check_form check second third
+    else if bytes_eq word (codes "prio-check") then check_form prio_check second third
     else if bytes_eq word (codes "decode") then capture_form decode second third
     else if bytes_eq word (codes "encode") then capture_form encode second third
     else if bytes_eq word (codes "pcap-decode") then capture_form pcap_decode second third
     else if bytes_eq word (codes "pcap-encode") then capture_form pcap_encode second third
     else None
-form_of (word ∷ second ∷ third ∷ fourth ∷ []) = if bytes_eq word (codes "sim") then sim_form second third fourth else None
+form_of (word ∷ second ∷ third ∷ fourth ∷ []) =
+    if bytes_eq word (codes "sim") then sim_form sim second third fourth
+    else if bytes_eq word (codes "sweep") then sweep_form second third fourth
+    else if bytes_eq word (codes "prio-sim") then sim_form prio_sim second third fourth
+    else None
 form_of _ = None

@@ -3,6 +3,9 @@ pub mod Check
 pub mod Rank
 pub mod Captures
 pub mod Gen
+pub mod Trial
 pub mod Sim
 pub mod Hops
 pub mod Nominate
+pub mod Sweep
+pub mod Priority

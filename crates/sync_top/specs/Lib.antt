@@ -6,6 +6,7 @@ pub mod Answer
 pub mod OneAnswer
 pub mod Examples
 pub mod Work
+pub mod Runs
 pub mod FormSeen
 pub mod LoopFree
 pub mod HopRows

@@ -70,7 +70,7 @@ fn cert_in<F: Folder>(alloc: Global, folder: &mut F, plan: &Plan, name: &str) ->
 }
 
 /// The plan and the certificate of two files, in this order.
-fn documents<F: Folder>(
+pub(crate) fn documents<F: Folder>(
     alloc: Global,
     folder: &mut F,
     plan: &str,
@@ -92,7 +92,12 @@ fn documents<F: Folder>(
 }
 
 /// The line on the first hop that doesn't rise.
-fn falls_text(alloc: Global, plan: &Plan, from: LineId, to: LineId) -> Result<Text, NoMemory>
+pub(crate) fn falls_text(
+    alloc: Global,
+    plan: &Plan,
+    from: LineId,
+    to: LineId,
+) -> Result<Text, NoMemory>
     requires from { from.0 < line_count plan.now }
     requires to { to.0 < line_count plan.now }
     ensures { IfOk result (λ text. text

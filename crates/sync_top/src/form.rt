@@ -1,7 +1,7 @@
-ghost use Rattle.std.specs.Prelude.{◌≡◌, ◌∷◌, [], None, map, IfSome, if◌then◌else◌};
+ghost use Rattle.std.specs.Prelude.{◌≡◌, ◌≤◌, ◌∷◌, [], None, map, IfSome, if◌then◌else◌};
 ghost use Rattle.std.specs.Option.{option_map};
 ghost use Rattle.std.specs.String.{string_bytes};
-ghost use Rattle.sync_top.specs.Form.{form_of, check_form, gen_form, sim_form, option_of, is_file_word};
+ghost use Rattle.sync_top.specs.Form.{form_of, check_form, ladder_size, sim_form, sweep_form, option_of, is_file_word, check, sim, prio_check, prio_sim};
 ghost use Rattle.sync_top.specs.FormSeen.{seen, IsSized};
 
 use sync_edge::read_number;
@@ -34,9 +34,39 @@ pub(crate) enum Form<'a> {
     PcapEncode(NetOption, &'a str),
     /// The ladder of so many elements, 2 to 2,000.
     Gen(u32),
+    /// What is found of the ladder of so many elements, 2 to 2,000.
+    Trial(u32),
     /// The report of a run, by the names of the files of the plan and of the events, up to a
     /// millisecond, at most 86,400,000.
     Sim {
+        /// The plan's file.
+        plan: &'a str,
+        /// The events' file.
+        events: &'a str,
+        /// The last millisecond.
+        until: u64,
+    },
+    /// What becomes of a plan where one link alone fails, for each link; milliseconds up to
+    /// 86,400,000.
+    Sweep {
+        /// The plan's file.
+        plan: &'a str,
+        /// The millisecond in which a link fails, at most the last one.
+        at: u64,
+        /// The last millisecond.
+        until: u64,
+    },
+    /// The test of ranks, where elements choose by priority alone.
+    PrioCheck {
+        /// The plan's file.
+        plan: &'a str,
+        /// The certificate's file.
+        cert: &'a str,
+    },
+    /// The least ranks then, or the forced switches that make the first loop.
+    PrioRank(&'a str),
+    /// The report of a run then.
+    PrioSim {
         /// The plan's file.
         plan: &'a str,
         /// The events' file.
@@ -57,6 +87,12 @@ pub(crate) fn form_of(words: &[String]) -> Option<Form<'_>>
         [word, second, third, fourth] if word.as_str() == "sim" => {
             sim_form(second.as_str(), third.as_str(), fourth.as_str())
         }
+        [word, second, third, fourth] if word.as_str() == "sweep" => {
+            sweep_form(second.as_str(), third.as_str(), fourth.as_str())
+        }
+        [word, second, third, fourth] if word.as_str() == "prio-sim" => {
+            prio_sim_form(second.as_str(), third.as_str(), fourth.as_str())
+        }
         _ => None,
     }
 }
@@ -70,7 +106,12 @@ fn form_of_two<'a>(word: &str, second: &'a str) -> Option<Form<'a>>
         return Some(Form::Rank(second));
     }
     if word == "gen" {
-        return gen_form(second);
+        let n = ladder_size(second)?;
+        return Some(Form::Gen(n));
+    }
+    if word == "trial" {
+        let n = ladder_size(second)?;
+        return Some(Form::Trial(n));
     }
     if word == "hops" && !second.is_empty() {
         return Some(Form::Hops(second));
@@ -78,23 +119,26 @@ fn form_of_two<'a>(word: &str, second: &'a str) -> Option<Form<'a>>
     if word == "nominate" && !second.is_empty() {
         return Some(Form::Nominate(second));
     }
+    if word == "prio-rank" && !second.is_empty() {
+        return Some(Form::PrioRank(second));
+    }
     None
 }
 
-/// The form `gen`, if the word is a number of elements that a ladder may have.
-fn gen_form(word: &str) -> Option<Form<'static>>
-    ensures form { option_map seen result ≡ gen_form word.now }
-    ensures sized { IfSome result IsSized }
+/// The number of elements that a word gives a ladder, if it may have so many.
+fn ladder_size(word: &str) -> Option<u32>
+    ensures size { result ≡ ladder_size word.now }
+    ensures sized { IfSome result (λ n. (2 ≤ n) × (n ≤ 2000)) }
 {
     match read_number(word.as_bytes()) {
-        Some(n) if 2 <= n && n <= 2000 => Some(Form::Gen(n as u32)),
+        Some(n) if 2 <= n && n <= 2000 => Some(n as u32),
         _ => None,
     }
 }
 
 /// The form `sim`, if the words may name files and are followed by such a millisecond.
 fn sim_form<'a>(plan: &'a str, events: &'a str, until: &str) -> Option<Form<'a>>
-    ensures form { option_map seen result ≡ sim_form plan.now events.now until.now }
+    ensures form { option_map seen result ≡ sim_form sim plan.now events.now until.now }
     ensures sized { IfSome result IsSized }
 {
     if plan.is_empty() || events.is_empty() {
@@ -110,6 +154,24 @@ fn sim_form<'a>(plan: &'a str, events: &'a str, until: &str) -> Option<Form<'a>>
     }
 }
 
+/// The form `sweep`, if the word may name a file and is followed by two such milliseconds, the first
+/// of them not the later.
+fn sweep_form<'a>(plan: &'a str, at: &str, until: &str) -> Option<Form<'a>>
+    ensures form { option_map seen result ≡ sweep_form plan.now at.now until.now }
+    ensures sized { IfSome result IsSized }
+{
+    if plan.is_empty() {
+        return None;
+    }
+    let at = read_number(at.as_bytes())?;
+    match read_number(until.as_bytes()) {
+        Some(until) if at <= until && until <= LAST_MILLISECOND => {
+            Some(Form::Sweep { plan, at, until })
+        }
+        _ => None,
+    }
+}
+
 /// The form of three words, if they have one.
 fn form_of_three<'a>(word: &str, second: &'a str, third: &'a str) -> Option<Form<'a>>
     ensures form { option_map seen result ≡ form_of (word.now ∷ second.now ∷ third.now ∷ []) }
@@ -117,6 +179,9 @@ fn form_of_three<'a>(word: &str, second: &'a str, third: &'a str) -> Option<Form
 {
     if word == "check" {
         return check_form(second, third);
+    }
+    if word == "prio-check" {
+        return prio_check_form(second, third);
     }
     if word == "decode" {
         let option = option_with(second, third)?;
@@ -160,11 +225,40 @@ fn option_with(option: &str, name: &str) -> Option<NetOption>
 
 /// The form `check`, if both words may name a file.
 fn check_form<'a>(plan: &'a str, cert: &'a str) -> Option<Form<'a>>
-    ensures form { option_map seen result ≡ check_form plan.now cert.now }
+    ensures form { option_map seen result ≡ check_form check plan.now cert.now }
     ensures sized { IfSome result IsSized }
 {
     if plan.is_empty() || cert.is_empty() {
         return None;
     }
     Some(Form::Check { plan, cert })
+}
+
+/// The form `prio-check`, if both words may name a file.
+fn prio_check_form<'a>(plan: &'a str, cert: &'a str) -> Option<Form<'a>>
+    ensures form { option_map seen result ≡ check_form prio_check plan.now cert.now }
+    ensures sized { IfSome result IsSized }
+{
+    if plan.is_empty() || cert.is_empty() {
+        return None;
+    }
+    Some(Form::PrioCheck { plan, cert })
+}
+
+/// The form `prio-sim`, if the words may name files and are followed by such a millisecond.
+fn prio_sim_form<'a>(plan: &'a str, events: &'a str, until: &str) -> Option<Form<'a>>
+    ensures form { option_map seen result ≡ sim_form prio_sim plan.now events.now until.now }
+    ensures sized { IfSome result IsSized }
+{
+    if plan.is_empty() || events.is_empty() {
+        return None;
+    }
+    match read_number(until.as_bytes()) {
+        Some(until) if until <= LAST_MILLISECOND => Some(Form::PrioSim {
+            plan,
+            events,
+            until,
+        }),
+        _ => None,
+    }
 }

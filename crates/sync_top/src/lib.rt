@@ -19,10 +19,14 @@ mod nomination;
 mod pcap;
 mod plan_input;
 mod planner;
+mod priority;
 mod program;
 mod reply;
+mod running;
 mod sim;
 mod status;
+mod sweep;
+mod trial;
 
 pub use laws::{one_answer_law, planned_is_accepted_law};
 pub use program::run;

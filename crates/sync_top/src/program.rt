@@ -7,6 +7,7 @@ ghost use Rattle.sync_top.specs.Status.{OnAnswer};
 ghost use Rattle.sync_top.specs.Form.{form_of, file_count, reads_file};
 ghost use Rattle.sync_top.specs.Answer.{across, IsAnswer, MissesFile, HasFiles, Delivers, IsCut, MayFault, fault_text};
 ghost use Rattle.sync_top.specs.LoopFree.{IsCheckedLoopFree};
+ghost use Rattle.sync_top.specs.Forms.Priority.{IsCheckedForPriority};
 ghost use Rattle.sync_top.specs.Work.{Replies, EndsIn, UsageWhere, status_of};
 
 use crate::check::check;
@@ -17,14 +18,25 @@ use crate::ladder::ladder_text;
 use crate::nomination::nominate_plan;
 use crate::pcap::{pcap_decode, pcap_encode};
 use crate::planner::rank;
+use crate::priority::{prio_check, prio_rank, prio_sim};
 use crate::reply::{Reply, Stop, line_text};
 use crate::sim::sim;
 use crate::status::Status;
+use crate::sweep::sweep;
+use crate::trial::trial_text;
 use std::alloc::Global;
+use std::thread::Threads;
 use sync_edge::{Folder, NoMemory, Sink, write_all};
+use sync_sweep::Gate;
 
 /// The work that the words ask for.
-fn work<F: Folder>(alloc: Global, words: &[String], folder: &mut F) -> Result<Reply, Stop>
+fn work<R: Threads + Sync, F: Folder, G: Gate + Sync>(
+    rt: &R,
+    alloc: Global,
+    words: &[String],
+    folder: &mut F,
+    gate: &G,
+) -> Result<Reply, Stop>
     ensures replies { Replies (IsAnswer (map string_bytes words.now)) (MissesFile (map string_bytes words.now))
         (across F.contents F.steady F.faults folder.old folder.new) result }
     ensures usage { UsageWhere result (form_of (map string_bytes words.now) ≡ None) }
@@ -49,9 +61,23 @@ fn work<F: Folder>(alloc: Global, words: &[String], folder: &mut F) -> Result<Re
                 until,
             },
         ) => sim(alloc, folder, plan, events, until),
+        Some(Form::Sweep { plan, at, until }) => sweep(rt, alloc, folder, plan, at, until, gate),
+        Some(Form::PrioCheck { plan, cert }) => prio_check(alloc, folder, plan, cert),
+        Some(Form::PrioRank(plan)) => prio_rank(alloc, folder, plan),
+        Some(
+            Form::PrioSim {
+                plan,
+                events,
+                until,
+            },
+        ) => prio_sim(alloc, folder, plan, events, until),
         Some(Form::Gen(n)) => Ok(Reply {
             status: Status::Done,
             text: ladder_text(alloc, n)?,
+        }),
+        Some(Form::Trial(n)) => Ok(Reply {
+            status: Status::Done,
+            text: trial_text(alloc, n)?,
         }),
         None => Ok(Reply {
             status: Status::Usage,
@@ -61,7 +87,13 @@ fn work<F: Folder>(alloc: Global, words: &[String], folder: &mut F) -> Result<Re
 }
 
 /// The reply to the words.
-fn reply_to<F: Folder>(alloc: Global, words: &[String], folder: &mut F) -> Result<Reply, NoMemory>
+fn reply_to<R: Threads + Sync, F: Folder, G: Gate + Sync>(
+    rt: &R,
+    alloc: Global,
+    words: &[String],
+    folder: &mut F,
+    gate: &G,
+) -> Result<Reply, NoMemory>
     ensures ends { IfOk result (λ reply. EndsIn (IsAnswer (map string_bytes words.now)) (MissesFile (map string_bytes words.now))
         (across F.contents F.steady F.faults folder.old folder.new) reply.status reply.text) }
     ensures usage { IfOk result (λ reply. (reply.status ≡ Status.Usage) ↔ (form_of (map string_bytes words.now) ≡ None)) }
@@ -70,7 +102,7 @@ fn reply_to<F: Folder>(alloc: Global, words: &[String], folder: &mut F) -> Resul
     ensures once { F.tries folder.new ≤ F.tries folder.old + file_count (form_of (map string_bytes words.now)) }
     ensures plan_alone { IfOk result (λ reply. reply.status ≡ Status.BadPlan → F.tries folder.new ≤ F.tries folder.old + 1) }
 {
-    match work(alloc, words, folder) {
+    match work(rt, alloc, words, folder, gate) {
         Ok(reply) => Ok(reply),
         Err(Stop::Ended(reply)) => Ok(reply),
         Err(Stop::OutOfMemory) => Err(NoMemory),
@@ -80,35 +112,49 @@ fn reply_to<F: Folder>(alloc: Global, words: &[String], folder: &mut F) -> Resul
 /// Runs the program: does what the words ask for, writes the answer, and gives the exit status.
 ///
 /// The words are those after the program's name. `check PLAN CERT` tests the ranks of a certificate
-/// on a plan, and `rank PLAN` gives the least ranks as a certificate, or the first cycle. `hops PLAN`
-/// gives the hop counts, and `nominate PLAN` the plan with priorities by fewest hops.
-/// `decode OPTION FILE` gives the rows of captured frames, and `encode OPTION FILE` the frames of
-/// rows. `pcap-decode OPTION FILE` and `pcap-encode OPTION FILE` do the same for a classic pcap
-/// capture and rows with times. `sim PLAN EVENTS UNTIL` runs the plan's network from 0 to UNTIL with
-/// the faults and commands of an event list, and writes the report; UNTIL is a millisecond up to
-/// 86,400,000. `gen N` writes the ladder of N elements, 2 to 2,000. PLAN, CERT, EVENTS and FILE are
-/// nonempty names of files, and OPTION is `I` or `II`.
+/// on a plan, and `rank PLAN` gives the least ranks as a certificate, or the first cycle. `hops
+/// PLAN` gives the hop counts, and `nominate PLAN` the plan with priorities by fewest hops. `decode
+/// OPTION FILE` gives the rows of captured frames, and `encode OPTION FILE` the frames of rows.
+/// `pcap-decode OPTION FILE` and `pcap-encode OPTION FILE` do the same for a classic pcap capture
+/// and rows with times. `sim PLAN EVENTS UNTIL` runs the plan's network from 0 to UNTIL with the
+/// faults and commands of an event list, and writes the report; UNTIL is a millisecond up to
+/// 86,400,000. `sweep PLAN AT UNTIL` tells for each link what the network is at UNTIL where that
+/// link alone fails at AT, a millisecond up to UNTIL. `prio-check`, `prio-rank` and `prio-sim` take
+/// the same files for a network whose elements choose by priority alone: a test of ranks, the least
+/// ranks or the event file of forced switches that make a loop, and the report of a run. `gen N`
+/// writes the ladder of N elements, 2 to 2,000, and `trial N` what planner, test and simulator find
+/// of it. PLAN, CERT, EVENTS and FILE are nonempty names of files, and OPTION is `I` or `II`.
 ///
 /// The whole text is made before its first byte is written, and it is written by one `write_all`.
+/// `sweep` works on threads of the runtime, and waits for these alone; each calls the gate, which
+/// serves a test.
 ///
 /// This project's own.
-pub fn run<F: Folder, K: Sink>(
+pub fn run<R: Threads + Sync, F: Folder, K: Sink, G: Gate + Sync>(
+    rt: &R,
     alloc: Global,
     words: &[String],
     folder: &mut F,
     sink: &mut K,
+    gate: &G,
 ) -> Status
     // Where the folder tells its contents, status and text are an answer to the words.
     ensures answer { OnAnswer result (IfSome (F.contents folder.old)
         (Delivers (map string_bytes words.now) (K.written sink.old) (K.written sink.new) result)) }
 
     // Where `check` is done, a plan was read, and no timing loop can form in it, but two elements
-    // that face each other on one link or bundle, whatever happens.
+    // that face each other on one link or bundle, whatever happens. Where `trial` is done, none can
+    // in the ladder.
     ensures accepted_is_loop_free { result ≡ Status.Done → IfSome (F.contents folder.old)
         (IsCheckedLoopFree (form_of (map string_bytes words.now))) }
 
-    // Which words are a form doesn't depend on any file. Other words, and `gen`, call the folder not
-    // at all.
+    // Where `prio-check` is done, a plan was read, and no timing loop can form in it where elements choose
+    // by priority alone, whatever happens.
+    ensures accepted_never_loops { result ≡ Status.Done → IfSome (F.contents folder.old)
+        (IsCheckedForPriority (form_of (map string_bytes words.now))) }
+
+    // Which words are a form doesn't depend on any file. Other words, `gen` and `trial` call the folder
+    // not at all.
     ensures usage { OnAnswer result ((result ≡ Status.Usage) ↔ (form_of (map string_bytes words.now) ≡ None)) }
     ensures no_call { reads_file (form_of (map string_bytes words.now)) ≡ false → folder.new ≡ folder.old }
 
@@ -139,7 +185,7 @@ pub fn run<F: Folder, K: Sink>(
 
     ensures keeps { KeepsFolder F.contents F.steady F.faults folder.old folder.new }
 {
-    let Ok(reply) = reply_to(alloc, words, folder) else {
+    let Ok(reply) = reply_to(rt, alloc, words, folder, gate) else {
         return Status::NoMemory;
     };
     match write_all(sink, reply.text.bytes()) {

@@ -1,4 +1,4 @@
-ghost use Rattle.std.specs.Prelude.{◌≡◌, ◌≢◌, ◌+◌, ◌++◌, ◌≤◌, ◌<◌, ℕ, length, slice_index_or, Some, IfOk, OnOk};
+ghost use Rattle.std.specs.Prelude.{◌≡◌, ◌≢◌, ◌+◌, ◌++◌, ◌≤◌, Some, IfOk, OnOk};
 ghost use Rattle.std.specs.List.{All};
 ghost use Rattle.sync_edge.specs.Contents.{KeepsFolder};
 ghost use Rattle.sync_topo.specs.declared.event.Event.{Event};
@@ -12,13 +12,12 @@ ghost use Rattle.sync_top.specs.Work.{Reads, Replies, NeverUsage, stopped_in, st
 use crate::input::file;
 use crate::plan_input::plan_in;
 use crate::reply::{Reply, Stop, put_number, refusal};
+use crate::running::run_to;
 use crate::status::Status;
 use event_file::{EventErr, read_events};
-use event_sim::{Reach, Sim, Watch, events_until};
+use event_sim::{Reach, Watch};
 use std::alloc::Global;
-use std::marker::Brand;
-use std::sync::ledger::{Blank, Ledger};
-use sync_edge::{Folder, NoMemory, Rows, Steps, Text};
+use sync_edge::{Folder, NoMemory, Rows, Text};
 use sync_ql::limits::LAST_MILLISECOND;
 use sync_topo::{Event, Plan};
 use trace_report::report;
@@ -80,7 +79,7 @@ fn events_in<F: Folder>(
 }
 
 /// The plan and the events of two files, in this order.
-fn plan_and_events<F: Folder>(
+pub(crate) fn plan_and_events<F: Folder>(
     alloc: Global,
     folder: &mut F,
     plan: &str,
@@ -102,17 +101,8 @@ fn plan_and_events<F: Folder>(
     }
 }
 
-/// The report of a run of a plan with events up to a millisecond.
-fn run_until<L: Ledger>(
-    alloc: Global,
-    plan: &Plan,
-    events: &[Event],
-    until: u64,
-    blank: Blank,
-) -> Result<Reply, NoMemory>
-    requires name { blank.name ≡ L.name }
-    requires parts { blank.parts ≡ L.parts }
-    requires some { 0 < blank.parts }
+/// The reply to a plan and events: the report of the run up to a millisecond.
+fn simulated(alloc: Global, plan: &Plan, events: &[Event], until: u64) -> Result<Reply, NoMemory>
     requires fit { All (Fits plan.now) events.now }
     requires in_order { IsInOrder events.now }
     requires in_range { until ≤ LAST_MILLISECOND }
@@ -120,10 +110,8 @@ fn run_until<L: Ledger>(
     ensures form { IfOk result (λ reply. reply.status ≢ Status.Usage) }
     ensures no_plan { IfOk result (λ reply. reply.status ≢ Status.BadPlan) }
 {
-    let mut steps = Steps::<L>::new(blank);
-    let mut sim = Sim::new(alloc, plan, Watch::Changes)?;
-    let told = events_until(events, until);
-    match sim.advance(told, until, &mut steps)? {
+    let (sim, reach) = run_to(alloc, plan, Watch::Changes, events, until)?;
+    match reach {
         Reach::Until => Ok(Reply {
             status: Status::Done,
             text: report(alloc, &sim, Reach::Until)?,
@@ -133,18 +121,6 @@ fn run_until<L: Ledger>(
             text: report(alloc, &sim, Reach::Stopped(t))?,
         }),
     }
-}
-
-/// The reply to a plan and events.
-fn simulated(alloc: Global, plan: &Plan, events: &[Event], until: u64) -> Result<Reply, NoMemory>
-    requires fit { All (Fits plan.now) events.now }
-    requires in_order { IsInOrder events.now }
-    requires in_range { until ≤ LAST_MILLISECOND }
-    ensures report { IfOk result (λ reply. IsReport plan.now events.now until reply.status reply.text) }
-    ensures form { IfOk result (λ reply. reply.status ≢ Status.Usage) }
-    ensures no_plan { IfOk result (λ reply. reply.status ≢ Status.BadPlan) }
-{
-    run_until::<Brand>(alloc, plan, events, until, Blank::new(1))
 }
 
 /// The work of `sim`.

@@ -4,11 +4,17 @@ use crate::{Status, run};
 use std::alloc::{AllocError, Global};
 use std::process::Abort;
 use std::test::Fail;
+use std::thread::Threads;
 use sync_edge::{MemFile, MemFolder, MemSink, NoMemory, Rows, Text};
+use sync_sweep::FreeGate;
 
 mod hop_forms;
+mod hostile;
+mod priority;
 mod simulated;
 mod sizes;
+mod swept;
+mod trials;
 
 const CHAIN: &[u8] =
     b"[[element]]\nname = \"A\"\n[[element]]\nname = \"B\"\n[[element]]\nname = \"C\"\n\
@@ -81,7 +87,7 @@ fn words(alloc: Global, words: &[&str]) -> Result<Vec<String>, AllocError> {
 
 /// Runs the words over the files `plan` and `cert`, and compares the status and what was written.
 fn answers(
-    rt: &(impl Abort + AllocGlobal),
+    rt: &(impl Abort + AllocGlobal + Threads + Sync),
     line: &[&str],
     files: (&[u8], &[u8]),
     outside: Outside,
@@ -95,7 +101,14 @@ fn answers(
     let fails = numbers(alloc, outside.sink_fails)?;
     let mut sink = MemSink::new(alloc, outside.room, outside.piece.max(1), fails)?;
     let line = words(alloc, line)?;
-    let status = run(alloc, line.as_slice(), &mut folder, &mut sink);
+    let status = run(
+        rt,
+        alloc,
+        line.as_slice(),
+        &mut folder,
+        &mut sink,
+        &FreeGate,
+    );
     assert_eq!(rt; (status, sink.bytes()), want, "{line:?} {:?}", files.1);
     Ok(())
 }

@@ -14,7 +14,6 @@ use Rattle.pcap_file.specs.declared.error.PcapErr.{PcapErr}
 use Rattle.pcap_file.specs.declared.error.PcapErr.TheVariants as pcap
 use Rattle.pcap_file.specs.Refusal.{number_of as pcap_number}
 use Rattle.pcap_file.specs.Timed.{decoded_pcap}
-use Rattle.sync_top.specs.Form.{decode, encode}
 use Rattle.sync_top.specs.Reading.{text_line, End, answered, Answered, file, refusal_line, IsText}
 
 -- where captured text is refused: the line, and for a frame the number of its first wrong part

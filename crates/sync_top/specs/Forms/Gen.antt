@@ -4,7 +4,6 @@ use Rattle.plan_file.specs.IsPlanText.{IsPlanText}
 use Rattle.plan_gen.specs.Ladder.{ladder}
 use Rattle.sync_top.specs.declared.status.Status.{Status}
 use Rattle.sync_top.specs.declared.status.Status.TheVariants.{Done}
-use Rattle.sync_top.specs.Form.{gen}
 
 -- the answer to `gen`: any text of the ladder of so many elements
 abbrev pub GenAnswer : ℕ → Status → List ℕ → Type 0

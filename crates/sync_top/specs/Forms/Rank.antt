@@ -8,10 +8,9 @@ use Rattle.sync_topo.specs.Hops.{hops, IsRising}
 use Rattle.sync_topo.specs.Ranks.{AreLeastRanks, IsFirstCycle}
 use Rattle.sync_top.specs.declared.status.Status.{Status}
 use Rattle.sync_top.specs.declared.status.Status.TheVariants.{Done, Refuted}
-use Rattle.sync_top.specs.Form.{rank}
 use Rattle.rank_cert.specs.Ranks.{Ranks, rank_at, rank_of}
 use Rattle.rank_cert.specs.CertificateText.{certificate_of, certificate_text}
-use Rattle.sync_top.specs.Reading.{text_line, file_limit, Answered, file, plan_in}
+use Rattle.sync_top.specs.Reading.{text_line, file_limit, Answered, plan_in}
 
 -- the line on a cycle: its lines by their names
 abbrev pub cycle_text : Topology → List ℕ → List ℕ

@@ -4,7 +4,9 @@ use super::{CALM, Outside, answers, file, words};
 use crate::{Status, run};
 use std::process::Abort;
 use std::test::Fail;
+use std::thread::Threads;
 use sync_edge::{MemFolder, MemSink, Rows};
+use sync_sweep::FreeGate;
 
 const ROOMY: Outside = Outside {
     room: 2_000,
@@ -12,12 +14,12 @@ const ROOMY: Outside = Outside {
     ..CALM
 };
 
-const CHAIN: &[u8] = b"element = [{ name = 'A' }, { name = 'B' }, { name = 'C' }]\n\
+pub(super) const CHAIN: &[u8] = b"element = [{ name = 'A' }, { name = 'B' }, { name = 'C' }]\n\
 link = [{ name = 'L1', a = 'A', b = 'B', priority_b = 1, delay_a = 10, delay_b = 10 },\n\
  { name = 'L2', a = 'B', b = 'C', priority_b = 1, delay_a = 10, delay_b = 10 }]\n\
 source = [{ name = 'S', at = 'A', level = 'QL-PRC' }]\n";
 
-const PAIR: &[u8] = b"element = [{ name = 'A' }, { name = 'B' }]\n\
+pub(super) const PAIR: &[u8] = b"element = [{ name = 'A' }, { name = 'B' }]\n\
 link = [{ name = 'L1', a = 'A', b = 'B', priority_a = 1, priority_b = 1, delay_a = 10, delay_b = 10 }]\n";
 
 const TWO_SOURCES: &[u8] = b"element = [{ name = 'A', wtr = 0 }]\n\
@@ -219,7 +221,11 @@ fn a_front_of_the_report_is_written_where_the_output_fails(rt: HostRuntime) -> R
 }
 
 /// Runs a plan without events to the last millisecond there is, and compares the end of the report.
-fn stops(rt: &(impl Abort + AllocGlobal), plan: &[u8], end: &[u8]) -> Result<(), Fail> {
+fn stops(
+    rt: &(impl Abort + AllocGlobal + Threads + Sync),
+    plan: &[u8],
+    end: &[u8],
+) -> Result<(), Fail> {
     let alloc = rt.alloc();
     let mut files = Rows::new(alloc);
     files.push(file(alloc, b"plan", plan)?)?;
@@ -227,7 +233,14 @@ fn stops(rt: &(impl Abort + AllocGlobal), plan: &[u8], end: &[u8]) -> Result<(),
     let mut folder = MemFolder::new(files, 65_536, Rows::new(alloc));
     let mut sink = MemSink::new(alloc, 10_000_000, 10_000_000, Rows::new(alloc))?;
     let line = words(alloc, &["sim", "plan", "cert", "86400000"])?;
-    let status = run(alloc, line.as_slice(), &mut folder, &mut sink);
+    let status = run(
+        rt,
+        alloc,
+        line.as_slice(),
+        &mut folder,
+        &mut sink,
+        &FreeGate,
+    );
     assert_eq!(rt; status, Status::Stopped);
     assert!(rt; sink.bytes().ends_with(end));
     Ok(())

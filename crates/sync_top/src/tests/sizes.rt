@@ -4,11 +4,13 @@ use super::{file, words};
 use crate::{Status, run};
 use std::process::Abort;
 use std::test::Fail;
+use std::thread::Threads;
 use sync_edge::{MemFolder, MemSink, Rows, Text};
+use sync_sweep::FreeGate;
 
 /// What the words write over the files `plan` and `cert`, where they are done.
 fn written(
-    rt: &(impl Abort + AllocGlobal),
+    rt: &(impl Abort + AllocGlobal + Threads + Sync),
     line: &[&str],
     plan: &[u8],
     cert: &[u8],
@@ -20,7 +22,14 @@ fn written(
     let mut folder = MemFolder::new(kept, 65_536, Rows::new(alloc));
     let mut sink = MemSink::new(alloc, 1_000_000, 1_000_000, Rows::new(alloc))?;
     let line = words(alloc, line)?;
-    let status = run(alloc, line.as_slice(), &mut folder, &mut sink);
+    let status = run(
+        rt,
+        alloc,
+        line.as_slice(),
+        &mut folder,
+        &mut sink,
+        &FreeGate,
+    );
     assert_eq!(rt; status, Status::Done, "{line:?}");
     let mut text = Text::new(alloc);
     text.put(sink.bytes())?;

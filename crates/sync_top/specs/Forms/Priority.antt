@@ -1,0 +1,72 @@
+-- The answers to `prio-check`, `prio-rank` and `prio-sim`: of networks whose elements choose by priority alone.
+use Rattle.std.specs.Prelude.{◌≡◌, ℕ, ◌≤◌, ⊤, List, ◌++◌, length, map, codes, Option, Some, Ok}
+use Rattle.std.specs.List.{concat}
+use Rattle.sync_edge.specs.Contents.{Contents}
+use Rattle.sync_topo.specs.declared.event.Event.{Event}
+use Rattle.sync_topo.specs.Topology.{Topology}
+use Rattle.sync_topo.specs.Lines.{line_name, is_nominated}
+use Rattle.sync_topo.specs.Ranks.{Rises, AreLeastRanks, IsFirstCycle}
+use Rattle.rank_cert.specs.Ranks.{Ranks, rank_at, rank_of}
+use Rattle.rank_cert.specs.CertificateText.{certificate_of, certificate_text}
+use Rattle.prio_mode.specs.PriorityHops.{hops_any, IsFirstFall}
+use Rattle.prio_mode.specs.PriorityLoops.{NeverLoops}
+use Rattle.prio_mode.specs.PriorityReport.{IsPriorityReport}
+use Rattle.prio_mode.specs.ForcedLoop.{IsForcedLoop}
+use Rattle.sync_top.specs.declared.status.Status.{Status}
+use Rattle.sync_top.specs.declared.status.Status.TheVariants.{Done, Refuted}
+use Rattle.sync_top.specs.Form.{Form, prio_check}
+use Rattle.sync_top.specs.Reading.{text_line, file_limit, Answered, plan_in}
+use Rattle.sync_top.specs.Forms.Check.{documents}
+use Rattle.sync_top.specs.Forms.Sim.{plan_and_events}
+
+-- accepted where ranks rise over every hop, returns included, and else the first hop over which they don't
+abbrev pub IsPriorityVerdict : Topology → Ranks → Status → List ℕ → Type 0
+IsPriorityVerdict plan ranks Done text = Rises (hops_any plan) (rank_of ranks) × (text ≡ text_line (codes "accepted"))
+IsPriorityVerdict plan ranks Refuted text =
+    (from to : ℕ) × IsFirstFall plan ranks from to
+    × (text ≡ text_line (codes "falls " ++ line_name plan from ++ codes " " ++ line_name plan to))
+IsPriorityVerdict plan ranks status text = ⊥
+
+-- the answer to `prio-check`
+abbrev pub PrioCheckAnswer : List ℕ → List ℕ → Contents → Status → List ℕ → Type 0
+PrioCheckAnswer plan_name certificate_name files status text =
+    Answered (λ read. IsPriorityVerdict read.0 read.1) (documents plan_name certificate_name files) status text
+
+-- the row of a forced switch to a line at 0
+abbrev pub forced_row : Topology → ℕ → List ℕ
+forced_row plan line = codes "0,forced," ++ line_name plan line ++ codes ",\n"
+
+-- the event file of forced switches to some lines at 0
+abbrev pub forced_text : Topology → List ℕ → List ℕ
+forced_text plan lines = codes "at,what,target,value\n" ++ concat (map (forced_row plan) lines)
+
+-- the certificate of the least ranks, which is read back as these ranks, and they rise, and which is not too long
+-- for a file; or the forced switches that make the first loop
+abbrev pub IsPriorityPlanned : Topology → Status → List ℕ → Type 0
+IsPriorityPlanned plan Done text =
+    (ranks : Ranks) × AreLeastRanks (hops_any plan) (is_nominated plan) (rank_at ranks) × Rises (hops_any plan) (rank_of ranks)
+    × (text ≡ certificate_text plan ranks) × (certificate_of plan text ≡ Ok ranks) × (length text ≤ file_limit)
+IsPriorityPlanned plan Refuted text =
+    (lines : List ℕ) × IsFirstCycle (hops_any plan) lines × IsForcedLoop plan lines × (text ≡ forced_text plan lines)
+IsPriorityPlanned plan status text = ⊥
+
+-- the answer to `prio-rank`
+abbrev pub PrioRankAnswer : List ℕ → Contents → Status → List ℕ → Type 0
+PrioRankAnswer plan_name files status text = Answered IsPriorityPlanned (plan_in plan_name files) status text
+
+-- the report of a run
+abbrev pub IsPriorityRun : Topology → List Event → ℕ → Status → List ℕ → Type 0
+IsPriorityRun plan events until Done text = IsPriorityReport plan events until text
+IsPriorityRun plan events until status text = ⊥
+
+-- the answer to `prio-sim`
+abbrev pub PrioSimAnswer : List ℕ → List ℕ → ℕ → Contents → Status → List ℕ → Type 0
+PrioSimAnswer plan_name events_name until files status text =
+    Answered (λ read. IsPriorityRun read.0 read.1 until) (plan_and_events plan_name events_name files) status text
+
+-- where the words ask to check a plan for elements that choose by priority alone, one is read, and no timing loop can
+-- form in it
+abbrev pub IsCheckedForPriority : Option Form → Contents → Type 0
+IsCheckedForPriority (Some (prio_check plan_name certificate_name)) files =
+    (plan : Topology) × (plan_in plan_name files ≡ Ok plan) × NeverLoops plan
+IsCheckedForPriority form files = ⊤

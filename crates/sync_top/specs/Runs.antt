@@ -1,0 +1,28 @@
+-- What a simulator has come to that was told events up to a millisecond: what only private clauses cite.
+use Rattle.std.specs.Prelude.{◌≡◌, ◌≤◌, ℕ, suc, true, false, List, length, Some}
+use Rattle.sync_topo.specs.declared.event.Event.{Event}
+use Rattle.sync_topo.specs.Topology.{Topology}
+use Rattle.event_sim.specs.declared.limits.TheConstants.{MOST_CHANGES}
+use Rattle.event_sim.specs.declared.change.Watch.{Watch}
+use Rattle.event_sim.specs.declared.change.Watch.TheVariants.{Changes}
+use Rattle.event_sim.specs.declared.change.Reach.{Reach}
+use Rattle.event_sim.specs.declared.change.Reach.TheVariants.{Until, Stopped}
+use Rattle.event_sim.specs.SimState.{SimState}
+use Rattle.event_sim.specs.Standing.{StandsFor}
+use Rattle.event_sim.specs.Answers.{IsLastFit}
+
+-- it came to the end, or was stopped at a millisecond since changes are watched and they don't all fit
+abbrev pub CameTo : Topology → List Event → Watch → ℕ → SimState → Reach → Type 0
+CameTo plan events watch until sim Until =
+    (sim.stopped ≡ false) × (sim.reached ≡ Some until) × (sim.net.next ≡ suc until)
+CameTo plan events watch until sim (Stopped t) =
+    (sim.stopped ≡ true) × (sim.reached ≡ Some t) × (watch ≡ Changes) × IsLastFit plan events t until
+
+-- the simulator of a plan stands for all events, of which those up to a millisecond were told
+pub record HasRun (plan : Topology) (events : List Event) (watch : Watch) (until : ℕ) (sim : SimState) (reach : Reach) : Type 0 where
+  pub of_plan : sim.net.plan ≡ plan
+  pub watches : sim.watch ≡ watch
+  pub live : sim.spent ≡ false
+  pub few : length sim.changes ≤ MOST_CHANGES
+  pub stands : StandsFor sim events
+  pub came : CameTo plan events watch until sim reach

@@ -1,0 +1,55 @@
+// A simulator that is made and told events, for each form that runs a plan.
+
+ghost use Rattle.std.specs.Prelude.{◌≡◌, ◌≤◌, ◌<◌, IfOk};
+ghost use Rattle.std.specs.List.{All};
+ghost use Rattle.sync_topo.specs.Events.{Fits, IsInOrder};
+ghost use Rattle.sync_top.specs.Runs.{HasRun};
+
+use event_sim::{Reach, Sim, Watch, events_until};
+use std::alloc::Global;
+use std::marker::Brand;
+use std::sync::ledger::{Blank, Ledger};
+use sync_edge::{NoMemory, Steps};
+use sync_ql::limits::LAST_MILLISECOND;
+use sync_topo::{Event, Plan};
+
+/// A simulator of a plan that was told the events up to a millisecond, and how far it came. Its steps
+/// are counted on a ledger.
+fn run_counted<'a, L: Ledger>(
+    alloc: Global,
+    plan: &'a Plan,
+    watch: Watch,
+    events: &[Event],
+    until: u64,
+    blank: Blank,
+) -> Result<(Sim<'a>, Reach), NoMemory>
+    requires name { blank.name ≡ L.name }
+    requires parts { blank.parts ≡ L.parts }
+    requires some { 0 < blank.parts }
+    requires fit { All (Fits plan.now) events.now }
+    requires in_order { IsInOrder events.now }
+    requires in_range { until ≤ LAST_MILLISECOND }
+    ensures run { IfOk result (λ ran. HasRun plan.now events.now watch until ran.0 ran.1) }
+{
+    let mut steps = Steps::<L>::new(blank);
+    let mut sim = Sim::new(alloc, plan, watch)?;
+    let told = events_until(events, until);
+    let reach = sim.advance(told, until, &mut steps)?;
+    Ok((sim, reach))
+}
+
+/// A simulator of a plan that was told the events up to a millisecond, and how far it came.
+pub(crate) fn run_to<'a>(
+    alloc: Global,
+    plan: &'a Plan,
+    watch: Watch,
+    events: &[Event],
+    until: u64,
+) -> Result<(Sim<'a>, Reach), NoMemory>
+    requires fit { All (Fits plan.now) events.now }
+    requires in_order { IsInOrder events.now }
+    requires in_range { until ≤ LAST_MILLISECOND }
+    ensures run { IfOk result (λ ran. HasRun plan.now events.now watch until ran.0 ran.1) }
+{
+    run_counted::<Brand>(alloc, plan, watch, events, until, Blank::new(1))
+}
