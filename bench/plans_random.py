@@ -18,112 +18,13 @@ import sys
 
 import cases
 import rank_random
+from readings import KEYS, LEVELS, MUST, RANGES, SECTIONS, Other, Refused, read_rows, read_tables
 
-LEVELS = {
-    "I": "ePRTC PRTC ePRC PRC SSU-A SSU-B eEEC SEC DNU".split(),
-    "II": "ePRTC PRTC ePRC PRS STU ST2 TNC ST3E eEEC ST3 SMC PROV DUS".split(),
-}
-LEVELS = {option: ["QL-" + name for name in names] for option, names in LEVELS.items()}
-# For each section its keys with their kind, those that a row must have first.
-KEYS = {
-    "element": {"name": str, "own": str, "floor": str, "holdoff": int, "wtr": int},
-    "link": dict(name=str, a=str, b=str, priority_a=int, priority_b=int, delay_a=int, delay_b=int, bundle=str),
-    "source": {"name": str, "at": str, "level": str, "priority": int},
-}
-MUST = {"element": ["name"], "link": ["name", "a", "b"], "source": ["name", "at", "level"]}
-RANGES = {"holdoff": (300, 1800), "wtr": (0, 12), "priority": (0, 255), "delay": (1, 2000)}
-SECTIONS = ["element", "link", "source"]
 # Values as they are written that are neither text nor integer.
 OTHERS = ["1.0", "true", "[]", "{}", "1979-05-27", "07:32:00", "nan", "[1]", "{x = 1}", "1e3"]
 
 
-class Other(str):
-    """A value that is neither text nor integer, as it is written."""
-
-
-class Refused(Exception):
-    """The plan is refused."""
-
-
 # ---- what is expected
-
-
-def is_kind(value, kind):
-    return isinstance(value, kind) and not isinstance(value, Other)
-
-
-def is_name(text):
-    return re.fullmatch(r"[A-Za-z0-9_-]{1,32}", text) is not None
-
-
-def refuse(broken, text):
-    if broken:
-        raise Refused(f"bad plan {text}\n")
-
-
-def read_tables(head):
-    known = {"version", "option", *SECTIONS}
-    refuse(set(head) - known, "23 head 0")
-    version, option = head.get("version", 1), head.get("option", "I")
-    sections = [head.get(section, []) for section in SECTIONS]
-    right = is_kind(version, int) and version in (1, 2) and is_kind(option, str) and option in LEVELS
-    refuse(not right or not all(isinstance(rows, list) for rows in sections), "24 head 0")
-    for section, rows in zip(SECTIONS, sections):
-        for number, row in enumerate(rows, 1):
-            place = f"{section} {number}"
-            refuse(not isinstance(row, dict), f"24 {place}")
-            known = set(KEYS[section]) - ({"bundle"} if version == 1 else set())
-            refuse(set(row) - known or set(MUST[section]) - set(row), f"23 {place}")
-            refuse(not all(is_kind(value, KEYS[section][key]) for key, value in row.items()), f"24 {place}")
-    return option, sections
-
-
-def out_of_range(row):
-    for key, value in row.items():
-        low, high = RANGES.get(key.removesuffix("_a").removesuffix("_b"), (value, value))
-        if isinstance(value, int) and not low <= value <= high:
-            return True
-    return False
-
-
-def read_rows(option, sections):
-    elements, links, sources = sections
-    inputs = collections.Counter()
-
-    def check(number, place, broken):
-        refuse(broken, f"25 {number} {place}")
-
-    for number, row in enumerate(elements):
-        place = f"element {number + 1}"
-        check(16, place, not is_name(row["name"]))
-        check(17, place, any(row["name"] == earlier["name"] for earlier in elements[:number]))
-        check(20, place, out_of_range(row))
-        levels = [row[key] for key in ("own", "floor") if key in row]
-        check(21, place, any(level not in LEVELS[option][:-1] for level in levels))
-    names = [row["name"] for row in elements]
-    for number, row in enumerate(links):
-        place, ends = f"link {number + 1}", {row["a"], row["b"]}
-        check(16, place, not is_name(row["name"]))
-        check(17, place, any(row["name"] == earlier["name"] for earlier in links[:number]))
-        check(18, place, not ends <= set(names))
-        check(19, place, row["a"] == row["b"])
-        check(20, place, out_of_range(row))
-        if "bundle" in row:
-            bundle = [earlier for earlier in links[:number] if earlier.get("bundle") == row["bundle"]]
-            others = [earlier for earlier in bundle if {earlier["a"], earlier["b"]} != ends]
-            check(39, place, not is_name(row["bundle"]) or others)
-        for end in "ab":
-            inputs[row[end]] += row.get("priority_" + end, 0) > 0
-        check(15, place, max(inputs[end] for end in ends) > 64)
-    for number, row in enumerate(sources):
-        place = f"source {number + 1}"
-        check(16, place, not is_name(row["name"]))
-        check(17, place, any(row["name"] == earlier["name"] for earlier in links + sources[:number]))
-        check(18, place, row["at"] not in names)
-        check(20, place, out_of_range(row))
-        check(21, place, row["level"] not in LEVELS[option])
-        inputs[row["at"]] += row.get("priority", 1) > 0
-        check(15, place, inputs[row["at"]] > 64)
 
 
 def expected(head):

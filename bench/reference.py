@@ -10,8 +10,8 @@ usage: reference.py [--histories N] [--seed N] [--keep FOLDER]
 Written from the rules alone, and no code of the program is called. It goes through every millisecond and counts.
 reference_element.py has levels, the condition of an input, operator commands, the choice of an input and one
 element; reference_plan.py plans, events, hops and ranks; reference_network.py the network over time, settled
-milliseconds, closed walks and traces; reference_report.py the texts of a simulation and of a sweep. It grows with
-the program.
+milliseconds, closed walks and traces; reference_report.py the texts of a simulation and of a sweep;
+reference_priority.py elements that choose by priority alone (prio_random.py). It grows with the program.
 
 For each of N random histories (300 where it isn't given) it says what an element gives at each of its steps: the
 input that is taken, the level, the mode, the state, when it is due, what is sent back on each input and each input's
