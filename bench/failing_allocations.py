@@ -20,6 +20,8 @@ GREATEST = 100_000
 
 SHIM = r"""
 #define _GNU_SOURCE
+#include <dlfcn.h>
+#include <errno.h>
 #include <stddef.h>
 #include <unistd.h>
 #define write_through write
@@ -27,7 +29,9 @@ SHIM = r"""
 static long at = -1, count;
 static int fails(void) {
   if (at < 0) { const char *s = getenv("FAIL_AT"); at = s ? atol(s) : 0; }
-  return ++count == at;
+  if (++count != at) return 0;
+  errno = ENOMEM;
+  return 1;
 }
 extern void *__libc_malloc(size_t), *__libc_calloc(size_t, size_t), *__libc_realloc(void *, size_t), *__libc_memalign(size_t, size_t);
 void *malloc(size_t n) { return fails() ? NULL : __libc_malloc(n); }
@@ -36,7 +40,7 @@ void *realloc(void *p, size_t n) { return fails() ? NULL : __libc_realloc(p, n);
 void *aligned_alloc(size_t a, size_t n) { return fails() ? NULL : __libc_memalign(a, n); }
 int posix_memalign(void **p, size_t a, size_t n) { if (fails()) return 12; *p = __libc_memalign(a, n); return *p ? 0 : 12; }
 __attribute__((destructor)) static void told(void) { tell_fewer(at, count); }
-"""
+""" + shims.ENDING
 
 
 def fail_each(program, words, shim, folder):

@@ -81,7 +81,7 @@ ssize_t write(int fd, const void *bytes, size_t n) {
   return write_through(fd, bytes, n);
 }
 __attribute__((destructor)) static void told(void) { tell_fewer(at, count); }
-"""
+""" + shims.ENDING
 READ_FAULT = (7, b"read fault\n")
 # For each call the ways in which it may go wrong.
 WAYS = {

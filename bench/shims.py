@@ -8,7 +8,16 @@ TOLD = r"""
 #include <unistd.h>
 static void tell_fewer(long at, long count) {
   const char *fd = getenv("COUNT_TO");
-  if (fd && at > 0 && count < at && write_through(atoi(fd), "end", 3) < 0) _exit(99);
+  if (fd && at > 0 && count < at && write_through(atoi(fd), "end", 3) < 0) abort();
+}
+"""
+# Behind a function `told` that says so at the end of the program, which may come without destructors where it has threads.
+ENDING = r"""
+void _exit(int status) {
+  told();
+  void (*real)(int) = dlsym(RTLD_NEXT, "_exit");
+  real(status);
+  __builtin_unreachable();
 }
 """
 
