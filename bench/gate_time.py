@@ -6,7 +6,7 @@ usage: gate_time.py [COMMIT] [--keep FOLDER]
 The clone is of this repository, at the commit or at HEAD. While `rt ci` runs, the processes below it are looked at once
 a second; the crate is the one that the prover was given, and the time what the process had used when it was last seen,
 so a process of less than a second may be missed. Wall time means something on a quiet machine alone. It wants the
-toolchain, Linux and Python 3.11, and about two hours on four idle processors.
+toolchain, Linux and Python 3.11, and an hour and a half on four processors.
 """
 import argparse
 import collections
