@@ -60,7 +60,7 @@ def plan_cases():
     chain = elements(2000) + "".join(
         f'[[link]]\nname = "{kind}{n}"\na = "E{n - 1}"\nb = "E{n}"\npriority_b = {priority}\n' for n in range(1, 2000) for kind, priority in (("L", 1), ("M", 2))
     )
-    full = chain + links(2) + rows("source", 2000, 'name = "S{}"\nat = "E{}"\nlevel = "QL-PRC"\npriority = 3\n')
+    full = chain + links(2).replace('"L', '"N') + rows("source", 2000, 'name = "S{}"\nat = "E{}"\nlevel = "QL-PRC"\npriority = 3\n')
     yield Case("2000 elements in a chain, 4000 links, 2000 sources", ["rank", "plan"], {"plan": full}, 0, none, "M1999>E1999,1998\n")
     yield Case("the same, run for a day", ["sim", "plan", "events", str(DAY)], {"plan": full, "events": EVENTS}, 0, "changes\n0,E0,auto,S0,", "settled yes\n")
 
@@ -74,8 +74,9 @@ def event_cases():
     most = EVENTS + "0,clear,E0,\n" * 100_000
     yield Case("100,000 events", ["sim", "plan", "events", "0"], {"plan": CHAIN, "events": most}, 0, "changes\n", "settled no\n")
     yield Case("100,001 events", ["sim", "plan", "events", "0"], {"plan": CHAIN, "events": most + "0,clear,E0,\n"}, 5, "bad events 33\n")
+    # The last event of them is up, at 79,999,200; 300,000 after it the line is good again.
     busy = EVENTS + "".join(f"{n * 800},{'down' if n % 2 == 0 else 'up'},L>E1,\n" for n in range(100_000))
-    yield Case("100,000 faults in a day", ["sim", "plan", "events", str(DAY)], {"plan": CHAIN, "events": busy}, 0, "changes\n0,E0,auto,S0,", "settled no\n")
+    yield Case("100,000 faults in a day", ["sim", "plan", "events", str(DAY)], {"plan": CHAIN, "events": busy}, 0, "changes\n0,E0,auto,S0,QL-PRC,locked\n80299200,E1,auto,L>E1,", "settled yes\n")
     pair = elements(2) + '[[link]]\nname = "L"\na = "E0"\nb = "E1"\npriority_a = 1\npriority_b = 1\n'
     yield Case("200,000 changes of two elements that swing", ["sim", "plan", "events", str(DAY)], {"plan": pair, "events": EVENTS}, 11, "changes\n1,E0,auto,L>E0,", "stopped,100000\n")
     for at, status, text in ((DAY, 0, "changes\n"), (DAY + 1, 5, "bad events 28 1\n")):
