@@ -88,13 +88,17 @@ class Element:
                 commands.append((word, i))
         self.evaluate(ups, cleared, commands)
 
-    def evaluate(self, ups, cleared, commands):
-        """One millisecond with its signals, its commands in order, and the levels that the inputs have by now."""
+    def told(self, ups, cleared, commands):
+        """Takes the signals of one millisecond and its commands in order: the inputs that are eligible then."""
         for i, each in enumerate(self.inputs):
             each.pass_millisecond(ups[i], i in cleared, self.holdoff, self.wtr)
         for word, i in commands:
             self.command(word, i)
-        eligible = [i for i in range(len(self.inputs)) if self.is_eligible(i)]
+        return [i for i in range(len(self.inputs)) if self.is_eligible(i)]
+
+    def evaluate(self, ups, cleared, commands):
+        """One millisecond with its signals, its commands in order, and the levels that the inputs have by now."""
+        eligible = self.told(ups, cleared, commands)
         best_level = min((self.place(i) for i in eligible), default=None)
         if self.manual is not None and (self.manual not in eligible or self.place(self.manual) > best_level):
             self.manual = None

@@ -46,11 +46,7 @@ class PriorityElement(Element):
 
     def evaluate(self, ups, cleared, commands):
         """One millisecond with its signals and its commands in order."""
-        for i, each in enumerate(self.inputs):
-            each.pass_millisecond(ups[i], i in cleared, self.holdoff, self.wtr)
-        for word, i in commands:
-            self.command(word, i)
-        eligible = [i for i in range(len(self.inputs)) if self.is_eligible(i)]
+        eligible = self.told(ups, cleared, commands)
         if self.manual not in eligible:
             self.manual = None
         self.taken = self.chosen(eligible)
