@@ -9,7 +9,8 @@
 //!   place beside the places that are listed (`Marked`): just those with a flag, none of them twice
 //!   (`AreListed`).
 //!
-//! Only their `new` takes memory. This project's own. The tests show that memory is found, and go
+//! Only their `new` and `try_clone` take memory. [`walks::walk_law`] is of a walk over listed places, and
+//! `limits` has how many places there may be. This project's own. The tests show that memory is found, and go
 //! through orders of taking and of marking that are written by hand.
 #![tactic(auto)]
 
@@ -20,6 +21,3 @@ pub mod walks;
 
 pub use due_times::{Due, DueTimes};
 pub use marks::Marks;
-
-#[cfg(test)]
-mod tests;

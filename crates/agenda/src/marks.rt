@@ -60,6 +60,18 @@ impl Marks {
         Ok(Marks { flags, listed })
     }
 
+    /// Becomes the same as other marks of as many places. It takes no memory. This project's own.
+    pub fn copy_from(&mut self, other: &Marks)
+        requires count { length self.old.flags ≡ length other.now.flags }
+        ensures { self.new ≡ other.now }
+    {
+        self.flags.copy_from_slice(other.flags.as_slice());
+        self.listed.clear();
+        self.listed
+            .extend_from_slice(other.listed.as_slice())
+            .unwrap();
+    }
+
     /// Marks a place, unless it is marked already. It takes the same time for any number of places, and
     /// no memory.
     ///

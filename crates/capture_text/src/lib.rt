@@ -20,8 +20,6 @@ mod error;
 mod lines;
 mod reading;
 mod row;
-#[cfg(test)]
-mod tests;
 
 pub use capture::{decode_lines, encode_rows};
 pub use cutting::cut_at;

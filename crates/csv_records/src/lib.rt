@@ -15,6 +15,3 @@ mod stream;
 pub use reading::read_records;
 pub use record::Record;
 pub use stream::Records;
-
-#[cfg(test)]
-mod tests;

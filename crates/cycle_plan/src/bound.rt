@@ -1,4 +1,4 @@
-// Until when a network of a plan is settled after its last event.
+// From when on a network of a plan is settled after its last event.
 
 ghost use Rattle.std.specs.Prelude.{◌≡◌, ◌≢◌, ◌≤◌, ◌<◌, ◌+◌, ◌*◌, ℕ, max, false, IsTrue, IfOk, Some, MatchOption, length};
 ghost use Rattle.sync_topo.specs.Lines.{line_count, is_nominated};
@@ -12,13 +12,10 @@ use crate::ranked::{Ranked, rank_plan};
 use rank_cert::Cert;
 use std::alloc::Global;
 use sync_edge::NoMemory;
-use sync_ql::limits::{GREATEST_DELAY, GREATEST_WTR, LAST_MILLISECOND};
+use sync_ql::limits::{GREATEST_DELAY, GREATEST_WTR, HEARING_TIME, LAST_MILLISECOND};
 use sync_topo::{Element, InputId, LineId, Plan, bundle_law};
 
-/// For so many milliseconds a level is heard after the message that brought it. After G.8264.
-const HEARING_TIME: u64 = 5000;
-
-/// Until when a network of the plan is settled after its last event, at 0 to 86,400,000
+/// From when on a network of the plan is settled after its last event, at 0 to 86,400,000
 /// milliseconds: whatever happened until then, it is settled in every millisecond from the answer on.
 ///
 /// `None` exactly where the plan has no such bound: two nominated lines of one link or bundle run in

@@ -1,7 +1,8 @@
 //! Least ranks of a plan as a certificate or, where no ranks rise, the first cycle of lines.
 //!
-//! [`rank_plan`] is the planner, and [`rank_with`] the same where returns may be allowed ([`Returns`]). What a least rank and the first cycle are stands in sync_topo,
-//! `AreLeastRanks` and `IsFirstCycle`; [`first_cycle_law`] and [`least_rank_law`] say that there is
+//! [`rank_plan`] is the planner, and [`rank_with`] the same where returns may be allowed ([`Returns`]);
+//! [`settling_bound`] says from when on a network of the plan is settled. What a least rank and the first
+//! cycle are stands in sync_topo, `AreLeastRanks` and `IsFirstCycle`; [`first_cycle_law`] and [`least_rank_law`] say that there is
 //! one first cycle, which lines it has, and why the ranks are the least.
 //!
 //! Lines get their ranks one after another, each once all lines that hop to it have theirs; an
@@ -19,8 +20,6 @@ mod ranked;
 mod ranking;
 mod returns;
 mod ring;
-#[cfg(test)]
-mod tests;
 mod top;
 
 pub use bound::settling_bound;

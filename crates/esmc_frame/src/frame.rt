@@ -178,6 +178,3 @@ fn version_and_flag(event: bool) -> u8
         VERSION << 4
     }
 }
-
-#[cfg(test)]
-mod tests;

@@ -9,7 +9,7 @@ ghost use Rattle.event_file.specs.Words.{word_of, part_of_name, said_of, what_of
 use sync_ql::{NetOption, level_of_name};
 use sync_topo::{LineId, Part, Plan, What};
 
-/// A word for what happens.
+/// A word for what happens. This project's own.
 #[derive(Clone, Copy, Debug, PartialEq, Eq)]
 pub enum Word {
     /// `down`.
@@ -36,7 +36,7 @@ pub enum Word {
     ClearWtr,
 }
 
-/// What a word says of its target, before the value is looked at.
+/// What a word says of its target, before the value is looked at. This project's own.
 #[derive(Clone, Copy, Debug, PartialEq, Eq, Drop)]
 pub enum Said {
     /// This happens, and there is nothing more to say.
@@ -46,8 +46,8 @@ pub enum Said {
 }
 
 impl Word {
-    /// The word that some bytes are.
-    pub(crate) fn of(bytes: &[u8]) -> Option<Word>
+    /// The word that some bytes are, after G.781 and G.8264; how it is spelled is this project's own.
+    pub fn of(bytes: &[u8]) -> Option<Word>
         ensures { result ≡ word_of bytes.now }
     {
         if bytes == b"down".as_slice() {
@@ -79,8 +79,8 @@ impl Word {
 
     /// What the word says of the target of a name.
     ///
-    /// `None` where the plan has nothing of this name that the word is said of.
-    pub(crate) fn said_of(self, plan: &Plan, name: &[u8]) -> Option<Said>
+    /// `None` where the plan has nothing of this name that the word is said of. This project's own.
+    pub fn said_of(self, plan: &Plan, name: &[u8]) -> Option<Said>
         ensures said { result ≡ said_of plan.now self name.now }
         ensures fits { IfSome result (IsSaid plan.now) }
     {
@@ -103,7 +103,9 @@ impl Word {
 
 impl Said {
     /// What happens, by the value: an empty one, or the name of a level of the option.
-    pub(crate) fn with_value(self, option: NetOption, value: &[u8]) -> Option<What>
+    ///
+    /// `None` where the value is another. This project's own.
+    pub fn with_value(self, option: NetOption, value: &[u8]) -> Option<What>
         ensures what { result ≡ what_of option self value.now }
         ensures fits { (plan : Topology) → plan.option ≡ option → IsSaid plan self → IfSome result (MayHappen plan) }
     {

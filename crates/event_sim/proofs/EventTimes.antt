@@ -140,4 +140,5 @@ module _ (plan : Topology) (now until count : ℕ) (events : List Event) (within
       up_to = All-drop (λ event. event.at ≤ until) count events within.up_to;
     };
     fit = All-take (Fits plan) count events within.list.fit;
+    at = front-at;
   }

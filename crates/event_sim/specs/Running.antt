@@ -87,3 +87,4 @@ pub record AreParted (plan : Topology) (now until : ℕ) (events told later : Li
   pub rest : (t : ℕ) → now < t → events_at t events ≡ events_at t later
   pub within : AreWithin plan (suc now) until later
   pub fit : All (Fits plan) told
+  pub at : All (λ event. event.at ≡ now) told

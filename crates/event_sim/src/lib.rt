@@ -31,8 +31,6 @@ mod noting;
 mod running;
 mod shown;
 mod sim;
-#[cfg(test)]
-mod tests;
 
 pub use change::{Change, Reach, Watch};
 pub use events::events_until;

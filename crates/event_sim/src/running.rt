@@ -86,6 +86,7 @@ impl Run<'_> {
         requires in_time { IsInTime self.old.net now }
         requires in_range { now ≤ LAST_MILLISECOND }
         requires fit { All (Fits self.old.net.plan) events.now }
+        requires here { All (λ event. event.at ≡ now) events.now }
         ensures kept { OnOk result (IsKeptBy self.old self.new) }
         ensures live { OnOk result (self.new.net.spent ≡ false) }
         ensures of_plan { OnOk result (All (IsChangeOf self.new.net.plan) self.new.changes.items) }

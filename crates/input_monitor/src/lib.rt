@@ -10,8 +10,6 @@
 #![tactic(auto)]
 
 mod monitor;
-#[cfg(test)]
-mod tests;
 
 pub use monitor::Monitor;
 pub use sync_ql::rules::Cond;

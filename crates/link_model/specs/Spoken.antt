@@ -1,4 +1,4 @@
--- Private to this crate: a word, which a line says from one millisecond on until another.
+-- A word, which a line says from one millisecond on until another.
 use Rattle.std.specs.Prelude.{ℕ, ◌-◌, ◌%◌, Bool, true, ◌&&◌, nat_lt, nat_le, if◌then◌else◌, List, [], ◌∷◌, Option, None, Some}
 use Rattle.std.specs.Option.{option_or}
 use Rattle.sync_ql.specs.declared.levels.Level.{Level}

@@ -5,7 +5,7 @@
 //! words on their way; the messages that repeat a word each second are computed, and not kept.
 //! Contracts see it as a record (`LineState`) and say for which past it stands (`StandsFor`):
 //! each call makes that past longer, and each answer is what the rules say of it. Only
-//! [`Line::new`] and [`Line::say`] take memory. The words on their way are at most one for each
+//! [`Line::new`], [`Line::try_clone`] and [`Line::say`] take memory. The words on their way are at most one for each
 //! millisecond of the delay (`few` of [`Line::on_way`]); within `say` there is for a moment room
 //! for one more.
 //!
@@ -15,8 +15,6 @@
 
 mod laws;
 mod line;
-#[cfg(test)]
-mod tests;
 mod word;
 mod words;
 

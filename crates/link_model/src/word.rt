@@ -21,14 +21,14 @@ pub struct Word {
 
 impl Word {
     // Whether its first message arrives in a millisecond.
-    pub fn arrives(self, delay: u64, now: u64) -> bool
+    pub(crate) fn arrives(self, delay: u64, now: u64) -> bool
         ensures { result ≡ nat_eq (self.sent + delay) now }
     {
         delay <= now && self.sent == now - delay
     }
 
     // The word, said no longer from now on.
-    pub fn ended(self, now: u64) -> Word
+    pub(crate) fn ended(self, now: u64) -> Word
         ensures { result ≡ ended now self }
     {
         match self.until {
@@ -42,7 +42,7 @@ impl Word {
     }
 
     // The word, said no longer than until an end.
-    pub fn cut(self, end: u64) -> Word
+    pub(crate) fn cut(self, end: u64) -> Word
         ensures { result ≡ cut_at end self }
     {
         Word {
@@ -53,7 +53,7 @@ impl Word {
     }
 
     // The end of the word, or a millisecond if that is earlier.
-    pub fn end_before(self, now: u64) -> u64
+    pub(crate) fn end_before(self, now: u64) -> u64
         ensures value { result ≡ end_before self.until now }
         ensures bound { result ≤ now }
     {
@@ -64,7 +64,7 @@ impl Word {
     }
 
     // Of the milliseconds before `now` in which it was said, the last in which a message went out.
-    pub fn last_sent(self, now: u64) -> u64
+    pub(crate) fn last_sent(self, now: u64) -> u64
         requires low { self.sent ≤ LAST_MILLISECOND }
         requires in_range { now ≤ LAST_MILLISECOND + 1 }
         ensures value { result ≡ last_sent self now }

@@ -7,9 +7,7 @@ use crate::word::Word;
 use std::alloc::Global;
 use sync_edge::NoMemory;
 use sync_ql::Level;
-
-/// For so many milliseconds a level is heard after the message that brought it.
-pub const HEARING_TIME: u64 = 5000;
+use sync_ql::limits::HEARING_TIME;
 
 /// The words of a line: the one that arrived last, and those on their way, the oldest first.
 #[derive(Debug, Drop)]

@@ -1,4 +1,4 @@
--- Until when a network is settled after the last event, and what has to stand still for that.
+-- From when on a network is settled after the last event, and what has to stand still for that.
 -- This project's own.
 use Rattle.std.specs.Prelude.{◌≡◌, ◌<◌, ◌≤◌, ◌⊎◌, ℕ, ◌+◌, ◌*◌, Bool, ◌||◌, is_some, List, slice_get, Some, IsTrue}
 use Rattle.std.specs.List.{All}

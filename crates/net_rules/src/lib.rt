@@ -3,15 +3,15 @@
 //! The rules are definitions in `specs/`, over a plan and a list of events: what comes from outside
 //! (`Signals`), what each line carries and what each element takes and gives (`History`), closed walks,
 //! facing pairs and traces (`Walks`), settled milliseconds (`Settled`), plans in which no timing loop
-//! can form (`Safety`), in which milliseconds something happens and where (`Activity`), and until when
+//! can form (`Safety`), in which milliseconds something happens and where (`Activity`), and from when on
 //! a network is settled (`Settling`). Those of one line and one element are `sync_ql`'s, over their
 //! pasts.
 //!
 //! The laws are the contracts of functions that do nothing: [`closed_walk_law`], [`walk_back_law`],
 //! [`trace_law`] and [`taken_law`] over what is taken in one millisecond; [`history_law`], [`order_law`]
 //! and [`heard_law`] on the one history that obeys the rules; [`facing_pair_law`], [`rising_law`],
-//! [`settled_law`] and [`event_law`] on timing loops and settled milliseconds. They hold no simulator: the crates that run a network, and
-//! the test of ranks, cite them.
+//! [`settled_law`] and [`event_law`] on timing loops and settled milliseconds. They hold no simulator:
+//! the crates that run a network, and the test of ranks, cite them.
 //!
 //! After ITU-T G.781, selection, external commands and do not use, and ITU-T G.8264, ESMC messages;
 //! whole milliseconds, events, walks and settled milliseconds are this project's own.

@@ -18,7 +18,7 @@ ghost use Rattle.net_rules.specs.Staying.{IsQuietAfter, AreStillBefore, IsSameAt
 ghost use Rattle.net_rules.specs.Settling.{NoneAfter, IsUnswitched, AreUnswitchedBefore, IsSettlingBound};
 ghost use Rattle.net_rules.specs.Facing.{Faces, IsStill};
 
-/// The law of facing pairs: each is short. Its last millisecond is less than a line's delay after its
+/// The law of facing pairs: each is short while a line of it speaks, or isn't switched. Its last millisecond is less than a line's delay after its
 /// first, if that line speaks all the while; and less than five seconds and that delay, if the line
 /// neither goes down or up nor has its ESMC switched meanwhile. Both hold of either line, since the pair
 /// may be turned round.
@@ -70,8 +70,9 @@ pub fn settled_law()
         IsClosedWalk plan (taken_in plan signals out t) lines → ¬ IsFacingPair plan lines }
 {}
 
-/// The timed laws by a list of events. A facing pair is short while no event switches a line of it; a settled millisecond after which no event stands, and before which none switched a nominated
-/// line for its delay, stays settled; and where the plan has a settling bound after the last event,
+/// The timed laws by a list of events. A facing pair is short while no event switches a line of it; a
+/// settled millisecond after which no event stands, and before which none switched a nominated line for
+/// its delay, stays settled; and where the plan has a settling bound after the last event,
 /// every millisecond from it on is settled.
 pub fn event_law()
     ensures pair { (plan : Topology) (events : List Event) (line back from until : ℕ) →

@@ -41,8 +41,8 @@ pub fn walk_back_law()
         rest ≡ others }
 {}
 
-/// The law of traces: each element has exactly one, which is followed to a source, to an element that takes
-/// nothing, or to one that it meets again, where what is taken comes from elements of the plan.
+/// The law of traces: each element has exactly one, which is followed to a source, to an element that
+/// takes nothing, or to one that it meets again, where what is taken comes from elements of the plan.
 pub fn trace_law()
     ensures one { (plan : Topology) (taken : Taken) (element : ℕ) (lines others : List ℕ)
         (end other : TraceEnd) → IsTrace plan taken element lines end →

@@ -21,8 +21,6 @@ mod outputs;
 mod placing;
 mod rows;
 mod search;
-#[cfg(test)]
-mod tests;
 
 pub use certificate::order_cert;
 pub use facts::hops_ok;

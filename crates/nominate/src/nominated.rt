@@ -21,7 +21,7 @@ pub fn nominate(alloc: Global, plan: &Plan) -> Result<Plan, NoMemory>
     ensures nominated { IfOk result (IsNominatedPlan plan.now) }
     ensures well_formed { IfOk result IsWellFormed }
 
-    // An element that has no clock and can be reached from one takes a line of priority 1 from an
+    // An element that has no clock and can be reached from one has a line of priority 1 from an
     // element with one less.
     ensures first { IfOk result (λ nominated. (counts : Counts) (element hops : ℕ)
         → AreHopCounts plan.now counts → count_at counts element ≡ Some (suc hops)

@@ -11,8 +11,6 @@
 #![tactic(auto)]
 
 mod cmds;
-#[cfg(test)]
-mod tests;
 
 pub use cmds::{Applied, Cmds};
 pub use sync_ql::rules::Cmd;

@@ -17,8 +17,6 @@ mod decoding;
 mod encoding;
 mod error;
 mod reading;
-#[cfg(test)]
-mod tests;
 mod writing;
 
 pub use decoding::decode_pcap;

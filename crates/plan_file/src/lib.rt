@@ -19,6 +19,3 @@ mod writing;
 pub use error::PlanFileErr;
 pub use reading::read_plan;
 pub use writing::write_plan;
-
-#[cfg(test)]
-mod tests;

@@ -1,4 +1,4 @@
-//! Plans to try things on: the ladder of any number of elements.
+//! Plans to try things on: the ladder of 2 to 2,000 elements.
 //!
 //! [`generate`] gives the ladder. Which plan that is, `ladder` says by its elements, its links and
 //! its sources.

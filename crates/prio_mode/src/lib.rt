@@ -7,9 +7,11 @@
 //! whatever happens. [`prio_plan`] gives the least such ranks, or a loop that forced switches make, and
 //! [`prio_sim`] the report of a run.
 //!
-//! An element that chooses by priority alone hears nothing of others: it is told whether its inputs are up,
-//! and its commands. Which input is taken is the choice of one element (`sync_ql`), over inputs that all
-//! have one level.
+//! An element that chooses by priority alone hears nothing of others: it is told whether its inputs are
+//! up, and its commands. Which input is taken is the choice of one element (`sync_ql`), over inputs that
+//! all have one level. [`hop_any`] is a hop with returns, and [`one_report_law`] says that there is one
+//! report.
+//!
 //! After ITU-T G.781, selection by priority, external commands, hold-off and wait-to-restore times.
 //!
 //! The tests are worked plans and runs.
@@ -26,8 +28,6 @@ mod shown;
 mod simulating;
 mod starting;
 mod stepping;
-#[cfg(test)]
-mod tests;
 
 pub use checking::{hop_any, prio_check};
 pub use laws::one_report_law;

@@ -20,6 +20,3 @@ pub use error::CertErr;
 pub use reading::read_cert;
 pub use rising::{Verdict, check};
 pub use writing::write_cert;
-
-#[cfg(test)]
-mod tests;

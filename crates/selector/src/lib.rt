@@ -15,8 +15,6 @@ mod best;
 mod choice;
 mod standing;
 mod table;
-#[cfg(test)]
-mod tests;
 
 pub use choice::{Choice, choose};
 pub use sync_ql::rules::Candidate;

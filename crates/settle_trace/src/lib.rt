@@ -17,8 +17,6 @@ mod listing;
 mod looping;
 mod settling;
 mod taking;
-#[cfg(test)]
-mod tests;
 mod traced;
 mod tracing;
 mod tracings;

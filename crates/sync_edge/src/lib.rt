@@ -34,6 +34,3 @@ pub use outside::{Folder, Sink};
 pub use real::{RealFolder, RealSink};
 pub use steps::Steps;
 pub use transfers::{read_all, write_all};
-
-#[cfg(test)]
-mod tests;

@@ -36,31 +36,3 @@ fn begins_wrongly(bytes: &[u8]) -> bool
         None => false,
     }
 }
-
-#[cfg(test)]
-mod tests {
-    use super::*;
-
-    #[test]
-    fn only_plain_decimals_are_numbers(rt: HostRuntime) {
-        let rows: [(&[u8], Option<u64>); 14] = [
-            (b"0", Some(0)),
-            (b"7", Some(7)),
-            (b"10", Some(10)),
-            (b"86400000", Some(86_400_000)),
-            (b"18446744073709551615", Some(18_446_744_073_709_551_615)),
-            (b"", None),
-            (b"00", None),
-            (b"01", None),
-            (b"+1", None),
-            (b"-1", None),
-            (b" 1", None),
-            (b"1\xff", None),
-            (b"18446744073709551616", None),
-            (b"100000000000000000000", None),
-        ];
-        for (bytes, number) in rows {
-            assert_eq!(rt; read_number(bytes), number, "at {bytes:?}");
-        }
-    }
-}

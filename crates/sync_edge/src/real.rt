@@ -84,8 +84,8 @@ impl<R: Files> Folder for RealFolder<'_, R> {
 
 /// The standard output of the system. It tells no content.
 ///
-/// What was written is flushed at once. A write that takes none of some bytes is a fault, and so is a flush
-/// that fails, though the bytes may be out. Contracts see the count of faults.
+/// What was written is flushed at once. A write that takes none of some bytes is a fault, and so is a
+/// flush that fails, though the bytes may be out. Contracts see the count of faults.
 /// This project's own.
 #[derive(Drop)]
 pub struct RealSink<'a, R: Print> {

@@ -4,7 +4,7 @@
 //! and only where something happens or is due. It keeps no list of the past. Contracts see it as a
 //! record (`ElementState`) and say for which past it stands (`StandsFor`): each step makes that past
 //! longer, and each answer is what the rules say of it, from the last step up to but not at `due`.
-//! Only [`Element::new`] takes memory. A step's work is by the inputs that it is told of and those
+//! Only [`Element::new`] and [`Element::try_clone`] take memory. A step's work is by the inputs that it is told of and those
 //! whose running time ends, each for the logarithm of the number of inputs.
 //!
 //! After ITU-T G.781: hold-off and wait-to-restore, external commands, selection by quality level
@@ -19,8 +19,6 @@ mod inputs;
 mod renewing;
 mod selection;
 mod starting;
-#[cfg(test)]
-mod tests;
 mod watched;
 
 pub use config::{Config, InputConfig};

@@ -109,7 +109,7 @@ module _ (plan : Topology) (now : ℕ) (events : List Event) (p a b : Parts) (wh
   called_nominated_a : (line : ℕ) → is_marked a.called.flags line ≡ true → IsNominated plan line
   called_nominated_a line marked = elim (first.due.line_cause line marked) [
     | inl before ↦ elim (first.first.lines_cause line before) [
-      | inl earlier ↦ absurd (true≢false (sym earlier ∙ ap (λ m. is_marked m.flags line) whole.none_called ∙ none-marked (line_count plan) line))
+      | inl earlier ↦ absurd (true≢false (sym earlier ∙ none-marked (length p.called.flags) line))
       | inr nominated ↦ nominated
     ]
     | inr due ↦ of (dec_lt line (line_count plan)) due

@@ -9,7 +9,6 @@ use Rattle.sync_ql.specs.declared.limits.TheConstants.{LAST_MILLISECOND}
 use Rattle.sync_ql.specs.Told.{IsOfOption}
 use Rattle.sync_ql.specs.Messages.{is_same_level}
 use Rattle.agenda.specs.DueTimes.{due_in}
-use Rattle.agenda.specs.Marked.{none_marked}
 use Rattle.agenda.proofs.MarkedPlaces.{flag_within}
 use Rattle.sync_element.specs.ElementState.{ElementState}
 use Rattle.link_model.specs.LineState.{LineState}
@@ -30,6 +29,7 @@ use Rattle.sync_net.specs.Hearing.{heard_in, told_in}
 use Rattle.sync_net.specs.Steps.{IsSteady, IsLineTold, IsLineSaid}
 use Rattle.sync_net.specs.Stages.{is_marked, IsSent, IsNotGiven, out_of}
 use Rattle.sync_net.specs.NetStep.{ElementStays, ElementMoves, LineIsTold, LineKeeps, LineIsSaid, LineMoves, IsNetStep, HasCause, AreEvaluatedFor}
+use Rattle.sync_net.specs.Evaluated.{AreAloneCalled}
 use Rattle.sync_net.specs.Whole.{kept_of, state_of, IsReadyElement, IsReadyLine, AreOuts, IsWhole}
 use Rattle.sync_net.specs.PartSteps.{AreCalled, AreTakenIn, AreHeardIn, AreEvaluatedIn, AreSentIn, IsOver}
 use Rattle.sync_net.proofs.StageLaws.{same-place, or-second}
@@ -428,7 +428,7 @@ module _ (plan : Topology) (now : ℕ) (events : List Event) (p a b c d e q : Pa
     dues_count = omega (arith, ap length last.dues, fifth.sent.dues_count, fourth.evaluated.dues_count, ap length (c_dues plan now events p a b c whole in_time first second third), first.due.count, whole.dues_count);
     changes_count = omega (arith, ap (λ t. length t.changes.items) (last.tellings ∙ fifth.tellings), fourth.evaluated.changes_count, third.told.changes_count, second.taken.list_count, ap (λ v. length v.items) first.changes, whole.changes_count);
     active_count = omega (arith, ap (λ t. length t.active.flags) (last.tellings ∙ fifth.tellings), ap (λ m. length m.flags) fourth.active, third.told.marks.count, second.taken.flag_count, first.due.elements.count, first.first.elements_kept.count, length-replicate (length p.tellings.active.flags) false, whole.active_count);
-    none_called = last.called ∙ ap none_marked (omega (arith, ap (λ m. length m.flags) fifth.called, fourth.evaluated.called.count, ap (λ m. length m.flags) third.called, second.taken.mark_count, first.due.lines.count, first.first.lines_kept.count, ap (λ m. length m.flags) whole.none_called, length-replicate (line_count plan) false));
+    called_count = omega (arith, ap (λ m. length m.flags) (last.called ∙ fifth.called), fourth.evaluated.called.count, ap (λ m. length m.flags) third.called, second.taken.mark_count, first.due.lines.count, first.first.lines_kept.count, length-replicate (length p.called.flags) false, whole.called_count);
     places = subst (λ v. ArePlaces plan v.items) (sym (last.places ∙ fifth.tables.places ∙ fourth.tables.places ∙ third.tables.places ∙ second.tables.places ∙ first.tables.places)) whole.places;
     outs = subst (λ v. AreOuts plan v.items) (sym (last.outs ∙ fifth.tables.outs ∙ fourth.tables.outs ∙ third.tables.outs ∙ second.tables.outs ∙ first.tables.outs)) whole.outs;
     elements = ready_element in_range;
@@ -498,3 +498,20 @@ module _ (plan : Topology) (now : ℕ) (events : List Event) (p a b c d e q : Pa
     where
       is_listed_at : (i d : ℕ) → i < length c.tellings.active.listed → is_marked c.tellings.active.flags (slice_index_or c.tellings.active.listed i d) ≡ true
       is_listed_at i d inside = fourth.listed.listed (slice_index_or c.tellings.active.listed i d) ∙ listed-at c.tellings.active.listed i d inside
+
+  -- what was called
+  called_then : q.called.listed ≡ d.called.listed
+  called_then = ap (λ m. m.listed) (last.called ∙ fifth.called)
+
+  pub called_alone : AreAloneCalled (state_of plan false p) (state_of plan false q)
+  called_alone = record {
+    within = subst (All (λ line. line < line_count plan)) (sym called_then)
+        (λ i other inside. IsNominated-within plan (slice_index_or d.called.listed i other)
+        (called_in_end plan now events p a b c d whole in_time first second third fourth (slice_index_or d.called.listed i other) (is_called_at i other inside)));
+    left = λ line within is.
+        ap (λ ls. line_in ls line) lines_then
+        ∙ line_same line within (fifth.listed.listed line ∙ ap (list_any (nat_eq line)) (sym called_then) ∙ is);
+  }
+    where
+      is_called_at : (i other : ℕ) → i < length d.called.listed → is_marked d.called.flags (slice_index_or d.called.listed i other) ≡ true
+      is_called_at i other inside = fifth.listed.listed (slice_index_or d.called.listed i other) ∙ listed-at d.called.listed i other inside

@@ -118,8 +118,8 @@ module _ (plan : Topology) (now : ℕ) (events : List Event) (p a b c : Parts) (
         second.taken.mark_count,
         first.due.lines.count,
         first.first.lines_kept.count,
-        ap (λ m. length m.flags) whole.none_called,
-        length-replicate (line_count plan) false,
+        length-replicate (length p.called.flags) false,
+        whole.called_count,
       )
 
 -- after the elements made their steps

@@ -22,3 +22,4 @@ pub mod Finishing
 pub mod Ending
 pub mod NetLaws
 pub mod NetSeen
+pub mod GoingBack

@@ -11,14 +11,15 @@ use Rattle.sync_topo.specs.declared.event.Event.{Event}
 use Rattle.sync_topo.specs.Topology.{Topology}
 use Rattle.sync_topo.specs.Lines.{line_count, delay_of, IsNominated}
 use Rattle.sync_topo.proofs.LineLaws.{IsNominated-within}
-use Rattle.net_rules.specs.Signals.{signals_by}
+use Rattle.net_rules.specs.Signals.{signals_by, speaks_at}
 use Rattle.net_rules.specs.History.{out_at}
 use Rattle.net_rules.specs.Activity.{is_active, is_busy}
 use Rattle.sync_ql.specs.Messages.{hearing_time}
 use Rattle.sync_topo.specs.WellFormed.{IsWellFormed}
 use Rattle.net_rules.specs.Settling.{IsUnswitched}
 use Rattle.net_rules.specs.Facing.{Faces}
-use Rattle.net_rules.proofs.FinalLaws.{pair-by_events}
+use Rattle.net_rules.proofs.FinalLaws.{obeys-well, pair-by_events}
+use Rattle.net_rules.proofs.PairLaws.{pair-short}
 use Rattle.sync_net.specs.declared.parts.Parts.{Parts}
 use Rattle.sync_net.specs.NetState.{NetState, line_in, NoneDueBefore, IsDueAt}
 use Rattle.sync_net.specs.NetState as Net
@@ -124,6 +125,14 @@ module _ (net : NetState) (plan : Topology) (spent : Bool) (p : Parts) (view : s
       → until < from + (hearing_time + delay_of net.plan line)
   seen_short all line back from until still early faces =
       pair-by_events net.plan all line back from until (subst (λ s. IsWellFormed s.plan) seen whole.well_formed) still early faces
+
+  pub seen_short_speaking : (all : List Event) (line back from until : ℕ) → from ≤ until
+      → ((t : ℕ) → from ≤ t → t ≤ until → Faces net.plan (signals_by net.plan all) (out_at net.plan (signals_by net.plan all)) line back t)
+      → ((t : ℕ) → from ≤ t → t ≤ until → speaks_at (signals_by net.plan all) line t ≡ true) → until < from + delay_of net.plan line
+  seen_short_speaking all line back from until early faces speaks =
+      let well : IsWellFormed net.plan = subst (λ s. IsWellFormed s.plan) seen whole.well_formed in
+      pair-short net.plan (signals_by net.plan all) (out_at net.plan (signals_by net.plan all)) line back from until well
+      (obeys-well net.plan (signals_by net.plan all) well) faces speaks early
 
   -- a line that was read can be asked from the next millisecond on
   pub seen_line : (line : ℕ) (kept : Option LineState) (read : LineState) → kept ≡ slice_index_or p.lines.items line kept → kept ≡ Some read → IsNominated net.plan line

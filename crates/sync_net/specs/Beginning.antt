@@ -1,4 +1,4 @@
--- Private to this crate: what a network is that was told nothing.
+-- What a network is that was told nothing.
 use Rattle.std.specs.Prelude.{◌≡◌, ◌<◌, ℕ, ◌+◌, true, nat_eq, List, [], length, replicate, slice_index_or, Option, None, IsSome, IfSome}
 use Rattle.std.specs.List.{All, list_any}
 use Rattle.sync_ql.specs.Moment.{Moment}

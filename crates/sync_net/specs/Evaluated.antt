@@ -5,8 +5,9 @@ use Rattle.sync_element.specs.ElementState.{ElementState}
 use Rattle.sync_topo.specs.declared.event.Event.{Event}
 use Rattle.sync_topo.specs.Topology.{Topology}
 use Rattle.sync_topo.specs.Events.{IsEventList}
+use Rattle.sync_topo.specs.Lines.{line_count}
 use Rattle.net_rules.specs.Signals.{events_at}
-use Rattle.sync_net.specs.NetState.{NetState}
+use Rattle.sync_net.specs.NetState.{NetState, line_in}
 use Rattle.sync_net.specs.Standing.{NoneFrom}
 
 -- of all events of a plan, none stands from one millisecond up to another, and these stand at that
@@ -26,3 +27,9 @@ pub record AreAloneEvaluated (before after : NetState) : Type 0 where
       ≡ (if nat_eq (slice_index_or before.elements element other).next 0 then 0 else (slice_index_or before.elements element other).later_steps + 1)
   pub left : (element : ℕ) (other : ElementState) → element < length before.plan.elements → list_any (nat_eq element) after.evaluated ≡ false →
       slice_index_or after.elements element other ≡ slice_index_or before.elements element other
+
+-- the lines that aren't listed as called are as they were
+pub record AreAloneCalled (before after : NetState) : Type 0 where
+  pub within : All (λ line. line < line_count before.plan) after.called
+  pub left : (line : ℕ) → line < line_count before.plan → list_any (nat_eq line) after.called ≡ false →
+      line_in after.lines line ≡ line_in before.lines line

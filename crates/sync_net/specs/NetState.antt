@@ -8,8 +8,9 @@ use Rattle.sync_net.specs.Kept.{Kept}
 
 -- its plan; whether it is spent, after which nothing else of it is said; the first millisecond that
 -- no step has told of; the number of steps after the first; its elements, and its lines, of which
--- only the nominated ones are kept; the elements that the last step evaluated; and what it keeps of
--- lines and sources, into which no clause looks: of that `StandsFor` speaks alone
+-- only the nominated ones are kept; the elements that the last step evaluated; the lines that the
+-- last step called; and what it keeps of lines and sources, into which no clause looks: of that
+-- `StandsFor` speaks alone
 pub record NetState : Type 0 where
   pub plan : Topology
   pub spent : Bool
@@ -18,6 +19,7 @@ pub record NetState : Type 0 where
   pub elements : List ElementState
   pub lines : List (Option LineState)
   pub evaluated : List ℕ
+  pub called : List ℕ
   pub kept : Kept
 
 -- the line of a number, if it is kept

@@ -39,7 +39,7 @@ pub record AreCalled (plan : Topology) (now : ℕ) (p q : Parts) : Type 0 where
   pub changes : q.tellings.changes ≡ p.tellings.changes
   pub active : List Bool
   pub called : List Bool
-  pub first : IsFirstMarked plan p.next (none_marked (length p.tellings.active.flags)).flags active p.called.flags called
+  pub first : IsFirstMarked plan p.next (none_marked (length p.tellings.active.flags)).flags active (none_marked (length p.called.flags)).flags called
   pub due : AreDueMarked now (length plan.elements) (record { dues = p.dues; elements = active; lines = called })
       (record { dues = q.dues; elements = q.tellings.active.flags; lines = q.called.flags })
   pub later : AreLater now q.dues
@@ -108,6 +108,6 @@ pub record IsOver (now : ℕ) (p q : Parts) : Type 0 where
   pub heards : q.heards ≡ p.heards
   pub dues : q.dues ≡ p.dues
   pub tellings : q.tellings ≡ p.tellings
-  pub called : q.called ≡ none_marked (length p.called.flags)
+  pub called : q.called ≡ p.called
   pub places : q.places ≡ p.places
   pub outs : q.outs ≡ p.outs

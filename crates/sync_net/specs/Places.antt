@@ -1,4 +1,4 @@
--- Private to this crate: where inputs stand among those of their elements.
+-- Where inputs stand among those of their elements.
 use Rattle.std.specs.Prelude.{◌≡◌, ℕ, ◌+◌, List, length, slice_index, Some}
 use Rattle.sync_topo.specs.declared.input.InputId.{InputId}
 use Rattle.sync_topo.specs.Topology.{Topology}

@@ -4,7 +4,6 @@ use Rattle.std.specs.List.{list_any}
 use Rattle.sync_ql.specs.Told.{IsOfOption}
 use Rattle.sync_ql.specs.declared.limits.TheConstants.{LAST_MILLISECOND}
 use Rattle.agenda.specs.DueTimes.{due_in}
-use Rattle.agenda.specs.Marked.{none_marked}
 use Rattle.sync_element.specs.ElementState.{ElementState}
 use Rattle.link_model.specs.LineState.{LineState}
 use Rattle.link_model.specs.StandsFor as Line
@@ -32,6 +31,7 @@ state_of plan spent parts = record {
   elements = parts.elements.items;
   lines = parts.lines.items;
   evaluated = parts.tellings.active.listed;
+  called = parts.called.listed;
   kept = kept_of parts;
 }
 
@@ -67,7 +67,7 @@ pub record IsWhole (plan : Topology) (parts : Parts) : Type 0 where
   pub dues_count : length parts.dues ≡ length plan.elements + line_count plan
   pub changes_count : length parts.tellings.changes.items ≡ length plan.elements
   pub active_count : length parts.tellings.active.flags ≡ length plan.elements
-  pub none_called : parts.called ≡ none_marked (line_count plan)
+  pub called_count : length parts.called.flags ≡ line_count plan
   pub places : ArePlaces plan parts.places.items
   pub outs : AreOuts plan parts.outs.items
   pub elements : (element : ℕ) (other : ElementState) → element < length plan.elements →

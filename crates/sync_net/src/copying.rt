@@ -64,7 +64,7 @@ fn try_clone_lines(alloc: Global, lines: &[Option<Line>]) -> Result<Vec<Option<L
     Ok(copies.into_vec())
 }
 
-fn try_clone_line(alloc: Global, line: &Option<Line>) -> Result<Option<Line>, NoMemory>
+pub fn try_clone_line(alloc: Global, line: &Option<Line>) -> Result<Option<Line>, NoMemory>
     ensures { IfOk result (λ copy. copy ≡ line.now) }
 {
     match line {

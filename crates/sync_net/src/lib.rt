@@ -8,8 +8,10 @@
 //! | who asks | what |
 //! |---|---|
 //! | the one who makes a run | [`Net::new`], [`Net::step`], [`Net::due`] |
-//! | who reads the state | [`Net::element`], [`Net::line`], [`Net::evaluated`] |
+//! | who reads the state | [`Net::element`], [`Net::line`], [`Net::evaluated`], [`Net::called`] |
+//! | who goes on from one network in several ways | [`Net::try_clone`], [`Net::return_to`] |
 //! | who proves something of a run | [`elements_law`], [`later_events_law`], [`gap_law`] |
+//! | who tells elements of events without a network | [`places_of`], [`new_tellings`], [`tell_events`], [`Tellings`], [`Told`] |
 //!
 //! A step costs by what is active in it: it calls only the elements that an event touches, into
 //! which another level is heard, or that are due, and only the lines that an event names, that are
@@ -27,6 +29,7 @@ mod net;
 mod noting;
 mod parts;
 mod places;
+mod returning;
 mod saying;
 mod sending;
 mod settling;
@@ -35,8 +38,6 @@ mod starting;
 mod stepping;
 mod taking;
 mod tellings;
-#[cfg(test)]
-mod tests;
 mod told;
 mod wording;
 

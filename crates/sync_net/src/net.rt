@@ -1,11 +1,12 @@
 //! The network, as other crates see it.
 
 ghost use Rattle.std.specs.Prelude.{◌≡◌, ◌≤◌, ◌<◌, ◌+◌, ◌-◌, ◌*◌, ℕ, true, false, nat_eq, if◌then◌else◌, List, [], All, IfOk, OnOk, IfSome, OnErr, Option, None, Some, length, slice_index_or};
+ghost use Rattle.std.specs.List.{list_any};
 ghost use Rattle.sync_topo.specs.declared.event.Event.{Event};
 ghost use Rattle.sync_topo.specs.Events.{Fits};
 ghost use Rattle.sync_topo.specs.Lines.{line_count, delay_of, IsNominated};
 ghost use Rattle.sync_element.specs.ElementState.{ElementState};
-ghost use Rattle.net_rules.specs.Signals.{signals_by};
+ghost use Rattle.net_rules.specs.Signals.{signals_by, speaks_at};
 ghost use Rattle.net_rules.specs.History.{settings_of, out_at};
 ghost use Rattle.net_rules.specs.Activity.{is_active, is_busy};
 ghost use Rattle.net_rules.specs.Settling.{IsUnswitched};
@@ -13,10 +14,11 @@ ghost use Rattle.net_rules.specs.Facing.{Faces};
 ghost use Rattle.sync_ql.specs.Messages.{hearing_time};
 ghost use Rattle.sync_net.specs.NetState.{line_in, NoneDueBefore, IsDueAt, IsInTime};
 ghost use Rattle.sync_net.specs.Standing.{ElementStands, LineStands, StandsFor, NoneFrom};
-ghost use Rattle.sync_net.specs.Evaluated.{IsContinued, AreAloneEvaluated};
+ghost use Rattle.sync_net.specs.Evaluated.{IsContinued, AreAloneEvaluated, AreAloneCalled};
 
 use crate::copying::try_clone_parts;
 use crate::parts::Parts;
+use crate::returning::return_parts;
 use crate::starting::new_parts;
 use crate::stepping::step_parts;
 use link_model::Line;
@@ -64,6 +66,7 @@ impl<'a> Net<'a> {
         ensures next { IfOk result (λ net. net.next ≡ 0) }
         ensures later_steps { IfOk result (λ net. net.later_steps ≡ 0) }
         ensures evaluated { IfOk result (λ net. net.evaluated ≡ []) }
+        ensures called { IfOk result (λ net. net.called ≡ []) }
         ensures stands { IfOk result (λ net. (events : List Event) → StandsFor net events 0) }
     {
         let parts = new_parts(alloc, plan)?;
@@ -89,15 +92,53 @@ impl<'a> Net<'a> {
         })
     }
 
+    /// Becomes the same as another network over the same plan, from which it differs in some elements
+    /// and lines alone.
+    ///
+    /// It takes memory and time by these elements and lines, and a little time by the size of the
+    /// plan. `NoMemory` comes for want of memory alone, and then the network is spent. This project's
+    /// own.
+    pub fn return_to(
+        &mut self,
+        alloc: Global,
+        base: &Net<'_>,
+        elements: &[u32],
+        lines: &[u32],
+    ) -> Result<(), NoMemory>
+        requires live { self.old.spent ≡ false }
+        requires base_live { base.now.spent ≡ false }
+        requires plan { self.old.plan ≡ base.now.plan }
+        requires elements_within { All (λ e. e < length base.now.plan.elements) elements.now }
+        requires lines_within { All (λ l. l < line_count base.now.plan) lines.now }
+        requires elements_same { (e : ℕ) (other : ElementState) → e < length base.now.plan.elements →
+            list_any (nat_eq e) elements.now ≡ false →
+            slice_index_or self.old.elements e other ≡ slice_index_or base.now.elements e other }
+        requires lines_same { (l : ℕ) → l < line_count base.now.plan →
+            list_any (nat_eq l) lines.now ≡ false →
+            line_in self.old.lines l ≡ line_in base.now.lines l }
+        ensures plan { self.new.plan ≡ self.old.plan }
+        ensures returned { OnOk result (self.new ≡ base.now) }
+        ensures spent { OnErr result (self.new.spent ≡ true) }
+    {
+        match return_parts(alloc, &mut self.parts, &base.parts, elements, lines) {
+            Ok(()) => Ok(()),
+            Err(NoMemory) => {
+                self.spent = true;
+                Err(NoMemory)
+            }
+        }
+    }
+
     /// Tells the events of a millisecond, and makes it: the events come in, messages arrive,
     /// elements evaluate, and lines send.
     ///
     /// The first step is at 0; a later one is after the last, at `due` at the latest, and at most
     /// at 86,400,000. Between two steps nothing happens. The elements that are evaluated are active
     /// then, and each makes one step, which is one of the count; one that an event touches and tells
-    /// nothing may be left out. Two elements that take their timing from each other do so for less than
-    /// five seconds and the delay of the line, where no event switches it. `NoMemory` comes for want
-    /// of memory alone, and then the network is spent.
+    /// nothing may be left out. The lines that aren't called are as they were. Two elements that take
+    /// their timing from each other do so for less than five seconds and the delay of the line, where no
+    /// event switches it, and for less than the delay alone, where the line speaks all the while.
+    /// `NoMemory` comes for want of memory alone, and then the network is spent.
     /// After G.781, selection, and G.8264, ESMC messages.
     pub fn step<L: Ledger>(
         &mut self,
@@ -109,6 +150,7 @@ impl<'a> Net<'a> {
         requires in_time { IsInTime self.old now }
         requires in_range { now ≤ LAST_MILLISECOND }
         requires fit { All (Fits self.old.plan) events.now }
+        requires here { All (λ event. event.at ≡ now) events.now }
         ensures plan { self.new.plan ≡ self.old.plan }
         ensures live { OnOk result (self.new.spent ≡ false) }
         ensures spent { OnErr result (self.new.spent ≡ true) }
@@ -120,6 +162,7 @@ impl<'a> Net<'a> {
             StandsFor self.old all n → StandsFor self.new all (now + 1)) }
         ensures none_due { OnOk result (NoneDueBefore self.new (now + 1)) }
         ensures evaluated { OnOk result (AreAloneEvaluated self.old self.new) }
+        ensures called { OnOk result (AreAloneCalled self.old self.new) }
         ensures active { OnOk result ((all : List Event) (n : ℕ) →
             IsContinued self.old.plan all n now events.now → StandsFor self.old all n →
             All (λ element. is_active self.old.plan all element now ≡ true) self.new.evaluated) }
@@ -129,6 +172,12 @@ impl<'a> Net<'a> {
             ((t : ℕ) → from ≤ t → t ≤ until → Faces self.old.plan (signals_by self.old.plan all)
             (out_at self.old.plan (signals_by self.old.plan all)) line back t) →
             until < from + (hearing_time + delay_of self.old.plan line)) }
+        ensures short_speaking { OnOk result ((all : List Event) (line back from until : ℕ) →
+            from ≤ until → until ≤ now →
+            ((t : ℕ) → from ≤ t → t ≤ until → Faces self.old.plan (signals_by self.old.plan all)
+            (out_at self.old.plan (signals_by self.old.plan all)) line back t) →
+            ((t : ℕ) → from ≤ t → t ≤ until → speaks_at (signals_by self.old.plan all) line t ≡ true) →
+            until < from + delay_of self.old.plan line) }
     {
         match step_parts(self.plan, &mut self.parts, now, events, steps) {
             Ok(()) => Ok(()),
@@ -230,5 +279,12 @@ impl<'a> Net<'a> {
         ensures { result.now ≡ self.now.evaluated }
     {
         self.parts.tellings.active.listed()
+    }
+
+    /// The lines that the last step called, in no order: all others are as they were before it.
+    pub fn called(&self) -> &[u32]
+        ensures { result.now ≡ self.now.called }
+    {
+        self.parts.called.listed()
     }
 }

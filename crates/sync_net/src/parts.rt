@@ -26,7 +26,7 @@ pub struct Parts {
     // What the elements are told in a millisecond, and those that make a step in it; these stay
     // marked until the next.
     pub tellings: Tellings,
-    // The lines that are called in a millisecond.
+    // The lines that are called in a millisecond; these stay marked until the next.
     pub called: Marks,
     // The place of each input among those of its element, by input number.
     pub places: Vec<u32>,

@@ -27,6 +27,7 @@ pub fn new_parts(alloc: Global, plan: &Plan) -> Result<Parts, NoMemory>
     ensures next { IfOk result (λ parts. parts.next ≡ 0) }
     ensures later_steps { IfOk result (λ parts. parts.later_steps ≡ 0) }
     ensures evaluated { IfOk result (λ parts. parts.tellings.active.listed ≡ []) }
+    ensures called { IfOk result (λ parts. parts.called.listed ≡ []) }
     ensures stands { IfOk result (λ parts. (events : List Event) →
         IsOfPast (state_of plan.now false parts) events 0) }
 {

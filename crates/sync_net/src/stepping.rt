@@ -14,6 +14,7 @@ ghost use Rattle.sync_net.specs.Hearing.{CanTell, told_in};
 ghost use Rattle.sync_net.specs.Stages.{CanStep, CanSay, out_of};
 ghost use Rattle.sync_net.specs.NetState.{IsInTime};
 ghost use Rattle.sync_net.specs.NetStep.{IsNetStep, AreEvaluatedFor};
+ghost use Rattle.sync_net.specs.Evaluated.{AreAloneCalled};
 ghost use Rattle.sync_net.specs.Whole.{state_of, IsWhole};
 ghost use Rattle.sync_net.specs.PartSteps.{AreCalled, AreTakenIn, AreHeardIn, AreEvaluatedIn, AreSentIn};
 
@@ -45,6 +46,8 @@ pub fn step_parts<L: Ledger>(
         (state_of plan.now false parts.old) (state_of plan.now false parts.new)) }
     ensures evaluated { OnOk result (AreEvaluatedFor now events.now
         (state_of plan.now false parts.old) (state_of plan.now false parts.new)) }
+    ensures called { OnOk result (AreAloneCalled
+        (state_of plan.now false parts.old) (state_of plan.now false parts.new)) }
     ensures ticks { OnOk result (steps.new ≡ steps.old + length parts.new.tellings.active.listed) }
 {
     call_due(plan, parts, now);
@@ -52,7 +55,6 @@ pub fn step_parts<L: Ledger>(
     hear(plan, parts, now)?;
     evaluate(plan, parts, now, steps);
     send(plan, parts, now)?;
-    parts.called.clear();
     parts.later_steps = steps_after(parts.next, parts.later_steps);
     parts.next = now + 1;
     Ok(())
@@ -66,6 +68,7 @@ fn call_due(plan: &Plan, parts: &mut Parts, now: u64)
     ensures { AreCalled plan.now now parts.old parts.new }
 {
     parts.tellings.active.clear();
+    parts.called.clear();
     mark_if_first(
         plan,
         parts.next,

@@ -1,6 +1,6 @@
 //! What the elements are told in a millisecond.
 
-ghost use Rattle.std.specs.Prelude.{◌<◌, length, OnOk};
+ghost use Rattle.std.specs.Prelude.{◌≡◌, ◌<◌, length, OnOk, OnErr};
 ghost use Rattle.sync_net.specs.Words.{only_to};
 ghost use Rattle.sync_net.specs.Tellings.{AreTold};
 
@@ -21,11 +21,14 @@ pub struct Tellings {
 }
 
 impl Tellings {
-    /// An element is told of an event more. This project's own.
+    /// An element is told of an event more; where memory runs out, nothing changes. This project's
+    /// own.
     pub fn tell(&mut self, element: u32, event: InputEvent) -> Result<(), NoMemory>
         requires list { element < length self.old.changes.items }
         requires flag { element < length self.old.active.flags }
-        ensures { OnOk result (AreTold (only_to element event) self.old self.new) }
+        ensures told { OnOk result (AreTold (only_to element event) self.old self.new) }
+        ensures unchanged { OnErr result (self.new.changes.items ≡ self.old.changes.items) }
+        ensures as_active { OnErr result (self.new.active ≡ self.old.active) }
     {
         self.changes[element as usize].push(event)?;
         self.active.mark(element);

@@ -17,7 +17,8 @@ use sync_topo::{Event, InputId, LineId, Part, Plan, What};
 
 /// Tells elements of events in their order: of all but levels.
 ///
-/// The places are those of the plan's inputs ([`places_of`](crate::places_of)). This project's own.
+/// The places are those of the plan's inputs ([`places_of`](crate::places_of)). After want of memory
+/// a part of it may be told, so the tellings aren't used again. This project's own.
 pub fn tell_events(
     plan: &Plan,
     places: &[u32],

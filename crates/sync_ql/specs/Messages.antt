@@ -26,8 +26,7 @@ pub record LineMoment : Type 0 where
   pub esmc : Bool
   pub level : Option Level
 
--- the level that a line says: while it is up and its ESMC is on, that of its sender. It speaks while
--- it says one
+-- the level that a line says: while it is up and its ESMC is on, that of its sender
 abbrev pub said_in : LineMoment → Option Level
 said_in now = if now.up && now.esmc then now.level else None
 
@@ -52,7 +51,7 @@ abbrev pub is_news : List LineMoment → Bool
 is_news [] = false
 is_news (now ∷ before) = is_some (said_in now) && not (is_same_level (said_in now) (said before))
 
--- a message goes out with news, and each second while the line speaks
+-- a message goes out with news, and each second while the line says a level
 abbrev pub is_sent : List LineMoment → Bool
 is_sent [] = false
 is_sent (now ∷ before) =

@@ -28,8 +28,6 @@ pub mod limits;
 mod rows;
 pub mod rules;
 mod table;
-#[cfg(test)]
-mod tests;
 
 pub use levels::{Level, NetOption};
 pub use table::{

@@ -1,6 +1,8 @@
-//! The ranges of an element's times and inputs, of a line's delay and of time itself, each said once.
+//! The ranges of an element's times and inputs, of a line's delay and of time itself, and for how long
+//! a level is heard, each said once.
 //!
-//! Hold-off and wait-to-restore times are after G.781; the others are this project's own.
+//! Hold-off and wait-to-restore times are after G.781, and how long a level is heard after G.8264; the
+//! others are this project's own.
 
 /// The shortest hold-off time, in milliseconds.
 pub const LEAST_HOLDOFF: u32 = 300;
@@ -25,6 +27,9 @@ pub const LEAST_DELAY: u32 = 1;
 
 /// The longest delay of a line, in milliseconds.
 pub const GREATEST_DELAY: u32 = 2000;
+
+/// For so many milliseconds a level is heard after the message that brought it.
+pub const HEARING_TIME: u64 = 5000;
 
 /// The last millisecond of which anything is said, 24 hours after 0.
 pub const LAST_MILLISECOND: u64 = 86_400_000;

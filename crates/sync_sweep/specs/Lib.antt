@@ -3,3 +3,4 @@ pub mod Chunks
 pub mod Counts
 pub mod Base
 pub mod SweepText
+pub mod Branching

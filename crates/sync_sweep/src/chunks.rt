@@ -7,6 +7,7 @@ ghost use Rattle.sync_sweep.specs.Sweep.{AreRows};
 ghost use Rattle.sync_sweep.specs.Chunks.{joined};
 ghost use Rattle.sync_sweep.specs.Base.{IsBase};
 
+use crate::branch::new_branch;
 use crate::row::{SweepRow, failed_row};
 use event_sim::Sim;
 use std::alloc::Global;
@@ -31,8 +32,12 @@ pub fn rows_of(
     ensures rows { IfOk result (AreRows base.now.net.plan at until links.now) }
 {
     let mut rows = Rows::new(alloc);
+    let _reached = base.reached();
+    let net = base.net();
+    let mut branch = new_branch(alloc, net)?;
     for link in links {
-        rows.push(failed_row(alloc, base, at, until, bound, *link)?)?;
+        let row = failed_row(alloc, net, &mut branch, at, until, bound, *link)?;
+        rows.push(row)?;
     }
     Ok(rows)
 }

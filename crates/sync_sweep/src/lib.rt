@@ -9,6 +9,7 @@
 //! This project's own.
 #![tactic(auto)]
 
+mod branch;
 mod chunks;
 mod counting;
 mod crossing;
@@ -18,8 +19,6 @@ mod links;
 mod row;
 mod sweeping;
 mod table;
-#[cfg(test)]
-mod tests;
 
 pub use gate::{FreeGate, Gate};
 pub use laws::one_sweep_law;

@@ -1,14 +1,16 @@
 //! The row of one link.
 
-ghost use Rattle.std.specs.Prelude.{◌≡◌, ◌≤◌, ◌<◌, ◌+◌, ℕ, false, length, IfOk, MatchOption};
+ghost use Rattle.std.specs.Prelude.{◌≡◌, ◌≤◌, ◌<◌, ◌+◌, ℕ, false, length, IfOk, OnOk, MatchOption};
 ghost use Rattle.net_rules.specs.Settling.{IsSettlingBound};
+ghost use Rattle.sync_topo.specs.Lines.{line_count};
+ghost use Rattle.sync_net.specs.NetState.{NetState};
 ghost use Rattle.sync_net.specs.Standing.{StandsFor};
 ghost use Rattle.settle_trace.specs.Now.{now_of, taken_now};
 ghost use Rattle.sync_sweep.specs.Sweep.{failure, IsSweepRow, AreSoManyLoops};
-ghost use Rattle.sync_sweep.specs.Base.{IsBase};
+ghost use Rattle.sync_sweep.specs.Branching.{IsBranch};
 
+use crate::branch::{Branch, fail_link, go_back, run_out};
 use crate::counting::{count_states, worst_level};
-use event_sim::{Reach, Sim};
 use settle_trace::{Walk, loops, settled};
 use std::alloc::Global;
 use std::marker::Brand;
@@ -17,7 +19,6 @@ use sync_edge::{NoMemory, Steps};
 use sync_net::Net;
 use sync_ql::Level;
 use sync_ql::limits::LAST_MILLISECOND;
-use sync_topo::{Event, Part, What};
 
 /// What becomes of a network where one link alone fails.
 ///
@@ -42,37 +43,37 @@ pub struct SweepRow {
     pub bound: Option<u64>,
 }
 
-// The simulator of a link's run, at its end.
-fn failed_run<'a, L: Ledger>(
-    alloc: Global,
-    base: &Sim<'a>,
+// A link fails, and the network runs to its end.
+fn run_link<L: Ledger>(
+    branch: &mut Branch<'_>,
     at: u64,
     until: u64,
     link: u32,
     blank: Blank,
-) -> Result<Sim<'a>, NoMemory>
+) -> Result<(), NoMemory>
     requires name { blank.name ≡ L.name }
     requires parts { blank.parts ≡ L.parts }
     requires some { 0 < blank.parts }
-    requires base { IsBase at base.now }
-    requires link { link < length base.now.net.plan.links }
+    requires live { branch.old.net.spent ≡ false }
+    requires begun { branch.old.net.next ≡ at }
     requires in_order { at ≤ until }
     requires in_range { until ≤ LAST_MILLISECOND }
-    ensures plan { IfOk result (λ sim. sim.net.plan ≡ base.now.net.plan) }
-    ensures live { IfOk result (λ sim. sim.spent ≡ false) }
-    ensures until { IfOk result (λ sim. sim.net.next ≡ until + 1) }
-    ensures stands { IfOk result (λ sim. StandsFor sim.net (failure at link) sim.net.next) }
+    requires link { link < length branch.old.net.plan.links }
+    requires stands { StandsFor branch.old.net (failure at link) at }
+    requires elements { length branch.old.elements.flags ≡ length branch.old.net.plan.elements }
+    requires lines { length branch.old.lines.flags ≡ line_count branch.old.net.plan }
+    ensures plan { branch.new.net.plan ≡ branch.old.net.plan }
+    ensures live { OnOk result (branch.new.net.spent ≡ false) }
+    ensures next { OnOk result (branch.new.net.next ≡ until + 1) }
+    ensures stands { OnOk result (StandsFor branch.new.net (failure at link) (until + 1)) }
+    ensures branch { OnOk result ((base : NetState) →
+        IsBranch base branch.old.net branch.old.elements branch.old.lines →
+        IsBranch base branch.new.net branch.new.elements branch.new.lines) }
 {
     let mut steps = Steps::<L>::new(blank);
-    let mut sim = base.try_clone(alloc)?;
-    let fails = [Event {
-        at,
-        what: What::Down(Part::Link(link)),
-    }];
-    match sim.advance(&fails, until, &mut steps)? {
-        Reach::Until => Ok(sim),
-        Reach::Stopped(_) => unreachable!(),
-    }
+    fail_link(branch, at, link, &mut steps)?;
+    run_out(branch, at + 1, until, &mut steps)?;
+    Ok(())
 }
 
 // How many closed walks there are in the millisecond of the last step.
@@ -125,24 +126,33 @@ fn row_of(
     })
 }
 
-// The row of a link that goes down in a millisecond, from a simulator of a plan that has come as far
-// as up to it.
+// The row of a link that goes down in a millisecond, on a branch of the network that has come as far as
+// up to it; the branch goes back.
 pub fn failed_row(
     alloc: Global,
-    base: &Sim<'_>,
+    base: &Net<'_>,
+    branch: &mut Branch<'_>,
     at: u64,
     until: u64,
     bound: Option<u64>,
     link: u32,
 ) -> Result<SweepRow, NoMemory>
-    requires base { IsBase at base.now }
-    requires link { link < length base.now.net.plan.links }
+    requires live { base.now.spent ≡ false }
+    requires begun { base.now.next ≡ at }
+    requires stands { StandsFor base.now (failure at link) at }
+    requires link { link < length base.now.plan.links }
     requires in_order { at ≤ until }
     requires in_range { until ≤ LAST_MILLISECOND }
-    requires bound { MatchOption bound ((other : ℕ) → ¬ IsSettlingBound base.now.net.plan at other)
-        (IsSettlingBound base.now.net.plan at) }
-    ensures { IfOk result (IsSweepRow base.now.net.plan at until link) }
+    requires bound { MatchOption bound ((other : ℕ) → ¬ IsSettlingBound base.now.plan at other)
+        (IsSettlingBound base.now.plan at) }
+    requires branch { IsBranch base.now branch.old.net branch.old.elements branch.old.lines }
+    requires same { branch.old.net ≡ base.now }
+    ensures row { IfOk result (IsSweepRow base.now.plan at until link) }
+    ensures branch { OnOk result (IsBranch base.now branch.new.net branch.new.elements branch.new.lines) }
+    ensures same { OnOk result (branch.new.net ≡ base.now) }
 {
-    let sim = failed_run::<Brand>(alloc, base, at, until, link, Blank::new(1))?;
-    row_of(alloc, sim.net(), link, at, bound)
+    run_link::<Brand>(branch, at, until, link, Blank::new(1))?;
+    let row = row_of(alloc, &branch.net, link, at, bound)?;
+    go_back(alloc, branch, base)?;
+    Ok(row)
 }

@@ -13,3 +13,4 @@ pub mod TrialAnswers
 pub mod RunLaws
 pub mod PriorityRuns
 pub mod HighestRank
+pub mod NodeAnswers

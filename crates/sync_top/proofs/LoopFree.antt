@@ -19,7 +19,7 @@ use Rattle.rank_cert.specs.Ranks.{Ranks, rank_of}
 use Rattle.rank_cert.specs.CertificateText.{certificate_of}
 use Rattle.sync_top.specs.declared.status.Status.{Status}
 use Rattle.sync_top.specs.declared.status.Status.TheVariants.{Done, Refuted, Usage, BadPlan, BadCert, BadEvents, BadFrames, ReadFault, WriteFault, TooLong, NoMemory, Stopped}
-use Rattle.sync_top.specs.Form.{Form, check, rank, hops, nominate, decode, encode, pcap_decode, pcap_encode, gen, trial, sim, sweep, form_of, prio_check, prio_rank, prio_sim}
+use Rattle.sync_top.specs.Form.{Form, check, rank, hops, nominate, decode, encode, pcap_decode, pcap_encode, gen, trial, sim, sweep, form_of, prio_check, prio_rank, prio_sim, node}
 use Rattle.sync_top.specs.Reading.{End, no_file, answered, file_limit, plan_in, Answered}
 use Rattle.sync_top.specs.Forms.Check.{ranks_in, documents, IsVerdict}
 use Rattle.sync_top.specs.Answer.{FormAnswer, IsAnswer, MissesFile}
@@ -121,6 +121,7 @@ form-loop_free (Some (sweep plan_name at until)) files text answer = tt
 form-loop_free (Some (prio_check plan_name name)) files text answer = tt
 form-loop_free (Some (prio_rank plan_name)) files text answer = tt
 form-loop_free (Some (prio_sim plan_name events_name until)) files text answer = tt
+form-loop_free (Some (node plan_name element_name name until)) files text answer = tt
 
 -- so it is where the work ended in this status
 pub loop_free-from : (words : List (List ℕ)) (told : Option Contents) (steady : Bool) (before now : ℕ) (status : Status) (text : List ℕ)
@@ -185,6 +186,7 @@ form-never_loops (Some (sim plan_name events_name until)) files text answer = tt
 form-never_loops (Some (sweep plan_name at until)) files text answer = tt
 form-never_loops (Some (prio_rank plan_name)) files text answer = tt
 form-never_loops (Some (prio_sim plan_name events_name until)) files text answer = tt
+form-never_loops (Some (node plan_name element_name name until)) files text answer = tt
 
 -- so it is where the work ended in this status
 pub never_loops-from : (words : List (List ℕ)) (told : Option Contents) (steady : Bool) (before now : ℕ) (status : Status) (text : List ℕ)

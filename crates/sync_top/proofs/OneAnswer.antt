@@ -22,7 +22,7 @@ use Rattle.pcap_file.specs.Timed.{encoded_pcap}
 use Rattle.sync_top.specs.declared.status.Status.{Status}
 use Rattle.sync_top.specs.declared.status.Status.TheVariants.{Done, Refuted, Usage, BadPlan, BadCert, BadEvents, BadFrames, ReadFault, WriteFault, TooLong, NoMemory, Stopped}
 use Rattle.sync_top.specs.Form as asked
-use Rattle.sync_top.specs.Form.{Form, check, rank, decode, encode, pcap_decode, pcap_encode, gen, trial, sim, sweep, form_of, prio_check, prio_rank, prio_sim}
+use Rattle.sync_top.specs.Form.{Form, check, rank, decode, encode, pcap_decode, pcap_encode, gen, trial, sim, sweep, form_of, prio_check, prio_rank, prio_sim, node}
 use Rattle.sync_top.specs.Reading.{End, no_file, answered, text_line, plan_in, Answered, IsText}
 use Rattle.sync_top.specs.Forms.Check.{documents, IsVerdict}
 use Rattle.sync_top.specs.Forms.Rank.{IsPlanned, cycle_text}
@@ -38,6 +38,8 @@ use Rattle.sync_top.specs.Answer.{FormAnswer, IsAnswer}
 use Rattle.sync_top.proofs.OneText.{same_text}
 use Rattle.sync_top.proofs.PriorityAnswers.{one_priority_verdict, one_priority_planned, one_priority_run}
 use Rattle.sync_top.specs.Forms.Priority.{IsPriorityVerdict, IsPriorityPlanned, IsPriorityRun}
+use Rattle.sync_top.specs.Forms.Node.{node_rows, AreFramesSent}
+use Rattle.sync_top.proofs.NodeAnswers.{one_sent}
 use Rattle.sync_top.specs.OneAnswer.{has_one_text}
 use Rattle.plan_gen.specs.Ladder.{ladder}
 use Rattle.sync_top.specs.Forms.Trial.{TrialAnswer}
@@ -267,6 +269,8 @@ module _ (one_whole : (plan : Topology) (events : List Event) (until : ℕ) (tex
       (one_answered IsPriorityPlanned one_priority_planned (plan_in plan files) status other text another first second).0
   form_status (Some (prio_sim plan events until)) files status other text another first second =
       (one_answered (λ read. IsPriorityRun read.0 read.1 until) (λ read. one_priority_run read.0 read.1 until) (plan_and_events plan events files) status other text another first second).0
+  form_status (Some (node plan element name until)) files status other text another first second =
+      (one_answered (λ read. AreFramesSent read.0 read.1 read.2 until) (λ read. one_sent read.0 read.1 read.2 until) (node_rows plan element name files) status other text another first second).0
 
   -- and one text, but for `gen` and `nominate`
   form_text : (form : Option Form) (files : Contents) (status other : Status) (text another : List ℕ) → FormAnswer form files status text
@@ -300,6 +304,8 @@ module _ (one_whole : (plan : Topology) (events : List Event) (until : ℕ) (tex
       (one_answered IsPriorityPlanned one_priority_planned (plan_in plan files) status other text another first second).1
   form_text (Some (prio_sim plan events until)) files status other text another first second one =
       (one_answered (λ read. IsPriorityRun read.0 read.1 until) (λ read. one_priority_run read.0 read.1 until) (plan_and_events plan events files) status other text another first second).1
+  form_text (Some (node plan element name until)) files status other text another first second one =
+      (one_answered (λ read. AreFramesSent read.0 read.1 read.2 until) (λ read. one_sent read.0 read.1 read.2 until) (node_rows plan element name files) status other text another first second).1
 
   pub one_status : (words : List (List ℕ)) (files : Contents) (status other : Status) (text another : List ℕ) → IsAnswer words files status text
       → IsAnswer words files other another → status ≡ other

@@ -1,6 +1,6 @@
 -- The program's answer to some words over some files: a status and a text.
 use Rattle.std.specs.Prelude.{◌≡◌, ℕ, ◌⊎◌, Bool, List, codes, Option, Some, None, Err}
-use Rattle.std.specs.Prelude.{IsTrue, IfSome}
+use Rattle.std.specs.Prelude.{IsTrue, IfSome, IsErr}
 use Rattle.std.specs.Io.KnownBytes.{Appends}
 use Rattle.sync_edge.specs.Faults.{Rose}
 use Rattle.sync_edge.specs.Transfers.{AppendsFront}
@@ -9,7 +9,7 @@ use Rattle.sync_top.specs.declared.status.Status.{Status}
 use Rattle.sync_top.specs.declared.status.Status.TheVariants.{Usage}
 use Rattle.capture_text.specs.Capture.{decoded_text, encoded_text}
 use Rattle.pcap_file.specs.Timed.{encoded_pcap}
-use Rattle.sync_top.specs.Form.{Form, check, rank, hops, nominate, decode, encode, pcap_decode, pcap_encode, gen, trial, form_of, sim, sweep, prio_check, prio_rank, prio_sim}
+use Rattle.sync_top.specs.Form.{Form, check, rank, hops, nominate, decode, encode, pcap_decode, pcap_encode, gen, trial, form_of, sim, sweep, prio_check, prio_rank, prio_sim, node}
 use Rattle.sync_top.specs.Reading.{text_line, no_file, plan_in}
 use Rattle.sync_top.specs.Forms.Check.{documents, CheckAnswer}
 use Rattle.sync_top.specs.Forms.Rank.{RankAnswer}
@@ -21,6 +21,7 @@ use Rattle.sync_top.specs.Forms.Trial.{TrialAnswer}
 use Rattle.sync_top.specs.Forms.Sim.{plan_and_events, SimAnswer}
 use Rattle.sync_top.specs.Forms.Sweep.{SweepAnswer}
 use Rattle.sync_top.specs.Forms.Priority.{PrioCheckAnswer, PrioRankAnswer, PrioSimAnswer}
+use Rattle.sync_top.specs.Forms.Node.{element_of_plan, node_bytes, NodeAnswer}
 
 -- the answer to a form, and to words that are none
 abbrev pub FormAnswer : Option Form → Contents → Status → List ℕ → Type 0
@@ -40,6 +41,7 @@ FormAnswer (Some (sweep plan_name at until)) files status text = SweepAnswer pla
 FormAnswer (Some (prio_check plan_name certificate_name)) files status text = PrioCheckAnswer plan_name certificate_name files status text
 FormAnswer (Some (prio_rank plan_name)) files status text = PrioRankAnswer plan_name files status text
 FormAnswer (Some (prio_sim plan_name events_name until)) files status text = PrioSimAnswer plan_name events_name until files status text
+FormAnswer (Some (node plan_name element_name file_name until)) files status text = NodeAnswer plan_name element_name file_name until files status text
 
 -- the program's answer to some words
 abbrev pub IsAnswer : List (List ℕ) → Contents → Status → List ℕ → Type 0
@@ -63,6 +65,17 @@ FormMissesFile (Some (sweep plan_name at until)) files = plan_in plan_name files
 FormMissesFile (Some (prio_check plan_name certificate_name)) files = documents plan_name certificate_name files ≡ Err no_file
 FormMissesFile (Some (prio_rank plan_name)) files = plan_in plan_name files ≡ Err no_file
 FormMissesFile (Some (prio_sim plan_name events_name until)) files = plan_and_events plan_name events_name files ≡ Err no_file
+FormMissesFile (Some (node plan_name element_name file_name until)) files = node_bytes plan_name element_name file_name files ≡ Err no_file
+
+-- a form of two files whose first, the plan, ends the reading: it isn't there, it is too long, it is refused, or it hasn't the
+-- element that is asked for
+abbrev pub FirstEnds : Option Form → Contents → Type 0
+FirstEnds (Some (check plan_name certificate_name)) files = IsErr (plan_in plan_name files)
+FirstEnds (Some (prio_check plan_name certificate_name)) files = IsErr (plan_in plan_name files)
+FirstEnds (Some (sim plan_name events_name until)) files = IsErr (plan_in plan_name files)
+FirstEnds (Some (prio_sim plan_name events_name until)) files = IsErr (plan_in plan_name files)
+FirstEnds (Some (node plan_name element_name file_name until)) files = IsErr (element_of_plan plan_name element_name files)
+FirstEnds form files = ⊥
 
 -- words whose answer comes to a file that isn't there
 abbrev pub MissesFile : List (List ℕ) → Contents → Type 0

@@ -39,6 +39,8 @@ pub data Form : Type 0 where
   prio_rank : List ℕ → Form
   -- the report of a run then
   prio_sim : List ℕ → List ℕ → ℕ → Form
+  -- the frames that an element of a plan sends, by a file of what it received, up to a millisecond
+  node : List ℕ → List ℕ → List ℕ → ℕ → Form
 
 -- a word that may name a file: any but the empty one
 abbrev pub is_file_word : List ℕ → Bool
@@ -93,6 +95,14 @@ sweep_form plan at_word until_word = if is_file_word plan then option_and_then f
     from : ℕ → Option Form
     from at = option_and_then (up_to at) (number_of until_word)
 
+-- the form `node`, if its first and third word may name files and are followed by a millisecond up to the last one; the
+-- element's word may be any
+abbrev pub node_form : List ℕ → List ℕ → List ℕ → List ℕ → Option Form
+node_form plan element name word = if is_file_word plan && is_file_word name then option_and_then up_to (number_of word) else None
+  where
+    up_to : ℕ → Option Form
+    up_to until = if nat_le until LAST_MILLISECOND then Some (node plan element name until) else None
+
 -- the form reads a file
 abbrev pub reads_file : Option Form → Bool
 reads_file None = false
@@ -118,6 +128,7 @@ file_count (Some (sweep plan at until)) = 1
 file_count (Some (prio_check plan certificate)) = 2
 file_count (Some (prio_rank plan)) = 1
 file_count (Some (prio_sim plan events until)) = 2
+file_count (Some (node plan element name until)) = 2
 
 -- the form of the words, if they have one
 abbrev pub form_of : List (List ℕ) → Option Form
@@ -142,4 +153,6 @@ form_of (word ∷ second ∷ third ∷ fourth ∷ []) =
     else if bytes_eq word (codes "sweep") then sweep_form second third fourth
     else if bytes_eq word (codes "prio-sim") then sim_form prio_sim second third fourth
     else None
+form_of (word ∷ second ∷ third ∷ fourth ∷ fifth ∷ []) =
+    if bytes_eq word (codes "node") then node_form second third fourth fifth else None
 form_of _ = None

@@ -9,3 +9,4 @@ pub mod Hops
 pub mod Nominate
 pub mod Sweep
 pub mod Priority
+pub mod Node

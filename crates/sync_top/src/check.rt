@@ -1,9 +1,9 @@
-ghost use Rattle.std.specs.Prelude.{◌≡◌, ◌≢◌, ◌+◌, ◌++◌, ◌<◌, ◌≤◌, Some, IfOk, OnOk, codes};
+ghost use Rattle.std.specs.Prelude.{◌≡◌, ◌≢◌, ◌+◌, ◌++◌, ◌<◌, ◌≤◌, Some, IfOk, IfSome, IsErr, OnOk, codes};
 ghost use Rattle.sync_edge.specs.Contents.{KeepsFolder};
 ghost use Rattle.sync_topo.specs.Lines.{line_count, line_name};
-ghost use Rattle.sync_top.specs.Reading.{text_line};
+ghost use Rattle.sync_top.specs.Reading.{text_line, plan_in};
 ghost use Rattle.sync_top.specs.Forms.Check.{certificate_refusal, certificate_place, ranks_in, documents, IsVerdict, CheckAnswer};
-ghost use Rattle.sync_top.specs.Answer.{across, FormMissesFile};
+ghost use Rattle.sync_top.specs.Answer.{across, FormMissesFile, FirstEnds};
 ghost use Rattle.sync_top.specs.Form.{check};
 ghost use Rattle.rank_cert.specs.Ranks.{IsRanked};
 ghost use Rattle.rank_cert.specs.Rules.{NamesLine};
@@ -82,6 +82,7 @@ pub(crate) fn documents<F: Folder>(
     ensures keeps { KeepsFolder F.contents F.steady F.faults folder.old folder.new }
     ensures once { F.tries folder.new ≤ F.tries folder.old + 2 }
     ensures plan_alone { stopped_in result ≡ Some Status.BadPlan → F.tries folder.new ≤ F.tries folder.old + 1 }
+    ensures first_alone { IfSome (F.contents folder.old) (λ files. IsErr (plan_in plan.now files) → F.tries folder.new ≤ F.tries folder.old + 1) }
     ensures ranked { IfOk result (λ read. IsRanked read.0 read.1) }
 {
     let plan = plan_in(alloc, folder, plan)?;
@@ -145,6 +146,8 @@ pub(crate) fn check<F: Folder>(
     ensures keeps { KeepsFolder F.contents F.steady F.faults folder.old folder.new }
     ensures once { F.tries folder.new ≤ F.tries folder.old + 2 }
     ensures plan_alone { status_of result ≡ Some Status.BadPlan → F.tries folder.new ≤ F.tries folder.old + 1 }
+    ensures first_alone { IfSome (F.contents folder.old) (λ files. FirstEnds (Some (check plan.now cert.now)) files
+        → F.tries folder.new ≤ F.tries folder.old + 1) }
 {
     let (plan, cert) = documents(alloc, folder, plan, cert)?;
     match verdict(alloc, &plan, &cert) {

@@ -1,7 +1,7 @@
 ghost use Rattle.std.specs.Prelude.{◌≡◌, ◌≤◌, ◌∷◌, [], None, map, IfSome, if◌then◌else◌};
 ghost use Rattle.std.specs.Option.{option_map};
 ghost use Rattle.std.specs.String.{string_bytes};
-ghost use Rattle.sync_top.specs.Form.{form_of, check_form, ladder_size, sim_form, sweep_form, option_of, is_file_word, check, sim, prio_check, prio_sim};
+ghost use Rattle.sync_top.specs.Form.{form_of, check_form, ladder_size, sim_form, sweep_form, node_form, option_of, is_file_word, check, sim, prio_check, prio_sim};
 ghost use Rattle.sync_top.specs.FormSeen.{seen, IsSized};
 
 use sync_edge::read_number;
@@ -74,6 +74,17 @@ pub(crate) enum Form<'a> {
         /// The last millisecond.
         until: u64,
     },
+    /// The frames that an element sends.
+    Node {
+        /// The plan's file.
+        plan: &'a str,
+        /// The element's name, which may be any word.
+        element: &'a str,
+        /// The file of what the element received.
+        file: &'a str,
+        /// The last millisecond.
+        until: u64,
+    },
 }
 
 /// The form of the words, if they have one.
@@ -84,15 +95,19 @@ pub(crate) fn form_of(words: &[String]) -> Option<Form<'_>>
     match words {
         [word, second] => form_of_two(word.as_str(), second.as_str()),
         [word, second, third] => form_of_three(word.as_str(), second.as_str(), third.as_str()),
-        [word, second, third, fourth] if word.as_str() == "sim" => {
-            sim_form(second.as_str(), third.as_str(), fourth.as_str())
-        }
-        [word, second, third, fourth] if word.as_str() == "sweep" => {
-            sweep_form(second.as_str(), third.as_str(), fourth.as_str())
-        }
-        [word, second, third, fourth] if word.as_str() == "prio-sim" => {
-            prio_sim_form(second.as_str(), third.as_str(), fourth.as_str())
-        }
+        [word, second, third, fourth] => form_of_four(
+            word.as_str(),
+            second.as_str(),
+            third.as_str(),
+            fourth.as_str(),
+        ),
+        [word, second, third, fourth, fifth] => form_of_five(
+            word.as_str(),
+            second.as_str(),
+            third.as_str(),
+            fourth.as_str(),
+            fifth.as_str(),
+        ),
         _ => None,
     }
 }
@@ -121,6 +136,40 @@ fn form_of_two<'a>(word: &str, second: &'a str) -> Option<Form<'a>>
     }
     if word == "prio-rank" && !second.is_empty() {
         return Some(Form::PrioRank(second));
+    }
+    None
+}
+
+/// The form of four words, if they have one.
+fn form_of_four<'a>(word: &str, second: &'a str, third: &'a str, fourth: &str) -> Option<Form<'a>>
+    ensures form { option_map seen result ≡ form_of (word.now ∷ second.now ∷ third.now ∷ fourth.now ∷ []) }
+    ensures sized { IfSome result IsSized }
+{
+    if word == "sim" {
+        return sim_form(second, third, fourth);
+    }
+    if word == "sweep" {
+        return sweep_form(second, third, fourth);
+    }
+    if word == "prio-sim" {
+        return prio_sim_form(second, third, fourth);
+    }
+    None
+}
+
+/// The form of five words, if they have one.
+fn form_of_five<'a>(
+    word: &str,
+    second: &'a str,
+    third: &'a str,
+    fourth: &'a str,
+    fifth: &str,
+) -> Option<Form<'a>>
+    ensures form { option_map seen result ≡ form_of (word.now ∷ second.now ∷ third.now ∷ fourth.now ∷ fifth.now ∷ []) }
+    ensures sized { IfSome result IsSized }
+{
+    if word == "node" {
+        return node_form(second, third, fourth, fifth);
     }
     None
 }
@@ -257,6 +306,25 @@ fn prio_sim_form<'a>(plan: &'a str, events: &'a str, until: &str) -> Option<Form
         Some(until) if until <= LAST_MILLISECOND => Some(Form::PrioSim {
             plan,
             events,
+            until,
+        }),
+        _ => None,
+    }
+}
+
+/// The form `node`, if its first and third word may name files and are followed by such a millisecond.
+fn node_form<'a>(plan: &'a str, element: &'a str, file: &'a str, until: &str) -> Option<Form<'a>>
+    ensures form { option_map seen result ≡ node_form plan.now element.now file.now until.now }
+    ensures sized { IfSome result IsSized }
+{
+    if plan.is_empty() || file.is_empty() {
+        return None;
+    }
+    match read_number(until.as_bytes()) {
+        Some(until) if until <= LAST_MILLISECOND => Some(Form::Node {
+            plan,
+            element,
+            file,
             until,
         }),
         _ => None,

@@ -16,6 +16,3 @@ pub(crate) fn ladder_text(alloc: Global, n: u32) -> Result<Text, NoMemory>
     let plan = generate(alloc, n)?;
     write_plan(alloc, &plan)
 }
-
-#[cfg(test)]
-mod tests;

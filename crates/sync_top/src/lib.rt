@@ -15,6 +15,7 @@ mod hops;
 mod input;
 mod ladder;
 mod laws;
+mod node;
 mod nomination;
 mod pcap;
 mod plan_input;
@@ -31,6 +32,3 @@ mod trial;
 pub use laws::{one_answer_law, planned_is_accepted_law};
 pub use program::run;
 pub use status::Status;
-
-#[cfg(test)]
-mod tests;

@@ -1,11 +1,11 @@
-ghost use Rattle.std.specs.Prelude.{◌≡◌, ◌≢◌, ◌+◌, ◌++◌, ◌<◌, ◌≤◌, Some, IfOk, OnOk, codes, map};
+ghost use Rattle.std.specs.Prelude.{◌≡◌, ◌≢◌, ◌+◌, ◌++◌, ◌<◌, ◌≤◌, Some, IfOk, IfSome, OnOk, codes, map};
 ghost use Rattle.std.specs.List.{All, concat};
 ghost use Rattle.sync_edge.specs.Contents.{KeepsFolder};
 ghost use Rattle.sync_topo.specs.Events.{Fits, IsInOrder};
 ghost use Rattle.sync_topo.specs.Lines.{line_count};
 ghost use Rattle.rank_cert.specs.Ranks.{IsRanked};
 ghost use Rattle.sync_top.specs.Forms.Priority.{IsPriorityVerdict, PrioCheckAnswer, forced_row, forced_text, IsPriorityPlanned, PrioRankAnswer, IsPriorityRun, PrioSimAnswer};
-ghost use Rattle.sync_top.specs.Answer.{across, FormMissesFile};
+ghost use Rattle.sync_top.specs.Answer.{across, FormMissesFile, FirstEnds};
 ghost use Rattle.sync_top.specs.Form.{prio_check, prio_rank, prio_sim};
 ghost use Rattle.sync_top.specs.Work.{Replies, NeverUsage, status_of};
 
@@ -54,6 +54,8 @@ pub(crate) fn prio_check<F: Folder>(
     ensures keeps { KeepsFolder F.contents F.steady F.faults folder.old folder.new }
     ensures once { F.tries folder.new ≤ F.tries folder.old + 2 }
     ensures plan_alone { status_of result ≡ Some Status.BadPlan → F.tries folder.new ≤ F.tries folder.old + 1 }
+    ensures first_alone { IfSome (F.contents folder.old) (λ files. FirstEnds (Some (prio_check plan.now cert.now)) files
+        → F.tries folder.new ≤ F.tries folder.old + 1) }
 {
     let (plan, cert) = documents(alloc, folder, plan, cert)?;
     match priority_verdict(alloc, &plan, &cert) {
@@ -149,6 +151,8 @@ pub(crate) fn prio_sim<F: Folder>(
     ensures keeps { KeepsFolder F.contents F.steady F.faults folder.old folder.new }
     ensures once { F.tries folder.new ≤ F.tries folder.old + 2 }
     ensures plan_alone { status_of result ≡ Some Status.BadPlan → F.tries folder.new ≤ F.tries folder.old + 1 }
+    ensures first_alone { IfSome (F.contents folder.old) (λ files. FirstEnds (Some (prio_sim plan.now events.now until)) files
+        → F.tries folder.new ≤ F.tries folder.old + 1) }
 {
     let (plan, events) = plan_and_events(alloc, folder, plan, events)?;
     match priority_run(alloc, &plan, events.as_slice(), until) {

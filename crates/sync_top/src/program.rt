@@ -5,7 +5,7 @@ ghost use Rattle.sync_edge.specs.Contents.{KeepsFolder};
 ghost use Rattle.sync_edge.specs.Faults.{Rose};
 ghost use Rattle.sync_top.specs.Status.{OnAnswer};
 ghost use Rattle.sync_top.specs.Form.{form_of, file_count, reads_file};
-ghost use Rattle.sync_top.specs.Answer.{across, IsAnswer, MissesFile, HasFiles, Delivers, IsCut, MayFault, fault_text};
+ghost use Rattle.sync_top.specs.Answer.{across, IsAnswer, MissesFile, FirstEnds, HasFiles, Delivers, IsCut, MayFault, fault_text};
 ghost use Rattle.sync_top.specs.LoopFree.{IsCheckedLoopFree};
 ghost use Rattle.sync_top.specs.Forms.Priority.{IsCheckedForPriority};
 ghost use Rattle.sync_top.specs.Work.{Replies, EndsIn, UsageWhere, status_of};
@@ -15,6 +15,7 @@ use crate::form::{Form, form_of};
 use crate::frames::{decode, encode};
 use crate::hops::hops;
 use crate::ladder::ladder_text;
+use crate::node::node;
 use crate::nomination::nominate_plan;
 use crate::pcap::{pcap_decode, pcap_encode};
 use crate::planner::rank;
@@ -44,6 +45,8 @@ fn work<R: Threads + Sync, F: Folder, G: Gate + Sync>(
     ensures no_call { reads_file (form_of (map string_bytes words.now)) ≡ false → folder.new ≡ folder.old }
     ensures once { F.tries folder.new ≤ F.tries folder.old + file_count (form_of (map string_bytes words.now)) }
     ensures plan_alone { status_of result ≡ Some Status.BadPlan → F.tries folder.new ≤ F.tries folder.old + 1 }
+    ensures first_alone { IfSome (F.contents folder.old) (λ files. FirstEnds (form_of (map string_bytes words.now)) files
+        → F.tries folder.new ≤ F.tries folder.old + 1) }
 {
     match form_of(words) {
         Some(Form::Check { plan, cert }) => check(alloc, folder, plan, cert),
@@ -71,6 +74,14 @@ fn work<R: Threads + Sync, F: Folder, G: Gate + Sync>(
                 until,
             },
         ) => prio_sim(alloc, folder, plan, events, until),
+        Some(
+            Form::Node {
+                plan,
+                element,
+                file,
+                until,
+            },
+        ) => node(alloc, folder, plan, element, file, until),
         Some(Form::Gen(n)) => Ok(Reply {
             status: Status::Done,
             text: ladder_text(alloc, n)?,
@@ -101,6 +112,8 @@ fn reply_to<R: Threads + Sync, F: Folder, G: Gate + Sync>(
     ensures no_call { reads_file (form_of (map string_bytes words.now)) ≡ false → folder.new ≡ folder.old }
     ensures once { F.tries folder.new ≤ F.tries folder.old + file_count (form_of (map string_bytes words.now)) }
     ensures plan_alone { IfOk result (λ reply. reply.status ≡ Status.BadPlan → F.tries folder.new ≤ F.tries folder.old + 1) }
+    ensures first_alone { IfSome (F.contents folder.old) (λ files. FirstEnds (form_of (map string_bytes words.now)) files
+        → F.tries folder.new ≤ F.tries folder.old + 1) }
 {
     match work(rt, alloc, words, folder, gate) {
         Ok(reply) => Ok(reply),
@@ -158,10 +171,12 @@ pub fn run<R: Threads + Sync, F: Folder, K: Sink, G: Gate + Sync>(
     ensures usage { OnAnswer result ((result ≡ Status.Usage) ↔ (form_of (map string_bytes words.now) ≡ None)) }
     ensures no_call { reads_file (form_of (map string_bytes words.now)) ≡ false → folder.new ≡ folder.old }
 
-    // At most as many starts are tried as the form names files, and one where the plan is refused, so
-    // that a pipe will do for each.
+    // At most as many starts are tried as the form names files, and one where the plan is refused, or
+    // where the first of two files ends the reading, so that a pipe will do for each.
     ensures once { F.tries folder.new ≤ F.tries folder.old + file_count (form_of (map string_bytes words.now)) }
     ensures plan_alone { result ≡ Status.BadPlan → F.tries folder.new ≤ F.tries folder.old + 1 }
+    ensures first_alone { IfSome (F.contents folder.old) (λ files. FirstEnds (form_of (map string_bytes words.now)) files
+        → F.tries folder.new ≤ F.tries folder.old + 1) }
 
     // Where the run ends neither in a fault nor for want of memory, no call of the folder failed: no
     // absent file was tried after a refusal. A write failed only where a write fault is answered.

@@ -1,11 +1,11 @@
-ghost use Rattle.std.specs.Prelude.{◌≡◌, ◌≢◌, ◌+◌, ◌++◌, ◌≤◌, Some, IfOk, OnOk};
+ghost use Rattle.std.specs.Prelude.{◌≡◌, ◌≢◌, ◌+◌, ◌++◌, ◌≤◌, Some, IfOk, IfSome, IsErr, OnOk};
 ghost use Rattle.std.specs.List.{All};
 ghost use Rattle.sync_edge.specs.Contents.{KeepsFolder};
 ghost use Rattle.sync_topo.specs.declared.event.Event.{Event};
 ghost use Rattle.sync_topo.specs.Events.{Fits, IsInOrder};
-ghost use Rattle.sync_top.specs.Reading.{text_line};
+ghost use Rattle.sync_top.specs.Reading.{text_line, plan_in};
 ghost use Rattle.sync_top.specs.Forms.Sim.{event_place, event_refusal, events_in, plan_and_events, IsReport, SimAnswer};
-ghost use Rattle.sync_top.specs.Answer.{across, FormMissesFile};
+ghost use Rattle.sync_top.specs.Answer.{across, FormMissesFile, FirstEnds};
 ghost use Rattle.sync_top.specs.Form.{sim};
 ghost use Rattle.sync_top.specs.Work.{Reads, Replies, NeverUsage, stopped_in, status_of};
 
@@ -91,6 +91,7 @@ pub(crate) fn plan_and_events<F: Folder>(
     ensures keeps { KeepsFolder F.contents F.steady F.faults folder.old folder.new }
     ensures once { F.tries folder.new ≤ F.tries folder.old + 2 }
     ensures plan_alone { stopped_in result ≡ Some Status.BadPlan → F.tries folder.new ≤ F.tries folder.old + 1 }
+    ensures first_alone { IfSome (F.contents folder.old) (λ files. IsErr (plan_in plan.now files) → F.tries folder.new ≤ F.tries folder.old + 1) }
     ensures fit { IfOk result (λ read. All (Fits read.0) read.1) }
     ensures in_order { IfOk result (λ read. IsInOrder read.1) }
 {
@@ -139,6 +140,8 @@ pub(crate) fn sim<F: Folder>(
     ensures keeps { KeepsFolder F.contents F.steady F.faults folder.old folder.new }
     ensures once { F.tries folder.new ≤ F.tries folder.old + 2 }
     ensures plan_alone { status_of result ≡ Some Status.BadPlan → F.tries folder.new ≤ F.tries folder.old + 1 }
+    ensures first_alone { IfSome (F.contents folder.old) (λ files. FirstEnds (Some (sim plan.now events.now until)) files
+        → F.tries folder.new ≤ F.tries folder.old + 1) }
 {
     let (plan, events) = plan_and_events(alloc, folder, plan, events)?;
     match simulated(alloc, &plan, events.as_slice(), until) {

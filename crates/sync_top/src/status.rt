@@ -7,7 +7,7 @@ ghost use Rattle.std.specs.Prelude.{◌≡◌};
 pub enum Status {
     /// The answer was written.
     Done,
-    /// `check`: some hop doesn't rise; `rank`: no ranks rise.
+    /// `check`, `prio-check`: the rank doesn't rise over some hop; `rank`, `prio-rank`: no ranks rise.
     Refuted,
     /// The words are no form of the program.
     Usage,
@@ -17,7 +17,7 @@ pub enum Status {
     BadCert,
     /// The event list is refused.
     BadEvents,
-    /// A captured frame or a row is refused.
+    /// A captured frame, a row or a capture is refused.
     BadFrames,
     /// The folder failed, or a file isn't there.
     ReadFault,

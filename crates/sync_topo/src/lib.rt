@@ -27,8 +27,6 @@ mod place;
 mod plan;
 mod rows;
 mod source;
-#[cfg(test)]
-mod tests;
 mod values;
 
 pub use element::Element;

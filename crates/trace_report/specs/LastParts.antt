@@ -29,7 +29,7 @@ end_name plan (Source source) = source_name plan source
 end_name plan (OwnClock element) = element_name plan element
 end_name plan (Loop element) = element_name plan element
 
--- the trace of an element: element,hops,kind,name
+-- the trace of an element: element,lines,kind,name
 abbrev pub trace_row : Topology → ℕ → Ending → List ℕ
 trace_row plan element ending =
     element_name plan element ++ codes "," ++ decimal ending.lines ++ codes "," ++ end_word ending.end ++ codes "," ++ end_name plan ending.end ++ codes "\n"

@@ -1,6 +1,6 @@
 -- The report of a run of a network: all changes, the conditions of all inputs at its end, whence each
 -- element has its timing then, which loops stand, and whether it is settled. This project's own.
-use Rattle.std.specs.Prelude.{◌≡◌, ℕ, suc, false, List, ◌++◌, length, map, codes, Option, Some, IsSome, unwrap_or}
+use Rattle.std.specs.Prelude.{◌≡◌, ℕ, suc, true, false, List, ◌++◌, length, map, codes, Option, Some, IsSome, unwrap_or}
 use Rattle.std.specs.List.{range_with_len, concat}
 use Rattle.std.specs.Fmt.{decimal}
 use Rattle.sync_ql.specs.declared.rules.Cond.{Cond}
@@ -56,4 +56,4 @@ IsReportText plan events reached (Stopped t) text = text ≡ stopped_report plan
 -- a simulator's last advance may have answered this
 abbrev pub IsLastAnswer : SimState → Reach → Type 0
 IsLastAnswer sim Until = (sim.stopped ≡ false) × IsSome sim.reached
-IsLastAnswer sim (Stopped t) = sim.reached ≡ Some t
+IsLastAnswer sim (Stopped t) = (sim.stopped ≡ true) × (sim.reached ≡ Some t)

@@ -34,7 +34,8 @@ pub fn put_changes(
 /// Puts the row of one change of a plan: its millisecond, the element, what it chose, and its level and
 /// state.
 ///
-/// `NoMemory` comes for want of memory alone. This project's own.
+/// `NoMemory` comes for want of memory alone; a part of the row may then stand at the end, so the text
+/// isn't used again. This project's own.
 pub fn put_change(
     alloc: Global,
     text: &mut Text,

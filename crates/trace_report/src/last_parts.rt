@@ -1,6 +1,6 @@
 //! Whence each element has its timing, which loops stand, and whether the network is settled.
 
-ghost use Rattle.std.specs.Prelude.{◌≡◌, ◌<◌, ◌+◌, ◌++◌, ℕ, false, List, length, map, codes, OnOk};
+ghost use Rattle.std.specs.Prelude.{◌≡◌, ◌<◌, ◌+◌, ◌++◌, ℕ, false, List, length, map, codes, OnOk, OnErr};
 ghost use Rattle.std.specs.List.{All};
 ghost use Rattle.sync_topo.specs.declared.event.Event.{Event};
 ghost use Rattle.sync_topo.specs.Lines.{line_count, line_name};
@@ -144,9 +144,10 @@ fn put_line(alloc: Global, text: &mut Text, plan: &Plan, line: LineId) -> Result
 
 /// Puts the line on whether a network is settled.
 ///
-/// `NoMemory` comes for want of memory alone. This project's own.
+/// `NoMemory` comes for want of memory alone, and leaves the text as it was. This project's own.
 pub fn put_settled(text: &mut Text, settled: bool) -> Result<(), NoMemory>
     ensures put { OnOk result (text.new ≡ text.old ++ settled_part settled) }
+    ensures unchanged { OnErr result (text.new ≡ text.old) }
 {
     if settled {
         text.put(b"settled yes\n")

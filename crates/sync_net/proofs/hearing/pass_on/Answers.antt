@@ -24,4 +24,4 @@ returns c =
     (ap (is_same_level c.args.level) (read-heard c.args.heards.now c.args.line.0 c.index-heards-line.result (omega (arith, c.requires.line, c.requires.heards)) c.index-heards-line.is)
     ∙ sym c.is_same.ensures ∙ c.if-is_same.false)
     c.in-Some.ensures.place
-    c.in_ok-tell.ensures.count c.in_ok-tell.ensures.flags_count c.in_ok-tell.ensures.list c.in_ok-tell.ensures.flag
+    c.in_ok-tell.ensures.told.count c.in_ok-tell.ensures.told.flags_count c.in_ok-tell.ensures.told.list c.in_ok-tell.ensures.told.flag

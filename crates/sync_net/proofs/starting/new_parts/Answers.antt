@@ -24,6 +24,11 @@ returns-clause-evaluated c =
     if-ok (IsBegun c.args.plan.now) (λ parts. parts.tellings.active.listed ≡ []) _
     (λ parts begun. ap (λ (marked : Marked). marked.listed) begun.active) c.begun.ensures
 
+pub returns-clause-called : goal.returns-clause-called
+returns-clause-called c =
+    if-ok (IsBegun c.args.plan.now) (λ parts. parts.called.listed ≡ []) _
+    (λ parts begun. ap (λ (marked : Marked). marked.listed) begun.called) c.begun.ensures
+
 pub returns-clause-stands : goal.returns-clause-stands
 returns-clause-stands c =
     if-ok (IsBegun c.args.plan.now) (λ parts. (events : List Event) → IsOfPast (state_of c.args.plan.now false parts) events 0) _

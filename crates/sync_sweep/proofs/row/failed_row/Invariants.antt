@@ -1,4 +1,4 @@
 use Rattle.sync_sweep.proofs.row.failed_row.Given as goal
 
-abbrev pub ghosts-failed_run : goal.ghosts-failed_run
-ghosts-failed_run a = record { name = a.blank.name; parts = a.blank.parts }
+abbrev pub ghosts-run_link : goal.ghosts-run_link
+ghosts-run_link a = record { name = a.blank.name; parts = a.blank.parts }

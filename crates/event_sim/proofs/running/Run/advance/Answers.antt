@@ -31,6 +31,12 @@ take_turn-requires-clause-fit g c =
     let parted = c.split_at_time.ensures plan c.args.until (within-from plan c.loop-next.next c.args.until c.next_time-now.result c.loop-next.rest.now c.due.result next c.loop-next.invariant.rest) in
     subst (λ (p : Topology). All (Fits p) c.split_at_time.result.0.now) (sym c.loop-next.invariant.kept.plan) parted.fit
 
+pub take_turn-requires-clause-here : goal.take_turn-requires-clause-here
+take_turn-requires-clause-here g c =
+    let plan : Topology = c.args.self.now.net.plan in
+    let next = c.next_time-now.ensures plan c.loop-next.invariant.rest in
+    (c.split_at_time.ensures plan c.args.until (within-from plan c.loop-next.next c.args.until c.next_time-now.result c.loop-next.rest.now c.due.result next c.loop-next.invariant.rest)).at
+
 pub returns-then-not-branch-clause-stopped : goal.returns-then-not-branch-clause-stopped
 returns-then-not-branch-clause-stopped g c =
     let next = c.next_time-now.ensures c.args.self.now.net.plan c.loop-next.invariant.rest in

@@ -1,0 +1,5 @@
+pub mod LineCuts
+pub mod TopicLemmas
+pub mod Cuts
+pub mod Taking
+pub mod ReadOn

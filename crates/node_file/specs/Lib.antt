@@ -1,0 +1,5 @@
+pub mod NodeRow
+pub mod Topic
+pub mod NodeFile
+pub mod Cutting
+pub mod Refusal

@@ -1,0 +1,70 @@
+// Why a file gives no rows.
+
+ghost use Rattle.std.specs.Prelude.{◌≡◌};
+ghost use Rattle.node_file.specs.Refusal.{number_of};
+
+use esmc_frame::FrameErr;
+use sync_edge::NoMemory;
+use thiserror::Error;
+
+/// The first rule for a file of one element that its bytes break. Lines count from 1.
+///
+/// This project's own.
+#[derive(Clone, Copy, Debug, PartialEq, Eq, Error)]
+pub enum NodeErr {
+    /// The line hasn't four fields, or has more than 4,096 bytes before its line feed.
+    #[error("line {0}: not AT,WORD,TARGET,VALUE")]
+    Fields(u64),
+    /// The first field is no number, or one above 86,400,000.
+    #[error("line {0}: no millisecond up to 86400000")]
+    Time(u64),
+    /// The line's time is before that of the last line that isn't empty.
+    #[error("line {0}: before the line before it")]
+    Order(u64),
+    /// The second field is no word of the format.
+    #[error("line {0}: no word for what comes or happens")]
+    What(u64),
+    /// The third field is not the name of something at the element that the word is said of.
+    #[error("line {0}: not a target of this word at this element")]
+    Target(u64),
+    /// The fourth field is not a value of the word: no hexadecimal digits, no level, or not empty.
+    #[error("line {0}: not a value of this word")]
+    Value(u64),
+    /// The octets of the fourth field are no ESMC frame.
+    #[error("line {0}: {1}")]
+    Frame(u64, FrameErr),
+    /// Memory ran out.
+    #[error("out of memory")]
+    NoMemory,
+}
+
+impl NodeErr {
+    /// The number by which the refusal is printed, from 43 to 49.
+    ///
+    /// `None` where memory ran out, which refuses no file.
+    /// This project's own.
+    pub fn number(self) -> Option<u8>
+        ensures { result ≡ number_of self }
+    {
+        match self {
+            NodeErr::Fields(_) => Some(43),
+            NodeErr::Time(_) => Some(44),
+            NodeErr::Order(_) => Some(45),
+            NodeErr::What(_) => Some(46),
+            NodeErr::Target(_) => Some(47),
+            NodeErr::Value(_) => Some(48),
+            NodeErr::Frame(_, _) => Some(49),
+            NodeErr::NoMemory => None,
+        }
+    }
+}
+
+impl From<NoMemory> for NodeErr {
+    ghost use Rattle.node_file.specs.declared.error.NodeErr.TheVariants as refusal;
+
+    ghost from_gives = { λ _ e. e ≡ refusal.NoMemory };
+
+    fn from(_: NoMemory) -> NodeErr {
+        NodeErr::NoMemory
+    }
+}

@@ -1,0 +1,17 @@
+use Rattle.std.proofs.Common.{map, arith}
+use Rattle.std.specs.Prelude.{◌==◌}
+use Rattle.sync_topo.specs.Lines.{line_count, sender_of}
+use Rattle.node_rules.specs.NodeText.{lines_out}
+use Rattle.node_replay.specs.Starting.{new_out}
+use Rattle.node_replay.proofs.RowWords.{step-range, end-range}
+use Rattle.node_replay.proofs.starting.new_outs.Goals as goal
+
+pub loop-number-preserved : goal.loop-number-preserved
+loop-number-preserved c =
+    step-range new_out (λ line. sender_of c.args.plan.now line == c.args.place) (line_count c.args.plan.now) c.loop-number.number c.loop-number.outs c.add_out.new.outs
+    (map new_out (lines_out c.args.plan.now c.args.place)) (omega (arith, c.loop-number-test.true, c.lines-number-end.ensures.count)) c.loop-number.invariant c.in_ok-add_out.ensures
+
+pub returns : goal.returns
+returns c =
+    end-range new_out (λ line. sender_of c.args.plan.now line == c.args.place) (line_count c.args.plan.now) c.loop-number.number c.loop-number.outs
+    (map new_out (lines_out c.args.plan.now c.args.place)) (omega (arith, c.loop-number-test.false, c.lines-number-end.ensures.count)) c.loop-number.invariant

@@ -1,0 +1,14 @@
+pub mod Rows
+pub mod Replayed
+pub mod ReplayState
+pub mod Keeping
+pub mod Telling
+pub mod Starting
+pub mod Beginning
+pub mod Running
+pub mod Turning
+pub mod Collecting
+pub mod ReplayKept
+pub mod Sent
+pub mod NodeState
+pub mod NodeKept

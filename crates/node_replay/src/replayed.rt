@@ -1,0 +1,25 @@
+//! What a replay gives.
+
+use sync_edge::Text;
+
+/// Where the text of an element's frames ends.
+///
+/// This project's own.
+#[derive(Clone, Copy, Debug, PartialEq, Eq)]
+pub enum NodeEnd {
+    /// At the millisecond that was asked for.
+    Until,
+    /// At this one, since there would be more than 200,000 rows.
+    Stopped(u64),
+}
+
+/// The frames that an element sends, a row for each, and where they end.
+///
+/// This project's own.
+#[derive(Debug, Drop)]
+pub struct Replayed {
+    /// The rows `t,LINE,HEX`.
+    pub text: Text,
+    /// Where they end.
+    pub end: NodeEnd,
+}

@@ -1,0 +1,180 @@
+//! A run before its first millisecond.
+
+ghost use Rattle.std.specs.Prelude.{◌≡◌, ◌++◌, ◌∷◌, [], ◌<◌, ℕ, List, None, OnOk, IfOk, length, map, if◌then◌else◌, ◌==◌};
+ghost use Rattle.sync_topo.specs.Lines.{line_count, sender_of, inputs_of, IsInput};
+ghost use Rattle.net_rules.specs.History.{first_level};
+ghost use Rattle.sync_net.specs.Beginning.{config_of};
+ghost use Rattle.node_file.specs.declared.row.NodeRow.{NodeRow};
+ghost use Rattle.node_rules.specs.NodeText.{lines_out};
+ghost use Rattle.node_replay.specs.Starting.{first_word, new_input, new_out};
+ghost use Rattle.node_replay.specs.Beginning.{IsNew};
+ghost use Rattle.node_replay.specs.Running.{IsRun, RunStands};
+
+use crate::inputs::{InputKept, LastWord};
+use crate::outs::OutKept;
+use crate::running::Run;
+use crate::shown::shown_of;
+use std::alloc::Global;
+use sync_edge::{NoMemory, Rows, Text};
+use sync_element::{Config, Element, InputConfig};
+use sync_net::Told;
+use sync_ql::Level;
+use sync_topo::{InputId, LineId, Plan};
+
+/// A run of an element of a plan, to which nothing happened.
+pub(crate) fn new_run(alloc: Global, plan: &Plan, place: u32) -> Result<Run, NoMemory>
+    requires { place < length plan.now.elements }
+    ensures run { IfOk result (IsRun plan.now place) }
+    ensures next { IfOk result (λ run. run.next ≡ 0) }
+    ensures going { IfOk result (λ run. run.stopped ≡ None) }
+    ensures stands { IfOk result (λ run. (rows : List NodeRow) → RunStands plan.now rows place 0 run) }
+{
+    let _elements = plan.elements();
+    let element = new_element(alloc, plan, place)?;
+    let shown = shown_of(plan, place, &element);
+    let inputs = new_inputs(alloc, plan, place)?;
+    let outs = new_outs(alloc, plan, place)?;
+    Ok(Run {
+        element,
+        shown,
+        inputs: inputs.into_vec(),
+        outs: outs.into_vec(),
+        told: Told::new(alloc),
+        next: 0,
+        wake: 0,
+        text: Text::new(alloc),
+        rows: 0,
+        stopped: None,
+    })
+}
+
+/// An element by the plan, that was told nothing.
+fn new_element(alloc: Global, plan: &Plan, place: u32) -> Result<Element, NoMemory>
+    requires { place < length plan.now.elements }
+    ensures { IfOk result (IsNew plan.now place) }
+{
+    let inputs = input_configs(alloc, plan, place)?;
+    let planned = plan.element(place);
+    let element = Element::new(
+        alloc,
+        Config {
+            own: planned.own,
+            floor: planned.floor,
+            holdoff: planned.holdoff,
+            wtr: planned.wtr,
+            inputs,
+        },
+    )?;
+    Ok(element)
+}
+
+/// What the element is set to for its inputs.
+fn input_configs(alloc: Global, plan: &Plan, place: u32) -> Result<Rows<InputConfig>, NoMemory>
+    requires { place < length plan.now.elements }
+    ensures { IfOk result (λ inputs. inputs ≡ map (config_of plan.now) (inputs_of plan.now place)) }
+{
+    let mut inputs = Rows::new(alloc);
+    for input in plan.inputs(place) {
+        inputs.push(input_config(plan, *input))?;
+    }
+    Ok(inputs)
+}
+
+/// What an element is set to for an input.
+fn input_config(plan: &Plan, input: InputId) -> InputConfig
+    requires { IsInput plan.now input }
+    ensures { result ≡ config_of plan.now input }
+{
+    let priority = plan.priority(input);
+    match input {
+        InputId::Line(line) => InputConfig {
+            priority,
+            first: None,
+            bundle: plan.bundle(line.0 / 2),
+        },
+        InputId::Source(source) => InputConfig {
+            priority,
+            first: Some(plan.source(source).level),
+            bundle: plan.links() + source,
+        },
+    }
+}
+
+/// The inputs, to which nothing happened.
+fn new_inputs(alloc: Global, plan: &Plan, place: u32) -> Result<Rows<InputKept>, NoMemory>
+    requires { place < length plan.now.elements }
+    ensures { IfOk result (λ inputs. inputs ≡ map (new_input plan.now) (inputs_of plan.now place)) }
+{
+    let mut inputs = Rows::new(alloc);
+    for input in plan.inputs(place) {
+        inputs.push(new_input(plan, *input))?;
+    }
+    Ok(inputs)
+}
+
+/// An input to which nothing happened.
+fn new_input(plan: &Plan, input: InputId) -> InputKept
+    requires { IsInput plan.now input }
+    ensures { result ≡ new_input plan.now input }
+{
+    let level = first_level(plan, input);
+    InputKept {
+        id: input,
+        up: true,
+        level,
+        last: first_word(level),
+    }
+}
+
+/// The level that an input has before any is told.
+fn first_level(plan: &Plan, input: InputId) -> Option<Level>
+    requires { IsInput plan.now input }
+    ensures { result ≡ first_level plan.now input }
+{
+    match input {
+        InputId::Line(_) => None,
+        InputId::Source(source) => Some(plan.source(source).level),
+    }
+}
+
+fn first_word(level: Option<Level>) -> Option<LastWord>
+    ensures { result ≡ first_word level }
+{
+    match level {
+        Some(level) => Some(LastWord {
+            at: 0,
+            level: Some(level),
+        }),
+        None => None,
+    }
+}
+
+/// The lines out of the element, which have said nothing.
+fn new_outs(alloc: Global, plan: &Plan, place: u32) -> Result<Rows<OutKept>, NoMemory>
+    requires { place < length plan.now.elements }
+    ensures { IfOk result (λ outs. outs ≡ map new_out (lines_out plan.now place)) }
+{
+    let mut outs = Rows::new(alloc);
+    for number in 0..plan.lines() {
+        add_out(plan, place, &mut outs, LineId(number))?;
+    }
+    Ok(outs)
+}
+
+/// One line more, if it leads out of the element.
+fn add_out(plan: &Plan, place: u32, outs: &mut Rows<OutKept>, line: LineId) -> Result<(), NoMemory>
+    requires { line.0 < line_count plan.now }
+    ensures { OnOk result (outs.new ≡ outs.old
+        ++ (if sender_of plan.now line.0 == place then new_out line.0 ∷ [] else [])) }
+{
+    if plan.from(line) != place {
+        return Ok(());
+    }
+    outs.push(OutKept {
+        line,
+        up: true,
+        esmc: true,
+        said: None,
+        was: None,
+    })
+}

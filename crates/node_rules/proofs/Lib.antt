@@ -1,0 +1,10 @@
+pub mod Gathering
+pub mod ToldLaws
+pub mod ExactFiles
+pub mod SameSignals
+pub mod ReplayLaws
+pub mod BroughtLaws
+pub mod TextLaws
+pub mod OptionLaws
+pub mod BroughtRows
+pub mod LevelLaws

@@ -1,0 +1,6 @@
+pub mod Replay
+pub mod NodeText
+pub mod FromNetwork
+pub mod Brought
+pub mod SentFrames
+pub mod Examples

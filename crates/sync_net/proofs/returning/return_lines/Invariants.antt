@@ -1,0 +1,7 @@
+use Rattle.std.proofs.Common.{drop}
+use Rattle.sync_net.specs.Copied.{AreSameBut}
+use Rattle.sync_net.proofs.returning.return_lines.Given as goal
+
+-- the lines to come may differ
+abbrev pub invariant-loop-place : goal.invariant-loop-place
+invariant-loop-place l = record { same : AreSameBut (drop l.place-index l.places) l.lines l.base }

@@ -1,0 +1,214 @@
+//! A network that runs on from another, and goes back to it.
+
+ghost use Rattle.std.specs.Prelude.{◌≡◌, ◌≤◌, ◌<◌, ◌+◌, ◌-◌, ℕ, true, false, nat_eq, List, [], length, slice_index_or, All, IfOk, OnOk, IfSome};
+ghost use Rattle.std.specs.List.{list_any};
+ghost use Rattle.sync_topo.specs.declared.event.Event.{Event};
+ghost use Rattle.sync_topo.specs.Events.{Fits, IsEventList};
+ghost use Rattle.sync_topo.specs.Lines.{line_count};
+ghost use Rattle.sync_topo.specs.WellFormed.{IsWellFormed};
+ghost use Rattle.sync_net.specs.NetState.{NetState, IsInTime};
+ghost use Rattle.sync_net.specs.Standing.{StandsFor, NoneFrom};
+ghost use Rattle.sync_net.specs.Evaluated.{IsContinued};
+ghost use Rattle.sync_sweep.specs.Sweep.{failure};
+ghost use Rattle.sync_sweep.specs.Branching.{IsBranch};
+
+use agenda::Marks;
+use std::alloc::Global;
+use std::sync::ledger::Ledger;
+use sync_edge::{NoMemory, Steps};
+use sync_net::Net;
+use sync_ql::limits::LAST_MILLISECOND;
+use sync_topo::{Event, Part, What};
+
+/// A network that runs on from another, and which of its elements and lines a step since then touched.
+#[derive(Debug, Drop)]
+pub struct Branch<'a> {
+    pub net: Net<'a>,
+    pub elements: Marks,
+    pub lines: Marks,
+}
+
+// A copy of a network, of which nothing is touched.
+pub fn new_branch<'a>(alloc: Global, base: &Net<'a>) -> Result<Branch<'a>, NoMemory>
+    ensures branch { IfOk result (λ branch. IsBranch base.now branch.net branch.elements branch.lines) }
+    ensures net { IfOk result (λ branch. branch.net ≡ base.now) }
+{
+    let net = base.try_clone(alloc)?;
+    let elements = Marks::new(alloc, net.plan().elements() as usize)?;
+    let lines = Marks::new(alloc, net.plan().lines() as usize)?;
+    Ok(Branch {
+        net,
+        elements,
+        lines,
+    })
+}
+
+// Marks all places of a list.
+fn mark_all(marks: &mut Marks, places: &[u32])
+    requires within { All (λ k. k < length marks.old.flags) places.now }
+    ensures count { length marks.new.flags ≡ length marks.old.flags }
+    ensures left { (k : ℕ) → slice_index_or marks.new.flags k false ≡ false → slice_index_or marks.old.flags k false ≡ false }
+    ensures marked { (k : ℕ) → slice_index_or marks.new.flags k false ≡ false → list_any (nat_eq k) places.now ≡ false }
+{
+    for place in places {
+        marks.mark(*place);
+    }
+}
+
+// A step, which marks what it evaluates and calls.
+fn step<L: Ledger>(
+    branch: &mut Branch<'_>,
+    now: u64,
+    events: &[Event],
+    steps: &mut Steps<L>,
+) -> Result<(), NoMemory>
+    requires live { branch.old.net.spent ≡ false }
+    requires in_time { IsInTime branch.old.net now }
+    requires in_range { now ≤ LAST_MILLISECOND }
+    requires fit { All (Fits branch.old.net.plan) events.now }
+    requires here { All (λ event. event.at ≡ now) events.now }
+    requires elements { length branch.old.elements.flags ≡ length branch.old.net.plan.elements }
+    requires lines { length branch.old.lines.flags ≡ line_count branch.old.net.plan }
+    ensures plan { branch.new.net.plan ≡ branch.old.net.plan }
+    ensures elements { length branch.new.elements.flags ≡ length branch.old.elements.flags }
+    ensures lines { length branch.new.lines.flags ≡ length branch.old.lines.flags }
+    ensures live { OnOk result (branch.new.net.spent ≡ false) }
+    ensures next { OnOk result (branch.new.net.next ≡ now + 1) }
+    ensures stands { OnOk result ((all : List Event) (n : ℕ) →
+        IsContinued branch.old.net.plan all n now events.now →
+        StandsFor branch.old.net all n → StandsFor branch.new.net all (now + 1)) }
+    ensures branch { OnOk result ((base : NetState) →
+        IsBranch base branch.old.net branch.old.elements branch.old.lines →
+        IsBranch base branch.new.net branch.new.elements branch.new.lines) }
+{
+    branch.net.step(now, events, steps)?;
+    mark_all(&mut branch.elements, branch.net.evaluated());
+    mark_all(&mut branch.lines, branch.net.called());
+    Ok(())
+}
+
+// The next millisecond in which a step has to be made, or the end.
+fn next_turn(net: &Net<'_>, until: u64) -> u64
+    requires live { net.now.spent ≡ false }
+    requires begun { 0 < net.now.next }
+    requires before { net.now.next ≤ until }
+    ensures until { result ≤ until }
+    ensures later { net.now.next ≤ result }
+    ensures in_time { IsInTime net.now result }
+{
+    match net.due() {
+        Some(due) if due < until => due,
+        _ => until,
+    }
+}
+
+// The next step, in which no event is told.
+fn step_quietly<L: Ledger>(
+    branch: &mut Branch<'_>,
+    until: u64,
+    steps: &mut Steps<L>,
+) -> Result<u64, NoMemory>
+    requires live { branch.old.net.spent ≡ false }
+    requires begun { 0 < branch.old.net.next }
+    requires before { branch.old.net.next ≤ until }
+    requires in_range { until ≤ LAST_MILLISECOND }
+    requires elements { length branch.old.elements.flags ≡ length branch.old.net.plan.elements }
+    requires lines { length branch.old.lines.flags ≡ line_count branch.old.net.plan }
+    ensures plan { branch.new.net.plan ≡ branch.old.net.plan }
+    ensures elements { length branch.new.elements.flags ≡ length branch.old.elements.flags }
+    ensures lines { length branch.new.lines.flags ≡ length branch.old.lines.flags }
+    ensures live { OnOk result (branch.new.net.spent ≡ false) }
+    ensures next { IfOk result (λ next. branch.new.net.next ≡ next) }
+    ensures later { IfOk result (λ next. branch.old.net.next < next) }
+    ensures up_to { IfOk result (λ next. next ≤ until + 1) }
+    ensures stands { OnOk result ((all : List Event) → IsEventList branch.old.net.plan all →
+        NoneFrom branch.old.net.next (until + 1) all → StandsFor branch.old.net all branch.old.net.next →
+        StandsFor branch.new.net all branch.new.net.next) }
+    ensures branch { OnOk result ((base : NetState) →
+        IsBranch base branch.old.net branch.old.elements branch.old.lines →
+        IsBranch base branch.new.net branch.new.elements branch.new.lines) }
+{
+    let now = next_turn(&branch.net, until);
+    step(branch, now, &[], steps)?;
+    Ok(now + 1)
+}
+
+// A link fails in the millisecond that comes.
+pub fn fail_link<L: Ledger>(
+    branch: &mut Branch<'_>,
+    at: u64,
+    link: u32,
+    steps: &mut Steps<L>,
+) -> Result<(), NoMemory>
+    requires live { branch.old.net.spent ≡ false }
+    requires begun { branch.old.net.next ≡ at }
+    requires in_range { at ≤ LAST_MILLISECOND }
+    requires link { link < length branch.old.net.plan.links }
+    requires elements { length branch.old.elements.flags ≡ length branch.old.net.plan.elements }
+    requires lines { length branch.old.lines.flags ≡ line_count branch.old.net.plan }
+    ensures plan { branch.new.net.plan ≡ branch.old.net.plan }
+    ensures elements { length branch.new.elements.flags ≡ length branch.old.elements.flags }
+    ensures lines { length branch.new.lines.flags ≡ length branch.old.lines.flags }
+    ensures live { OnOk result (branch.new.net.spent ≡ false) }
+    ensures next { OnOk result (branch.new.net.next ≡ at + 1) }
+    ensures listed { IsEventList branch.new.net.plan (failure at link) }
+    ensures none { (later : ℕ) → NoneFrom (at + 1) later (failure at link) }
+    ensures stands { OnOk result (StandsFor branch.old.net (failure at link) at →
+        StandsFor branch.new.net (failure at link) (at + 1)) }
+    ensures branch { OnOk result ((base : NetState) →
+        IsBranch base branch.old.net branch.old.elements branch.old.lines →
+        IsBranch base branch.new.net branch.new.elements branch.new.lines) }
+{
+    let fails = [Event {
+        at,
+        what: What::Down(Part::Link(link)),
+    }];
+    let _due = branch.net.due();
+    step(branch, at, &fails, steps)?;
+    Ok(())
+}
+
+// All steps up to and with a millisecond, in which no event is told.
+pub fn run_out<L: Ledger>(
+    branch: &mut Branch<'_>,
+    from: u64,
+    until: u64,
+    steps: &mut Steps<L>,
+) -> Result<(), NoMemory>
+    requires live { branch.old.net.spent ≡ false }
+    requires begun { 0 < from }
+    requires from { branch.old.net.next ≡ from }
+    requires before { from ≤ until + 1 }
+    requires in_range { until ≤ LAST_MILLISECOND }
+    requires elements { length branch.old.elements.flags ≡ length branch.old.net.plan.elements }
+    requires lines { length branch.old.lines.flags ≡ line_count branch.old.net.plan }
+    ensures plan { branch.new.net.plan ≡ branch.old.net.plan }
+    ensures live { OnOk result (branch.new.net.spent ≡ false) }
+    ensures next { OnOk result (branch.new.net.next ≡ until + 1) }
+    ensures stands { OnOk result ((all : List Event) → IsEventList branch.old.net.plan all →
+        NoneFrom from (until + 1) all → StandsFor branch.old.net all from →
+        StandsFor branch.new.net all (until + 1)) }
+    ensures branch { OnOk result ((base : NetState) →
+        IsBranch base branch.old.net branch.old.elements branch.old.lines →
+        IsBranch base branch.new.net branch.new.elements branch.new.lines) }
+{
+    let mut next = from;
+    while next <= until {
+        next = step_quietly(branch, until, steps)?;
+    }
+    Ok(())
+}
+
+// Back to where it began.
+pub fn go_back(alloc: Global, branch: &mut Branch<'_>, base: &Net<'_>) -> Result<(), NoMemory>
+    requires live { branch.old.net.spent ≡ false }
+    requires base_live { base.now.spent ≡ false }
+    requires branch { IsBranch base.now branch.old.net branch.old.elements branch.old.lines }
+    ensures branch { OnOk result (IsBranch base.now branch.new.net branch.new.elements branch.new.lines) }
+    ensures net { OnOk result (branch.new.net ≡ base.now) }
+{
+    branch.net.return_to(alloc, base, branch.elements.listed(), branch.lines.listed())?;
+    branch.elements.clear();
+    branch.lines.clear();
+    Ok(())
+}

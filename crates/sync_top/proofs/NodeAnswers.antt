@@ -1,0 +1,121 @@
+-- What one element sends for a file is one answer, and what is written is that answer.
+use Rattle.std.proofs.Common.{◌≡◌, ◌≤◌, ◌<◌, ◌+◌, ℕ, zero, suc, Bool, List, map, length, Option, None, Some, Ok, Err, refl, sym, ap, subst, ◌∙◌, inl, inr, arith, add-zero}
+use Rattle.std.specs.Prelude.{◌⊎◌, ◌-◌, IfSome}
+use Rattle.std.proofs.Math.Decide.{dec_lt}
+use Rattle.std.proofs.lemmas.List.{length-append}
+use Rattle.sync_edge.specs.Contents.{Contents}
+use Rattle.sync_topo.specs.Topology.{Topology}
+use Rattle.node_file.specs.declared.row.NodeRow.{NodeRow}
+use Rattle.node_rules.specs.NodeText.{rows_before, frame_row, sending_at, AllFit, IsLastFit, whole_text, stopped_text}
+use Rattle.sync_top.specs.declared.status.Status.{Status}
+use Rattle.sync_top.specs.declared.status.Status.TheVariants.{Done, Refuted, Usage, BadPlan, BadCert, BadEvents, BadFrames, ReadFault, WriteFault, TooLong, NoMemory, Stopped}
+use Rattle.node_file.specs.declared.error.NodeErr.{NodeErr}
+use Rattle.node_file.specs.NodeFile.{rows_of}
+use Rattle.sync_top.specs.Form.{node}
+use Rattle.sync_top.specs.Reading.{text_line}
+use Rattle.sync_top.specs.Forms.Node.{node_bytes, node_refusal, AreFramesSent, IsNodeReply, NodeAnswer}
+use Rattle.sync_top.specs.Answer.{FormMissesFile}
+use Rattle.sync_top.specs.Work.{EndsIn}
+use Rattle.sync_top.proofs.Cuts.{outside}
+
+-- rows of more milliseconds are no fewer
+grow : (plan : Topology) (rows : List NodeRow) (element n k : ℕ) → length (rows_before plan rows element n) ≤ length (rows_before plan rows element (n + k))
+grow plan rows element n zero = rw (add-zero n) (omega arith)
+grow plan rows element n (suc k) =
+    let more : n + suc k ≡ suc (n + k) = omega arith in
+    let size = length-append (rows_before plan rows element (n + k)) (map (frame_row plan rows element (n + k)) (sending_at plan rows element (n + k))) in
+    let before = grow plan rows element n k in
+    rw more (omega (arith, size, before))
+
+no_fewer : (plan : Topology) (rows : List NodeRow) (element n m : ℕ) → n ≤ m → length (rows_before plan rows element n) ≤ length (rows_before plan rows element m)
+no_fewer plan rows element n m within =
+    let whole : n + (m - n) ≡ m = omega (arith, within) in
+    subst (λ k. length (rows_before plan rows element n) ≤ length (rows_before plan rows element k)) whole (grow plan rows element n (m - n))
+
+no_later : (plan : Topology) (rows : List NodeRow) (element until t u : ℕ) → IsLastFit plan rows element t until → IsLastFit plan rows element u until → t < u → ⊥
+no_later plan rows element until t u first second before =
+    omega (arith, first.full, second.fit, no_fewer plan rows element (suc (suc t)) (suc u) (omega (arith, before)))
+
+one_last : (plan : Topology) (rows : List NodeRow) (element until t u : ℕ) → IsLastFit plan rows element t until → IsLastFit plan rows element u until → t ≡ u
+one_last plan rows element until t u first second = elim (dec_lt t u) [
+  | yes before ↦ absurd (no_later plan rows element until t u first second before)
+  | no not_before ↦ elim (dec_lt u t) [
+    | yes behind ↦ absurd (no_later plan rows element until u t second first behind)
+    | no not_behind ↦ omega (arith, not_before, not_behind)
+  ]
+]
+
+not_both : (plan : Topology) (rows : List NodeRow) (element until t : ℕ) → AllFit plan rows element until → IsLastFit plan rows element t until → ⊥
+not_both plan rows element until t fit last =
+    omega (arith, fit, last.full, no_fewer plan rows element (suc (suc t)) (suc until) (omega (arith, last.before)))
+
+-- what may be written
+abbrev Whole : Topology → ℕ → List NodeRow → ℕ → Status → List ℕ → Type 0
+Whole plan element rows until status text = (status ≡ Done) × AllFit plan rows element until × (text ≡ whole_text plan rows element until)
+
+abbrev Cut : Topology → ℕ → List NodeRow → ℕ → Status → List ℕ → Type 0
+Cut plan element rows until status text =
+    (status ≡ Stopped) × ((t : ℕ) × IsLastFit plan rows element t until × (text ≡ stopped_text plan rows element t))
+
+either : (plan : Topology) (element : ℕ) (rows : List NodeRow) (until : ℕ) (status : Status) (text : List ℕ) → AreFramesSent plan element rows until status text
+    → Whole plan element rows until status text ⊎ Cut plan element rows until status text
+either plan element rows until Done text sent = inl (refl, sent.0, sent.1)
+either plan element rows until Stopped text sent = inr (refl, sent)
+either plan element rows until Refuted text sent = absurd sent
+either plan element rows until Usage text sent = absurd sent
+either plan element rows until BadPlan text sent = absurd sent
+either plan element rows until BadCert text sent = absurd sent
+either plan element rows until BadEvents text sent = absurd sent
+either plan element rows until BadFrames text sent = absurd sent
+either plan element rows until ReadFault text sent = absurd sent
+either plan element rows until WriteFault text sent = absurd sent
+either plan element rows until TooLong text sent = absurd sent
+either plan element rows until NoMemory text sent = absurd sent
+
+-- they are one
+pub one_sent : (plan : Topology) (element : ℕ) (rows : List NodeRow) (until : ℕ) (status other : Status) (text another : List ℕ)
+    → AreFramesSent plan element rows until status text → AreFramesSent plan element rows until other another → (status ≡ other) × (text ≡ another)
+one_sent plan element rows until status other text another first second =
+    elim (either plan element rows until status text first) [
+      | inl whole ↦ elim (either plan element rows until other another second) [
+        | inl also ↦ (whole.0 ∙ sym also.0, whole.2 ∙ sym also.2)
+        | inr cut ↦ absurd (not_both plan rows element until cut.1.0 whole.1 cut.1.1)
+      ]
+      | inr cut ↦ elim (either plan element rows until other another second) [
+        | inl whole ↦ absurd (not_both plan rows element until cut.1.0 whole.1 cut.1.1)
+        | inr also ↦
+            let same = one_last plan rows element until cut.1.0 also.1.0 cut.1.1 also.1.1 in
+            (cut.0 ∙ sym also.0, cut.1.2 ∙ ap (stopped_text plan rows element) same ∙ sym also.1.2)
+      ]
+    ]
+
+-- the frames that are sent for a file are an answer, and end the work
+module _ (plan_name element_name file_name : List ℕ) (until : ℕ) (plan : Topology) (element : ℕ) (bytes : List ℕ) where
+  given : (told : Option Contents) (status : Status) (text : List ℕ) (rows : List NodeRow)
+      → IfSome told (λ files. node_bytes plan_name element_name file_name files ≡ Ok (plan, element, bytes)) → rows_of plan element bytes ≡ Ok rows
+      → AreFramesSent plan element rows until status text → IfSome told (λ files. NodeAnswer plan_name element_name file_name until files status text)
+  given None status text rows is read sent = tt
+  given (Some files) status text rows is read sent = rw (is, read) sent
+
+  refused : (told : Option Contents) (text : List ℕ) (error : NodeErr)
+      → IfSome told (λ files. node_bytes plan_name element_name file_name files ≡ Ok (plan, element, bytes)) → rows_of plan element bytes ≡ Err error
+      → text ≡ text_line (node_refusal error) → IfSome told (λ files. NodeAnswer plan_name element_name file_name until files BadFrames text)
+  refused None text error is read line = tt
+  refused (Some files) text error is read line = rw (is, read) (refl, line)
+
+  pub ends : (told : Option Contents) (steady : Bool) (before now : ℕ) (status : Status) (text : List ℕ)
+      → IfSome told (λ files. node_bytes plan_name element_name file_name files ≡ Ok (plan, element, bytes)) → now ≡ before
+      → IsNodeReply plan element bytes until status text
+      → EndsIn (NodeAnswer plan_name element_name file_name until) (FormMissesFile (Some (node plan_name element_name file_name until))) (outside told steady before now) status text
+  ends told steady before now Done text is calm sent = (given told Done text sent.0 is sent.1 sent.2, calm)
+  ends told steady before now Stopped text is calm sent = (given told Stopped text sent.0 is sent.1 sent.2, calm)
+  ends told steady before now BadFrames text is calm sent = (refused told text sent.0 is sent.1 sent.2, calm)
+  ends told steady before now Refuted text is calm sent = absurd sent
+  ends told steady before now Usage text is calm sent = absurd sent
+  ends told steady before now BadPlan text is calm sent = absurd sent
+  ends told steady before now BadCert text is calm sent = absurd sent
+  ends told steady before now BadEvents text is calm sent = absurd sent
+  ends told steady before now ReadFault text is calm sent = absurd sent
+  ends told steady before now WriteFault text is calm sent = absurd sent
+  ends told steady before now TooLong text is calm sent = absurd sent
+  ends told steady before now NoMemory text is calm sent = absurd sent

@@ -1,0 +1,178 @@
+ghost use Rattle.std.specs.Prelude.{◌≡◌, ◌≢◌, ◌<◌, ◌+◌, ◌++◌, ◌≤◌, ℕ, List, Some, IfOk, IfSome, IsErr, OnOk, length};
+ghost use Rattle.sync_edge.specs.Contents.{KeepsFolder};
+ghost use Rattle.sync_top.specs.Reading.{text_line};
+ghost use Rattle.sync_topo.specs.Topology.{Topology};
+ghost use Rattle.node_replay.specs.Sent.{IsSentText};
+ghost use Rattle.sync_top.specs.Forms.Node.{node_place, node_refusal, element_in, element_of_plan, received_in, node_bytes, IsNodeReply, NodeAnswer};
+ghost use Rattle.sync_top.specs.Answer.{across, FormMissesFile, FirstEnds};
+ghost use Rattle.sync_top.specs.Form.{node};
+ghost use Rattle.sync_top.specs.Work.{Reads, Replies, NeverUsage, stopped_in, status_of};
+
+use crate::input::file;
+use crate::plan_input::plan_in;
+use crate::reply::{Reply, Stop, line_text, put_number, refusal};
+use crate::status::Status;
+use node_file::NodeErr;
+use node_replay::{NodeEnd, Replayed, replay};
+use std::alloc::Global;
+use sync_edge::{Folder, NoMemory, Text};
+use sync_ql::limits::LAST_MILLISECOND;
+use sync_topo::Plan;
+
+/// The line on a file of an element that is refused.
+fn refusal_text(alloc: Global, refused: NodeErr) -> Result<Text, NoMemory>
+    requires numbered { refused ≢ NodeErr.NoMemory }
+    ensures { IfOk result (λ text. text ≡ text_line (node_refusal refused)) }
+{
+    let Some(number) = refused.number() else {
+        unreachable!()
+    };
+    let mut text = refusal(alloc, b"bad node ", number)?;
+    put_place(&mut text, refused)?;
+    text.put(b"\n")?;
+    Ok(text)
+}
+
+/// Puts the line that is refused, and for a frame the number of its first wrong part.
+fn put_place(text: &mut Text, refused: NodeErr) -> Result<(), NoMemory>
+    ensures { OnOk result (text.new ≡ text.old ++ node_place refused) }
+{
+    match refused {
+        NodeErr::Fields(line)
+        | NodeErr::Time(line)
+        | NodeErr::Order(line)
+        | NodeErr::What(line)
+        | NodeErr::Target(line)
+        | NodeErr::Value(line) => put_number(text, line),
+        NodeErr::Frame(line, error) => {
+            put_number(text, line)?;
+            put_number(text, u64::from(error.number()))
+        }
+        NodeErr::NoMemory => Ok(()),
+    }
+}
+
+/// An element of a plan, and then the bytes of a file.
+fn received_in<F: Folder>(
+    alloc: Global,
+    folder: &mut F,
+    plan: &Plan,
+    element: &str,
+    name: &str,
+) -> Result<(u32, Text), Stop>
+    ensures reads { Reads (λ read. (read.0, read.1)) (across F.contents F.steady F.faults folder.old folder.new) result
+        (received_in plan.now element.now name.now) }
+    ensures form { NeverUsage result }
+    ensures no_plan { stopped_in result ≢ Some Status.BadPlan }
+    ensures keeps { KeepsFolder F.contents F.steady F.faults folder.old folder.new }
+    ensures once { F.tries folder.new ≤ F.tries folder.old + 1 }
+    ensures none { IsErr (element_in plan.now element.now) → F.tries folder.new ≤ F.tries folder.old }
+    ensures within { IfOk result (λ read. read.0 < length plan.now.elements) }
+{
+    let Some(element) = plan.element_of_name(element.as_bytes()) else {
+        return Err(Stop::Ended(Reply {
+            status: Status::BadFrames,
+            text: line_text(alloc, b"bad node 50")?,
+        }));
+    };
+    match file(alloc, folder, name) {
+        Ok(bytes) => Ok((element, bytes)),
+        Err(stop) => Err(stop),
+    }
+}
+
+/// The plan, its element and the bytes of a file, in this order.
+fn node_bytes<F: Folder>(
+    alloc: Global,
+    folder: &mut F,
+    plan: &str,
+    element: &str,
+    name: &str,
+) -> Result<(Plan, u32, Text), Stop>
+    ensures reads { Reads (λ read. (read.0, read.1, read.2)) (across F.contents F.steady F.faults folder.old folder.new) result
+        (node_bytes plan.now element.now name.now) }
+    ensures form { NeverUsage result }
+    ensures keeps { KeepsFolder F.contents F.steady F.faults folder.old folder.new }
+    ensures once { F.tries folder.new ≤ F.tries folder.old + 2 }
+    ensures plan_alone { stopped_in result ≡ Some Status.BadPlan → F.tries folder.new ≤ F.tries folder.old + 1 }
+    ensures first_alone { IfSome (F.contents folder.old) (λ files. IsErr (element_of_plan plan.now element.now files) →
+        F.tries folder.new ≤ F.tries folder.old + 1) }
+    ensures within { IfOk result (λ read. read.1 < length read.0.elements) }
+{
+    let plan = plan_in(alloc, folder, plan)?;
+    match received_in(alloc, folder, &plan, element, name) {
+        Ok((element, bytes)) => Ok((plan, element, bytes)),
+        Err(stop) => Err(stop),
+    }
+}
+
+/// The reply to the frames that were made.
+fn sent(replayed: Replayed) -> Reply
+    ensures sent { (plan : Topology) (element until : ℕ) (bytes : List ℕ) →
+        IsSentText plan element bytes until replayed → IsNodeReply plan element bytes until result.status result.text }
+    ensures form { result.status ≢ Status.Usage }
+    ensures no_plan { result.status ≢ Status.BadPlan }
+{
+    match replayed.end {
+        NodeEnd::Until => Reply {
+            status: Status::Done,
+            text: replayed.text,
+        },
+        NodeEnd::Stopped(_) => Reply {
+            status: Status::Stopped,
+            text: replayed.text,
+        },
+    }
+}
+
+/// The reply to an element of a plan and the bytes of its file.
+fn replayed(
+    alloc: Global,
+    plan: &Plan,
+    element: u32,
+    bytes: &[u8],
+    until: u64,
+) -> Result<Reply, NoMemory>
+    requires within { element < length plan.now.elements }
+    requires in_range { until ≤ LAST_MILLISECOND }
+    ensures replayed { IfOk result (λ reply. IsNodeReply plan.now element bytes.now until reply.status reply.text) }
+    ensures form { IfOk result (λ reply. reply.status ≢ Status.Usage) }
+    ensures no_plan { IfOk result (λ reply. reply.status ≢ Status.BadPlan) }
+{
+    match replay(alloc, plan, element, bytes, until) {
+        Ok(frames) => Ok(sent(frames)),
+        Err(NodeErr::NoMemory) => Err(NoMemory),
+        Err(refused) => Ok(Reply {
+            status: Status::BadFrames,
+            text: refusal_text(alloc, refused)?,
+        }),
+    }
+}
+
+/// The work of `node`.
+pub(crate) fn node<F: Folder>(
+    alloc: Global,
+    folder: &mut F,
+    plan: &str,
+    element: &str,
+    name: &str,
+    until: u64,
+) -> Result<Reply, Stop>
+    requires in_range { until ≤ LAST_MILLISECOND }
+    ensures replies { Replies (NodeAnswer plan.now element.now name.now until)
+        (FormMissesFile (Some (node plan.now element.now name.now until)))
+        (across F.contents F.steady F.faults folder.old folder.new) result }
+    ensures form { NeverUsage result }
+    ensures done { IfOk result (λ reply. reply.status ≢ Status.Usage) }
+    ensures keeps { KeepsFolder F.contents F.steady F.faults folder.old folder.new }
+    ensures once { F.tries folder.new ≤ F.tries folder.old + 2 }
+    ensures plan_alone { status_of result ≡ Some Status.BadPlan → F.tries folder.new ≤ F.tries folder.old + 1 }
+    ensures first_alone { IfSome (F.contents folder.old) (λ files. FirstEnds (Some (node plan.now element.now name.now until)) files →
+        F.tries folder.new ≤ F.tries folder.old + 1) }
+{
+    let (plan, element, bytes) = node_bytes(alloc, folder, plan, element, name)?;
+    match replayed(alloc, &plan, element, bytes.bytes(), until) {
+        Ok(reply) => Ok(reply),
+        Err(_) => Err(Stop::OutOfMemory),
+    }
+}
