@@ -30,7 +30,7 @@ module _ (plan : Topology) (rows : List NodeRow) (element : ℕ) where
       subst (λ k. length (rows_before plan rows element m) ≤ length (rows_before plan rows element k)) same (more-rows m (n - m))
 
   -- where all fit, none is the last that does
-  not-both : (last until : ℕ) → AllFit plan rows element until → IsLastFit plan rows element last until → ⊥
+  pub not-both : (last until : ℕ) → AllFit plan rows element until → IsLastFit plan rows element last until → ⊥
   not-both last until all stop =
       let before = stop.before in
       let full = stop.full in
@@ -44,7 +44,7 @@ module _ (plan : Topology) (rows : List NodeRow) (element : ℕ) where
       let more = grow (suc (suc one)) (suc other) (omega (arith, early)) in
       omega (arith, full, fit, more)
 
-  one-last : (one other until : ℕ) → IsLastFit plan rows element one until → IsLastFit plan rows element other until → one ≡ other
+  pub one-last : (one other until : ℕ) → IsLastFit plan rows element one until → IsLastFit plan rows element other until → one ≡ other
   one-last one other until first second = elim (dec_lt one other) [
     | yes early ↦ absurd (not-later one other until first second early)
     | no not_early ↦ elim (dec_lt other one) [

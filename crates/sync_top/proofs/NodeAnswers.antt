@@ -1,12 +1,11 @@
 -- What one element sends for a file is one answer, and what is written is that answer.
-use Rattle.std.proofs.Common.{◌≡◌, ◌≤◌, ◌<◌, ◌+◌, ℕ, zero, suc, Bool, List, map, length, Option, None, Some, Ok, Err, refl, sym, ap, subst, ◌∙◌, inl, inr, arith, add-zero}
-use Rattle.std.specs.Prelude.{◌⊎◌, ◌-◌, IfSome}
-use Rattle.std.proofs.Math.Decide.{dec_lt}
-use Rattle.std.proofs.lemmas.List.{length-append}
+use Rattle.std.proofs.Common.{◌≡◌, ℕ, Bool, List, Option, None, Some, Ok, Err, refl, sym, ap, ◌∙◌, inl, inr}
+use Rattle.std.specs.Prelude.{◌⊎◌, IfSome}
 use Rattle.sync_edge.specs.Contents.{Contents}
 use Rattle.sync_topo.specs.Topology.{Topology}
 use Rattle.node_file.specs.declared.row.NodeRow.{NodeRow}
-use Rattle.node_rules.specs.NodeText.{rows_before, frame_row, sending_at, AllFit, IsLastFit, whole_text, stopped_text}
+use Rattle.node_rules.specs.NodeText.{AllFit, IsLastFit, whole_text, stopped_text}
+use Rattle.node_replay.proofs.OneText.{not-both, one-last}
 use Rattle.sync_top.specs.declared.status.Status.{Status}
 use Rattle.sync_top.specs.declared.status.Status.TheVariants.{Done, Refuted, Usage, BadPlan, BadCert, BadEvents, BadFrames, ReadFault, WriteFault, TooLong, NoMemory, Stopped}
 use Rattle.node_file.specs.declared.error.NodeErr.{NodeErr}
@@ -17,37 +16,6 @@ use Rattle.sync_top.specs.Forms.Node.{node_bytes, node_refusal, AreFramesSent, I
 use Rattle.sync_top.specs.Answer.{FormMissesFile}
 use Rattle.sync_top.specs.Work.{EndsIn}
 use Rattle.sync_top.proofs.Cuts.{outside}
-
--- rows of more milliseconds are no fewer
-grow : (plan : Topology) (rows : List NodeRow) (element n k : ℕ) → length (rows_before plan rows element n) ≤ length (rows_before plan rows element (n + k))
-grow plan rows element n zero = rw (add-zero n) (omega arith)
-grow plan rows element n (suc k) =
-    let more : n + suc k ≡ suc (n + k) = omega arith in
-    let size = length-append (rows_before plan rows element (n + k)) (map (frame_row plan rows element (n + k)) (sending_at plan rows element (n + k))) in
-    let before = grow plan rows element n k in
-    rw more (omega (arith, size, before))
-
-no_fewer : (plan : Topology) (rows : List NodeRow) (element n m : ℕ) → n ≤ m → length (rows_before plan rows element n) ≤ length (rows_before plan rows element m)
-no_fewer plan rows element n m within =
-    let whole : n + (m - n) ≡ m = omega (arith, within) in
-    subst (λ k. length (rows_before plan rows element n) ≤ length (rows_before plan rows element k)) whole (grow plan rows element n (m - n))
-
-no_later : (plan : Topology) (rows : List NodeRow) (element until t u : ℕ) → IsLastFit plan rows element t until → IsLastFit plan rows element u until → t < u → ⊥
-no_later plan rows element until t u first second before =
-    omega (arith, first.full, second.fit, no_fewer plan rows element (suc (suc t)) (suc u) (omega (arith, before)))
-
-one_last : (plan : Topology) (rows : List NodeRow) (element until t u : ℕ) → IsLastFit plan rows element t until → IsLastFit plan rows element u until → t ≡ u
-one_last plan rows element until t u first second = elim (dec_lt t u) [
-  | yes before ↦ absurd (no_later plan rows element until t u first second before)
-  | no not_before ↦ elim (dec_lt u t) [
-    | yes behind ↦ absurd (no_later plan rows element until u t second first behind)
-    | no not_behind ↦ omega (arith, not_before, not_behind)
-  ]
-]
-
-not_both : (plan : Topology) (rows : List NodeRow) (element until t : ℕ) → AllFit plan rows element until → IsLastFit plan rows element t until → ⊥
-not_both plan rows element until t fit last =
-    omega (arith, fit, last.full, no_fewer plan rows element (suc (suc t)) (suc until) (omega (arith, last.before)))
 
 -- what may be written
 abbrev Whole : Topology → ℕ → List NodeRow → ℕ → Status → List ℕ → Type 0
@@ -79,12 +47,12 @@ one_sent plan element rows until status other text another first second =
     elim (either plan element rows until status text first) [
       | inl whole ↦ elim (either plan element rows until other another second) [
         | inl also ↦ (whole.0 ∙ sym also.0, whole.2 ∙ sym also.2)
-        | inr cut ↦ absurd (not_both plan rows element until cut.1.0 whole.1 cut.1.1)
+        | inr cut ↦ absurd (not-both plan rows element cut.1.0 until whole.1 cut.1.1)
       ]
       | inr cut ↦ elim (either plan element rows until other another second) [
-        | inl whole ↦ absurd (not_both plan rows element until cut.1.0 whole.1 cut.1.1)
+        | inl whole ↦ absurd (not-both plan rows element cut.1.0 until whole.1 cut.1.1)
         | inr also ↦
-            let same = one_last plan rows element until cut.1.0 also.1.0 cut.1.1 also.1.1 in
+            let same = one-last plan rows element cut.1.0 also.1.0 until cut.1.1 also.1.1 in
             (cut.0 ∙ sym also.0, cut.1.2 ∙ ap (stopped_text plan rows element) same ∙ sym also.1.2)
       ]
     ]
