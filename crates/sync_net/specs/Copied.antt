@@ -1,7 +1,11 @@
 -- Private to this crate: when two networks keep the same.
-use Rattle.std.specs.Prelude.{◌≡◌, ◌<◌, ℕ, false, nat_eq, List, length, slice_index_or}
+use Rattle.std.specs.Prelude.{◌≡◌, ◌<◌, ◌+◌, ℕ, true, false, nat_eq, List, Option, length, slice_index_or, option_and_then}
 use Rattle.std.specs.List.{list_any}
+use Rattle.agenda.specs.DueTimes.{due_in}
+use Rattle.sync_element.specs.ElementState.{ElementState}
+use Rattle.link_model.specs.LineState.{LineState}
 use Rattle.sync_net.specs.declared.parts.Parts.{Parts}
+use Rattle.sync_net.specs.NetState.{line_in}
 
 pub record AreSame (parts copy : Parts) : Type 0 where
   pub next : copy.next ≡ parts.next
@@ -22,6 +26,22 @@ pub record AreSame (parts copy : Parts) : Type 0 where
 pub record AreSameBut {A : Type 0} (places : List ℕ) (xs ys : List A) : Type 0 where
   pub count : length xs ≡ length ys
   pub same : (k : ℕ) (other : A) → k < length ys → list_any (nat_eq k) places ≡ false → slice_index_or xs k other ≡ slice_index_or ys k other
+
+-- when the element at a place is due
+abbrev pub IsElementDue : List ElementState → ℕ → Option ℕ → Type 0
+IsElementDue elements e due = (other : ElementState) → due ≡ (slice_index_or elements e other).due
+
+-- when the line at a place is due, if it is kept
+abbrev pub IsLineDue : List (Option LineState) → ℕ → Option ℕ → Type 0
+IsLineDue lines l due = due ≡ option_and_then (λ state. state.due) (line_in lines l)
+
+-- due times from a first one on: those of some places are now what they have to be, and all others as
+-- they were
+pub record AreRenewed (first : ℕ) (places : List ℕ) (IsDue : ℕ → Option ℕ → Type 0) (before after : List (Option ℕ)) : Type 0 where
+  pub count : length after ≡ length before
+  pub renewed : (k : ℕ) → list_any (nat_eq k) places ≡ true → IsDue k (due_in after (first + k))
+  pub left : (k : ℕ) → list_any (nat_eq k) places ≡ false → due_in after (first + k) ≡ due_in before (first + k)
+  pub earlier : (k : ℕ) → k < first → due_in after k ≡ due_in before k
 
 -- a network became what another over the same plan is: it keeps what is the same for both
 pub record AreReturned (base before after : Parts) : Type 0 where

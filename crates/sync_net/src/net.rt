@@ -120,7 +120,14 @@ impl<'a> Net<'a> {
         ensures returned { OnOk result (self.new ≡ base.now) }
         ensures spent { OnErr result (self.new.spent ≡ true) }
     {
-        match return_parts(alloc, &mut self.parts, &base.parts, elements, lines) {
+        match return_parts(
+            alloc,
+            self.plan,
+            &mut self.parts,
+            &base.parts,
+            elements,
+            lines,
+        ) {
             Ok(()) => Ok(()),
             Err(NoMemory) => {
                 self.spent = true;

@@ -1,35 +1,35 @@
 //! Goes back to what another network keeps.
 
-ghost use Rattle.std.specs.Prelude.{◌≡◌, ◌<◌, length, OnOk};
+ghost use Rattle.std.specs.Prelude.{◌≡◌, ◌≤◌, ◌<◌, ◌+◌, ◌^◌, length, option_and_then, OnOk};
 ghost use Rattle.std.specs.List.{All};
-ghost use Rattle.sync_net.specs.Copied.{AreSameBut, AreReturned};
+ghost use Rattle.sync_net.specs.Whole.{IsWhole};
+ghost use Rattle.sync_net.specs.Copied.{AreSameBut, AreRenewed, IsElementDue, IsLineDue, AreReturned};
 
 use crate::copying::try_clone_line;
 use crate::parts::Parts;
+use agenda::DueTimes;
 use link_model::Line;
 use std::alloc::Global;
 use sync_edge::NoMemory;
 use sync_element::Element;
+use sync_topo::Plan;
 
 // The parts become those of another network over the same plan, from which they differ in some
 // elements and lines alone; what is told, places and outs are the same for all of a plan.
 pub fn return_parts(
     alloc: Global,
+    plan: &Plan,
     parts: &mut Parts,
     base: &Parts,
     elements: &[u32],
     lines: &[u32],
 ) -> Result<(), NoMemory>
+    requires whole { IsWhole plan.now parts.old }
+    requires base_whole { IsWhole plan.now base.now }
     requires elements_within { All (λ e. e < length base.now.elements.items) elements.now }
     requires lines_within { All (λ l. l < length base.now.lines.items) lines.now }
     requires elements { AreSameBut elements.now parts.old.elements.items base.now.elements.items }
     requires lines { AreSameBut lines.now parts.old.lines.items base.now.lines.items }
-    requires signals { length parts.old.signals.items ≡ length base.now.signals.items }
-    requires sources { length parts.old.sources.items ≡ length base.now.sources.items }
-    requires heards { length parts.old.heards.items ≡ length base.now.heards.items }
-    requires dues { length parts.old.dues ≡ length base.now.dues }
-    requires active { length parts.old.tellings.active.flags ≡ length base.now.tellings.active.flags }
-    requires called { length parts.old.called.flags ≡ length base.now.called.flags }
     ensures { OnOk result (AreReturned base.now parts.old parts.new) }
 {
     return_elements(
@@ -44,10 +44,16 @@ pub fn return_parts(
         base.lines.as_slice(),
         lines,
     )?;
+    renew_element_dues(&mut parts.dues, base.elements.as_slice(), elements);
+    renew_line_dues(
+        &mut parts.dues,
+        plan.elements(),
+        base.lines.as_slice(),
+        lines,
+    );
     parts.signals.copy_from_slice(base.signals.as_slice());
     parts.sources.copy_from_slice(base.sources.as_slice());
     parts.heards.copy_from_slice(base.heards.as_slice());
-    parts.dues.copy_from(&base.dues);
     parts.tellings.active.copy_from(&base.tellings.active);
     parts.called.copy_from(&base.called);
     parts.next = base.next;
@@ -87,4 +93,37 @@ fn return_lines(
         lines[place] = try_clone_line(alloc, &base[place])?;
     }
     Ok(())
+}
+
+// Elements at some places are due when they say so.
+fn renew_element_dues(dues: &mut DueTimes, elements: &[Element], places: &[u32])
+    requires within { All (λ e. e < length elements.now) places.now }
+    requires room { length elements.now ≤ length dues.old }
+    ensures { AreRenewed 0 places.now (IsElementDue elements.now) dues.old dues.new }
+{
+    for place in places {
+        dues.set(*place, elements[*place as usize].due());
+    }
+}
+
+// Lines at some places, which stand from the first on, are due when they say so.
+fn renew_line_dues(dues: &mut DueTimes, first: u32, lines: &[Option<Line>], places: &[u32])
+    requires within { All (λ l. l < length lines.now) places.now }
+    requires few { first + length lines.now < 2 ^ 32 }
+    requires room { first + length lines.now ≤ length dues.old }
+    ensures { AreRenewed first places.now (IsLineDue lines.now) dues.old dues.new }
+{
+    for place in places {
+        dues.set(first + *place, due_of(&lines[*place as usize]));
+    }
+}
+
+// When a line is due, if it is kept.
+fn due_of(line: &Option<Line>) -> Option<u64>
+    ensures { result ≡ option_and_then (λ state. state.due) line.now }
+{
+    match line {
+        Some(line) => line.due(),
+        None => None,
+    }
 }
