@@ -22,14 +22,8 @@ use Rattle.net_rules.specs.Settled.{IsSteady}
 use Rattle.net_rules.specs.Walks.{Each}
 use Rattle.net_rules.proofs.NetLaws.{each-at, signals-at, failed-at}
 use Rattle.sync_net.specs.Standing.{ElementStands}
-use Rattle.sync_net.proofs.QuietObjects.{failed-until}
-use Rattle.sync_net.proofs.DistinctInputs.{input-of}
+use Rattle.sync_net.proofs.SteadyElements.{each-by, inputs-count, up-now, failed-now}
 use Rattle.settle_trace.specs.Resting.{AreSteady}
-
--- what holds at each place
-each-by : {A : Type 0} (P : A → Type 0) (xs : List A) → ((i : ℕ) (x : A) → slice_get xs i ≡ Some x → P x) → Each P xs
-each-by P [] holds = tt
-each-by P (x ∷ xs) holds = (holds 0 x refl, each-by P xs (λ i y at. holds (suc i) y at))
 
 -- no time runs: the condition is good or failed
 steady-by : (up failed : Bool) (left : ℕ) → left_of (condition_of up failed left) ≡ None → failed ≡ not up
@@ -44,42 +38,11 @@ by-steady true false left is = refl
 by-steady false true left is = refl
 by-steady false false left is = absurd (true≢false (sym is))
 
--- while nothing is told an input stays up or down
-up-quiet : (settings : Settings) (k i : ℕ) (past : List Moment) → i < length settings.priorities
-    → is_up (signals_of i (quiet_moments settings k past)) ≡ is_up (signals_of i past)
-up-quiet settings zero i past within = refl
-up-quiet settings (suc k) i past within =
-    ap (λ input. input.signal.up) (input_of-moment_after settings (quiet_moments settings k past) [] i within)
-    ∙ up-quiet settings k i past within
-
-inputs-count : (plan : Topology) (element : ℕ) → length (settings_of plan element).priorities ≡ length (inputs_of plan element)
-unfolding settings_of
-inputs-count plan element = length-map (inputs_of plan element) (input_priority plan)
-
 module _ (plan : Topology) (signals : Signals) (out : Levels) (place t : ℕ) (element : ElementState)
     (stands : ElementStands plan signals out place (suc t) element)
     (due : (past : List Moment) → Element.StandsFor element past → IsElementDue element.settings past element.due) where
   abbrev pub last : List Moment
   last = element_past plan signals out place element.next
-
-  -- up and failed at the last step are up and failed now
-  up-now : (i : ℕ) (input : InputId) → slice_get (inputs_of plan place) i ≡ Some input → i < length (settings_of plan place).priorities
-      → is_up (signals_of i last) ≡ signals.up input t
-  up-now i input at within =
-      sym (up-quiet (settings_of plan place) (suc t - length last) i last within)
-      ∙ sym (ap (λ past. is_up (signals_of i past)) stands.quiet)
-      ∙ ap is_up (signals-at plan signals (heard plan signals out) place (suc t) i input at)
-
-  failed-now : (i : ℕ) (input : InputId) → slice_get (inputs_of plan place) i ≡ Some input → i < length (settings_of plan place).priorities
-      → failed_at (settings_of plan place).timers (signals_of i last) ≡ failed_by plan signals input t
-  failed-now i input at within =
-      let long = length-past_of (moment_at plan signals (heard plan signals out) place) element.next in
-      let later = stands.in_time.later in
-      let changes : IsElementDue (settings_of plan place) last element.due =
-      subst (λ settings. IsElementDue settings last element.due) stands.settings (due last stands.stands) in
-      sym (failed-until (settings_of plan place) last element.due (suc t) changes (omega (arith, long, later)) stands.in_time.until_due i within)
-      ∙ sym (ap (λ past. failed_at (settings_of plan place).timers (signals_of i past)) stands.quiet)
-      ∙ failed-at plan signals out place t i input at (input-of plan place i input at).of_element
 
   -- no condition ends exactly where each input is steady
   pub none-steady : NoneEnds element.settings last → AreSteady plan signals t place
@@ -90,9 +53,9 @@ module _ (plan : Topology) (signals : Signals) (out : Levels) (place t : ℕ) (e
       omega (arith, inputs-count plan place, slice_get_within (inputs_of plan place) i input at) in
       let ends : left_in (settings_of plan place) last i ≡ None =
       subst (λ settings. left_in settings last i ≡ None) stands.settings (none i (subst (λ settings. i < length settings.priorities) (sym stands.settings) within)) in
-      sym (failed-now i input at within)
+      sym (failed-now plan signals out place t element stands due i input at within)
       ∙ steady-by (is_up (signals_of i last)) (failed_at (settings_of plan place).timers (signals_of i last)) (left_at (settings_of plan place).timers (signals_of i last)) ends
-      ∙ ap not (up-now i input at within))
+      ∙ ap not (up-now plan signals out place t element stands due i input at within))
 
   pub steady-none : AreSteady plan signals t place → NoneEnds element.settings last
   unfolding condition_at
@@ -102,9 +65,9 @@ module _ (plan : Topology) (signals : Signals) (out : Levels) (place t : ℕ) (e
       (elim (slice_get_cases (inputs_of plan place) i).1 [
         | inl there ↦
             by-steady (is_up (signals_of i last)) (failed_at (settings_of plan place).timers (signals_of i last)) (left_at (settings_of plan place).timers (signals_of i last))
-            (failed-now i there.0 there.2 within
+            (failed-now plan signals out place t element stands due i there.0 there.2 within
             ∙ each-at (λ input. IsSteady plan signals input t) (inputs_of plan place) i there.0 steady there.2
-            ∙ sym (ap not (up-now i there.0 there.2 within)))
+            ∙ sym (ap not (up-now plan signals out place t element stands due i there.0 there.2 within)))
         | inr past ↦ absurd (omega (arith, within, past.0, inputs-count plan place))
       ])
 

@@ -19,22 +19,6 @@ use Rattle.net_rules.proofs.InputLaws.{inputs-are, each-input}
 use Rattle.net_rules.proofs.PlanLaws.{receiver-within}
 use Rattle.settle_trace.specs.Resting.{IsLineSettled, AreSteady}
 
--- the element of an input is one of the plan
-pub input-within : (plan : Topology) → IsWellFormed plan → (input : InputId) → IsInput plan input → element_of plan input < length plan.elements
-input-within plan well (Line line) within = receiver-within plan well line.0 within
-input-within plan well (Source source) within = elim (slice_get_cases plan.sources source).1 [
-  | inl there ↦ rw there.2 ((well.sources_fit source there.0 there.2).at_is_element)
-  | inr past ↦ absurd (omega (arith, within, past.0))
-]
-
--- all inputs are steady where those of each element are
-pub all-steady : (plan : Topology) (signals : Signals) (t : ℕ) → IsWellFormed plan
-    → ((k : ℕ) → k < length plan.elements → AreSteady plan signals t k)
-    → (input : InputId) → IsInput plan input → IsTrue (is_nominated_input plan input) → IsSteady plan signals input t
-all-steady plan signals t well each input has nominated =
-    each-input (λ i. IsSteady plan signals i t) plan (element_of plan input) (each (element_of plan input) (input-within plan well input has)) input
-    (record { has = has; nominated = nominated; of_element = refl })
-
 -- the last of so many milliseconds
 pub last-is : (next now : ℕ) (answer : Option ℕ) → answer ≡ Some now → answer ≡ (if nat_eq next 0 then None else Some (next - 1)) → next ≡ suc now
 last-is zero now answer some is = absurd (none-some now (sym is ∙ some))

@@ -29,7 +29,7 @@ use sync_topo::{InputId, LineId};
 /// message that is on its way would change what is heard.
 ///
 /// The network isn't spent, and has stepped. It takes no memory, and time by the number of elements,
-/// lines and words on their way. This project's own.
+/// lines and words on their way; none of them is looked at where nothing is due. This project's own.
 pub fn settled(net: &Net<'_>) -> bool
     requires live { net.now.spent ≡ false }
     requires stepped { 0 < net.now.next }
@@ -65,7 +65,7 @@ pub fn settled(net: &Net<'_>) -> bool
     is_settled(net)
 }
 
-// Whether no time of an input runs and each line is settled.
+// Whether nothing is due, or no time of an input runs and each line is settled.
 fn is_settled(net: &Net<'_>) -> bool
     requires live { net.now.spent ≡ false }
     requires stepped { 0 < net.now.next }
@@ -74,6 +74,10 @@ fn is_settled(net: &Net<'_>) -> bool
     ensures well_formed { IsWellFormed net.now.plan }
 {
     net_rules::settled_law();
+    let _elements = net.plan().elements();
+    if net.due().is_none() {
+        return true;
+    }
     let steady = are_inputs_steady(net);
     let settled = are_lines_settled(net);
     steady && settled

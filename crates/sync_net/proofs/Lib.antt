@@ -8,6 +8,9 @@ pub mod ObjectSteps
 pub mod StageLaws
 pub mod SentLevels
 pub mod DistinctInputs
+pub mod SteadyElements
+pub mod IdleLines
+pub mod IdleNet
 pub mod FitLaws
 pub mod PlaceLemmas
 pub mod SplitWords

@@ -1,5 +1,5 @@
 -- The laws of a network, as contracts see it.
-use Rattle.std.proofs.Common.{◌≡◌, ◌≤◌, ◌<◌, ◌+◌, ◌*◌, ℕ, Bool, true, false, List, length, Option, None, Some, IfSome, ap, sym, subst, ◌∙◌, inl, inr, arith}
+use Rattle.std.proofs.Common.{◌≡◌, ◌≤◌, ◌<◌, ◌+◌, ◌-◌, ◌*◌, ℕ, Bool, true, false, List, length, Option, None, Some, IfSome, ap, sym, subst, ◌∙◌, inl, inr, arith}
 use Rattle.std.specs.Prelude.{slice_index_or}
 use Rattle.std.specs.List.{All}
 use Rattle.std.proofs.lemmas.List.{get_or_default}
@@ -16,6 +16,7 @@ use Rattle.net_rules.specs.History.{out_at}
 use Rattle.net_rules.specs.Activity.{is_active, is_busy}
 use Rattle.sync_ql.specs.Messages.{hearing_time}
 use Rattle.sync_topo.specs.WellFormed.{IsWellFormed}
+use Rattle.net_rules.specs.Settled.{IsSettled}
 use Rattle.net_rules.specs.Settling.{IsUnswitched}
 use Rattle.net_rules.specs.Facing.{Faces}
 use Rattle.net_rules.proofs.FinalLaws.{obeys-well, pair-by_events}
@@ -23,11 +24,13 @@ use Rattle.net_rules.proofs.PairLaws.{pair-short}
 use Rattle.sync_net.specs.declared.parts.Parts.{Parts}
 use Rattle.sync_net.specs.NetState.{NetState, line_in, NoneDueBefore, IsDueAt}
 use Rattle.sync_net.specs.NetState as Net
+use Rattle.sync_net.specs.Sound.{AreSound}
 use Rattle.sync_net.specs.Standing.{IsOfPast, ElementStands, LineStands, NoneFrom}
 use Rattle.sync_net.specs.NetStep.{IsNetStep, AreEvaluatedFor}
 use Rattle.sync_net.specs.Evaluated.{IsContinued}
 use Rattle.sync_net.specs.Whole.{state_of, IsReadyLine, IsWhole}
 use Rattle.sync_net.proofs.QuietGap.{stands-later, some_element}
+use Rattle.sync_net.proofs.IdleNet.{settled-idle}
 use Rattle.sync_net.proofs.ActiveLaws.{due-busy}
 use Rattle.sync_net.proofs.Assembling.{if_some_at}
 use Rattle.sync_net.proofs.NetLaws.{if-some, whole-sound, whole-later, state-live, stands_after, all_active, first_least, due_here}
@@ -111,6 +114,12 @@ module _ (net : NetState) (plan : Topology) (spent : Bool) (p : Parts) (view : s
   pub seen_gap_idle : ((i : ℕ) → i < length p.dues → due_in p.dues i ≡ None) → (all : List Event) (m n : ℕ) → IsOfPast net all m → m ≤ n → (net.next ≡ 0 → n ≡ 0) → NoneFrom m n all → IsOfPast net all n
   seen_gap_idle idle all m n is early begun none =
       seen_gap_of all m n is early begun none (seen_least n (λ i inside. subst (λ o. IfSome o (λ due. n ≤ due)) (sym (idle i inside)) tt))
+
+  pub seen_settled : ((i : ℕ) → i < length p.dues → due_in p.dues i ≡ None) → 0 < net.next → (all : List Event) → IsOfPast net all net.next
+      → IsSettled net.plan (signals_by net.plan all) (out_at net.plan (signals_by net.plan all)) (net.next - 1)
+  seen_settled idle begun all is =
+      settled-idle net all (subst (λ s. IsWellFormed s.plan) seen whole.well_formed) (subst AreSound seen (whole-sound plan false p whole)) begun is
+      (λ n. seen_least n (λ i inside. subst (λ o. IfSome o (λ due. n ≤ due)) (sym (idle i inside)) tt))
 
   pub seen_busy : (due : Due) → IsFirst p.dues due → (all : List Event) (n : ℕ) → IsOfPast net all n → 0 < net.next → n ≤ due.at → NoneFrom n due.at all → is_busy net.plan all due.at ≡ true
   seen_busy due first all n is begun early none =

@@ -1,6 +1,6 @@
 //! The network, as other crates see it.
 
-ghost use Rattle.std.specs.Prelude.{◌≡◌, ◌≤◌, ◌<◌, ◌+◌, ◌-◌, ◌*◌, ℕ, true, false, nat_eq, if◌then◌else◌, List, [], All, IfOk, OnOk, IfSome, OnErr, Option, None, Some, length, slice_index_or};
+ghost use Rattle.std.specs.Prelude.{◌≡◌, ◌≤◌, ◌<◌, ◌+◌, ◌-◌, ◌*◌, ℕ, true, false, nat_eq, if◌then◌else◌, List, [], All, IfOk, OnOk, IfSome, IsNone, OnErr, Option, None, Some, length, slice_index_or};
 ghost use Rattle.std.specs.List.{list_any};
 ghost use Rattle.sync_topo.specs.declared.event.Event.{Event};
 ghost use Rattle.sync_topo.specs.Events.{Fits};
@@ -9,6 +9,7 @@ ghost use Rattle.sync_element.specs.ElementState.{ElementState};
 ghost use Rattle.net_rules.specs.Signals.{signals_by, speaks_at};
 ghost use Rattle.net_rules.specs.History.{settings_of, out_at};
 ghost use Rattle.net_rules.specs.Activity.{is_active, is_busy};
+ghost use Rattle.net_rules.specs.Settled.{IsSettled};
 ghost use Rattle.net_rules.specs.Settling.{IsUnswitched};
 ghost use Rattle.net_rules.specs.Facing.{Faces};
 ghost use Rattle.sync_ql.specs.Messages.{hearing_time};
@@ -224,8 +225,8 @@ impl<'a> Net<'a> {
     /// The first later millisecond in which a step has to be made, if nothing is told.
     ///
     /// It is the least of the due times of its elements and nominated lines, and `None` exactly
-    /// where none is due. Where no event stands from the last step up to it, something happens in
-    /// it. This project's own.
+    /// where none is due; then the millisecond of the last step is settled. Where no event stands
+    /// from the last step up to it, something happens in it. This project's own.
     pub fn due(&self) -> Option<u64>
         requires live { self.now.spent ≡ false }
         ensures least { (n : ℕ) → IfSome result (λ due. n ≤ due) → NoneDueBefore self.now n }
@@ -236,6 +237,9 @@ impl<'a> Net<'a> {
             StandsFor self.now all n }
         ensures busy { IfSome result (λ due. (all : List Event) (n : ℕ) → StandsFor self.now all n →
             0 < self.now.next → n ≤ due → NoneFrom n due all → is_busy self.now.plan all due ≡ true) }
+        ensures settled { IsNone result → 0 < self.now.next → (all : List Event) →
+            StandsFor self.now all self.now.next → IsSettled self.now.plan (signals_by self.now.plan all)
+            (out_at self.now.plan (signals_by self.now.plan all)) (self.now.next - 1) }
     {
         match self.parts.dues.first() {
             Some(due) => Some(due.at),

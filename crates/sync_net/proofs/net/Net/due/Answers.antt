@@ -1,5 +1,5 @@
 use Rattle.sync_net.specs.Standing.{StandsFor}
-use Rattle.sync_net.proofs.NetSeen.{seen_due, seen_later, seen_gap, seen_gap_idle, seen_busy}
+use Rattle.sync_net.proofs.NetSeen.{seen_due, seen_later, seen_gap, seen_gap_idle, seen_settled, seen_busy}
 use Rattle.sync_net.proofs.net.Net.due.Goals as goal
 
 pub returns-in-Some-clause-some : goal.returns-in-Some-clause-some
@@ -22,3 +22,8 @@ pub returns-in-None-clause-gap : goal.returns-in-None-clause-gap
 unfolding StandsFor
 returns-in-None-clause-gap c = λ all m n is early begun none until.
     seen_gap_idle c.args.self.now c.self.inside.plan.now c.self.inside.spent c.self.inside.parts c.self.view_is c.requires.live c.self.invariant c.in-None.ensures all m n is early begun none
+
+pub returns-in-None-clause-settled : goal.returns-in-None-clause-settled
+unfolding StandsFor
+returns-in-None-clause-settled c = λ none begun all is.
+    seen_settled c.args.self.now c.self.inside.plan.now c.self.inside.spent c.self.inside.parts c.self.view_is c.requires.live c.self.invariant c.in-None.ensures begun all is
