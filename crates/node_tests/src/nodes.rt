@@ -1,0 +1,62 @@
+//! Elements on files in pieces: texts and refusals that are known from outside.
+
+ghost use Rattle.std.specs.Prelude.{◌<◌, ◌≤◌, length};
+
+use node_file::NodeErr;
+use node_replay::{Node, Replayed};
+use std::alloc::Global;
+use sync_edge::{NoMemory, Text};
+use sync_ql::limits::LAST_MILLISECOND;
+use sync_topo::Plan;
+
+mod histories;
+mod limits;
+mod refusals;
+
+/// Three elements in a row, each of which hears the one before it.
+const CHAIN: &[u8] =
+    b"[[element]]\nname = \"A\"\n[[element]]\nname = \"B\"\n[[element]]\nname = \"C\"\n\
+[[link]]\nname = \"L1\"\na = \"A\"\nb = \"B\"\npriority_b = 1\n\
+[[link]]\nname = \"L2\"\na = \"B\"\nb = \"C\"\npriority_b = 1\n";
+
+/// The element that is fed: the second of each plan here, whose name is B.
+const FED: u32 = 1;
+
+/// Puts the digits of a frame, by what differs in it: the octet of version and event flag, and that of
+/// its level's code. Its source address is that of the second element.
+fn put_frame(text: &mut Text, version_and_flag: &str, code: &str) -> Result<(), NoMemory> {
+    text.put(b"0180c200000202000000000188090a0019a70001")?;
+    text.put(version_and_flag.as_bytes())?;
+    text.put(b"000000010004")?;
+    text.put(code.as_bytes())?;
+    for _ in 0..32 {
+        text.put(b"00")?;
+    }
+    Ok(())
+}
+
+/// What an element gives for bytes that come in pieces of at most this size.
+fn fed(
+    alloc: Global,
+    plan: &Plan,
+    bytes: &[u8],
+    size: usize,
+    until: u64,
+) -> Result<Replayed, NodeErr>
+    requires within { FED < length plan.now.elements }
+    requires in_range { until ≤ LAST_MILLISECOND }
+{
+    let mut node = Node::new(alloc, plan, FED, until)?;
+    let mut left = bytes;
+    while !left.is_empty() {
+        let (piece, rest) = left.split_at(left.len().min(size.max(1)));
+        if let Err(error) = node.feed(piece) {
+            return Err(error);
+        }
+        left = rest;
+    }
+    match node.finish() {
+        Ok(replayed) => Ok(replayed),
+        Err(error) => Err(error),
+    }
+}

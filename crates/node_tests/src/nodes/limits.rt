@@ -1,0 +1,82 @@
+//! The longest line, and the most rows.
+
+use super::{CHAIN, FED, fed, put_frame};
+use esmc_frame::FrameErr;
+use node_file::NodeErr;
+use node_replay::{Node, NodeEnd, Replayed};
+use plan_file::read_plan;
+use std::alloc::Global;
+use std::process::Abort;
+use std::test::Fail;
+use sync_edge::{NoMemory, Text};
+use sync_ql::limits::LAST_MILLISECOND;
+use sync_topo::Plan;
+
+/// A line of so many bytes, the frame in which is longer than a frame may be.
+fn line_of(alloc: Global, bytes: usize) -> Result<Text, NoMemory> {
+    let mut line = Text::new(alloc);
+    line.put(b"10,frame,L1>B,")?;
+    for _ in 14..bytes {
+        line.put(b"0")?;
+    }
+    Ok(line)
+}
+
+/// A first piece is taken, and the next one refused.
+fn second_is_refused(
+    rt: &(impl Abort + AllocGlobal),
+    plan: &Plan,
+    first: &[u8],
+    second: &[u8],
+    want: NodeErr,
+) -> Result<(), Fail> {
+    assert!(rt; FED < plan.elements());
+    let mut node = Node::new(rt.alloc(), plan, FED, 1000)?;
+    node.feed(first)?;
+    assert!(rt; !node.spent());
+    assert_eq!(rt; node.feed(second), Err(want));
+    assert!(rt; node.spent());
+    Ok(())
+}
+
+/// A line of 4,096 bytes, a carriage return among them, is read, and its frame is refused at its end. The
+/// next byte is one too many, whether a line feed follows or not.
+#[test]
+fn a_line_has_4096_bytes(rt: HostRuntime) -> Result<(), Fail> {
+    let plan = read_plan(rt.alloc(), CHAIN)?;
+    let line = line_of(rt.alloc(), 4096)?;
+    let too_many = NodeErr::Fields(1);
+    let read = NodeErr::Frame(1, FrameErr::Length);
+    for (second, want) in [(b"\n", read), (b"0", too_many), (b"\r", too_many)] {
+        second_is_refused(&rt, &plan, line.bytes(), second, want)?;
+    }
+    let line = line_of(rt.alloc(), 4095)?;
+    second_is_refused(&rt, &plan, line.bytes(), b"00\n", too_many)?;
+    // Its digits are an odd number.
+    second_is_refused(&rt, &plan, line.bytes(), b"\r\n", NodeErr::Value(1))
+}
+
+/// Four lines go out of an element that has no input.
+const FOUR_LINES: &[u8] = b"element = [{ name = 'A' }, { name = 'B' }]\n\
+link = [{ name = 'L1', a = 'A', b = 'B' }, { name = 'L2', a = 'A', b = 'B' },\n\
+ { name = 'L3', a = 'A', b = 'B' }, { name = 'L4', a = 'A', b = 'B' }]\n";
+
+fn row_count(text: &Text) -> usize {
+    text.bytes().iter().filter(|byte| **byte == b'\n').count()
+}
+
+/// Its own level goes out each second: 200,000 rows are those of 50,000 seconds.
+#[test]
+fn a_text_stops_at_200000_rows(rt: HostRuntime) -> Result<(), Fail> {
+    let plan = read_plan(rt.alloc(), FOUR_LINES)?;
+    assert!(rt; FED < plan.elements());
+    let stopped = fed(rt.alloc(), &plan, b"", 1, LAST_MILLISECOND)?;
+    assert_eq!(rt; stopped.end, NodeEnd::Stopped(49_999_999));
+    assert_eq!(rt; row_count(&stopped.text), 200_001);
+    let mut last = Text::new(rt.alloc());
+    last.put(b"\n49999000,L4>A,")?;
+    put_frame(&mut last, "10", "0b")?;
+    last.put(b"\nstopped,49999999\n")?;
+    assert!(rt; stopped.text.bytes().ends_with(last.bytes()));
+    Ok(())
+}
