@@ -32,6 +32,7 @@ MODES = {"auto": 0, "forced": 1, "manual": 2}
 STATES = {"freerun": 0, "locked": 1, "holdover": 2}
 NONE = 99
 MOST_TEXT = 900_000  # a run is cut off where it would print more
+USES = ["sync_net", "plan_file", "event_file", "sync_element", "sync_topo", "link_model", "sync_ql", "sync_edge"]
 
 PROGRAM = r"""//! Steps networks through random events, and prints what they give.
 #![tactic(auto)]
@@ -242,25 +243,24 @@ fn main(rt: HostRuntime) -> io::Result<()> {
 """
 
 
-def make_repository(folder, program):
-    """A repository with the crates that a network stands on, and a program over them."""
+def make_repository(folder, name, uses, program):
+    """A repository with a program of this name, the crates that it uses, and those on which they stand."""
     top = os.path.dirname(os.path.dirname(os.path.abspath(__file__)))
     with open(os.path.join(top, "crates.txt"), encoding="ascii") as file:
-        lines = {name: rest.split() for name, rest in re.findall(r"^(\w+):(.*)$", file.read(), re.MULTILINE)}
-    lines["net_cases"] = ["sync_net", "plan_file", "event_file", "sync_element", "sync_topo", "link_model", "sync_ql"]
-    lines["net_cases"] += ["sync_edge"]
-    kept, wanted = [], ["net_cases"]
+        lines = {crate: rest.split() for crate, rest in re.findall(r"^(\w+):(.*)$", file.read(), re.MULTILINE)}
+    lines[name] = uses
+    kept, wanted = [], [name]
     while wanted:
         crate = wanted.pop()
         if crate in lines and crate not in kept:
             kept.append(crate)
             wanted += lines[crate]
     for crate in kept:
-        if crate != "net_cases":
+        if crate != name:
             source, there = (os.path.join(at, "crates", crate) for at in (top, folder))
             shutil.copytree(source, there, ignore=shutil.ignore_patterns("out"), dirs_exist_ok=True)
-    os.makedirs(os.path.join(folder, "crates", "net_cases", "src"), exist_ok=True)
-    with open(os.path.join(folder, "crates", "net_cases", "src", "main.rt"), "w", encoding="utf-8") as out:
+    os.makedirs(os.path.join(folder, "crates", name, "src"), exist_ok=True)
+    with open(os.path.join(folder, "crates", name, "src", "main.rt"), "w", encoding="utf-8") as out:
         out.write(program)
     with open(os.path.join(folder, "crates.txt"), "w", encoding="ascii") as out:
         out.writelines(f"{crate}: {' '.join(lines[crate])}\n" for crate in kept)
@@ -403,7 +403,7 @@ def main():
                         out.write(content)
                 counts.update(counted)
         print(", ".join(f"{name}: {count:,}" for name, count in sorted(counts.items())), flush=True)
-        make_repository(folder, PROGRAM)
+        make_repository(folder, "net_cases", USES, PROGRAM)
         tried = subprocess.run(
             ["rt", "try", "--steps", str(10**13), "--seconds", "3000", "--cases", os.path.join(folder, "cases")],
             cwd=os.path.join(folder, "crates", "net_cases"),

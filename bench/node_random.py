@@ -1,7 +1,8 @@
 #!/usr/bin/env python3
 """Compares `node` on random plans and files with the rules for one element alone in reference_node.py.
 
-usage: node_random.py PROGRAM [--count N] [--seed N] [--keep FOLDER]
+usage: node_random.py PROGRAM [--network] [--count N] [--seed N] [--keep FOLDER]
+       node_random.py --pieces [--count N] [--seed N] [--keep FOLDER]
        node_random.py --network [--count N] [--seed N]
 
 It compares a program that has the form `node`. Each of N cases (300 where it isn't given) is a plan of reference_random.py,
@@ -10,21 +11,31 @@ command, some of them after UNTIL, and in every second file one line or two with
 name no element, some have a line of about the greatest length, and in one of fifty some 200,000 frames are sent. Status and
 text have to be the same. UNTIL goes up to 20000, and in one case of twenty up to 90000.
 
-With --network the rules are compared with themselves: of N random plans and events (20 where it isn't given) the reference
-runs the network, and what reached one of its elements is made a file, frames for messages, in any order within a
-millisecond. Alone with it the element has to take the same inputs in every millisecond, with the same levels, modes and
-states, and to send just the frames of its lines in the network, nominated or not. It needs Python 3.11.
+With --network each of N cases (20 where it isn't given) is a network's run: of a random plan and events the reference runs
+the network, and what reached one of its elements is made a file, frames for messages, in any order within a millisecond. The
+program has to write just the frames that the element's lines send in the network, nominated or not. Without PROGRAM the rules
+are compared with themselves: alone with the file the element has to send these frames too, and to take the same inputs in
+every millisecond, with the same levels, modes and states.
+
+With --pieces a small program over the crate node_replay, which is made in a temporary repository beside copies of the crates,
+feeds each of N random files (60 where it isn't given) to a `Node` three times: a byte at a time or a few, in pieces of 1 to
+5,000 bytes, and whole. `rt try --cases` runs it, and compares the text each time, or the refusal and after how many bytes it
+came, with the rules. Texts of more than 300,000 octets are left out. It wants the toolchain.
+
+It needs Python 3.11.
 """
 import argparse
 import bisect
 import collections
 import os
 import random
+import shutil
 import subprocess
 import sys
 import tempfile
 
 import captures_random
+import node_pieces
 from reference_element import LEVELS
 from reference_network import REPEAT, Network, last_said
 from reference_node import LONGEST_LINE, Node, frame_text, node_text, read_file, targets_of
@@ -120,9 +131,8 @@ def file_of(chance, lines):
     return data.removesuffix(b"\n") if ending == 0 else data + (b"\r" if ending == 1 else b"")
 
 
-def random_case(chance):
-    if chance.random() < 0.02:
-        return many_frames(chance)
+def some_case(chance):
+    """An element of a plan, and a file for it, right or wrong."""
     is_long = chance.random() < 0.05
     plan = random_plan(chance, [0, 60_000] if is_long else [0] * 19 + [60_000])
     e = element_of(chance, plan)
@@ -130,11 +140,18 @@ def random_case(chance):
     lines = random_lines(chance, plan, e, until)
     for place in chance.sample(range(len(lines)), min(len(lines), chance.choice([0, 0, 0, 1, 1, 2]))):
         lines[place] = with_fault(chance, plan, e, lines, place)
-    element, data = plan.elements[e].name, file_of(chance, lines)
+    return Case(plan, plan.elements[e].name, file_of(chance, lines), until)
+
+
+def random_case(chance):
+    """The same, and now and then no element or no file, or a file for very many frames."""
+    if chance.random() < 0.02:
+        return many_frames(chance)
+    case = some_case(chance)
     if chance.random() < 0.03:
-        element = chance.choice(["", "none", element.lower(), element + " ", "E99", *(link.name for link in plan.links)])
-        data = chance.choice([data, None])
-    return Case(plan, element, data, until)
+        names = ["", "none", case.element.lower(), case.element + " ", "E99", *(link.name for link in case.plan.links)]
+        case = case._replace(element=chance.choice(names), data=chance.choice([case.data, None]))
+    return case
 
 
 def many_frames(chance):
@@ -167,10 +184,9 @@ class Compared:
         if case.data is None:
             os.remove(os.path.join(self.folder, "file"))
 
-    def case(self, number, case):
-        """Whether the program answers to a case as it has to."""
+    def case(self, number, case, status, text):
+        """Whether the program answers to a case as it has to: with this status and this text."""
         self.write_files(case)
-        status, text = node_text(case.plan, case.element, case.data, case.until)
         words = ["node", "plan", case.element, "file", str(case.until)]
         run = subprocess.run([self.program, *words], cwd=self.folder, capture_output=True, check=False)
         self.counted.update({status: 1, "rows": text.count("\n") if status != 6 else 0})
@@ -190,15 +206,24 @@ def first_difference(text, answered):
     return f"{len(answered)} octets, and {len(text)} are expected"
 
 
-def compare(program, given):
-    """Compares the program on random cases, and gives how many differ."""
-    chance, differ, number = random.Random(given.seed), 0, 0
+def cases_and_answers(chance, count):
+    """Random cases, and what the rules say of them."""
+    for _ in range(count):
+        case = random_case(chance)
+        yield case, *node_text(case.plan, case.element, case.data, case.until)
+
+
+def compare(program, given, cases):
+    """Compares the program on cases with their answers, and gives how many differ."""
+    differ = number = 0
     with tempfile.TemporaryDirectory() as folder:
         os.makedirs(given.keep or folder, exist_ok=True)
         compared = Compared(program, given.keep or folder)
-        while number < given.count and not (given.keep and differ):
-            differ += not compared.case(number, random_case(chance))
+        for case, status, text in cases:
+            differ += not compared.case(number, case, status, text)
             number += 1
+            if given.keep and differ:
+                break
     counted = compared.counted
     print(f"{number} compared, {counted[0]} with all frames, {counted[11]} stopped, {counted[6]} refused;"
           f" {counted['rows']} rows: {differ} differ")
@@ -262,44 +287,82 @@ def frames_of_run(network, e):
     return "".join(row for _, _, row in sorted(rows))
 
 
-def compare_networks(given):
-    """Compares elements alone with random networks, and gives how many differ."""
+def random_run(chance, waits):
+    """A random network after its run, an element of it, and the file that tells what reached the element."""
+    plan = random_plan(chance, waits)
+    events = random_events(chance, plan, chance.choice([300, 3000, 7000]))
+    until, e = chance.randint(0, 9000), element_of(chance, plan)
+    network = Network(plan, events).go_to(until)
+    return network, e, Case(plan, plan.elements[e].name, file_of_run(chance, network, e), until)
+
+
+def runs_and_frames(chance, count):
+    """The files of random runs, and the frames that the elements' lines sent in them."""
+    for _ in range(count):
+        # A plan's file has wait-to-restore times in minutes.
+        network, e, case = random_run(chance, [0] * 9 + [60_000])
+        yield case, 0, frames_of_run(network, e)
+
+
+def compare_rules(given):
+    """Compares the rules for elements alone with random networks, and gives how many differ."""
     chance, differ, rows = random.Random(given.seed), 0, 0
     for number in range(given.count):
-        plan = random_plan(chance, [0, 0, 500, 2000, 6000])
-        events = random_events(chance, plan, chance.choice([300, 3000, 7000]))
-        until, e = chance.randint(0, 9000), element_of(chance, plan)
-        network = Network(plan, events).go_to(until)
-        data = file_of_run(chance, network, e)
-        expected, answered = (0, frames_of_run(network, e)), node_text(plan, plan.elements[e].name, data, until)
+        network, e, case = random_run(chance, [0, 0, 500, 2000, 6000])
+        expected, answered = (0, frames_of_run(network, e)), node_text(*case)
         rows += expected[1].count("\n")
         if answered != expected:
-            print(f"plan {number}, {plan.elements[e].name}: {first_difference(expected[1], answered[1].encode('ascii'))}")
-        alone = Node(plan, e, *read_file(plan, e, data)).go_to(until)
-        others = [t for t in range(until + 1) if alone.gives(e, t) != network.gives(e, t)]
+            print(f"plan {number}, {case.element}: {first_difference(expected[1], answered[1].encode('ascii'))}")
+        alone = Node(case.plan, e, *read_file(case.plan, e, case.data)).go_to(case.until)
+        others = [t for t in range(case.until + 1) if alone.gives(e, t) != network.gives(e, t)]
         if others:
-            print(f"plan {number}, {plan.elements[e].name}: alone it gives something else at {others[0]}")
+            print(f"plan {number}, {case.element}: alone it gives something else at {others[0]}")
         differ += answered != expected or others != []
     print(f"{given.count} elements alone and in their networks, {rows} frames: {differ} differ")
     return differ
+
+
+# ---- the comparison with the crate
+
+
+def compare_pieces(given):
+    """Compares the crate on random files in pieces; 0 where nothing differs."""
+    chance, folder = random.Random(given.seed), given.keep or tempfile.mkdtemp(prefix="nodes-")
+    try:
+        return node_pieces.compare(chance, some_case, given.count, folder)
+    finally:
+        if not given.keep:
+            shutil.rmtree(folder)
+
+
+def differences(given):
+    """What was asked for: how many differ."""
+    if given.pieces:
+        return compare_pieces(given)
+    if given.program is None:
+        return compare_rules(given)
+    chance = random.Random(given.seed)
+    made = runs_and_frames if given.network else cases_and_answers
+    return compare(os.path.abspath(given.program), given, made(chance, given.count))
 
 
 def main():
     words = argparse.ArgumentParser(description=__doc__, formatter_class=argparse.RawDescriptionHelpFormatter)
     words.add_argument("program", nargs="?")
     words.add_argument("--network", action="store_true")
+    words.add_argument("--pieces", action="store_true")
     words.add_argument("--count", type=int)
     words.add_argument("--seed", type=int, default=1)
     words.add_argument("--keep", help="work in this folder, and stop at the first difference with its files in it")
     given = words.parse_args()
-    if (given.program is None) != given.network:
-        sys.exit("node_random.py: either PROGRAM or --network has to be given")
+    if given.pieces and (given.program is not None or given.network):
+        sys.exit("node_random.py: --pieces takes neither PROGRAM nor --network")
+    if given.program is None and not given.network and not given.pieces:
+        sys.exit("node_random.py: PROGRAM, --network or --pieces has to be given")
     if given.count is None:
-        given.count = 20 if given.network else 300
-    if given.network:
-        return 1 if compare_networks(given) else 0
+        given.count = 60 if given.pieces else 20 if given.network else 300
     try:
-        return 1 if compare(os.path.abspath(given.program), given) else 0
+        return 1 if differences(given) else 0
     except OSError as problem:
         sys.exit(f"node_random.py: {problem}")
 
