@@ -1,6 +1,6 @@
 //! What an element received, and the frames that it has to send.
 
-use super::{CHAIN, FED, fed, put_frame};
+use super::{CHAIN, FED, WITH_SOURCE, fed, put_frame};
 use node_replay::NodeEnd;
 use plan_file::read_plan;
 use std::alloc::Global;
@@ -25,12 +25,6 @@ struct Case {
     lines: &'static [Line],
     rows: &'static [Sent],
 }
-
-/// An element between two others, with a source of its own and a minute of wait-to-restore time.
-const WITH_SOURCE: &[u8] = b"element = [{ name = 'A' }, { name = 'B', wtr = 1 }, { name = 'C' }]\n\
-link = [{ name = 'L1', a = 'A', b = 'B', priority_b = 1 },\n\
- { name = 'L2', a = 'B', b = 'C', priority_b = 1 }]\n\
-source = [{ name = 'S', at = 'B', level = 'QL-SSU-A', priority = 2 }]\n";
 
 const CASES: [Case; 5] = [
     Case {

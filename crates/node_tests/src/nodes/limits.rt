@@ -1,16 +1,14 @@
 //! The longest line, and the most rows.
 
-use super::{CHAIN, FED, fed, put_frame};
+use super::{CHAIN, FED, fed, last_piece_is_refused, put_frame};
 use esmc_frame::FrameErr;
 use node_file::NodeErr;
-use node_replay::{Node, NodeEnd, Replayed};
+use node_replay::NodeEnd;
 use plan_file::read_plan;
 use std::alloc::Global;
-use std::process::Abort;
 use std::test::Fail;
 use sync_edge::{NoMemory, Text};
 use sync_ql::limits::LAST_MILLISECOND;
-use sync_topo::Plan;
 
 /// A line of so many bytes, the frame in which is longer than a frame may be.
 fn line_of(alloc: Global, bytes: usize) -> Result<Text, NoMemory> {
@@ -22,38 +20,25 @@ fn line_of(alloc: Global, bytes: usize) -> Result<Text, NoMemory> {
     Ok(line)
 }
 
-/// A first piece is taken, and the next one refused.
-fn second_is_refused(
-    rt: &(impl Abort + AllocGlobal),
-    plan: &Plan,
-    first: &[u8],
-    second: &[u8],
-    want: NodeErr,
-) -> Result<(), Fail> {
-    assert!(rt; FED < plan.elements());
-    let mut node = Node::new(rt.alloc(), plan, FED, 1000)?;
-    node.feed(first)?;
-    assert!(rt; !node.spent());
-    assert_eq!(rt; node.feed(second), Err(want));
-    assert!(rt; node.spent());
-    Ok(())
-}
-
 /// A line of 4,096 bytes, a carriage return among them, is read, and its frame is refused at its end. The
 /// next byte is one too many, whether a line feed follows or not.
 #[test]
 fn a_line_has_4096_bytes(rt: HostRuntime) -> Result<(), Fail> {
     let plan = read_plan(rt.alloc(), CHAIN)?;
-    let line = line_of(rt.alloc(), 4096)?;
-    let too_many = NodeErr::Fields(1);
-    let read = NodeErr::Frame(1, FrameErr::Length);
-    for (second, want) in [(b"\n", read), (b"0", too_many), (b"\r", too_many)] {
-        second_is_refused(&rt, &plan, line.bytes(), second, want)?;
+    let cases: [(usize, &[u8], NodeErr); 5] = [
+        (4096, b"\n", NodeErr::Frame(1, FrameErr::Length)),
+        (4096, b"0", NodeErr::Fields(1)),
+        (4096, b"\r", NodeErr::Fields(1)),
+        (4095, b"00\n", NodeErr::Fields(1)),
+        // Its digits are an odd number.
+        (4095, b"\r\n", NodeErr::Value(1)),
+    ];
+    for (bytes, last, want) in cases {
+        let mut line = line_of(rt.alloc(), bytes)?;
+        line.put(last)?;
+        last_piece_is_refused(&rt, &plan, line.bytes(), last.len(), want)?;
     }
-    let line = line_of(rt.alloc(), 4095)?;
-    second_is_refused(&rt, &plan, line.bytes(), b"00\n", too_many)?;
-    // Its digits are an odd number.
-    second_is_refused(&rt, &plan, line.bytes(), b"\r\n", NodeErr::Value(1))
+    Ok(())
 }
 
 /// Four lines go out of an element that has no input.
