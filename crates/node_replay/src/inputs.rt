@@ -9,11 +9,8 @@ ghost use Rattle.node_replay.specs.Keeping.{heard_of, word_or, said_or, said_in,
 use crate::noting::{last_frame, level_said, up_after};
 use node_file::NodeRow;
 use sync_ql::Level;
-use sync_ql::limits::LAST_MILLISECOND;
+use sync_ql::limits::{HEARING_TIME, LAST_MILLISECOND};
 use sync_topo::{InputId, LineId};
-
-/// How long the level of a frame is heard, in milliseconds.
-const HEARING_TIME: u64 = 5000;
 
 /// A level, or none, and the millisecond in which it was said.
 #[derive(Clone, Copy, Debug, Drop)]
