@@ -23,6 +23,13 @@ pub struct States {
     pub free: u32,
 }
 
+// How many elements are in each state, and the worst level that one has.
+#[derive(Clone, Copy, Debug, PartialEq, Eq)]
+pub struct Tally {
+    pub states: States,
+    pub worst: Level,
+}
+
 // The state of an element in the millisecond of the last step.
 fn state_of(net: &Net<'_>, e: u32) -> ClockState
     requires live { net.now.spent ≡ false }
@@ -69,40 +76,30 @@ fn with_one_in(states: States, state: ClockState) -> States
     }
 }
 
-// How many elements are in each state in the millisecond of the last step.
-pub fn count_states(net: &Net<'_>) -> States
+// The states and the worst level of a plan's elements in the millisecond of the last step.
+pub fn tally_of(net: &Net<'_>, elements: u32) -> Tally
     requires live { net.now.spent ≡ false }
     requires stepped { 0 < net.now.next }
-    ensures well_formed { IsWellFormed net.now.plan }
+    requires well_formed { IsWellFormed net.now.plan }
+    requires count { elements ≡ length net.now.plan.elements }
+    requires some { 0 < elements }
     ensures counted { (all : List Event) → StandsFor net.now all net.now.next →
-        AreCounted net.now.plan all (now_of net.now) (length net.now.plan.elements) result }
+        AreCounted net.now.plan all (now_of net.now) (length net.now.plan.elements) result.states }
+    ensures worst { (all : List Event) → StandsFor net.now all net.now.next →
+        IsWorstOf net.now.plan all (now_of net.now) (length net.now.plan.elements) result.worst }
 {
-    let mut states = States {
+    let none = States {
         locked: 0,
         holdover: 0,
         free: 0,
     };
-    let elements = net.plan().elements();
-    for e in 0..elements {
-        states = with_one_in(states, state_of(net, e));
-    }
-    states
-}
-
-// The worst level that an element has in the millisecond of the last step.
-pub fn worst_level(net: &Net<'_>) -> Level
-    requires live { net.now.spent ≡ false }
-    requires stepped { 0 < net.now.next }
-    requires some { 0 < length net.now.plan.elements }
-    ensures { (all : List Event) → StandsFor net.now all net.now.next →
-        IsWorstOf net.now.plan all (now_of net.now) (length net.now.plan.elements) result }
-{
-    let elements = net.plan().elements();
+    let mut states = with_one_in(none, state_of(net, 0));
     let mut worst = level_of(net, 0);
     for e in 1..elements {
+        states = with_one_in(states, state_of(net, e));
         worst = worse_of(worst, level_of(net, e));
     }
-    worst
+    Tally { states, worst }
 }
 
 // The worse of two levels.

@@ -1,7 +1,9 @@
 //! The row of one link.
 
-ghost use Rattle.std.specs.Prelude.{◌≡◌, ◌≤◌, ◌<◌, ◌+◌, ℕ, false, length, IfOk, OnOk, MatchOption};
+ghost use Rattle.std.specs.Prelude.{◌≡◌, ◌≤◌, ◌<◌, ◌+◌, ℕ, false, IsTrue, List, length, IfOk, OnOk, MatchOption};
 ghost use Rattle.net_rules.specs.Settling.{IsSettlingBound};
+ghost use Rattle.net_rules.specs.Walks.{IsClosedWalk};
+ghost use Rattle.sync_topo.specs.Hops.{IsRising};
 ghost use Rattle.sync_topo.specs.Lines.{line_count};
 ghost use Rattle.sync_net.specs.NetState.{NetState};
 ghost use Rattle.sync_net.specs.Standing.{StandsFor};
@@ -10,7 +12,7 @@ ghost use Rattle.sync_sweep.specs.Sweep.{failure, IsSweepRow, AreSoManyLoops};
 ghost use Rattle.sync_sweep.specs.Branching.{IsBranch};
 
 use crate::branch::{Branch, fail_link, go_back, run_out};
-use crate::counting::{count_states, worst_level};
+use crate::counting::tally_of;
 use settle_trace::{Walk, loops, settled};
 use std::alloc::Global;
 use std::marker::Brand;
@@ -97,6 +99,31 @@ fn count_of(walks: &[Walk], most: u32) -> u32
     walks.len() as u32
 }
 
+// How many closed walks there are in the millisecond of the last step. Where it is settled and the plan has
+// a settling bound none is looked for, since ranks rise.
+fn loops_of(
+    alloc: Global,
+    net: &Net<'_>,
+    link: u32,
+    at: u64,
+    settled: bool,
+    bound: Option<u64>,
+) -> Result<u32, NoMemory>
+    requires live { net.now.spent ≡ false }
+    requires stepped { 0 < net.now.next }
+    requires stands { StandsFor net.now (failure at link) net.now.next }
+    requires bound { MatchOption bound ((other : ℕ) → ¬ IsSettlingBound net.now.plan at other)
+        (IsSettlingBound net.now.plan at) }
+    requires loop_free { IsTrue settled → (rank : ℕ → ℕ) → IsRising net.now.plan rank →
+        (lines : List ℕ) → ¬ IsClosedWalk net.now.plan (taken_now net.now (failure at link)) lines }
+    ensures { IfOk result (AreSoManyLoops net.now.plan (taken_now net.now (failure at link))) }
+{
+    if settled && bound.is_some() {
+        return Ok(0);
+    }
+    count_loops(alloc, net, link, at)
+}
+
 // The row of a link, by a network that its run has brought to the end.
 fn row_of(
     alloc: Global,
@@ -113,15 +140,17 @@ fn row_of(
         (IsSettlingBound net.now.plan at) }
     ensures { IfOk result (IsSweepRow net.now.plan at (now_of net.now) link) }
 {
-    let states = count_states(net);
+    let tally = tally_of(net, net.plan().elements());
+    let settled = settled(net);
+    let loops = loops_of(alloc, net, link, at, settled, bound)?;
     Ok(SweepRow {
         link,
-        settled: settled(net),
-        locked: states.locked,
-        holdover: states.holdover,
-        free: states.free,
-        loops: count_loops(alloc, net, link, at)?,
-        worst: worst_level(net),
+        settled,
+        locked: tally.states.locked,
+        holdover: tally.states.holdover,
+        free: tally.states.free,
+        loops,
+        worst: tally.worst,
         bound,
     })
 }

@@ -1,7 +1,6 @@
-use Rattle.std.proofs.Common.{◌≡◌, ◌≤◌, ◌<◌, ◌+◌, ◌-◌, ℕ, false, List, length}
+use Rattle.std.proofs.Common.{◌≡◌, ◌≤◌, ◌+◌, ◌-◌, false, List, length}
 use Rattle.sync_topo.specs.declared.event.Event.{Event}
 use Rattle.sync_topo.specs.Events.{IsEventList}
-use Rattle.sync_topo.specs.Lines.{line_count}
 use Rattle.sync_net.specs.NetState.{NetState}
 use Rattle.sync_net.specs.Standing.{StandsFor, NoneFrom}
 use Rattle.sync_sweep.specs.Branching.{IsBranch}

@@ -1,5 +1,5 @@
 use Rattle.std.proofs.Common.{◌≡◌, ◌-◌, ℕ, ap, sym, subst, ◌∙◌, arith}
-use Rattle.std.specs.Prelude.{IfOk, MatchOption}
+use Rattle.std.specs.Prelude.{MatchOption}
 use Rattle.net_rules.specs.Settling.{IsSettlingBound}
 use Rattle.sync_sweep.specs.Sweep.{IsSweepRow}
 use Rattle.sync_sweep.proofs.row.failed_row.Goals as goal
