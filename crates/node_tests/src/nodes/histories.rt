@@ -26,7 +26,7 @@ struct Case {
     rows: &'static [Sent],
 }
 
-const CASES: [Case; 5] = [
+const CASES: [Case; 6] = [
     Case {
         shows: "an_element_of_a_chain_sends_what_it_hears",
         plan: CHAIN,
@@ -42,7 +42,7 @@ const CASES: [Case; 5] = [
         ],
     },
     Case {
-        shows: "each_word_on_each_kind_of_target",
+        shows: "each_word",
         plan: WITH_SOURCE,
         until: 3000,
         lines: &[
@@ -91,6 +91,56 @@ const CASES: [Case; 5] = [
             ("2200,L1>A,", "18", "0f"),
             ("3000,L1>A,", "10", "0f"),
             ("3000,L2>C,", "10", "02"),
+        ],
+    },
+    Case {
+        shows: "each_command_on_a_line_and_on_a_source",
+        plan: WITH_SOURCE,
+        until: 2000,
+        lines: &[
+            ("100,frame,L1>B,", "02"),
+            ("200,lockout,S,", ""),
+            ("300,lockout,L1>B,", ""),
+            ("400,unlock,S,", ""),
+            ("500,unlock,L1>B,", ""),
+            ("600,forced,S,", ""),
+            ("700,forced,L1>B,", ""),
+            ("800,clear,B,", ""),
+            ("900,level,S,QL-PRC", ""),
+            ("910,manual,S,", ""),
+            ("920,manual,L1>B,", ""),
+            ("930,clear,B,", ""),
+            ("940,down,S,", ""),
+            ("1300,up,S,", ""),
+            ("1400,lockout,L1>B,", ""),
+            ("1500,clear-wtr,S,", ""),
+        ],
+        rows: &[
+            ("0,L1>A,", "10", "04"),
+            ("0,L2>C,", "10", "04"),
+            ("100,L1>A,", "18", "0f"),
+            ("100,L2>C,", "18", "02"),
+            ("300,L1>A,", "18", "0b"),
+            ("300,L2>C,", "18", "0b"),
+            ("400,L1>A,", "18", "04"),
+            ("400,L2>C,", "18", "04"),
+            ("500,L1>A,", "18", "0f"),
+            ("500,L2>C,", "18", "02"),
+            ("600,L1>A,", "18", "04"),
+            ("600,L2>C,", "18", "04"),
+            ("700,L1>A,", "18", "0f"),
+            ("700,L2>C,", "18", "02"),
+            ("910,L1>A,", "18", "02"),
+            ("920,L1>A,", "18", "0f"),
+            ("1000,L1>A,", "10", "0f"),
+            ("1000,L2>C,", "10", "02"),
+            // The source has failed, and is in its wait-to-restore time.
+            ("1400,L1>A,", "18", "0b"),
+            ("1400,L2>C,", "18", "0b"),
+            ("1500,L1>A,", "18", "02"),
+            ("1500,L2>C,", "18", "02"),
+            ("2000,L1>A,", "10", "02"),
+            ("2000,L2>C,", "10", "02"),
         ],
     },
     Case {

@@ -4,9 +4,10 @@ use super::{CHAIN, FED, WITH_SOURCE, fed, last_piece_is_refused, put_frame};
 use esmc_frame::FrameErr;
 use node_file::NodeErr;
 use plan_file::read_plan;
+use std::alloc::Global;
 use std::process::Abort;
 use std::test::Fail;
-use sync_edge::Text;
+use sync_edge::{NoMemory, Text};
 use sync_topo::Plan;
 
 /// A file, the size of its last piece, which brings the end of a line that breaks a rule, and the refusal.
@@ -67,14 +68,34 @@ fn front_is_refused(
     }
 }
 
+fn are_refused(
+    rt: &(impl Abort + AllocGlobal),
+    plan: &Plan,
+    files: &[Refused],
+) -> Result<(), Fail> {
+    for (file, last, want) in files {
+        last_piece_is_refused(rt, plan, file.as_bytes(), *last, *want)?;
+        front_is_refused(rt, plan, file.as_bytes(), *last, *want);
+    }
+    Ok(())
+}
+
 #[test]
 fn a_refusal_comes_with_the_end_of_its_line(rt: HostRuntime) -> Result<(), Fail> {
     let plan = read_plan(rt.alloc(), WITH_SOURCE)?;
-    for (file, last, want) in REFUSED {
-        last_piece_is_refused(&rt, &plan, file.as_bytes(), last, want)?;
-        front_is_refused(&rt, &plan, file.as_bytes(), last, want);
-    }
-    Ok(())
+    are_refused(&rt, &plan, &REFUSED)
+}
+
+/// A file of two lines, the second with a frame from whose end so many digits are cut off.
+fn file_with(alloc: Global, version_and_flag: &str, cut: usize) -> Result<Text, NoMemory> {
+    let mut frame = Text::new(alloc);
+    put_frame(&mut frame, version_and_flag, "02")?;
+    let digits = frame.bytes();
+    let mut file = Text::new(alloc);
+    file.put(b"10,up,L1>B,\n20,frame,L1>B,")?;
+    file.put(digits.split_at(digits.len().saturating_sub(cut)).0)?;
+    file.put(b"\n")?;
+    Ok(file)
 }
 
 /// Frames whose last octet is cut off, and whose version isn't 1.
@@ -85,17 +106,65 @@ fn a_frame_is_refused_by_its_first_wrong_part(rt: HostRuntime) -> Result<(), Fai
         ("10", 2, FrameErr::Length),
         ("00", 0, FrameErr::Version),
     ] {
-        let mut frame = Text::new(rt.alloc());
-        put_frame(&mut frame, version_and_flag, "02")?;
-        let (kept, _) = frame
-            .bytes()
-            .split_at(frame.bytes().len().saturating_sub(cut));
-        let mut file = Text::new(rt.alloc());
-        file.put(b"10,up,L1>B,\n20,frame,L1>B,")?;
-        file.put(kept)?;
-        file.put(b"\n")?;
+        let file = file_with(rt.alloc(), version_and_flag, cut)?;
         last_piece_is_refused(&rt, &plan, file.bytes(), 1, NodeErr::Frame(2, wrong))?;
         front_is_refused(&rt, &plan, file.bytes(), 1, NodeErr::Frame(2, wrong));
     }
     Ok(())
+}
+
+/// A refusal, its number, and its text.
+type Printed = (NodeErr, Option<u8>, &'static str);
+
+const PRINTED: [Printed; 8] = [
+    (
+        NodeErr::Fields(1),
+        Some(43),
+        "line 1: not AT,WORD,TARGET,VALUE",
+    ),
+    (
+        NodeErr::Time(2),
+        Some(44),
+        "line 2: no millisecond up to 86400000",
+    ),
+    (
+        NodeErr::Order(3),
+        Some(45),
+        "line 3: before the line before it",
+    ),
+    (
+        NodeErr::What(4),
+        Some(46),
+        "line 4: no word for what comes or happens",
+    ),
+    (
+        NodeErr::Target(5),
+        Some(47),
+        "line 5: not a target of this word at this element",
+    ),
+    (
+        NodeErr::Value(6),
+        Some(48),
+        "line 6: not a value of this word",
+    ),
+    (
+        NodeErr::Frame(7, FrameErr::Version),
+        Some(49),
+        "line 7: the version isn't 1",
+    ),
+    (NodeErr::NoMemory, None, "out of memory"),
+];
+
+fn are_printed(rt: &(impl Abort + AllocGlobal), rows: &[Printed]) -> Result<(), Fail> {
+    for (error, number, text) in rows {
+        assert_eq!(rt; error.number(), *number, "{error}");
+        let printed = format!(in rt.alloc(); "{error}")?;
+        assert_eq!(rt; printed.as_str(), *text);
+    }
+    Ok(())
+}
+
+#[test]
+fn errors_are_printed(rt: HostRuntime) -> Result<(), Fail> {
+    are_printed(&rt, &PRINTED)
 }
