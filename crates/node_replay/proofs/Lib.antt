@@ -15,4 +15,5 @@ pub mod Going
 pub mod TakenRows
 pub mod OneText
 pub mod UntilLaws
+pub mod OfNetwork
 pub mod Feeding

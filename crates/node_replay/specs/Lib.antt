@@ -10,5 +10,6 @@ pub mod Turning
 pub mod Collecting
 pub mod ReplayKept
 pub mod Sent
+pub mod OfNetwork
 pub mod NodeState
 pub mod NodeKept

@@ -1,6 +1,7 @@
 //! One element of a plan, replayed on the bytes of a file.
 
 ghost use Rattle.std.specs.Prelude.{◌≡◌, ◌≤◌, ◌<◌, ◌+◌, ◌^◌, ◌++◌, ◌⊎◌, ℕ, [], true, false, List, length, Err, IfOk, IfErr, IfSome, OnOk, OnErr, MatchOption};
+ghost use Rattle.sync_topo.specs.WellFormed.{IsWellFormed};
 ghost use Rattle.node_file.specs.NodeFile.{rows_of};
 ghost use Rattle.node_file.specs.declared.row.NodeRow.{NodeRow};
 ghost use Rattle.node_file.specs.NodeRow.{IsRowOf};
@@ -9,6 +10,7 @@ ghost use Rattle.node_replay.specs.Rows.{IsRowList};
 ghost use Rattle.node_replay.specs.ReplayState.{StandsFor};
 ghost use Rattle.node_replay.specs.NodeState.{AreFed, WasFed};
 ghost use Rattle.node_replay.specs.Sent.{IsSentText};
+ghost use Rattle.node_replay.specs.OfNetwork.{IsNetworkText};
 
 use crate::replayed::Replayed;
 use crate::replaying::Replay;
@@ -115,6 +117,10 @@ impl<'a> Node<'a> {
         requires room { self.lines.ended < 2 ^ 63 }
         ensures sent { IfOk result (λ replayed. (bytes : List ℕ) → WasFed self.entry bytes →
             IsSentText self.entry.lines.plan self.entry.lines.element bytes self.entry.replay.until replayed) }
+        // Where the file holds just what a network brings to the element, it is what the element does there.
+        ensures network { IfOk result (λ replayed. (bytes : List ℕ) → WasFed self.entry bytes →
+            IsWellFormed self.entry.lines.plan → IsNetworkText self.entry.lines.plan self.entry.lines.element
+            bytes self.entry.replay.until replayed) }
         ensures refused { IfErr result (λ error. (error ≡ NodeErr.NoMemory) ⊎ ((bytes : List ℕ) → WasFed self.entry bytes →
             rows_of self.entry.lines.plan self.entry.lines.element bytes ≡ Err error)) }
     {
@@ -227,8 +233,10 @@ pub fn replay(
     requires within { element < length plan.now.elements }
     requires in_range { until ≤ LAST_MILLISECOND }
     ensures sent { IfOk result (IsSentText plan.now element bytes.now until) }
+    ensures network { IfOk result (IsNetworkText plan.now element bytes.now until) }
     ensures refused { IfErr result (λ error. (error ≡ NodeErr.NoMemory) ⊎ (rows_of plan.now element bytes.now ≡ Err error)) }
 {
+    let _elements = plan.elements();
     let mut node = Node::new(alloc, plan, element, until)?;
     let mut left = bytes;
     while !left.is_empty() {

@@ -1,5 +1,6 @@
 use Rattle.std.proofs.Common.{inl, inr}
 use Rattle.node_replay.proofs.Feeding.{refused_front, front_on, whole_fed, sent_for}
+use Rattle.node_replay.proofs.OfNetwork.{network-text}
 use Rattle.node_replay.proofs.node.replay.Goals as goal
 
 pub returns-in-Err-clause-refused : goal.returns-in-Err-clause-refused
@@ -24,3 +25,7 @@ returns-in-Ok-clause-sent c =
     let fed = whole_fed c.args.plan.now c.args.element c.args.until c.args.bytes.now c.loop-left.node c.loop-left.left.now so_far c.loop-left-test.ensures in
     sent_for c.loop-left.node.lines.plan c.args.plan.now c.loop-left.node.lines.element c.args.element c.loop-left.node.replay.until c.args.until c.args.bytes.now c.in-Ok.replayed
     so_far.plan_is so_far.element_is so_far.until_is (c.in-Ok.ensures.sent c.args.bytes.now fed)
+
+pub returns-in-Ok-clause-network : goal.returns-in-Ok-clause-network
+returns-in-Ok-clause-network c =
+    network-text c.args.plan.now c.args.element c.args.bytes.now c.args.until c.in-Ok.replayed c.elements-elements.ensures.well_formed (returns-in-Ok-clause-sent c)

@@ -4,6 +4,7 @@ use Rattle.node_file.specs.Cutting.{with_row}
 use Rattle.node_replay.specs.NodeState.{WasFed}
 use Rattle.node_replay.specs.Sent.{IsSentText}
 use Rattle.node_replay.proofs.Feeding.{stands_whole, ended_for}
+use Rattle.node_replay.proofs.OfNetwork.{network-text}
 use Rattle.node_replay.proofs.node.Node.finish.Goals as goal
 
 pub returns-in-Err-clause-refused : goal.returns-in-Err-clause-refused
@@ -26,3 +27,8 @@ returns-in-Ok-finish-clause-sent c =
           c.in-Ok-finish.replayed (c.in_ok-take_row.ensures.plan ∙ same.plan) (c.in_ok-take_row.ensures.element ∙ same.element) c.in_ok-take_row.ensures.until
           (c.in-Ok-finish.ensures.replayed rows stands),
     ))
+
+pub returns-in-Ok-finish-clause-network : goal.returns-in-Ok-finish-clause-network
+returns-in-Ok-finish-clause-network c = λ bytes fed well.
+    let node = c.args.self in
+    network-text node.lines.plan node.lines.element bytes node.replay.until c.in-Ok-finish.replayed well (returns-in-Ok-finish-clause-sent c bytes fed)
