@@ -115,7 +115,7 @@ fn frames_and_long_lines_are_refused(rt: HostRuntime) -> Result<(), Fail> {
     let alloc = rt.alloc();
     let file = received(alloc, b"10,frame,L1>B,")?;
     // The line has 14 octets before the frame; its last octet is cut off, then its version is 0.
-    let cut = &file.bytes()[..file.bytes().len() - 3];
+    let cut = &file.bytes()[..file.bytes().len().saturating_sub(3)];
     refused(&rt, cut, b"bad node 49 1 4\n")?;
     let mut other = Text::new(alloc);
     other.put(b"10,frame,L1>B,")?;
