@@ -266,6 +266,13 @@ def make_repository(folder, name, uses, program):
         out.writelines(f"{crate}: {' '.join(lines[crate])}\n" for crate in kept)
 
 
+def try_cases(folder, name, uses, program):
+    """Runs a program on the files of a folder's cases; 0 where it prints of each what it has to."""
+    make_repository(folder, name, uses, program)
+    words = ["rt", "try", "--steps", str(10**13), "--seconds", "3000", "--cases", os.path.join(folder, "cases")]
+    return subprocess.run(words, cwd=os.path.join(folder, "crates", name), check=False).returncode
+
+
 def random_case(chance):
     """A plan, events, the last millisecond, and how often a step is made where nothing happens (0: never)."""
     plan = random_plan(chance, chance.choice([[0], [0], [0], [0], [0] * 9 + [60000]]))
@@ -403,13 +410,7 @@ def main():
                         out.write(content)
                 counts.update(counted)
         print(", ".join(f"{name}: {count:,}" for name, count in sorted(counts.items())), flush=True)
-        make_repository(folder, "net_cases", USES, PROGRAM)
-        tried = subprocess.run(
-            ["rt", "try", "--steps", str(10**13), "--seconds", "3000", "--cases", os.path.join(folder, "cases")],
-            cwd=os.path.join(folder, "crates", "net_cases"),
-            check=False,
-        )
-        return tried.returncode
+        return try_cases(folder, "net_cases", USES, PROGRAM)
     finally:
         if not given.keep:
             shutil.rmtree(folder)

@@ -1,9 +1,8 @@
 """Random files for one element, fed to the crate node_replay in pieces: what node_random.py does with --pieces."""
 import itertools
 import os
-import subprocess
 
-from net_random import make_repository
+from net_random import try_cases
 from reference_node import LONGEST_LINE, node_text
 from reference_random import plan_text
 
@@ -176,10 +175,4 @@ def compare(chance, random_case, count, folder):
     refused, rows = write_cases(chance, random_case, count, os.path.join(folder, "cases"))
     print(f"{count} files, each cut in three ways: {rows} rows, {refused} refused", flush=True)
     uses = ["node_replay", "node_file", "plan_file", "capture_text", "esmc_frame", "sync_topo", "sync_edge"]
-    make_repository(folder, "node_cases", uses, PROGRAM)
-    tried = subprocess.run(
-        ["rt", "try", "--steps", str(10**13), "--seconds", "3000", "--cases", os.path.join(folder, "cases")],
-        cwd=os.path.join(folder, "crates", "node_cases"),
-        check=False,
-    )
-    return tried.returncode
+    return try_cases(folder, "node_cases", uses, PROGRAM)
