@@ -63,7 +63,7 @@ def main():
         subprocess.run(["git", "checkout", "-q", given.commit], cwd=clone, check=True)
         start = time.monotonic()
         with open(log, "w", encoding="utf-8") as out:
-            gate = subprocess.Popen(["rt", "ci"], cwd=clone, stdout=out, stderr=subprocess.STDOUT)
+            gate = subprocess.Popen(["rt", "ci", "--anew"], cwd=clone, stdout=out, stderr=subprocess.STDOUT)
             while gate.poll() is None:
                 found = processes()
                 for number in below(found, gate.pid):
