@@ -1,13 +1,11 @@
 -- States and levels in the millisecond of a network's last step, and one element more.
-use Rattle.std.proofs.Common.{◌≡◌, ℕ, suc, ◌+◌, ◌-◌, ◌<◌, ◌⊎◌, Bool, true, false, cond, length, List, refl, sym, ap, ◌∙◌, arith, inl, inr}
+use Rattle.std.proofs.Common.{◌≡◌, ℕ, suc, ◌+◌, ◌-◌, ◌≤◌, ◌<◌, Bool, true, false, cond, length, List, refl, sym, ap, ◌∙◌, arith, inl, inr}
 use Rattle.std.specs.List.{count_by, range_with_len}
-use Rattle.std.proofs.Math.Decide.{dec_lt}
 use Rattle.std.proofs.lemmas.List.Sums.{sum_by_push}
 use Rattle.std.proofs.lemmas.Option.{slice_get_cases}
 use Rattle.sync_ql.specs.declared.levels.Level.{Level}
 use Rattle.sync_ql.specs.declared.rules.ClockState.{ClockState}
 use Rattle.sync_ql.specs.declared.rules.ClockState.TheVariants.{FreeRun, Locked, Holdover}
-use Rattle.sync_ql.specs.Level.{IsBetter}
 use Rattle.sync_ql.specs.Moment.{Moment, Settings}
 use Rattle.sync_ql.specs.Told.{moments_until}
 use Rattle.sync_ql.specs.Output.{clock_level_at, state_at}
@@ -80,36 +78,16 @@ counted-next plan events t n before after state was is more = record {
   free = one-counted (is_in FreeRun plan events t) n before.free after.free (is_same_state state FreeRun) (ap (λ s. is_same_state s FreeRun) is) was.free more.free;
 }
 
--- the worst level of the first element
-pub worst-first : (plan : Topology) (events : List Event) (t : ℕ) (worst : Level) → worst.option ≡ plan.option
-    → worst ≡ level_in plan events t 0 → IsWorstOf plan events t 1 worst
-worst-first plan events t worst of_option is = record {
+-- the level of an element is the worst where none has a greater place
+pub worst-found : (plan : Topology) (events : List Event) (t n element : ℕ) (worst : Level) → element < n → worst.option ≡ plan.option
+    → worst ≡ level_in plan events t element → ((other : ℕ) → other < n → (level_in plan events t other).place ≤ worst.place) → IsWorstOf plan events t n worst
+worst-found plan events t n element worst inside of_option is none_greater = record {
   of_option = of_option;
-  element = 0;
-  within = omega arith;
+  element = element;
+  within = inside;
   has = sym is;
-  none_worse = λ other within better.
-      let zero : other ≡ 0 = omega (arith, within) in
-      omega (arith, better, ap (λ (l : Level). l.place) is, ap (λ k. (level_in plan events t k).place) zero);
+  none_worse = λ other within better. omega (arith, better, none_greater other within);
 }
-
--- the worse of what was the worst and of one more level
-pub worst-next : (plan : Topology) (events : List Event) (t n : ℕ) (worst level now : Level)
-    → IsWorstOf plan events t n worst → level.option ≡ plan.option → level ≡ level_in plan events t n → (now ≡ worst) ⊎ (now ≡ level)
-    → ¬ IsBetter now worst → ¬ IsBetter now level → IsWorstOf plan events t (n + 1) now
-worst-next plan events t n worst level now was of_option is either not_one not_other = from either
-  where
-    none : (other : ℕ) → other < n + 1 → ¬ IsBetter now (level_in plan events t other)
-    none other within better = elim (dec_lt other n) [
-      | yes earlier ↦ absurd (omega (arith, better, not_one, was.none_worse other earlier))
-      | no last ↦
-          let same : other ≡ n = omega (arith, within, last) in
-          absurd (omega (arith, better, not_other, ap (λ (l : Level). l.place) is, ap (λ k. (level_in plan events t k).place) same))
-    ]
-
-    from : (now ≡ worst) ⊎ (now ≡ level) → IsWorstOf plan events t (n + 1) now
-    from (inl same) = record { of_option = ap (λ (l : Level). l.option) same ∙ was.of_option; element = was.element; within = omega (arith, was.within); has = was.has ∙ sym same; none_worse = none }
-    from (inr same) = record { of_option = ap (λ (l : Level). l.option) same ∙ of_option; element = n; within = omega arith; has = sym (same ∙ is); none_worse = none }
 
 -- a plan with a link has elements
 pub some-element : (plan : Topology) (link : ℕ) → IsWellFormed plan → link < length plan.links → 0 < length plan.elements

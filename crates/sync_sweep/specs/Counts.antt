@@ -1,6 +1,7 @@
 -- Private to this crate: the elements of each state among the first n.
-use Rattle.std.specs.Prelude.{◌≡◌, ◌+◌, ℕ, Bool, true, false, List}
+use Rattle.std.specs.Prelude.{◌≡◌, ◌<◌, ◌+◌, ℕ, Bool, true, false, List, length, slice_index_or}
 use Rattle.std.specs.List.{count_by, range_with_len}
+use Rattle.sync_ql.specs.declared.levels.Level.{Level}
 use Rattle.sync_ql.specs.declared.rules.ClockState.{ClockState}
 use Rattle.sync_ql.specs.declared.rules.ClockState.TheVariants.{FreeRun, Locked, Holdover}
 use Rattle.sync_topo.specs.declared.event.Event.{Event}
@@ -29,3 +30,9 @@ pub record AreCounted (plan : Topology) (events : List Event) (t n : ℕ) (state
   pub locked : states.locked ≡ count_by (is_in Locked plan events t) (range_with_len 0 n)
   pub holdover : states.holdover ≡ count_by (is_in Holdover plan events t) (range_with_len 0 n)
   pub free : states.free ≡ count_by (is_in FreeRun plan events t) (range_with_len 0 n)
+
+-- one of some levels has this place in its table
+pub record HasPlace (levels : List Level) (place : ℕ) : Type 0 where
+  pub element : ℕ
+  pub within : element < length levels
+  pub has : (other : Level) → (slice_index_or levels element other).place ≡ place

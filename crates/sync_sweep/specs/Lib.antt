@@ -4,3 +4,4 @@ pub mod Counts
 pub mod Base
 pub mod SweepText
 pub mod Branching
+pub mod ShownNow

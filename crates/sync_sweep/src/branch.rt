@@ -11,7 +11,9 @@ ghost use Rattle.sync_net.specs.Standing.{StandsFor, NoneFrom};
 ghost use Rattle.sync_net.specs.Evaluated.{IsContinued};
 ghost use Rattle.sync_sweep.specs.Sweep.{failure};
 ghost use Rattle.sync_sweep.specs.Branching.{IsBranch};
+ghost use Rattle.sync_sweep.specs.ShownNow.{AreShown};
 
+use crate::shown::{Shown, all_shown, note_shown};
 use agenda::Marks;
 use std::alloc::Global;
 use std::sync::ledger::Ledger;
@@ -20,26 +22,32 @@ use sync_net::Net;
 use sync_ql::limits::LAST_MILLISECOND;
 use sync_topo::{Event, Part, What};
 
-/// A network that runs on from another, and which of its elements and lines a step since then touched.
+/// A network that runs on from another, which of its elements and lines a step since then touched, and
+/// what each element shows.
 #[derive(Debug, Drop)]
 pub struct Branch<'a> {
     pub net: Net<'a>,
     pub elements: Marks,
     pub lines: Marks,
+    pub shown: Shown,
 }
 
 // A copy of a network, of which nothing is touched.
 pub fn new_branch<'a>(alloc: Global, base: &Net<'a>) -> Result<Branch<'a>, NoMemory>
+    requires live { base.now.spent ≡ false }
     ensures branch { IfOk result (λ branch. IsBranch base.now branch.net branch.elements branch.lines) }
     ensures net { IfOk result (λ branch. branch.net ≡ base.now) }
+    ensures shown { IfOk result (λ branch. AreShown base.now branch.shown) }
 {
     let net = base.try_clone(alloc)?;
+    let shown = all_shown(alloc, base)?;
     let elements = Marks::new(alloc, net.plan().elements() as usize)?;
     let lines = Marks::new(alloc, net.plan().lines() as usize)?;
     Ok(Branch {
         net,
         elements,
         lines,
+        shown,
     })
 }
 
@@ -70,6 +78,7 @@ fn step<L: Ledger>(
     requires elements { length branch.old.elements.flags ≡ length branch.old.net.plan.elements }
     requires lines { length branch.old.lines.flags ≡ line_count branch.old.net.plan }
     ensures plan { branch.new.net.plan ≡ branch.old.net.plan }
+    ensures shown { branch.new.shown ≡ branch.old.shown }
     ensures elements { length branch.new.elements.flags ≡ length branch.old.elements.flags }
     ensures lines { length branch.new.lines.flags ≡ length branch.old.lines.flags }
     ensures live { OnOk result (branch.new.net.spent ≡ false) }
@@ -115,6 +124,7 @@ fn step_quietly<L: Ledger>(
     requires elements { length branch.old.elements.flags ≡ length branch.old.net.plan.elements }
     requires lines { length branch.old.lines.flags ≡ line_count branch.old.net.plan }
     ensures plan { branch.new.net.plan ≡ branch.old.net.plan }
+    ensures shown { branch.new.shown ≡ branch.old.shown }
     ensures elements { length branch.new.elements.flags ≡ length branch.old.elements.flags }
     ensures lines { length branch.new.lines.flags ≡ length branch.old.lines.flags }
     ensures live { OnOk result (branch.new.net.spent ≡ false) }
@@ -147,6 +157,7 @@ pub fn fail_link<L: Ledger>(
     requires elements { length branch.old.elements.flags ≡ length branch.old.net.plan.elements }
     requires lines { length branch.old.lines.flags ≡ line_count branch.old.net.plan }
     ensures plan { branch.new.net.plan ≡ branch.old.net.plan }
+    ensures shown { branch.new.shown ≡ branch.old.shown }
     ensures elements { length branch.new.elements.flags ≡ length branch.old.elements.flags }
     ensures lines { length branch.new.lines.flags ≡ length branch.old.lines.flags }
     ensures live { OnOk result (branch.new.net.spent ≡ false) }
@@ -183,6 +194,7 @@ pub fn run_out<L: Ledger>(
     requires elements { length branch.old.elements.flags ≡ length branch.old.net.plan.elements }
     requires lines { length branch.old.lines.flags ≡ line_count branch.old.net.plan }
     ensures plan { branch.new.net.plan ≡ branch.old.net.plan }
+    ensures shown { branch.new.shown ≡ branch.old.shown }
     ensures live { OnOk result (branch.new.net.spent ≡ false) }
     ensures next { OnOk result (branch.new.net.next ≡ until + 1) }
     ensures stands { OnOk result ((all : List Event) → IsEventList branch.old.net.plan all →
@@ -199,15 +211,34 @@ pub fn run_out<L: Ledger>(
     Ok(())
 }
 
+// What is kept of the network where it began becomes what it shows.
+pub fn show(branch: &mut Branch<'_>)
+    requires live { branch.old.net.spent ≡ false }
+    requires elements { length branch.old.elements.flags ≡ length branch.old.net.plan.elements }
+    requires states { length branch.old.shown.states.items ≡ length branch.old.net.plan.elements }
+    requires levels { length branch.old.shown.levels.items ≡ length branch.old.net.plan.elements }
+    ensures net { branch.new.net ≡ branch.old.net }
+    ensures elements { branch.new.elements ≡ branch.old.elements }
+    ensures lines { branch.new.lines ≡ branch.old.lines }
+    ensures shown { (base : NetState) →
+        IsBranch base branch.old.net branch.old.elements branch.old.lines →
+        AreShown base branch.old.shown → AreShown branch.new.net branch.new.shown }
+{
+    note_shown(&branch.net, &mut branch.shown, branch.elements.listed());
+}
+
 // Back to where it began.
 pub fn go_back(alloc: Global, branch: &mut Branch<'_>, base: &Net<'_>) -> Result<(), NoMemory>
     requires live { branch.old.net.spent ≡ false }
     requires base_live { base.now.spent ≡ false }
     requires branch { IsBranch base.now branch.old.net branch.old.elements branch.old.lines }
+    requires shown { AreShown branch.old.net branch.old.shown }
     ensures branch { OnOk result (IsBranch base.now branch.new.net branch.new.elements branch.new.lines) }
     ensures net { OnOk result (branch.new.net ≡ base.now) }
+    ensures shown { OnOk result (AreShown base.now branch.new.shown) }
 {
     branch.net.return_to(alloc, base, branch.elements.listed(), branch.lines.listed())?;
+    note_shown(base, &mut branch.shown, branch.elements.listed());
     branch.elements.clear();
     branch.lines.clear();
     Ok(())

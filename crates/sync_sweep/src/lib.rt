@@ -4,8 +4,8 @@
 //! [`sweep_text`] writes its rows as a table. Up to the failure the run of every link is the same:
 //! it is made once. Each chunk has one copy of the network there, on which its links run one after
 //! another, and which goes back after each (`branch`). The row of a link is `IsSweepRow`, whichever
-//! chunk it is worked in; that there is one such table is [`one_sweep_law`]. [`Gate`] lets a test see
-//! that chunks run at once.
+//! chunk it is worked in; that there is one such table is [`one_sweep_law`]. [`Gate`] lets a test
+//! see that chunks run at once.
 //!
 //! This project's own.
 #![tactic(auto)]
@@ -18,6 +18,7 @@ mod gate;
 mod laws;
 mod links;
 mod row;
+mod shown;
 mod sweeping;
 mod table;
 

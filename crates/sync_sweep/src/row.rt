@@ -10,9 +10,11 @@ ghost use Rattle.sync_net.specs.Standing.{StandsFor};
 ghost use Rattle.settle_trace.specs.Now.{now_of, taken_now};
 ghost use Rattle.sync_sweep.specs.Sweep.{failure, IsSweepRow, AreSoManyLoops};
 ghost use Rattle.sync_sweep.specs.Branching.{IsBranch};
+ghost use Rattle.sync_sweep.specs.ShownNow.{AreShown};
 
-use crate::branch::{Branch, fail_link, go_back, run_out};
+use crate::branch::{Branch, fail_link, go_back, run_out, show};
 use crate::counting::tally_of;
+use crate::shown::Shown;
 use settle_trace::{Walk, loops, settled};
 use std::alloc::Global;
 use std::marker::Brand;
@@ -65,6 +67,7 @@ fn run_link<L: Ledger>(
     requires elements { length branch.old.elements.flags ≡ length branch.old.net.plan.elements }
     requires lines { length branch.old.lines.flags ≡ line_count branch.old.net.plan }
     ensures plan { branch.new.net.plan ≡ branch.old.net.plan }
+    ensures shown { branch.new.shown ≡ branch.old.shown }
     ensures live { OnOk result (branch.new.net.spent ≡ false) }
     ensures next { OnOk result (branch.new.net.next ≡ until + 1) }
     ensures stands { OnOk result (StandsFor branch.new.net (failure at link) (until + 1)) }
@@ -99,8 +102,8 @@ fn count_of(walks: &[Walk], most: u32) -> u32
     walks.len() as u32
 }
 
-// How many closed walks there are in the millisecond of the last step. Where it is settled and the plan has
-// a settling bound none is looked for, since ranks rise.
+// How many closed walks there are in the millisecond of the last step. Where it is settled and the
+// plan has a settling bound none is looked for, since ranks rise.
 fn loops_of(
     alloc: Global,
     net: &Net<'_>,
@@ -128,6 +131,7 @@ fn loops_of(
 fn row_of(
     alloc: Global,
     net: &Net<'_>,
+    shown: &Shown,
     link: u32,
     at: u64,
     bound: Option<u64>,
@@ -136,11 +140,12 @@ fn row_of(
     requires stepped { 0 < net.now.next }
     requires link { link < length net.now.plan.links }
     requires stands { StandsFor net.now (failure at link) net.now.next }
+    requires shown { AreShown net.now shown.now }
     requires bound { MatchOption bound ((other : ℕ) → ¬ IsSettlingBound net.now.plan at other)
         (IsSettlingBound net.now.plan at) }
     ensures { IfOk result (IsSweepRow net.now.plan at (now_of net.now) link) }
 {
-    let tally = tally_of(net, net.plan().elements());
+    let tally = tally_of(net, shown, net.plan().elements());
     let settled = settled(net);
     let loops = loops_of(alloc, net, link, at, settled, bound)?;
     Ok(SweepRow {
@@ -155,8 +160,8 @@ fn row_of(
     })
 }
 
-// The row of a link that goes down in a millisecond, on a branch of the network that has come as far as
-// up to it; the branch goes back.
+// The row of a link that goes down in a millisecond, on a branch of the network that has come as far
+// as up to it; the branch goes back.
 pub fn failed_row(
     alloc: Global,
     base: &Net<'_>,
@@ -176,12 +181,15 @@ pub fn failed_row(
         (IsSettlingBound base.now.plan at) }
     requires branch { IsBranch base.now branch.old.net branch.old.elements branch.old.lines }
     requires same { branch.old.net ≡ base.now }
+    requires shown { AreShown base.now branch.old.shown }
     ensures row { IfOk result (IsSweepRow base.now.plan at until link) }
     ensures branch { OnOk result (IsBranch base.now branch.new.net branch.new.elements branch.new.lines) }
     ensures same { OnOk result (branch.new.net ≡ base.now) }
+    ensures shown { OnOk result (AreShown base.now branch.new.shown) }
 {
     run_link::<Brand>(branch, at, until, link, Blank::new(1))?;
-    let row = row_of(alloc, &branch.net, link, at, bound)?;
+    show(branch);
+    let row = row_of(alloc, &branch.net, &branch.shown, link, at, bound)?;
     go_back(alloc, branch, base)?;
     Ok(row)
 }

@@ -28,9 +28,9 @@ const CHUNKS: usize = 8;
 /// link in order; both in milliseconds from 0, and at most 86,400,000.
 ///
 /// The links are cut into at most eight chunks of as many links each, the last of which may have
-/// fewer; they run at once where there are processors, and each calls the gate once, before its first
-/// link. A row doesn't depend on which chunk it is worked in. Where a row has a settling bound that is
-/// not after `until`, it is settled.
+/// fewer; they run at once where there are processors, and each calls the gate once, before its
+/// first link. A row doesn't depend on which chunk it is worked in. Where a row has a settling bound
+/// that is not after `until`, it is settled.
 /// `NoMemory` comes for want of memory alone. This project's own.
 pub fn sweep<R: Threads + Sync, G: Gate + Sync>(
     rt: &R,

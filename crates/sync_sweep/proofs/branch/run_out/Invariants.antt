@@ -11,6 +11,7 @@ invariant-loop-next g l = record {
   plan : l.branch.net.plan ≡ l.fn.branch.net.plan;
   elements : length l.branch.elements.flags ≡ length l.fn.branch.elements.flags;
   lines : length l.branch.lines.flags ≡ length l.fn.branch.lines.flags;
+  shown : l.branch.shown ≡ l.fn.branch.shown;
   live : l.branch.net.spent ≡ false;
   begun : l.fn.from ≤ l.next;
   next : l.branch.net.next ≡ l.next;

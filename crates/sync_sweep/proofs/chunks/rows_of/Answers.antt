@@ -4,6 +4,7 @@ use Rattle.std.proofs.lemmas.List.{take_more}
 use Rattle.net_rules.specs.Settling.{IsSettlingBound}
 use Rattle.sync_sweep.specs.Sweep.{IsSweepRow}
 use Rattle.sync_sweep.specs.Branching.{IsBranch}
+use Rattle.sync_sweep.specs.ShownNow.{AreShown}
 use Rattle.sync_sweep.proofs.ChunkLemmas.{AllZip-next}
 use Rattle.sync_sweep.proofs.chunks.rows_of.Goals as goal
 
@@ -22,4 +23,5 @@ loop-link-preserved c =
           within c.loop-link.invariant.rows made (take_more links i 0 within) c.in_ok-push.ensures.ok;
       branch = subst (λ n. IsBranch n c.failed_row.new.branch.net c.failed_row.new.branch.elements c.failed_row.new.branch.lines) c.net-net.ensures.net c.in_ok-row.ensures.branch;
       same = c.in_ok-row.ensures.same ∙ c.net-net.ensures.net;
+      shown = subst (λ n. AreShown n c.failed_row.new.branch.shown) c.net-net.ensures.net c.in_ok-row.ensures.shown;
     }

@@ -1,0 +1,12 @@
+use Rattle.std.proofs.Common.{◌≡◌, ◌<◌, ℕ, length, slice_index_or}
+use Rattle.sync_ql.specs.declared.rules.ClockState.{ClockState}
+use Rattle.sync_element.specs.ElementState.{ElementState}
+use Rattle.sync_sweep.specs.ShownNow.{ShowsState}
+use Rattle.sync_sweep.proofs.shown.all_states.Given as goal
+
+-- the elements behind show what is kept
+abbrev pub invariant-loop-e : goal.invariant-loop-e
+invariant-loop-e l = record {
+  count : length l.states.items ≡ l.e;
+  each : (k : ℕ) (element : ElementState) (other : ClockState) → k < l.e → ShowsState (slice_index_or l.net.elements k element) (slice_index_or l.states.items k other);
+}
