@@ -69,15 +69,6 @@ impl DueTimes {
         Ok(DueTimes { times, rounds })
     }
 
-    /// Becomes the same as other times of as many objects. It takes no memory. This project's own.
-    pub fn copy_from(&mut self, other: &DueTimes)
-        requires count { length self.old ≡ length other.now }
-        ensures { self.new ≡ other.now }
-    {
-        self.times.copy_from_slice(other.times.as_slice());
-        self.rounds.copy_from_slice(other.rounds.as_slice());
-    }
-
     /// Renews when the object at a place is due, or that it isn't. It takes time by the logarithm of the
     /// number of objects, and no memory; none of either where the object is due then already.
     ///
@@ -174,24 +165,18 @@ fn renew(rounds: &mut [Option<Due>], count: usize, place: usize, player: Option<
 fn no_times(alloc: Global, count: usize) -> Result<Vec<Option<u64>>, NoMemory>
     ensures { IfOk result (λ times. times.items ≡ replicate count None) }
 {
-    let mut times = Vec::new(alloc);
-    for _place in 0..count {
-        if times.push(None).is_err() {
-            return Err(NoMemory);
-        }
+    match vec![in alloc; None; count] {
+        Ok(times) => Ok(times),
+        Err(_) => Err(NoMemory),
     }
-    Ok(times)
 }
 
 fn no_rounds(alloc: Global, count: usize) -> Result<Vec<Option<Due>>, NoMemory>
     requires few { count ≤ MOST_PLACES }
     ensures { IfOk result (λ rounds. rounds.items ≡ replicate (count + count) None) }
 {
-    let mut rounds = Vec::new(alloc);
-    for _round in 0..count + count {
-        if rounds.push(None).is_err() {
-            return Err(NoMemory);
-        }
+    match vec![in alloc; None; count + count] {
+        Ok(rounds) => Ok(rounds),
+        Err(_) => Err(NoMemory),
     }
-    Ok(rounds)
 }

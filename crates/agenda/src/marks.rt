@@ -137,11 +137,8 @@ fn take_away(flags: &mut [bool], listed: &[u32])
 fn no_flags(alloc: Global, count: usize) -> Result<Vec<bool>, NoMemory>
     ensures { IfOk result (λ flags. flags.items ≡ replicate count false) }
 {
-    let mut flags = Vec::new(alloc);
-    for _place in 0..count {
-        if flags.push(false).is_err() {
-            return Err(NoMemory);
-        }
+    match vec![in alloc; false; count] {
+        Ok(flags) => Ok(flags),
+        Err(_) => Err(NoMemory),
     }
-    Ok(flags)
 }

@@ -21,7 +21,9 @@ pub(crate) fn outputs(alloc: Global, plan: &Plan) -> Result<Vec<Vec<LineId>>, No
 fn no_outputs(alloc: Global, plan: &Plan) -> Result<Vec<Vec<LineId>>, NoMemory>
     ensures { IfOk result (λ outputs. AreOutputs plan.now 0 outputs.items) }
 {
-    let mut outputs = Vec::new(alloc);
+    let Ok(mut outputs) = Vec::with_capacity(alloc, plan.elements() as usize) else {
+        return Err(NoMemory);
+    };
     for _element in 0..plan.elements() {
         let Ok(()) = outputs.push(Vec::new(alloc)) else {
             return Err(NoMemory);

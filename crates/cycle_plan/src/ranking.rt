@@ -268,7 +268,9 @@ fn all_elements(alloc: Global, plan: &Plan) -> Result<Vec<u32>, NoMemory>
     ensures each { IfOk result (λ all. (e : ℕ) → e < length plan.now.elements
         → Contains all.items e) }
 {
-    let mut all = Vec::new(alloc);
+    let Ok(mut all) = Vec::with_capacity(alloc, plan.elements() as usize) else {
+        return Err(NoMemory);
+    };
     for element in 0..plan.elements() {
         let Ok(()) = all.push(element) else {
             return Err(NoMemory);

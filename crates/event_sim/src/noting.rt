@@ -18,8 +18,10 @@ pub fn first_shown(alloc: Global, net: &Net<'_>) -> Result<Vec<Shown>, NoMemory>
     requires { net.now.spent ≡ false }
     ensures { IfOk result (λ shown. AreShown net.now shown.items) }
 {
-    let mut shown = Vec::new(alloc);
     let plan = net.plan();
+    let Ok(mut shown) = Vec::with_capacity(alloc, plan.elements() as usize) else {
+        return Err(NoMemory);
+    };
     for place in 0..plan.elements() {
         let now = shown_of(plan, place, net.element(place));
         if shown.push(now).is_err() {

@@ -30,7 +30,7 @@ pub(crate) fn ladder_rows(alloc: Global, n: u32) -> Result<PlanRows, NoMemory>
 fn element_rows(alloc: Global, n: u32) -> Result<Rows<ElementRow>, NoMemory>
     ensures { IfOk result (λ rows. rows ≡ map element_row (range_with_len 0 n)) }
 {
-    let mut rows = Rows::new(alloc);
+    let mut rows = Rows::with_capacity(alloc, n as usize)?;
     for j in 0..n {
         rows.push(element_row(alloc, j)?)?;
     }
@@ -55,7 +55,7 @@ fn element_row(alloc: Global, j: u32) -> Result<ElementRow, NoMemory>
 fn link_rows(alloc: Global, n: u32) -> Result<Rows<LinkRow>, NoMemory>
     ensures { IfOk result (λ rows. rows ≡ flat_map link_rows_up_to (range_with_len 0 n)) }
 {
-    let mut rows = Rows::new(alloc);
+    let mut rows = Rows::with_capacity(alloc, 2 * n as usize)?;
     for j in 0..n {
         put_links_up_to(alloc, &mut rows, j)?;
     }

@@ -140,18 +140,15 @@ impl Table {
 fn new_inputs(alloc: Global, count: usize) -> Result<Vec<Candidate>, NoMemory>
     ensures { IfOk result (λ inputs. inputs.items ≡ replicate count unusable) }
 {
-    let mut inputs = Vec::new(alloc);
-    for _place in 0..count {
-        let unusable = Candidate {
-            level: None,
-            priority: 0,
-            usable: false,
-        };
-        if inputs.push(unusable).is_err() {
-            return Err(NoMemory);
-        }
+    let unusable = Candidate {
+        level: None,
+        priority: 0,
+        usable: false,
+    };
+    match vec![in alloc; unusable; count] {
+        Ok(inputs) => Ok(inputs),
+        Err(_) => Err(NoMemory),
     }
-    Ok(inputs)
 }
 
 // The rounds of a tournament of so many inputs, none of which has a standing.
@@ -159,11 +156,8 @@ fn no_standings(alloc: Global, count: usize) -> Result<Vec<Option<Standing>>, No
     requires few { count ≤ MOST_INPUTS }
     ensures { IfOk result (λ standings. standings.items ≡ replicate (count + count) None) }
 {
-    let mut standings = Vec::new(alloc);
-    for _round in 0..count + count {
-        if standings.push(None).is_err() {
-            return Err(NoMemory);
-        }
+    match vec![in alloc; None; count + count] {
+        Ok(standings) => Ok(standings),
+        Err(_) => Err(NoMemory),
     }
-    Ok(standings)
 }

@@ -200,13 +200,10 @@ pub fn endings_of(
 fn none_known(alloc: Global, count: u32) -> Result<Vec<Option<Ending>>, NoMemory>
     ensures { IfOk result (λ known. known.items ≡ replicate count None) }
 {
-    let mut known = Vec::new(alloc);
-    for _element in 0..count {
-        if known.push(None).is_err() {
-            return Err(NoMemory);
-        }
+    match vec![in alloc; None; count as usize] {
+        Ok(known) => Ok(known),
+        Err(_) => Err(NoMemory),
     }
-    Ok(known)
 }
 
 // The endings, all of which are known.
@@ -214,7 +211,7 @@ fn all_known(alloc: Global, known: &[Option<Ending>]) -> Result<Rows<Ending>, No
     requires { (element : ℕ) → element < length known.now → IsKnown known.now element }
     ensures { IfOk result (λ endings. map Some endings ≡ known.now) }
 {
-    let mut endings = Rows::new(alloc);
+    let mut endings = Rows::with_capacity(alloc, known.len())?;
     for ending in known {
         match *ending {
             Some(ending) => endings.push(ending)?,

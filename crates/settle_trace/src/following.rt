@@ -86,11 +86,8 @@ pub fn follow(
 pub fn no_marks(alloc: Global, count: u32) -> Result<Vec<bool>, NoMemory>
     ensures { IfOk result (λ met. met.items ≡ replicate count false) }
 {
-    let mut met = Vec::new(alloc);
-    for _element in 0..count {
-        if met.push(false).is_err() {
-            return Err(NoMemory);
-        }
+    match vec![in alloc; false; count as usize] {
+        Ok(met) => Ok(met),
+        Err(_) => Err(NoMemory),
     }
-    Ok(met)
 }

@@ -22,7 +22,9 @@ pub fn taken_inputs(alloc: Global, net: &Net<'_>) -> Result<Vec<Option<InputId>>
         (element : ℕ) → taken_in_list inputs.items element ≡ taken_now net.now all element) }
 {
     net_rules::taken_law();
-    let mut inputs = Vec::new(alloc);
+    let Ok(mut inputs) = Vec::with_capacity(alloc, net.plan().elements() as usize) else {
+        return Err(NoMemory);
+    };
     for e in 0..net.plan().elements() {
         if inputs.push(taken_input(net, e)).is_err() {
             return Err(NoMemory);

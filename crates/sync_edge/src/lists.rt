@@ -2,6 +2,7 @@ ghost use Rattle.std.specs.Prelude.{◌≡◌, [], ◌∷◌, ◌++◌, IfOk, On
 ghost use Rattle.std.specs.Fmt.{decimal};
 
 use crate::errors::NoMemory;
+use itoa::Buffer;
 use std::alloc::Global;
 use std::marker::Model;
 
@@ -51,11 +52,8 @@ impl Text {
         ensures ok { OnOk result (self.new ≡ self.old ++ decimal number) }
         ensures err { OnErr result (self.new ≡ self.old) }
     {
-        let alloc = *self.kept.allocator();
-        match number.to_string(alloc) {
-            Ok(digits) => self.put(digits.as_bytes()),
-            Err(_) => Err(NoMemory),
-        }
+        let mut digits = Buffer::new();
+        self.put(digits.format(number).as_bytes())
     }
 
     /// All the bytes.
@@ -98,6 +96,16 @@ impl<T> Rows<T> {
     {
         Rows {
             kept: Vec::new(alloc),
+        }
+    }
+
+    /// No rows, with room for so many. It takes memory for them.
+    pub fn with_capacity(alloc: Global, count: usize) -> Result<Rows<T>, NoMemory>
+        ensures { IfOk result (λ rows. rows ≡ []) }
+    {
+        match Vec::with_capacity(alloc, count) {
+            Ok(kept) => Ok(Rows { kept }),
+            Err(_) => Err(NoMemory),
         }
     }
 

@@ -48,7 +48,9 @@ fn new_watched(alloc: Global, config: &Config) -> Result<Vec<Watched>, NoMemory>
     ensures new { IfOk result (λ watched. (i : ℕ) → i < length config.now.inputs →
         IsNew config.now i (watched_in watched.items i)) }
 {
-    let mut watched = Vec::new(alloc);
+    let Ok(mut watched) = Vec::with_capacity(alloc, config.inputs.as_slice().len()) else {
+        return Err(NoMemory);
+    };
     for input in config.inputs.as_slice() {
         let one = new_input(config, input.first);
         if watched.push(one).is_err() {

@@ -25,7 +25,7 @@ pub struct Watched {
 pub fn try_clone_all(alloc: Global, watched: &[Watched]) -> Result<Vec<Watched>, NoMemory>
     ensures { IfOk result (λ copies. copies.items ≡ watched.now) }
 {
-    let mut copies = Rows::new(alloc);
+    let mut copies = Rows::with_capacity(alloc, watched.len())?;
     for input in watched {
         copies.push(Watched {
             monitor: input.monitor.copy(),

@@ -47,7 +47,7 @@ pub fn try_clone_parts(alloc: Global, parts: &Parts) -> Result<Parts, NoMemory>
 fn try_clone_elements(alloc: Global, elements: &[Element]) -> Result<Vec<Element>, NoMemory>
     ensures { IfOk result (λ copies. copies.items ≡ elements.now) }
 {
-    let mut copies = Rows::new(alloc);
+    let mut copies = Rows::with_capacity(alloc, elements.len())?;
     for element in elements {
         copies.push(element.try_clone(alloc)?)?;
     }
@@ -57,7 +57,7 @@ fn try_clone_elements(alloc: Global, elements: &[Element]) -> Result<Vec<Element
 fn try_clone_lines(alloc: Global, lines: &[Option<Line>]) -> Result<Vec<Option<Line>>, NoMemory>
     ensures { IfOk result (λ copies. copies.items ≡ lines.now) }
 {
-    let mut copies = Rows::new(alloc);
+    let mut copies = Rows::with_capacity(alloc, lines.len())?;
     for line in lines {
         copies.push(try_clone_line(alloc, line)?)?;
     }
@@ -76,7 +76,7 @@ pub fn try_clone_line(alloc: Global, line: &Option<Line>) -> Result<Option<Line>
 fn try_clone_told(alloc: Global, changes: &[Told]) -> Result<Vec<Told>, NoMemory>
     ensures { IfOk result (λ copies. copies.items ≡ changes.now) }
 {
-    let mut copies = Rows::new(alloc);
+    let mut copies = Rows::with_capacity(alloc, changes.len())?;
     for told in changes {
         copies.push(told.try_clone(alloc)?)?;
     }
@@ -86,7 +86,7 @@ fn try_clone_told(alloc: Global, changes: &[Told]) -> Result<Vec<Told>, NoMemory
 fn try_clone_outs(alloc: Global, outs: &[Rows<u32>]) -> Result<Vec<Rows<u32>>, NoMemory>
     ensures { IfOk result (λ copies. copies.items ≡ outs.now) }
 {
-    let mut copies = Rows::new(alloc);
+    let mut copies = Rows::with_capacity(alloc, outs.len())?;
     for lines in outs {
         copies.push(lines.try_clone(alloc)?)?;
     }

@@ -25,8 +25,10 @@ pub struct InputPlace {
 pub fn places_of(alloc: Global, plan: &Plan) -> Result<Vec<u32>, NoMemory>
     ensures { IfOk result (λ places. ArePlaces plan.now places.items) }
 {
-    let mut places = Vec::new(alloc);
     let count = plan.lines() + plan.sources();
+    let Ok(mut places) = Vec::with_capacity(alloc, count as usize) else {
+        return Err(NoMemory);
+    };
     for number in 0..count {
         put(&mut places, place_of(plan, numbered(plan, number)))?;
     }

@@ -69,7 +69,7 @@ fn new_elements(alloc: Global, plan: &Plan) -> Result<Vec<Element>, NoMemory>
     ensures { IfOk result (λ elements.
         AreEach (IsNewElement plan.now) (length plan.now.elements) elements.items) }
 {
-    let mut elements = Rows::new(alloc);
+    let mut elements = Rows::with_capacity(alloc, plan.elements() as usize)?;
     for place in 0..plan.elements() {
         elements.push(new_element(alloc, plan, place)?)?;
     }
@@ -102,7 +102,7 @@ fn input_configs(alloc: Global, plan: &Plan, place: u32) -> Result<Rows<InputCon
     requires { place < length plan.now.elements }
     ensures { IfOk result (λ inputs. inputs ≡ map (config_of plan.now) (inputs_of plan.now place)) }
 {
-    let mut inputs = Rows::new(alloc);
+    let mut inputs = Rows::with_capacity(alloc, plan.inputs(place).len())?;
     for input in plan.inputs(place) {
         inputs.push(input_config(plan, *input))?;
     }
@@ -134,7 +134,7 @@ fn new_lines(alloc: Global, plan: &Plan) -> Result<Vec<Option<Line>>, NoMemory>
     ensures { IfOk result (λ lines.
         AreEach (IsNewPlace plan.now) (line_count plan.now) lines.items) }
 {
-    let mut lines = Rows::new(alloc);
+    let mut lines = Rows::with_capacity(alloc, plan.lines() as usize)?;
     for number in 0..plan.lines() {
         lines.push(new_line(alloc, plan, LineId(number))?)?;
     }
@@ -159,14 +159,14 @@ fn new_signals(alloc: Global, plan: &Plan) -> Result<Vec<LineSignal>, NoMemory>
     ensures { IfOk result (λ signals.
         signals.items ≡ replicate (line_count plan.now) (record { up = true; esmc = true })) }
 {
-    let mut signals = Rows::new(alloc);
-    for _line in 0..plan.lines() {
-        signals.push(LineSignal {
-            up: true,
-            esmc: true,
-        })?;
+    let signal = LineSignal {
+        up: true,
+        esmc: true,
+    };
+    match vec![in alloc; signal; plan.lines() as usize] {
+        Ok(signals) => Ok(signals),
+        Err(_) => Err(NoMemory),
     }
-    Ok(signals.into_vec())
 }
 
 // The sources, by number.
@@ -174,7 +174,7 @@ fn new_sources(alloc: Global, plan: &Plan) -> Result<Vec<SourceSignal>, NoMemory
     ensures { IfOk result (λ sources.
         AreEach (IsNewSource plan.now) (length plan.now.sources) sources.items) }
 {
-    let mut sources = Rows::new(alloc);
+    let mut sources = Rows::with_capacity(alloc, plan.sources() as usize)?;
     for number in 0..plan.sources() {
         sources.push(new_source(plan, number))?;
     }
@@ -198,11 +198,10 @@ fn new_source(plan: &Plan, number: u32) -> SourceSignal
 fn no_levels(alloc: Global, plan: &Plan) -> Result<Vec<Option<Level>>, NoMemory>
     ensures { IfOk result (λ levels. levels.items ≡ replicate (line_count plan.now) None) }
 {
-    let mut levels = Rows::new(alloc);
-    for _line in 0..plan.lines() {
-        levels.push(None)?;
+    match vec![in alloc; None; plan.lines() as usize] {
+        Ok(levels) => Ok(levels),
+        Err(_) => Err(NoMemory),
     }
-    Ok(levels.into_vec())
 }
 
 /// No element is told anything. This project's own.
@@ -212,7 +211,7 @@ pub fn new_tellings(alloc: Global, plan: &Plan) -> Result<Tellings, NoMemory>
     ensures active { IfOk result (λ tellings.
         tellings.active ≡ none_marked (length plan.now.elements)) }
 {
-    let mut changes = Rows::new(alloc);
+    let mut changes = Rows::with_capacity(alloc, plan.elements() as usize)?;
     for _element in 0..plan.elements() {
         changes.push(Told::new(alloc))?;
     }
@@ -238,7 +237,7 @@ fn outs_of(alloc: Global, plan: &Plan) -> Result<Vec<Rows<u32>>, NoMemory>
 fn no_outs(alloc: Global, plan: &Plan) -> Result<Vec<Rows<u32>>, NoMemory>
     ensures { IfOk result (λ outs. outs.items ≡ replicate (length plan.now.elements) []) }
 {
-    let mut outs = Rows::new(alloc);
+    let mut outs = Rows::with_capacity(alloc, plan.elements() as usize)?;
     for _element in 0..plan.elements() {
         outs.push(Rows::new(alloc))?;
     }
