@@ -203,8 +203,8 @@ fn sim_form<'a>(plan: &'a str, events: &'a str, until: &str) -> Option<Form<'a>>
     }
 }
 
-/// The form `sweep`, if the word may name a file and is followed by two such milliseconds, the first
-/// of them not the later.
+/// The form `sweep`, if the word may name a file and is followed by two such milliseconds, the
+/// first of them not the later.
 fn sweep_form<'a>(plan: &'a str, at: &str, until: &str) -> Option<Form<'a>>
     ensures form { option_map seen result ≡ sweep_form plan.now at.now until.now }
     ensures sized { IfSome result IsSized }
@@ -312,7 +312,8 @@ fn prio_sim_form<'a>(plan: &'a str, events: &'a str, until: &str) -> Option<Form
     }
 }
 
-/// The form `node`, if its first and third word may name files and are followed by such a millisecond.
+/// The form `node`, if its first and third word may name files and are followed by such a
+/// millisecond.
 fn node_form<'a>(plan: &'a str, element: &'a str, file: &'a str, until: &str) -> Option<Form<'a>>
     ensures form { option_map seen result ≡ node_form plan.now element.now file.now until.now }
     ensures sized { IfSome result IsSized }

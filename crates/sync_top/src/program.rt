@@ -27,8 +27,18 @@ use crate::sweep::sweep;
 use crate::trial::trial_text;
 use std::alloc::Global;
 use std::thread::Threads;
-use sync_edge::{Folder, NoMemory, Sink, write_all};
+use sync_edge::{Folder, NoMemory, Sink, Text, write_all};
 use sync_sweep::Gate;
+
+/// The reply where all is done.
+fn done(text: Text) -> Reply
+    ensures { result ≡ record { status = Status.Done; text = text } }
+{
+    Reply {
+        status: Status::Done,
+        text,
+    }
+}
 
 /// The work that the words ask for.
 fn work<R: Threads + Sync, F: Folder, G: Gate + Sync>(
@@ -82,14 +92,8 @@ fn work<R: Threads + Sync, F: Folder, G: Gate + Sync>(
                 until,
             },
         ) => node(alloc, folder, plan, element, file, until),
-        Some(Form::Gen(n)) => Ok(Reply {
-            status: Status::Done,
-            text: ladder_text(alloc, n)?,
-        }),
-        Some(Form::Trial(n)) => Ok(Reply {
-            status: Status::Done,
-            text: trial_text(alloc, n)?,
-        }),
+        Some(Form::Gen(n)) => Ok(done(ladder_text(alloc, n)?)),
+        Some(Form::Trial(n)) => Ok(done(trial_text(alloc, n)?)),
         None => Ok(Reply {
             status: Status::Usage,
             text: line_text(alloc, b"usage")?,
@@ -161,13 +165,13 @@ pub fn run<R: Threads + Sync, F: Folder, K: Sink, G: Gate + Sync>(
     ensures accepted_is_loop_free { result ≡ Status.Done → IfSome (F.contents folder.old)
         (IsCheckedLoopFree (form_of (map string_bytes words.now))) }
 
-    // Where `prio-check` is done, a plan was read, and no timing loop can form in it where elements choose
-    // by priority alone, whatever happens.
+    // Where `prio-check` is done, a plan was read, and no timing loop can form in it where elements
+    // choose by priority alone, whatever happens.
     ensures accepted_never_loops { result ≡ Status.Done → IfSome (F.contents folder.old)
         (IsCheckedForPriority (form_of (map string_bytes words.now))) }
 
-    // Which words are a form doesn't depend on any file. Other words, `gen` and `trial` call the folder
-    // not at all.
+    // Which words are a form doesn't depend on any file. Other words, `gen` and `trial` call the
+    // folder not at all.
     ensures usage { OnAnswer result ((result ≡ Status.Usage) ↔ (form_of (map string_bytes words.now) ≡ None)) }
     ensures no_call { reads_file (form_of (map string_bytes words.now)) ≡ false → folder.new ≡ folder.old }
 

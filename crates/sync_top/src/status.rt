@@ -7,7 +7,8 @@ ghost use Rattle.std.specs.Prelude.{◌≡◌};
 pub enum Status {
     /// The answer was written.
     Done,
-    /// `check`, `prio-check`: the rank doesn't rise over some hop; `rank`, `prio-rank`: no ranks rise.
+    /// `check`, `prio-check`: the rank doesn't rise over some hop; `rank`, `prio-rank`: no ranks
+    /// rise.
     Refuted,
     /// The words are no form of the program.
     Usage,
@@ -17,7 +18,7 @@ pub enum Status {
     BadCert,
     /// The event list is refused.
     BadEvents,
-    /// A captured frame, a row or a capture is refused.
+    /// A captured frame, a row, a capture or what an element received is refused.
     BadFrames,
     /// The folder failed, or a file isn't there.
     ReadFault,
@@ -27,7 +28,7 @@ pub enum Status {
     TooLong,
     /// Memory ran out. Nothing was written.
     NoMemory,
-    /// `sim`: the changes were too many, and the report ends before them.
+    /// `sim`: the changes were too many, and the report ends before them; `node`: the rows were.
     Stopped,
 }
 

@@ -126,8 +126,8 @@ fn put_last(alloc: Global, text: &mut Text, plan: &Plan, changes: &[Change]) -> 
     }
 }
 
-/// Whether the end of the run is settled: where the changes were too many, by a second simulator, which
-/// watches none.
+/// Whether the end of the run is settled: where the changes were too many, by a second simulator,
+/// which watches none.
 fn is_settled(alloc: Global, plan: &Plan, sim: &Sim<'_>, reach: Reach) -> Result<bool, NoMemory>
     requires link { 0 < length plan.now.links }
     requires run { HasRun plan.now trial_events Watch.Changes LAST sim.now reach }
