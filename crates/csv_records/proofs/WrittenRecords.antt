@@ -31,7 +31,8 @@ plain_byte byte plain = four (byte == 44) (byte == 34) (byte == 13) (byte == 10)
     four false false false true plain = absurd (true≢false (sym plain))
     four false false false false plain = refl
 
-plain_field : (bytes : List ℕ) → IsPlain bytes → list_any (needs_byte default_writer) bytes ≡ false
+-- a field of plain bytes calls for none
+pub plain_field : (bytes : List ℕ) → IsPlain bytes → list_any (needs_byte default_writer) bytes ≡ false
 plain_field [] plain = refl
 plain_field (byte ∷ bytes) plain =
     let parts = and_parts (is_plain_byte byte) (list_all is_plain_byte bytes) plain in
@@ -70,14 +71,19 @@ no_mark byte [] none = refl
 no_mark byte (second ∷ []) none = refl
 no_mark byte (second ∷ third ∷ rest) none = rw none refl
 
+-- the records of a text that `csv` writes for some records, and that begins with no byte order mark
+pub records-of-text : (rows : List (List (List ℕ))) (byte : ℕ) (rest : List ℕ) → rows_text rows ≡ byte ∷ rest → (byte == 239) ≡ false → length rows ≤ length (byte ∷ rest)
+    → records_of (byte ∷ rest) ≡ map read_back rows
+unfolding records_of
+records-of-text rows byte rest text none long =
+    let read : records_from default_config (length (byte ∷ rest) + 1) st.StartRecord (rows_text rows) ≡ map read_back rows
+    = written rows (length (byte ∷ rest) + 1) (omega (arith, long)) in
+    rw (no_mark byte rest none) (rw text at read)
+
 -- the records of lines of plain fields, the first of which begins with no byte order mark
 pub records-of-lines : (byte : ℕ) (front second : List ℕ) (pairs : List (List ℕ × List ℕ)) → (byte == 239) ≡ false → ArePlain ((byte ∷ front, second) ∷ pairs)
     → records_of (pair_lines ((byte ∷ front, second) ∷ pairs)) ≡ pair_records ((byte ∷ front, second) ∷ pairs)
-unfolding records_of
 records-of-lines byte front second pairs none plain =
     let all : List (List ℕ × List ℕ) = (byte ∷ front, second) ∷ pairs in
-    let long = as_long all in
     let text : pair_lines all ≡ rows_text (pair_records all) = lines_are all plain in
-    let read : records_from default_config (length (pair_lines all) + 1) st.StartRecord (rows_text (pair_records all)) ≡ map read_back (pair_records all)
-    = written (pair_records all) (length (pair_lines all) + 1) (omega (arith, long)) in
-    rw (no_mark byte _ none) (rw (← text) at read ∙ as_they_are all)
+    records-of-text (pair_records all) byte _ (sym text) none (as_long all) ∙ as_they_are all

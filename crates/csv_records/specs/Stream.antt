@@ -1,5 +1,5 @@
 -- The records of a text, taken one after another.
-use Rattle.std.specs.Prelude.{◌≡◌, ◌+◌, ℕ, Bool, true, false, IsSome, List, [], length, Option, Some, unwrap_or, if◌then◌else◌}
+use Rattle.std.specs.Prelude.{◌≡◌, ◌+◌, ℕ, Bool, true, false, List, [], length, Option, Some, unwrap_or, if◌then◌else◌}
 use Rattle.csv.specs.Machine.{ends_at_end}
 use Rattle.csv.specs.Reading.{Ready, default_config, is_flexible, records_from, source_of}
 use Rattle.csv.specs.declared.parser.State.{State}

@@ -1,6 +1,6 @@
 -- The stages of a millisecond, put together.
-use Rattle.std.proofs.Common.{◌≡◌, ◌≤◌, ◌<◌, ◌+◌, ℕ, Bool, true, false, ◌||◌, List, [], ◌∷◌, length, replicate, Option, None, Some, IsSome, IfSome, refl, ap, sym, subst, ◌∙◌, inl, inr, arith, unwrap_or}
-use Rattle.std.specs.Prelude.{slice_index_or, slice_get, option_and_then, IsSomeAnd, ◌&&◌, is_some}
+use Rattle.std.proofs.Common.{◌≡◌, ◌≤◌, ◌<◌, ◌+◌, ◌⊎◌, ℕ, Bool, true, false, ◌||◌, List, [], ◌∷◌, length, replicate, Option, None, Some, IsSome, IfSome, refl, ap, sym, subst, ◌∙◌, inl, inr, arith, unwrap_or}
+use Rattle.std.specs.Prelude.{slice_index_or, slice_get, option_and_then, IsSomeAnd, ◌&&◌}
 use Rattle.std.specs.List.{list_any}
 use Rattle.std.proofs.Math.Decide.{dec_lt}
 use Rattle.std.proofs.lemmas.Bool.{true≢false, or_from}
@@ -16,7 +16,7 @@ use Rattle.sync_topo.specs.declared.input.InputId.{InputId}
 use Rattle.sync_topo.specs.declared.input.InputId.TheVariants as input_is
 use Rattle.sync_topo.specs.declared.event.Event.{Event}
 use Rattle.sync_topo.specs.Topology.{Topology}
-use Rattle.sync_topo.specs.Lines.{line_count, line_input, inputs_of, is_nominated, IsNominated}
+use Rattle.sync_topo.specs.Lines.{line_count, inputs_of, is_nominated, IsNominated}
 use Rattle.sync_topo.proofs.LineLaws.{IsNominated-within}
 use Rattle.sync_net.specs.declared.parts.Parts.{Parts}
 use Rattle.sync_net.specs.Kept.{Kept, line_signal, heard_on, kept_up, kept_level}
@@ -24,7 +24,7 @@ use Rattle.sync_net.specs.NetState.{NetState, line_in, NoneDueBefore}
 use Rattle.sync_net.specs.NetState as Net
 use Rattle.sync_net.specs.Telling.{IsTold}
 use Rattle.sync_net.specs.Noting.{line_at, names_line}
-use Rattle.net_rules.specs.Signals.{says_up as says_line_up, says_esmc as says_line_esmc}
+use Rattle.net_rules.specs.Settling.{switches_line}
 use Rattle.sync_net.specs.Hearing.{told_in, HearsMore, CanTell}
 use Rattle.sync_net.specs.Stages.{is_marked}
 use Rattle.sync_net.specs.Whole.{state_of, IsReadyLine, IsWhole}
@@ -81,6 +81,21 @@ some_and P o a is holds = rw is holds
 and-none : (x y : Bool) → x ≡ false → (x && y) ≡ false
 and-none x y is = ap (λ z. z && y) is
 
+-- where one passes two tests, of which the first is the same for all, it passes the second
+any-second : (b : Bool) (test : Event → Bool) (es : List Event) → list_any (λ event. b && test event) es ≡ true → list_any test es ≡ true
+any-second true test es some = some
+any-second false test [] some = some
+any-second false test (event ∷ es) some = absurd (true≢false (sym some ∙ never es))
+  where
+    never : (rest : List Event) → list_any (λ (event : Event). false) rest ≡ false
+    never [] = refl
+    never (event ∷ rest) = never rest
+
+-- what is due by a millisecond and not before it is due in it
+pub exactly_now : (o : Option ℕ) (now : ℕ) → IsSomeAnd o (λ due. due ≤ now) → IfSome o (λ due. now ≤ due) → o ≡ Some now
+exactly_now (Some due) now early late = ap Some (omega (arith, early, late))
+exactly_now None now early late = absurd early
+
 module _ (plan : Topology) (now : ℕ) (events : List Event) (p a b : Parts) (whole : IsWhole plan p) (in_time : Net.IsInTime (state_of plan false p) now)
     (first : AreCalled plan now p a) (second : AreTakenIn plan events a b) where
   -- the elements that are marked before the levels that are heard: for a cause
@@ -110,7 +125,7 @@ module _ (plan : Topology) (now : ℕ) (events : List Event) (p a b : Parts) (wh
   called_nominated_a line marked = elim (first.due.line_cause line marked) [
     | inl before ↦ elim (first.first.lines_cause line before) [
       | inl earlier ↦ absurd (true≢false (sym earlier ∙ none-marked (length p.called.flags) line))
-      | inr nominated ↦ nominated
+      | inr first_of_all ↦ first_of_all.1
     ]
     | inr due ↦ of (dec_lt line (line_count plan)) due
   ]
@@ -134,7 +149,7 @@ module _ (plan : Topology) (now : ℕ) (events : List Event) (p a b : Parts) (wh
       none : (es : List Event) → is_nominated plan line ≡ false → list_any (names_line plan line) es ≡ false
       none [] is = refl
       none (event ∷ es) is = or_from (names_line plan line event) (list_any (names_line plan line) es)
-          (and-none (is_nominated plan line) (is_some (says_line_up (line_input line) event.what) || is_some (says_line_esmc line event.what)) is) (none es is)
+          (and-none (is_nominated plan line) (switches_line line event.what) is) (none es is)
 
       names : list_any (names_line plan line) events ≡ true → IsNominated plan line
       names some = by (is_nominated plan line) refl
@@ -146,6 +161,36 @@ module _ (plan : Topology) (now : ℕ) (events : List Event) (p a b : Parts) (wh
       of : (m : Bool) → is_marked a.called.flags line ≡ m → IsNominated plan line
       of true is = called_nominated_a line is
       of false is = names (sym (or-false (list_any (names_line plan line) events)) ∙ ap (λ m. list_any (names_line plan line) events || m) (sym is) ∙ sym (second.taken.marked line) ∙ marked)
+
+  -- why a line is to be called before the elements are evaluated: an event switches it, it is due, or it is the first of all
+  pub called_before : (line : ℕ) → is_marked b.called.flags line ≡ true →
+      (list_any (λ event. switches_line line event.what) events ≡ true)
+      ⊎ (IsSomeAnd (line_in p.lines.items line) (λ state. state.due ≡ Some now) ⊎ (p.next ≡ 0))
+  called_before line marked = of (is_marked a.called.flags line) refl
+    where
+      nominated : IsNominated plan line
+      nominated = called_nominated line marked
+
+      kept : (state : LineState) × (line_in p.lines.items line ≡ Some state) × IsReadyLine plan p.next line state
+      kept = kept_line line nominated
+
+      due_here : IsSomeAnd (due_in p.dues (length plan.elements + line)) (λ due. due ≤ now) → IsSomeAnd (line_in p.lines.items line) (λ state. state.due ≡ Some now)
+      due_here due = some_and (λ state. state.due ≡ Some now) (line_in p.lines.items line) kept.0 kept.1
+          (exactly_now kept.0.due now (subst (λ o. IsSomeAnd o (λ d. d ≤ now)) (line_due_at line kept.0 (IsNominated-within plan line nominated) kept.1) due)
+          (line_in_time line kept.0 (IsNominated-within plan line nominated) kept.1))
+
+      of : (m : Bool) → is_marked a.called.flags line ≡ m →
+          (list_any (λ event. switches_line line event.what) events ≡ true)
+          ⊎ (IsSomeAnd (line_in p.lines.items line) (λ state. state.due ≡ Some now) ⊎ (p.next ≡ 0))
+      of true is = elim (first.due.line_cause line is) [
+        | inl before ↦ elim (first.first.lines_cause line before) [
+          | inl earlier ↦ absurd (true≢false (sym earlier ∙ none-marked (length p.called.flags) line))
+          | inr first_of_all ↦ inr (inr first_of_all.0)
+        ]
+        | inr due ↦ inr (inl (due_here due))
+      ]
+      of false is = inl (any-second (is_nominated plan line) (λ event. switches_line line event.what) events
+          (sym (or-false (list_any (names_line plan line) events)) ∙ ap (λ m. list_any (names_line plan line) events || m) (sym is) ∙ sym (second.taken.marked line) ∙ marked))
 
   -- the lines that are called can be told
   pub can_tell : (line : ℕ) → is_marked b.called.flags line ≡ true → IsNominated plan line × IsSomeAnd (line_in b.lines.items line) (CanTell plan.option now)

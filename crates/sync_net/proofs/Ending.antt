@@ -29,12 +29,12 @@ use Rattle.sync_net.specs.Hearing.{heard_in, told_in}
 use Rattle.sync_net.specs.Steps.{IsSteady, IsLineTold, IsLineSaid}
 use Rattle.sync_net.specs.Stages.{is_marked, IsSent, IsNotGiven, out_of}
 use Rattle.sync_net.specs.NetStep.{ElementStays, ElementMoves, LineIsTold, LineKeeps, LineIsSaid, LineMoves, IsNetStep, HasCause, AreEvaluatedFor}
-use Rattle.sync_net.specs.Evaluated.{AreAloneCalled}
+use Rattle.sync_net.specs.Evaluated.{IsCalledFor, AreAloneCalled}
 use Rattle.sync_net.specs.Whole.{kept_of, state_of, IsReadyElement, IsReadyLine, AreOuts, IsWhole}
 use Rattle.sync_net.specs.PartSteps.{AreCalled, AreTakenIn, AreHeardIn, AreEvaluatedIn, AreSentIn, IsOver}
 use Rattle.sync_net.proofs.StageLaws.{same-place, or-second}
-use Rattle.sync_net.proofs.Assembling.{unmarked-before, if_some_at, none-marked, kept_line, called_nominated, not_called_before, line_due_left}
-use Rattle.sync_net.proofs.Finishing.{called_in_end, c_elements, c_dues, not_active, told_line, untold_line, element_steps, element_stays, element_moves, called_later}
+use Rattle.sync_net.proofs.Assembling.{unmarked-before, if_some_at, none-marked, exactly_now, kept_line, called_nominated, called_before, not_called_before, line_due_left}
+use Rattle.sync_net.proofs.Finishing.{listed_has, called_in_end, c_elements, c_dues, not_active, told_line, untold_line, element_steps, element_stays, element_moves, called_later}
 
 -- what stands at a place of a list is listed
 pub listed-at : (ks : List ℕ) (i d : ℕ) → i < length ks → list_any (nat_eq (slice_index_or ks i d)) ks ≡ true
@@ -467,10 +467,6 @@ module _ (plan : Topology) (now : ℕ) (events : List Event) (p a b c d e q : Pa
       within : element < length plan.elements
       within = active_within element is
 
-      exactly : (o : Option ℕ) → IsSomeAnd o (λ due. due ≤ now) → IfSome o (λ due. now ≤ due) → o ≡ Some now
-      exactly (Some due) early late = ap Some (omega (arith, early, late))
-      exactly None early late = absurd early
-
       of : (m : Bool) → is_marked a.tellings.active.flags element ≡ m → is_marked b.tellings.active.flags element ≡ true → HasCause now events (state_of plan false p) (state_of plan false q) element
       of false none before = inr (inl (second.taken.becomes_active element none before))
       of true called before = elim (first.due.element_cause element within called) [
@@ -478,7 +474,7 @@ module _ (plan : Topology) (now : ℕ) (events : List Event) (p a b c d e q : Pa
           | inl earlier ↦ absurd (true≢false (sym earlier ∙ none-marked (length p.tellings.active.flags) element))
           | inr begun ↦ inl begun
         ]
-        | inr due ↦ inr (inr (inr (λ other. exactly (slice_index_or p.elements.items element other).due
+        | inr due ↦ inr (inr (inr (λ other. exactly_now (slice_index_or p.elements.items element other).due now
             (subst (λ o. IsSomeAnd o (λ d. d ≤ now)) (whole.element_dues element other within) due) (in_time.none_due.elements element other within))))
       ]
 
@@ -503,6 +499,39 @@ module _ (plan : Topology) (now : ℕ) (events : List Event) (p a b c d e q : Pa
   called_then : q.called.listed ≡ d.called.listed
   called_then = ap (λ m. m.listed) (last.called ∙ fifth.called)
 
+  -- an element that is marked in the end was evaluated
+  was_evaluated : (element : ℕ) → is_marked c.tellings.active.flags element ≡ true → list_any (nat_eq element) q.tellings.active.listed ≡ true
+  was_evaluated element is = ap (list_any (nat_eq element)) listed_then ∙ sym (fourth.listed.listed element) ∙ is
+
+  -- the sender of a line is evaluated in the first step, as all are
+  first_evaluated : (line : ℕ) → line < line_count plan → p.next ≡ 0 → list_any (nat_eq (sender_of plan line)) q.tellings.active.listed ≡ true
+  first_evaluated line within begun =
+      let sender = sender_of plan line in
+      let first_mark = first.first.elements_first begun sender (sender-within plan whole.well_formed line within) in
+      was_evaluated sender (third.told.marks.kept sender (second.taken.stays_active sender (first.due.elements.kept sender first_mark)))
+
+  called_cause : (line : ℕ) → is_marked d.called.flags line ≡ true → IsCalledFor now events (state_of plan false p) (state_of plan false q) line
+  called_cause line is = elim (fourth.evaluated.cause line is) [
+    | inl before ↦ elim (called_before plan now events p a b whole in_time first second line (sym (ap (λ m. is_marked m.flags line) third.called) ∙ before)) [
+      | inl switched ↦ inl switched
+      | inr otherwise ↦ elim otherwise [
+        | inl due ↦ inr (inl due)
+        | inr begun ↦ inr (inr (first_evaluated line (IsNominated-within plan line
+            (called_in_end plan now events p a b c d whole in_time first second third fourth line is)) begun))
+      ]
+    ]
+    | inr out ↦ inr (inr (ap (λ sender. list_any (nat_eq sender) q.tellings.active.listed)
+        (listed_has (λ l. sender_of plan l ≡ out.0) line (out_of c.outs.items out.0) (subst (λ o. All (λ l. sender_of plan l ≡ out.0) (out_of o.items out.0)) (sym outs_same) (whole.outs.from out.0)) out.2)
+        ∙ ap (list_any (nat_eq out.0)) listed_then ∙ out.1))
+  ]
+    where
+      outs_same : c.outs ≡ p.outs
+      outs_same = third.tables.outs ∙ second.tables.outs ∙ first.tables.outs
+
+  -- what stands in the list of called lines is called
+  is_called_at : (i other : ℕ) → i < length d.called.listed → is_marked d.called.flags (slice_index_or d.called.listed i other) ≡ true
+  is_called_at i other inside = fifth.listed.listed (slice_index_or d.called.listed i other) ∙ listed-at d.called.listed i other inside
+
   pub called_alone : AreAloneCalled (state_of plan false p) (state_of plan false q)
   called_alone = record {
     within = subst (All (λ line. line < line_count plan)) (sym called_then)
@@ -512,6 +541,7 @@ module _ (plan : Topology) (now : ℕ) (events : List Event) (p a b c d e q : Pa
         ap (λ ls. line_in ls line) lines_then
         ∙ line_same line within (fifth.listed.listed line ∙ ap (list_any (nat_eq line)) (sym called_then) ∙ is);
   }
-    where
-      is_called_at : (i other : ℕ) → i < length d.called.listed → is_marked d.called.flags (slice_index_or d.called.listed i other) ≡ true
-      is_called_at i other inside = fifth.listed.listed (slice_index_or d.called.listed i other) ∙ listed-at d.called.listed i other inside
+
+  pub called_for : All (IsCalledFor now events (state_of plan false p) (state_of plan false q)) q.called.listed
+  called_for = subst (All (IsCalledFor now events (state_of plan false p) (state_of plan false q))) (sym called_then)
+      (λ i other inside. called_cause (slice_index_or d.called.listed i other) (is_called_at i other inside))

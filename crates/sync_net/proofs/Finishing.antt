@@ -197,7 +197,7 @@ module _ (plan : Topology) (now : ℕ) (events : List Event) (p a b c d : Parts)
   pub called_in_end : (line : ℕ) → is_marked d.called.flags line ≡ true → IsNominated plan line
   called_in_end line is = elim (fourth.evaluated.cause line is) [
     | inl before ↦ called_nominated plan now events p a b whole in_time first second line (sym (ap (λ m. is_marked m.flags line) third.called) ∙ before)
-    | inr out ↦ listed_has (IsNominated plan) line (out_of c.outs.items out.0) (subst (λ o. All (IsNominated plan) (out_of o.items out.0)) (sym outs) (whole.outs.nominated out.0)) out.1
+    | inr out ↦ listed_has (IsNominated plan) line (out_of c.outs.items out.0) (subst (λ o. All (IsNominated plan) (out_of o.items out.0)) (sym outs) (whole.outs.nominated out.0)) out.2
   ]
     where
       outs : c.outs ≡ p.outs

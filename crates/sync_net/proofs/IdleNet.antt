@@ -3,14 +3,13 @@ use Rattle.std.proofs.Common.{◌≡◌, ◌≤◌, ◌<◌, ◌+◌, ◌-◌, �
 use Rattle.std.specs.Prelude.{IsSome}
 use Rattle.std.proofs.lemmas.Option.{none-some}
 use Rattle.sync_ql.specs.Pasts.{past_of}
-use Rattle.sync_ql.specs.Messages.{LineMoment, heard_at, after_unchanged, line_until, IsLineDue}
+use Rattle.sync_ql.specs.Messages.{LineMoment, heard_at, after_unchanged, IsLineDue}
 use Rattle.sync_ql.specs.Quiet.{IsElementDue}
 use Rattle.sync_ql.proofs.Delivered.{length-past_of}
 use Rattle.link_model.specs.LineState.{LineState}
 use Rattle.link_model.proofs.Pasts.{after-after}
 use Rattle.sync_element.specs.ElementState.{ElementState}
 use Rattle.sync_topo.specs.declared.event.Event.{Event}
-use Rattle.sync_topo.specs.Topology.{Topology}
 use Rattle.sync_topo.specs.Lines.{line_input, delay_of, IsNominated, inputs_of}
 use Rattle.sync_topo.specs.WellFormed.{IsWellFormed}
 use Rattle.sync_topo.proofs.LineLaws.{IsNominated-within}
@@ -19,7 +18,7 @@ use Rattle.net_rules.specs.History.{Levels, settings_of, line_moment_at, element
 use Rattle.net_rules.specs.Settled.{IsSteady, IsSettled}
 use Rattle.net_rules.specs.Walks.{Each}
 use Rattle.sync_net.specs.NetState.{NetState, line_in, NoneDueBefore}
-use Rattle.sync_net.specs.Sound.{IsSoundElement, IsSoundLine, AreSound}
+use Rattle.sync_net.specs.Sound.{IsSoundLine, AreSound}
 use Rattle.sync_net.specs.Standing.{LineStands, IsOfPast}
 use Rattle.sync_net.proofs.QuietObjects.{line-due, sound-due}
 use Rattle.sync_net.proofs.QuietGap.{some_element}

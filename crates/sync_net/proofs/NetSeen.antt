@@ -1,7 +1,8 @@
 -- The laws of a network, as contracts see it.
-use Rattle.std.proofs.Common.{◌≡◌, ◌≤◌, ◌<◌, ◌+◌, ◌-◌, ◌*◌, ℕ, Bool, true, false, List, length, Option, None, Some, IfSome, ap, sym, subst, ◌∙◌, inl, inr, arith}
+use Rattle.std.proofs.Common.{◌≡◌, ◌≤◌, ◌<◌, ◌+◌, ◌-◌, ◌*◌, ℕ, suc, Bool, true, false, List, length, Option, None, Some, IfSome, ap, sym, subst, ◌∙◌, inl, inr, arith}
 use Rattle.std.specs.Prelude.{slice_index_or}
 use Rattle.std.specs.List.{All}
+use Rattle.std.proofs.Math.Decide.{dec_lt}
 use Rattle.std.proofs.lemmas.List.{get_or_default}
 use Rattle.agenda.specs.declared.due_times.Due.{Due}
 use Rattle.agenda.specs.DueTimes.{due_in, IsFirst}
@@ -9,29 +10,35 @@ use Rattle.sync_element.specs.ElementState.{ElementState}
 use Rattle.link_model.specs.LineState.{LineState}
 use Rattle.sync_topo.specs.declared.event.Event.{Event}
 use Rattle.sync_topo.specs.Topology.{Topology}
-use Rattle.sync_topo.specs.Lines.{line_count, delay_of, IsNominated}
+use Rattle.sync_topo.specs.Lines.{line_count, receiver_of, delay_of, IsNominated}
 use Rattle.sync_topo.proofs.LineLaws.{IsNominated-within}
 use Rattle.net_rules.specs.Signals.{signals_by, speaks_at}
-use Rattle.net_rules.specs.History.{out_at}
-use Rattle.net_rules.specs.Activity.{is_active, is_busy}
+use Rattle.net_rules.specs.History.{element_past, taken_by, taken_at, out_at}
+use Rattle.net_rules.specs.Safety.{taken_in}
+use Rattle.net_rules.specs.Walks.{Taken, IsTaken}
+use Rattle.net_rules.specs.Activity.{TouchAlike, is_active, is_busy}
 use Rattle.sync_ql.specs.Messages.{hearing_time}
+use Rattle.sync_ql.specs.Moment.{Moment}
+use Rattle.sync_ql.specs.Told.{moments_until}
 use Rattle.sync_topo.specs.WellFormed.{IsWellFormed}
 use Rattle.net_rules.specs.Settled.{IsSettled}
 use Rattle.net_rules.specs.Settling.{IsUnswitched}
 use Rattle.net_rules.specs.Facing.{Faces}
 use Rattle.net_rules.proofs.FinalLaws.{obeys-well, pair-by_events}
 use Rattle.net_rules.proofs.PairLaws.{pair-short}
+use Rattle.net_rules.proofs.PlanLaws.{receiver-within}
 use Rattle.sync_net.specs.declared.parts.Parts.{Parts}
 use Rattle.sync_net.specs.NetState.{NetState, line_in, NoneDueBefore, IsDueAt}
 use Rattle.sync_net.specs.NetState as Net
 use Rattle.sync_net.specs.Sound.{AreSound}
 use Rattle.sync_net.specs.Standing.{IsOfPast, ElementStands, LineStands, NoneFrom}
 use Rattle.sync_net.specs.NetStep.{IsNetStep, AreEvaluatedFor}
-use Rattle.sync_net.specs.Evaluated.{IsContinued}
+use Rattle.sync_net.specs.Evaluated.{IsContinued, AreTaking, AreFacing, HaveFaced}
 use Rattle.sync_net.specs.Whole.{state_of, IsReadyLine, IsWhole}
 use Rattle.sync_net.proofs.QuietGap.{stands-later, some_element}
 use Rattle.sync_net.proofs.IdleNet.{settled-idle}
 use Rattle.sync_net.proofs.ActiveLaws.{due-busy}
+use Rattle.sync_net.proofs.Appending.{stands-ordered}
 use Rattle.sync_net.proofs.Assembling.{if_some_at}
 use Rattle.sync_net.proofs.NetLaws.{if-some, whole-sound, whole-later, state-live, stands_after, all_active, first_least, due_here}
 
@@ -41,6 +48,51 @@ due-later net n at none (inl element) =
     if_some_at (λ due. n ≤ due) (slice_index_or net.elements element.0 (some_element net.plan)).due at (element.2 (some_element net.plan)) (none.elements element.0 (some_element net.plan) element.1)
 due-later net n at none (inr line) =
     if_some_at (λ due. n ≤ due) line.state.due at line.due (if_some_at (λ state. IfSome state.due (λ due. n ≤ due)) (line_in net.lines line.line) line.state line.has (none.lines line.line line.within))
+
+-- what elements take is what the rules say that they take in the last millisecond
+taking-is : (net : NetState) (all : List Event) (now : ℕ) (taken : Taken) (element : ℕ) → IsOfPast net all (now + 1) → AreTaking net (now + 1) taken → element < length net.plan.elements
+    → taken element ≡ taken_in net.plan (signals_by net.plan all) (out_at net.plan (signals_by net.plan all)) now element
+unfolding taken_at
+taking-is net all now taken element is taking within =
+    taking element (some_element net.plan) past within stands.stands
+    ∙ ap (λ settings. taken_by net.plan element (moments_until settings (now + 1) past)) stands.settings
+    ∙ ap (taken_by net.plan element) (sym stands.quiet)
+    ∙ ap (λ k. taken_by net.plan element (element_past net.plan (signals_by net.plan all) (out_at net.plan (signals_by net.plan all)) element k)) one_more
+  where
+    stands : ElementStands net.plan (signals_by net.plan all) (out_at net.plan (signals_by net.plan all)) element (now + 1) (slice_index_or net.elements element (some_element net.plan))
+    stands = is.elements element (some_element net.plan) within
+
+    past : List Moment
+    past = element_past net.plan (signals_by net.plan all) (out_at net.plan (signals_by net.plan all)) element (slice_index_or net.elements element (some_element net.plan)).next
+
+    one_more : now + 1 ≡ suc now
+    one_more = omega arith
+
+-- two elements that face each other do so by the rules
+faces-now : (net : NetState) (all : List Event) (now line back : ℕ) → IsWellFormed net.plan → IsOfPast net all (now + 1) → AreFacing net (now + 1) line back
+    → Faces net.plan (signals_by net.plan all) (out_at net.plan (signals_by net.plan all)) line back now
+faces-now net all now line back well is facing = record {
+  walk = record {
+    joined = facing.walk.joined;
+    each_taken = (by_rules line facing.within facing.walk.each_taken.0, (by_rules back facing.back_within facing.walk.each_taken.1.0, tt));
+    apart = facing.walk.apart;
+  };
+  pair = facing.pair;
+}
+  where
+    by_rules : (l : ℕ) → l < line_count net.plan → IsTaken net.plan facing.taken l
+        → IsTaken net.plan (taken_in net.plan (signals_by net.plan all) (out_at net.plan (signals_by net.plan all)) now) l
+    by_rules l within takes =
+        sym (taking-is net all now facing.taken (receiver_of net.plan l) is facing.taking (receiver-within net.plan well l within)) ∙ takes
+
+-- they have faced each other, and do so now
+faces-until : (plan : Topology) (net : NetState) (all : List Event) (now line back from : ℕ) → net.plan ≡ plan → IsWellFormed plan → IsOfPast net all (now + 1) → AreFacing net (now + 1) line back
+    → HaveFaced plan all line back from now → (t : ℕ) → from ≤ t → t ≤ now → Faces plan (signals_by plan all) (out_at plan (signals_by plan all)) line back t
+faces-until plan net all now line back from same well is facing faced t late early = elim (dec_lt t now) [
+  | yes before ↦ faced.each t late before
+  | no here ↦ subst (λ k. Faces plan (signals_by plan all) (out_at plan (signals_by plan all)) line back k) (omega (arith, here, early))
+      (subst (λ p. Faces p (signals_by p all) (out_at p (signals_by p all)) line back now) same (faces-now net all now line back (subst IsWellFormed (sym same) well) is facing))
+]
 
 -- an element that was read stands as it stands in the list
 pub element-read : (net : NetState) (plan : Topology) (spent : Bool) (p : Parts) (element : ℕ) (read : ElementState) → state_of plan spent p ≡ net
@@ -128,20 +180,26 @@ module _ (net : NetState) (plan : Topology) (spent : Bool) (p : Parts) (view : s
       (subst (λ s. 0 < s.next) (sym seen) begun) early none (subst (λ s. NoneDueBefore s due.at) (sym seen) (seen_before due first due.at (omega arith)))
       (due_here plan p whole due.place due.at first.within first.ends))
 
-  -- two elements that take their timing from each other do so shortly
-  pub seen_short : (all : List Event) (line back from until : ℕ) → IsUnswitched all line from until → from ≤ until
-      → ((t : ℕ) → from ≤ t → t ≤ until → Faces net.plan (signals_by net.plan all) (out_at net.plan (signals_by net.plan all)) line back t)
-      → until < from + (hearing_time + delay_of net.plan line)
-  seen_short all line back from until still early faces =
-      pair-by_events net.plan all line back from until (subst (λ s. IsWellFormed s.plan) seen whole.well_formed) still early faces
+  -- the plan is well formed
+  well : IsWellFormed net.plan
+  well = subst (λ s. IsWellFormed s.plan) seen whole.well_formed
 
-  pub seen_short_speaking : (all : List Event) (line back from until : ℕ) → from ≤ until
-      → ((t : ℕ) → from ≤ t → t ≤ until → Faces net.plan (signals_by net.plan all) (out_at net.plan (signals_by net.plan all)) line back t)
-      → ((t : ℕ) → from ≤ t → t ≤ until → speaks_at (signals_by net.plan all) line t ≡ true) → until < from + delay_of net.plan line
-  seen_short_speaking all line back from until early faces speaks =
-      let well : IsWellFormed net.plan = subst (λ s. IsWellFormed s.plan) seen whole.well_formed in
-      pair-short net.plan (signals_by net.plan all) (out_at net.plan (signals_by net.plan all)) line back from until well
-      (obeys-well net.plan (signals_by net.plan all) well) faces speaks early
+  -- of all events only the order in which they touch each element counts
+  pub seen_ordered : (then : NetState) (all others : List Event) (n : ℕ) → then.plan ≡ net.plan → TouchAlike net.plan all others → IsOfPast then all n → IsOfPast then others n
+  seen_ordered then all others n same alike is =
+      stands-ordered then all others n (subst IsWellFormed (sym same) well) (subst (λ plan. TouchAlike plan all others) (sym same) alike) is
+
+  -- two elements that take their timing from each other do so shortly
+  pub seen_short : (then : NetState) (all : List Event) (now line back from : ℕ) → then.plan ≡ net.plan → IsOfPast then all (now + 1) → AreFacing then (now + 1) line back
+      → HaveFaced net.plan all line back from now → IsUnswitched all line from now → now < from + (hearing_time + delay_of net.plan line)
+  seen_short then all now line back from same is facing faced still =
+      pair-by_events net.plan all line back from now well still faced.early (faces-until net.plan then all now line back from same well is facing faced)
+
+  pub seen_short_speaking : (then : NetState) (all : List Event) (now line back from : ℕ) → then.plan ≡ net.plan → IsOfPast then all (now + 1) → AreFacing then (now + 1) line back
+      → HaveFaced net.plan all line back from now → ((t : ℕ) → from ≤ t → t ≤ now → speaks_at (signals_by net.plan all) line t ≡ true) → now < from + delay_of net.plan line
+  seen_short_speaking then all now line back from same is facing faced speaks =
+      pair-short net.plan (signals_by net.plan all) (out_at net.plan (signals_by net.plan all)) line back from now well
+      (obeys-well net.plan (signals_by net.plan all) well) (faces-until net.plan then all now line back from same well is facing faced) speaks faced.early
 
   -- a line that was read can be asked from the next millisecond on
   pub seen_line : (line : ℕ) (kept : Option LineState) (read : LineState) → kept ≡ slice_index_or p.lines.items line kept → kept ≡ Some read → IsNominated net.plan line

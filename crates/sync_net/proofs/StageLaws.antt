@@ -60,6 +60,15 @@ left-evaluated now out e s t u left one = record {
   ];
 }
 
+-- either of two tests that passes is enough
+or-here : (a b : Bool) → a ≡ true → (a || b) ≡ true
+or-here true b is = refl
+or-here false b is = absurd (cc)
+
+or-there : (a b : Bool) → b ≡ true → (a || b) ≡ true
+or-there true b is = refl
+or-there false b is = is
+
 -- one element more
 pub evaluated-next : (now n m place : ℕ) (outs : ℕ → List ℕ) (done done_then : ℕ → Bool) (s t u : Workplace) → done place ≡ false →
     ((e : ℕ) → done_then e ≡ (done e || nat_eq e place)) →
@@ -70,8 +79,11 @@ evaluated-next now n m place outs done done_then s t u fresh next all same one_o
   dues_count = one.dues_count ∙ all.dues_count;
   called = keeps-marks s.called t.called u.called all.called one.called;
   cause = λ l is. elim (one.cause l is) [
-    | inl before ↦ all.cause l before
-    | inr out ↦ inr out
+    | inl before ↦ elim (all.cause l before) [
+      | inl earlier ↦ inl earlier
+      | inr out ↦ inr (out.0, next out.0 ∙ or-here (done out.0) (nat_eq out.0 place) out.1, out.2)
+    ]
+    | inr out ↦ inr (out.0, next out.0 ∙ or-there (done out.0) (nat_eq out.0 place) out.1, out.2)
   ];
   evaluated = λ e within is. elim (one-of (done e) (nat_eq e place) (sym (next e) ∙ is)) [
     | inl before ↦ evaluated-left now (outs e) e s t u (all.evaluated e within before) (one.others e within (apart e before (nat_eq e place) refl)) one.called

@@ -5,8 +5,8 @@ use Rattle.std.proofs.lemmas.List.{length-map}
 use Rattle.std.proofs.lemmas.Bool.{le-ltb, lt-ltb}
 use Rattle.std.proofs.lemmas.Option.{slice_get_within, slice_get_cases}
 use Rattle.sync_ql.specs.Condition.{is_up, down_for, up_for, failed_at}
-use Rattle.sync_ql.specs.Moment.{Moment, Settings, input_of, signals_of}
-use Rattle.sync_ql.specs.Told.{quiet_moment, quiet_moments, moments_until}
+use Rattle.sync_ql.specs.Moment.{Moment, Settings, signals_of}
+use Rattle.sync_ql.specs.Told.{quiet_moments, moments_until}
 use Rattle.sync_ql.specs.Quiet.{IsSameFailed, IsElementDue}
 use Rattle.sync_ql.proofs.Delivered.{length-past_of}
 use Rattle.sync_ql.proofs.QuietMoments.{input_of-moment_after}

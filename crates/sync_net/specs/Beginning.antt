@@ -70,6 +70,7 @@ pub record AreOutsBefore (plan : Topology) (n : ℕ) (outs : List (List ℕ)) : 
   pub count : length outs ≡ length plan.elements
   pub every : (line : ℕ) → line < n → IsNominated plan line → list_any (nat_eq line) (out_of outs (sender_of plan line)) ≡ true
   pub nominated : (element : ℕ) → All (IsNominated plan) (out_of outs element)
+  pub from : (element : ℕ) → All (λ line. sender_of plan line ≡ element) (out_of outs element)
 
 -- all that a network keeps that was told nothing
 pub record IsBegun (plan : Topology) (parts : Parts) : Type 0 where

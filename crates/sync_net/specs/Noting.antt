@@ -1,5 +1,5 @@
 -- Private to this crate: what events make of lines and sources, and of the marks of lines.
-use Rattle.std.specs.Prelude.{◌≡◌, ◌<◌, ℕ, Bool, true, false, ◌&&◌, ◌||◌, if◌then◌else◌, List, length, slice_index_or, slice_set, is_some, unwrap_or}
+use Rattle.std.specs.Prelude.{◌≡◌, ◌<◌, ℕ, Bool, true, false, ◌&&◌, ◌||◌, if◌then◌else◌, List, length, slice_index_or, slice_set, unwrap_or}
 use Rattle.std.specs.List.{list_any}
 use Rattle.sync_ql.specs.declared.levels.NetOption.{NetOption}
 use Rattle.sync_topo.specs.declared.input.InputId.TheVariants.{Source}
@@ -7,6 +7,7 @@ use Rattle.sync_topo.specs.declared.event.Event.{Event}
 use Rattle.sync_topo.specs.Topology.{Topology}
 use Rattle.sync_topo.specs.Lines.{line_input, is_nominated}
 use Rattle.net_rules.specs.Signals.{last_word, says_up, says_esmc, says_level}
+use Rattle.net_rules.specs.Settling.{switches_line}
 use Rattle.sync_net.specs.declared.signals.LineSignal.{LineSignal}
 use Rattle.sync_net.specs.declared.signals.SourceSignal.{SourceSignal}
 use Rattle.sync_net.specs.Kept.{no_source}
@@ -39,10 +40,9 @@ pub record IsSourceOf (option : NetOption) (source : SourceSignal) : Type 0 wher
 abbrev pub AreOfOption : NetOption → List SourceSignal → Type 0
 AreOfOption option sources = (source : ℕ) → source < length sources → IsSourceOf option (source_at sources source)
 
--- an event speaks of a nominated line
+-- an event switches a nominated line
 abbrev pub names_line : Topology → ℕ → Event → Bool
-names_line plan line event =
-    is_nominated plan line && (is_some (says_up (line_input line) event.what) || is_some (says_esmc line event.what))
+names_line plan line event = is_nominated plan line && switches_line line event.what
 
 -- what is left of some events makes of the lines now what all the events make of those before; and
 -- of the marks of the nominated lines that they name

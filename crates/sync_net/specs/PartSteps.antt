@@ -26,7 +26,7 @@ pub record IsFirstMarked (plan : Topology) (next : ℕ) (elements elements_then 
   pub elements_first : next ≡ 0 → (e : ℕ) → e < length plan.elements → is_marked elements_then e ≡ true
   pub lines_first : next ≡ 0 → (l : ℕ) → IsNominated plan l → is_marked lines_then l ≡ true
   pub elements_cause : (e : ℕ) → is_marked elements_then e ≡ true → (is_marked elements e ≡ true) ⊎ (next ≡ 0)
-  pub lines_cause : (l : ℕ) → is_marked lines_then l ≡ true → (is_marked lines l ≡ true) ⊎ IsNominated plan l
+  pub lines_cause : (l : ℕ) → is_marked lines_then l ≡ true → (is_marked lines l ≡ true) ⊎ ((next ≡ 0) × IsNominated plan l)
 
 -- what is due is marked, and nothing else is but in the first step
 pub record AreCalled (plan : Topology) (now : ℕ) (p q : Parts) : Type 0 where

@@ -80,7 +80,7 @@ pub record AreEvaluated (now n : ℕ) (outs : ℕ → List ℕ) (done : ℕ → 
   pub changes_count : length t.changes ≡ length s.changes
   pub dues_count : length t.dues ≡ length s.dues
   pub called : KeepsMarks s.called t.called
-  pub cause : (l : ℕ) → is_marked t.called l ≡ true → (is_marked s.called l ≡ true) ⊎ ((e : ℕ) × (list_any (nat_eq l) (outs e) ≡ true))
+  pub cause : (l : ℕ) → is_marked t.called l ≡ true → (is_marked s.called l ≡ true) ⊎ ((e : ℕ) × (done e ≡ true) × (list_any (nat_eq l) (outs e) ≡ true))
   pub evaluated : (e : ℕ) → e < n → done e ≡ true → IsEvaluated now (outs e) e s t
   pub others : (e : ℕ) → e < n → done e ≡ false → IsNotEvaluated e s t
   pub lines : (k : ℕ) → n ≤ k → due_in t.dues k ≡ due_in s.dues k

@@ -49,11 +49,12 @@ pub record IsReadyLine (plan : Topology) (next line : ℕ) (state : LineState) :
   pub turn : state.turn ≤ 4 * next
   pub due_later : IfSome state.due (λ due. next ≤ due)
 
--- the nominated lines out of each element
+-- the nominated lines out of each element, and no others
 pub record AreOuts (plan : Topology) (outs : List (List ℕ)) : Type 0 where
   pub count : length outs ≡ length plan.elements
   pub every : (line : ℕ) → IsNominated plan line → list_any (nat_eq line) (out_of outs (sender_of plan line)) ≡ true
   pub nominated : (element : ℕ) → All (IsNominated plan) (out_of outs element)
+  pub from : (element : ℕ) → All (λ line. sender_of plan line ≡ element) (out_of outs element)
 
 pub record IsWhole (plan : Topology) (parts : Parts) : Type 0 where
   pub well_formed : IsWellFormed plan

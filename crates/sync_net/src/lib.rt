@@ -14,8 +14,8 @@
 //! | who tells elements of events without a network | [`places_of`], [`new_tellings`], [`tell_events`], [`Tellings`], [`Told`] |
 //!
 //! A step costs by what is active in it: it calls only the elements that an event touches, into
-//! which another level is heard, or that are due, and only the lines that an event names, that are
-//! due, or whose sender gives another level. In a millisecond first the events come in, then the
+//! which another level is heard, or that are due, and only the lines that an event switches, that
+//! are due, or whose sender makes a step. In a millisecond first the events come in, then the
 //! messages arrive, then the elements evaluate, and then the lines send.
 #![tactic(auto)]
 

@@ -8,14 +8,13 @@ ghost use Rattle.sync_topo.specs.Lines.{line_count, delay_of, IsNominated};
 ghost use Rattle.sync_element.specs.ElementState.{ElementState};
 ghost use Rattle.net_rules.specs.Signals.{signals_by, speaks_at};
 ghost use Rattle.net_rules.specs.History.{settings_of, out_at};
-ghost use Rattle.net_rules.specs.Activity.{is_active, is_busy};
+ghost use Rattle.net_rules.specs.Activity.{TouchAlike, is_active, is_busy};
 ghost use Rattle.net_rules.specs.Settled.{IsSettled};
 ghost use Rattle.net_rules.specs.Settling.{IsUnswitched};
-ghost use Rattle.net_rules.specs.Facing.{Faces};
 ghost use Rattle.sync_ql.specs.Messages.{hearing_time};
 ghost use Rattle.sync_net.specs.NetState.{line_in, NoneDueBefore, IsDueAt, IsInTime};
 ghost use Rattle.sync_net.specs.Standing.{ElementStands, LineStands, StandsFor, NoneFrom};
-ghost use Rattle.sync_net.specs.Evaluated.{IsContinued, AreAloneEvaluated, AreAloneCalled};
+ghost use Rattle.sync_net.specs.Evaluated.{IsContinued, AreAloneEvaluated, IsCalledFor, AreAloneCalled, AreFacing, HaveFaced};
 
 use crate::copying::try_clone_parts;
 use crate::parts::Parts;
@@ -143,9 +142,11 @@ impl<'a> Net<'a> {
     /// The first step is at 0; a later one is after the last, at `due` at the latest, and at most
     /// at 86,400,000. Between two steps nothing happens. The elements that are evaluated are active
     /// then, and each makes one step, which is one of the count; one that an event touches and tells
-    /// nothing may be left out. The lines that aren't called are as they were. Two elements that take
-    /// their timing from each other do so for less than five seconds and the delay of the line, where no
-    /// event switches it, and for less than the delay alone, where the line speaks all the while.
+    /// nothing may be left out. A line is called only where an event switches it, it is due, or its
+    /// sender is evaluated; the others are as they were. Of the events of one millisecond only the
+    /// order in which they touch each element counts. Two elements that take their timing from each
+    /// other afterwards have done so for less than five seconds and the delay of the line, where no event
+    /// switches it, and for less than the delay alone, where the line speaks all the while.
     /// `NoMemory` comes for want of memory alone, and then the network is spent.
     /// After G.781, selection, and G.8264, ESMC messages.
     pub fn step<L: Ledger>(
@@ -171,21 +172,25 @@ impl<'a> Net<'a> {
         ensures none_due { OnOk result (NoneDueBefore self.new (now + 1)) }
         ensures evaluated { OnOk result (AreAloneEvaluated self.old self.new) }
         ensures called { OnOk result (AreAloneCalled self.old self.new) }
+        ensures called_only { OnOk result (All (IsCalledFor now events.now self.old self.new) self.new.called) }
         ensures active { OnOk result ((all : List Event) (n : ℕ) →
             IsContinued self.old.plan all n now events.now → StandsFor self.old all n →
             All (λ element. is_active self.old.plan all element now ≡ true) self.new.evaluated) }
         ensures ticks { OnOk result (steps.new ≡ steps.old + length self.new.evaluated) }
-        ensures short { OnOk result ((all : List Event) (line back from until : ℕ) →
-            IsUnswitched all line from until → from ≤ until → until ≤ now →
-            ((t : ℕ) → from ≤ t → t ≤ until → Faces self.old.plan (signals_by self.old.plan all)
-            (out_at self.old.plan (signals_by self.old.plan all)) line back t) →
-            until < from + (hearing_time + delay_of self.old.plan line)) }
-        ensures short_speaking { OnOk result ((all : List Event) (line back from until : ℕ) →
-            from ≤ until → until ≤ now →
-            ((t : ℕ) → from ≤ t → t ≤ until → Faces self.old.plan (signals_by self.old.plan all)
-            (out_at self.old.plan (signals_by self.old.plan all)) line back t) →
-            ((t : ℕ) → from ≤ t → t ≤ until → speaks_at (signals_by self.old.plan all) line t ≡ true) →
-            until < from + delay_of self.old.plan line) }
+        ensures ordered { OnOk result ((all others : List Event) (n : ℕ) →
+            IsContinued self.old.plan all n now events.now → StandsFor self.old all n →
+            TouchAlike self.old.plan all others → StandsFor self.new others (now + 1)) }
+        ensures short { OnOk result ((all : List Event) (n line back from : ℕ) →
+            IsContinued self.old.plan all n now events.now → StandsFor self.old all n →
+            AreFacing self.new (now + 1) line back →
+            HaveFaced self.old.plan all line back from now → IsUnswitched all line from now →
+            now < from + (hearing_time + delay_of self.old.plan line)) }
+        ensures short_speaking { OnOk result ((all : List Event) (n line back from : ℕ) →
+            IsContinued self.old.plan all n now events.now → StandsFor self.old all n →
+            AreFacing self.new (now + 1) line back →
+            HaveFaced self.old.plan all line back from now →
+            ((t : ℕ) → from ≤ t → t ≤ now → speaks_at (signals_by self.old.plan all) line t ≡ true) →
+            now < from + delay_of self.old.plan line) }
     {
         match step_parts(self.plan, &mut self.parts, now, events, steps) {
             Ok(()) => Ok(()),

@@ -14,7 +14,7 @@ ghost use Rattle.sync_net.specs.Hearing.{CanTell, told_in};
 ghost use Rattle.sync_net.specs.Stages.{CanStep, CanSay, out_of};
 ghost use Rattle.sync_net.specs.NetState.{IsInTime};
 ghost use Rattle.sync_net.specs.NetStep.{IsNetStep, AreEvaluatedFor};
-ghost use Rattle.sync_net.specs.Evaluated.{AreAloneCalled};
+ghost use Rattle.sync_net.specs.Evaluated.{IsCalledFor, AreAloneCalled};
 ghost use Rattle.sync_net.specs.Whole.{state_of, IsWhole};
 ghost use Rattle.sync_net.specs.PartSteps.{AreCalled, AreTakenIn, AreHeardIn, AreEvaluatedIn, AreSentIn};
 
@@ -48,6 +48,9 @@ pub fn step_parts<L: Ledger>(
         (state_of plan.now false parts.old) (state_of plan.now false parts.new)) }
     ensures called { OnOk result (AreAloneCalled
         (state_of plan.now false parts.old) (state_of plan.now false parts.new)) }
+    ensures called_only { OnOk result (All (IsCalledFor now events.now
+        (state_of plan.now false parts.old) (state_of plan.now false parts.new))
+        parts.new.called.listed) }
     ensures ticks { OnOk result (steps.new ≡ steps.old + length parts.new.tellings.active.listed) }
 {
     call_due(plan, parts, now);

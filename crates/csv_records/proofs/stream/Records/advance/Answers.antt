@@ -1,4 +1,4 @@
-use Rattle.std.proofs.Common.{Bor, List, ℕ, Some, ◌≡◌, ◌∙◌, sym, ap, true, false, ◌∷◌, []}
+use Rattle.std.proofs.Common.{Bor, List, ℕ, Some, ◌∙◌, sym, ap}
 use Rattle.csv_records.specs.Stream.{Stream}
 use Rattle.csv_records.proofs.Left.{after_record, after_end}
 use Rattle.csv_records.proofs.stream.Records.advance.Goals as goal

@@ -1,5 +1,4 @@
 use Rattle.std.proofs.Common.{Bor, List, ℕ, Some}
-use Rattle.csv_records.specs.Records.{records_of}
 use Rattle.csv_records.proofs.Left.{all_left}
 use Rattle.csv_records.proofs.stream.Records.of.Goals as goal
 
