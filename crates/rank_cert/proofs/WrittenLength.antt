@@ -38,7 +38,7 @@ element-short plan element well within =
     (passes_at is_name (map (λ e. e.name) plan.elements) element (element_name plan element) well.elements_named (element_named plan element within))
 
 -- a line's name has at most 65
-line-short : (plan : Topology) (line : ℕ) → IsWellFormed plan → line < line_count plan → length (line_name plan line) ≤ 65
+pub line-short : (plan : Topology) (line : ℕ) → IsWellFormed plan → line < line_count plan → length (line_name plan line) ≤ 65
 line-short plan line well within =
     let has = has-link plan line well within in
     let link = name-short has.link.name (passes_at is_name (map (λ link. link.name) plan.links) (line / 2) has.link.name well.links_named has.named_at) in
