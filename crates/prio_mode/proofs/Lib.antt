@@ -14,3 +14,4 @@ pub mod Reporting
 pub mod OneReport
 pub mod RingLaws
 pub mod ForcedLaws
+pub mod ForcedRead

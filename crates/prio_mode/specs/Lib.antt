@@ -3,6 +3,7 @@ pub mod PriorityAlone
 pub mod PriorityLoops
 pub mod PriorityRanked
 pub mod ForcedLoop
+pub mod ForcedText
 pub mod PriorityRows
 pub mod Loops
 pub mod PriorityReport

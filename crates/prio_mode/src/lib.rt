@@ -4,8 +4,8 @@
 //! Quality levels keep two elements from taking timing from each other for long; without them what an
 //! element takes may go back over the very link from which it came, and there a timing loop stands for
 //! ever. [`prio_check`] tests that ranks rise over every hop, returns included: then no loop can form,
-//! whatever happens. [`prio_plan`] gives the least such ranks, or a loop that forced switches make, and
-//! [`prio_sim`] the report of a run.
+//! whatever happens. [`prio_plan`] gives the least such ranks, or a loop that forced switches make,
+//! [`write_forced`] the event file of these switches, and [`prio_sim`] the report of a run.
 //!
 //! An element that chooses by priority alone hears nothing of others: it is told whether its inputs are
 //! up, and its commands. Which input is taken is the choice of one element (`sync_ql`), over inputs that
@@ -19,6 +19,7 @@
 
 mod checking;
 mod events;
+mod forced;
 mod laws;
 mod loops;
 mod planning;
@@ -30,6 +31,7 @@ mod starting;
 mod stepping;
 
 pub use checking::{hop_any, prio_check};
+pub use forced::write_forced;
 pub use laws::one_report_law;
 pub use planning::{PrioRanked, prio_plan};
 pub use simulating::prio_sim;

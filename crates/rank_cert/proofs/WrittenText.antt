@@ -244,6 +244,10 @@ plain_by test comma quote return feed byte passes = plain_unless byte (apart 44 
     apart : (mark : ℕ) → test mark ≡ false → (byte ≡ mark) → ⊥
     apart mark fails same = true≢false (sym passes ∙ ap test same ∙ fails)
 
+-- so a line's name is
+pub name-plain : (plan : Topology) (line : ℕ) → IsWellFormed plan → line < line_count plan → IsPlain (line_name plan line)
+name-plain plan line well within = line_name-all plan line is_plain_byte well within (plain_by is_name_byte refl refl refl refl) refl
+
 digits-all : (bytes : List ℕ) → all_ascii_digits bytes ≡ true → list_all is_ascii_digit bytes ≡ true
 digits-all [] all = refl
 digits-all (byte ∷ bytes) all =
@@ -262,7 +266,7 @@ plain-pairs plan ranks well numbers (suc i) pair at =
     by_line (Some line) e is =
         let here = nominated-all plan i line e in
         let within = IsNominated-within plan line here in
-        let name : IsPlain (line_name plan line) = line_name-all plan line is_plain_byte well within (plain_by is_name_byte refl refl refl refl) refl in
+        let name = name-plain plan line well within in
         let digits = digits-all (decimal (rank_of ranks line)) (number_of_some (decimal (rank_of ranks line)) (rank_of ranks line) (number_of_decimal (decimal (rank_of ranks line)) (rank_of ranks line) (numbers line here) refl)).0.digits in
         let rank : IsPlain (decimal (rank_of ranks line)) = all-weaker is_ascii_digit is_plain_byte (plain_by is_ascii_digit refl refl refl refl) (decimal (rank_of ranks line)) digits in
         rw (← same_Some _ pair is) (name, rank)
