@@ -18,6 +18,8 @@ use Rattle.sync_topo.specs.Hops.{IsRising}
 use Rattle.sync_topo.specs.WellFormed.{IsWellFormed}
 use Rattle.sync_topo.proofs.LineLaws.{IsNominated-within}
 use Rattle.net_rules.specs.Safety.{IsLoopFree}
+use Rattle.net_rules.specs.Settling.{IsOneWay}
+use Rattle.net_rules.proofs.Backs.{back-receiver}
 use Rattle.net_rules.proofs.PlanLaws.{sender-within}
 use Rattle.net_rules.proofs.FinalLaws.{loop_free}
 use Rattle.nominate.specs.HopCount.{Counts, count_at, IsRoot, AreHopCounts}
@@ -191,6 +193,26 @@ module _ (plan : Topology) (counts : Counts) (well : IsWellFormed plan) (are : A
   -- so no timing loop can form
   pub nominated-loop_free : IsLoopFree (nominated_plan plan counts)
   nominated-loop_free = loop_free (nominated_plan plan counts) (λ line. order_place plan counts (sender_of plan line)) nominated-well order-rises
+
+  -- no two of its lines of one bundle run in opposite directions: each begins at an element that stands before the one at which it ends
+  pub nominated-one_way : IsOneWay (nominated_plan plan counts)
+  nominated-one_way = λ line back line_nominated back_nominated goes.
+      let there : stands_before counts (sender_of plan line) (receiver_of plan line) ≡ true = candidate-stands line (nominated-is line line_nominated).1 in
+      let again : stands_before counts (sender_of plan back) (receiver_of plan back) ≡ true = candidate-stands back (nominated-is back back_nominated).1 in
+      let meet : sender_of plan back ≡ receiver_of plan line =
+      sym (sender-same plan (new_priority plan counts) back)
+      ∙ sym (eqb-true (receiver_of (nominated_plan plan counts) line) (sender_of (nominated_plan plan counts) back)
+      (and_parts (receiver_of (nominated_plan plan counts) line == sender_of (nominated_plan plan counts) back) (are_bundled (nominated_plan plan counts) line back) goes).0)
+      ∙ receiver-same plan (new_priority plan counts) line in
+      let ends : receiver_of plan back ≡ sender_of plan line =
+      sym (receiver-same plan (new_priority plan counts) back)
+      ∙ back-receiver (nominated_plan plan counts) line back nominated-well line_nominated back_nominated goes
+      ∙ sender-same plan (new_priority plan counts) line in
+      let home : stands_before counts (receiver_of plan line) (sender_of plan line) ≡ true =
+      subst (λ (e : ℕ). stands_before counts (receiver_of plan line) e ≡ true) ends (subst (λ (e : ℕ). stands_before counts e (receiver_of plan back) ≡ true) meet again) in
+      true≢false (sym (before-trans (count_at counts (sender_of plan line)) (count_at counts (receiver_of plan line)) (count_at counts (sender_of plan line))
+      (sender_of plan line) (receiver_of plan line) (sender_of plan line) there home)
+      ∙ before-itself (count_at counts (sender_of plan line)) (sender_of plan line))
 
   -- ---- the first candidate
 

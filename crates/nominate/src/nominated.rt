@@ -1,6 +1,7 @@
 ghost use Rattle.std.specs.Prelude.{◌≡◌, ℕ, suc, Some, IfOk};
 ghost use Rattle.sync_topo.specs.WellFormed.{IsWellFormed};
 ghost use Rattle.net_rules.specs.Safety.{IsLoopFree};
+ghost use Rattle.net_rules.specs.Settling.{IsOneWay};
 ghost use Rattle.nominate.specs.HopCount.{Counts, count_at, AreHopCounts};
 ghost use Rattle.nominate.specs.Nomination.{IsNominatedPlan, HasFirst};
 
@@ -27,8 +28,10 @@ pub fn nominate(alloc: Global, plan: &Plan) -> Result<Plan, NoMemory>
         → AreHopCounts plan.now counts → count_at counts element ≡ Some (suc hops)
         → HasFirst nominated counts element hops) }
 
-    // No timing loop can form, but two elements that face each other on one link or bundle.
+    // No timing loop can form, but two elements that face each other on one link or bundle; and no
+    // two nominated lines of one bundle run in opposite directions, so that none can face each other.
     ensures loop_free { IfOk result IsLoopFree }
+    ensures one_way { IfOk result IsOneWay }
 {
     let hops = least_hops(alloc, plan)?;
     let priorities = new_priorities(alloc, plan, &hops)?;

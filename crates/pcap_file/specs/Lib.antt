@@ -2,5 +2,7 @@ pub mod Pcap
 pub mod Refusal
 pub mod Written
 pub mod Timed
+pub mod CaptureOf
 pub mod Steps
+pub mod WrittenSoFar
 pub mod Examples

@@ -1,9 +1,13 @@
 //! The capture of rows with times.
 
-ghost use Rattle.std.specs.Prelude.{◌≡◌, ◌<◌, IfSome};
+ghost use Rattle.std.specs.Prelude.{◌≡◌, ◌<◌, ◌++◌, List, [], IfOk, OnOk, IfSome};
+ghost use Rattle.std.specs.List.{cons_option};
 ghost use Rattle.capture_text.specs.Gives.{Gives};
 ghost use Rattle.capture_text.specs.Steps.{GivesThat, with_front};
+ghost use Rattle.pcap_file.specs.declared.encoding.Timed.{Timed};
 ghost use Rattle.pcap_file.specs.Timed.{word_of, timed_of, record_of_line, encoded_pcap};
+ghost use Rattle.pcap_file.specs.CaptureOf.{timed_rows, IsCaptureOf};
+ghost use Rattle.pcap_file.specs.WrittenSoFar.{IsWrittenSoFar};
 
 use crate::writing::{put_head, put_packet};
 use capture_text::{CaptureErr, Lines, cut_at, read_row};
@@ -28,6 +32,9 @@ pub(crate) struct Timed {
 /// This project's own; the capture after the file format of libpcap.
 pub fn encode_pcap(alloc: Global, bytes: &[u8], option: NetOption) -> Result<Text, CaptureErr>
     ensures exact { Gives result (encoded_pcap option bytes.now) }
+
+    // It is a capture of just the frames of the rows, in their order, with their times.
+    ensures capture { IfOk result (IsCaptureOf (timed_rows option bytes.now)) }
 {
     let mut text = Text::new(alloc);
     put_head(&mut text)?;
@@ -45,7 +52,9 @@ fn put_record_of(
     line: &[u8],
     option: NetOption,
 ) -> Result<(), CaptureErr>
-    ensures { GivesThat result text.new (with_front text.old (record_of_line option number line.now)) }
+    ensures put { GivesThat result text.new (with_front text.old (record_of_line option number line.now)) }
+    ensures captured { (rows : List Timed) → IsWrittenSoFar rows text.old →
+        OnOk result (IsWrittenSoFar (rows ++ cons_option (timed_of option line.now) []) text.new) }
 {
     if line.is_empty() {
         return Ok(());

@@ -1,5 +1,5 @@
 -- A run has one report.
-use Rattle.std.proofs.Common.{◌≡◌, ◌<◌, ◌⊎◌, ℕ, suc, List, [], ◌∷◌, ◌++◌, refl, ap, sym, subst, ◌∙◌, inl, inr, arith}
+use Rattle.std.proofs.Common.{◌≡◌, ℕ, suc, List, [], ◌∷◌, ◌++◌, refl, ap, sym, subst, ◌∙◌, inl, inr, arith}
 use Rattle.std.specs.Prelude.{codes}
 use Rattle.sync_topo.specs.declared.event.Event.{Event}
 use Rattle.sync_topo.specs.Topology.{Topology}
@@ -7,7 +7,7 @@ use Rattle.net_rules.specs.Signals.{signals_by}
 use Rattle.net_rules.specs.Walks.{Taken, Each}
 use Rattle.prio_mode.specs.PriorityAlone.{priority_taken_in}
 use Rattle.prio_mode.specs.PriorityRows.{rows_until}
-use Rattle.prio_mode.specs.Loops.{IsLoop, IsLoopWalk, IsAmong, BeginsLower, Rise, AreLoops, walk_rows}
+use Rattle.prio_mode.specs.Loops.{IsLoopWalk, IsAmong, BeginsLower, Rise, AreLoops, walk_rows}
 use Rattle.prio_mode.specs.PriorityReport.{IsPriorityReport}
 
 -- what holds of each holds of one

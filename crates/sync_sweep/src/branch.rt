@@ -2,6 +2,7 @@
 
 ghost use Rattle.std.specs.Prelude.{◌≡◌, ◌≤◌, ◌<◌, ◌+◌, ◌-◌, ℕ, true, false, nat_eq, List, [], length, slice_index_or, All, IfOk, OnOk, IfSome};
 ghost use Rattle.std.specs.List.{list_any};
+ghost use Rattle.agenda.specs.Marked.{none_marked};
 ghost use Rattle.sync_topo.specs.declared.event.Event.{Event};
 ghost use Rattle.sync_topo.specs.Events.{Fits, IsEventList};
 ghost use Rattle.sync_topo.specs.Lines.{line_count};
@@ -227,7 +228,7 @@ pub fn show(branch: &mut Branch<'_>)
     note_shown(&branch.net, &mut branch.shown, branch.elements.listed());
 }
 
-// Back to where it began.
+// Back to where it began: nothing is touched any more.
 pub fn go_back(alloc: Global, branch: &mut Branch<'_>, base: &Net<'_>) -> Result<(), NoMemory>
     requires live { branch.old.net.spent ≡ false }
     requires base_live { base.now.spent ≡ false }
@@ -236,6 +237,8 @@ pub fn go_back(alloc: Global, branch: &mut Branch<'_>, base: &Net<'_>) -> Result
     ensures branch { OnOk result (IsBranch base.now branch.new.net branch.new.elements branch.new.lines) }
     ensures net { OnOk result (branch.new.net ≡ base.now) }
     ensures shown { OnOk result (AreShown base.now branch.new.shown) }
+    ensures elements { OnOk result (branch.new.elements ≡ none_marked (length base.now.plan.elements)) }
+    ensures lines { OnOk result (branch.new.lines ≡ none_marked (line_count base.now.plan)) }
 {
     branch.net.return_to(alloc, base, branch.elements.listed(), branch.lines.listed())?;
     note_shown(base, &mut branch.shown, branch.elements.listed());

@@ -1,6 +1,6 @@
 //! All links of a plan, in chunks that run at once.
 
-ghost use Rattle.std.specs.Prelude.{◌≡◌, ◌≤◌, ◌<◌, ◌^◌, ℕ, true, length, IfOk, IfSome, MatchOption};
+ghost use Rattle.std.specs.Prelude.{◌≡◌, ◌≤◌, ◌<◌, ◌*◌, ◌^◌, ℕ, true, length, IfOk, IfSome, MatchOption};
 ghost use Rattle.std.specs.List.{All};
 ghost use Rattle.net_rules.specs.Settling.{IsSettlingBound};
 ghost use Rattle.sync_sweep.specs.Sweep.{AreRows, AreSweepRows};
@@ -57,6 +57,15 @@ pub fn sweep<R: Threads + Sync, G: Gate + Sync>(
     in_chunks(rt, alloc, &base, at, until, bound, links.as_slice(), gate)
 }
 
+// How many links each chunk has: enough that there are at most eight chunks.
+fn chunk_size(links: usize) -> usize
+    requires { 0 < links }
+    ensures some { 0 < result }
+    ensures few_chunks { links ≤ CHUNKS * result }
+{
+    links.div_ceil(CHUNKS)
+}
+
 // The rows of links, worked in chunks.
 fn in_chunks<R: Threads + Sync, G: Gate + Sync>(
     rt: &R,
@@ -78,7 +87,7 @@ fn in_chunks<R: Threads + Sync, G: Gate + Sync>(
         (IsSettlingBound base.now.net.plan at) }
     ensures rows { IfOk result (AreRows base.now.net.plan at until links.now) }
 {
-    let size = links.len().div_ceil(CHUNKS);
+    let size = chunk_size(links.len());
     let parts = thread::map_chunks(
         rt,
         alloc,

@@ -1,8 +1,9 @@
 use Rattle.std.proofs.Common.{sym, subst}
 use Rattle.sync_topo.specs.PlanRows.{plan_of_rows}
 use Rattle.net_rules.specs.Safety.{IsLoopFree}
+use Rattle.net_rules.specs.Settling.{IsOneWay}
 use Rattle.nominate.specs.Nomination.{nominated_plan}
-use Rattle.nominate.proofs.NominatedLaws.{nominated-loop_free, nominated-rows, first-for_any}
+use Rattle.nominate.proofs.NominatedLaws.{nominated-loop_free, nominated-one_way, nominated-rows, first-for_any}
 use Rattle.nominate.proofs.RowLemmas.{only_memory, same_answer}
 use Rattle.nominate.proofs.nominated.nominate.Goals as goal
 
@@ -26,6 +27,12 @@ unfolding returns-in-Ok-clause-nominated
 returns-in-Ok-clause-loop_free c =
     subst IsLoopFree (sym (returns-in-Ok-clause-nominated c).is)
     (nominated-loop_free c.args.plan.now c.in_ok-hops.hops c.in_ok-priorities.ensures.well_formed c.in_ok-hops.ensures.least)
+
+pub returns-in-Ok-clause-one_way : goal.returns-in-Ok-clause-one_way
+unfolding returns-in-Ok-clause-nominated
+returns-in-Ok-clause-one_way c =
+    subst IsOneWay (sym (returns-in-Ok-clause-nominated c).is)
+    (nominated-one_way c.args.plan.now c.in_ok-hops.hops c.in_ok-priorities.ensures.well_formed c.in_ok-hops.ensures.least)
 
 pub want_of_memory-requires : goal.want_of_memory-requires
 want_of_memory-requires c =

@@ -11,7 +11,7 @@ map_chunks-parts-requires-clause-accepts g c κs within = λ start p chunk. (
   omega (arith, chunk.nonempty, chunk.at_most_size),
   omega (arith, chunk.nonempty, chunk.in_bounds, c.requires.few),
   c.requires.base,
-  chunk-has (λ link. link < length c.args.base.now.net.plan.links) c.args.links.now c.div_ceil-size.result start p.now chunk.value c.requires.links,
+  chunk-has (λ link. link < length c.args.base.now.net.plan.links) c.args.links.now c.chunk_size-size.result start p.now chunk.value c.requires.links,
   c.requires.in_order,
   c.requires.in_range,
   c.requires.bound,
@@ -21,10 +21,10 @@ pub returns-in-Ok : goal.returns-in-Ok
 returns-in-Ok g c = record {
   rows =
       let links = c.args.links.now in
-      let size : ℕ = c.div_ceil-size.result in
+      let size : ℕ = c.chunk_size-size.result in
       let parts = c.in-Ok.parts.items in
       let plan = c.args.base.now.net.plan in
-      let some : 0 < size = omega (arith, c.div_ceil-size.ensures, c.requires.some) in
+      let some : 0 < size = c.chunk_size-size.ensures.some in
       let enough : length links ≤ length parts * size = parts-enough (length links) size (length parts) some (omega (arith, c.in-Ok.ensures.len, c.in-Ok.parts.ok)) in
       IfOk-weaker c.join_rows.result (λ rows. joined c.as_slice.result.now ≡ Some rows) (AreRows plan c.args.at c.args.until links)
       (λ rows is. joined_whole (IsSweepRow plan c.args.at c.args.until) size parts links rows enough
