@@ -4,6 +4,9 @@ pub mod HeadFacts
 pub mod RowsSoFar
 pub mod FirstBroken
 pub mod PlanLaws
-pub mod WritingFacts
+pub mod NameText
+pub mod SpelledLines
+pub mod Puts
 pub mod WrittenPlan
+pub mod SpelledPlan
 pub mod Versions

@@ -1,14 +1,12 @@
 -- What is written for a plan is read as that plan.
-use Rattle.std.proofs.Common.{◌≡◌, ℕ, ◌+◌, ◌≤◌, suc, slice_get, true, List, [], ◌∷◌, map, Option, Some, None, refl, sym, ap, ◌∙◌, arith}
-use Rattle.std.specs.Prelude.{◌↔◌, Bool, false, Err, Result, codes, is_some}
+use Rattle.std.proofs.Common.{◌≡◌, ℕ, ◌+◌, ◌≤◌, suc, slice_get, true, List, [], ◌∷◌, map, Option, Some, None, refl, ap, ◌∙◌, arith}
+use Rattle.std.specs.Prelude.{Bool, false, codes, is_some}
 use Rattle.std.proofs.lemmas.Bool.{true≢false}
 use Rattle.std.specs.Str.{IsUtf8}
 use Rattle.std.proofs.lemmas.Str.{is_utf8-from_IsUtf8}
 use Rattle.toml.specs.Data.{Data, string, array, table, Items, Members, member, depth, items_depth, members_depth, has_valid_dates, items_have_valid_dates, members_have_valid_dates}
 use Rattle.toml.specs.View.{items_of}
 use Rattle.toml.specs.Parse.{parse_document}
-use Rattle.toml.specs.declared.ser.error.Error.{Error}
-use Rattle.toml.specs.declared.ser.error.Error.TheVariants.{DateInvalid, OutOfMemory}
 use Rattle.sync_ql.specs.declared.levels.NetOption.{NetOption}
 use Rattle.sync_ql.specs.declared.levels.NetOption.TheVariants.{I, II}
 use Rattle.sync_ql.specs.declared.levels.Level.{Level}
@@ -192,11 +190,6 @@ document_dated plan =
       dated_items (λ source. table (source_table plan source)) plan.sources (λ source. refl),
       version_dated (names_bundle plan),
     ) refl
-
--- only want of memory can be answered in its place
-pub only_memory : {A : Type 0} (error : Error) (dates : Bool) → (◌≡◌ {A = Result A Error} (Err error) (Err DateInvalid) ↔ (dates ≡ false)) → dates ≡ true → error ≡ OutOfMemory
-only_memory DateInvalid dates told dated = absurd (true≢false (sym dated ∙ told.0 refl))
-only_memory OutOfMemory dates told dated = refl
 
 none_refused_two : (plan : Topology) → names_bundle plan ≡ true → first_refusal (head_of plan.option (items_of (elements_data plan)) (items_of (links_data plan)) (items_of (sources_data plan)) true) ≡ None
 unfolding head_of

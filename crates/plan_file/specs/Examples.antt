@@ -16,6 +16,10 @@ use Rattle.plan_file.specs.declared.error.PlanFileErr.TheVariants.{Syntax, Key, 
 use Rattle.plan_file.specs.Rules.{refusal_of}
 use Rattle.plan_file.specs.Rows.{element_row, link_row, source_row, said_rows, first_refusal, rows_of_document}
 use Rattle.plan_file.specs.PlanText.{document_of, plan_of}
+use Rattle.plan_file.specs.Spelling.{plan_text}
+use Rattle.std.specs.Fmt.{digits}
+use Rattle.std.proofs.Common.{lit<}
+use native.Mathlib.Decide.{dec_lt}
 
 -- the first table of a text's document that is at fault
 abbrev first_fault : List ℕ → Option PlanFileErr
@@ -105,3 +109,18 @@ delay_a_is_of_the_line_into_a = refl
 pub link_to_no_element_is_a_refusal_of_the_rows : plan_of (codes "element=[{name='A'}]\nlink=[{name='L',a='A',b='B'}]") ≡ Err (Plan (NoElement (at Links 1)))
 unfolding toml_on_literals is_utf8 chars refusal_of element_row link_row rows_of_document plan_of plan_of_rows
 link_to_no_element_is_a_refusal_of_the_rows = refl
+
+-- a text that is written, worked out by hand
+pub text_of_a_plan_with_a_bundle : plan_text (record {
+  option = I;
+  elements = plain_element (codes "A") ∷ record (plain_element (codes "B")) { floor = Some (record { option = I; place = 3; is_row = lit< tt }) } ∷ [];
+  links = record { name = codes "L"; a = 0; b = 1; priority_a = 0; priority_b = 12; delay_a = 7; delay_b = 1; bundle = Some (codes "T") } ∷ [];
+  sources = [];
+})
+    ≡ codes "option = \"I\"\nsource = []\nversion = 2\n\n[[element]]\nholdoff = 300\nname = \"A\"\nown = \"QL-SEC\"\nwtr = 5\n\n[[element]]\nfloor = \"QL-PRC\"\nholdoff = 300\nname = \"B\"\nown = \"QL-SEC\"\nwtr = 5\n\n[[link]]\na = \"A\"\nb = \"B\"\nbundle = \"T\"\ndelay_a = 7\ndelay_b = 1\nname = \"L\"\npriority_a = 0\npriority_b = 12\n"
+unfolding plan_text digits dec_lt
+text_of_a_plan_with_a_bundle = refl
+
+pub text_of_the_empty_plan : plan_text (record { option = II; elements = []; links = []; sources = [] }) ≡ codes "element = []\nlink = []\noption = \"II\"\nsource = []\n"
+unfolding plan_text
+text_of_the_empty_plan = refl

@@ -8,4 +8,5 @@ pub mod Refusal
 pub mod Gives
 pub mod Steps
 pub mod Writing
+pub mod Spelling
 pub mod Examples

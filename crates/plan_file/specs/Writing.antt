@@ -1,8 +1,6 @@
--- Private: the document that is written for a plan, which only clauses of private functions cite.
+-- The document that is written for a plan: its tables, and the keys of each in the order of the alphabet.
 use Rattle.std.specs.Prelude.{ℕ, ◌/◌, pos, Bool, true, false, List, map, codes, Option, Some, None, is_some}
 use Rattle.std.specs.List.{list_any}
-use Rattle.std.specs.Ordering.{nat_cmp, match_ordering}
-use Rattle.std.specs.Cmp.Lexicographic.{slice_cmp}
 use Rattle.toml.specs.Data.{Data, string, integer, array, table, Members, no_members, member}
 use Rattle.toml.specs.View.{items_of}
 use Rattle.sync_ql.specs.declared.levels.NetOption.{NetOption}
@@ -14,12 +12,6 @@ use Rattle.sync_topo.specs.declared.link.Link.{Link}
 use Rattle.sync_topo.specs.declared.source.Source.{Source}
 use Rattle.sync_topo.specs.Topology.{Topology}
 use Rattle.sync_topo.specs.Lines.{element_name}
-
--- the members of a table after a value is put at a key: before the first greater key, or in place of what stands there
-abbrev pub put_member : List ℕ → Data → Members → Members
-put_member key value no_members = member key value no_members
-put_member key value (member other there rest) =
-    match_ordering (slice_cmp nat_cmp key other) (member key value (member other there rest)) (member other value rest) (member other there (put_member key value rest))
 
 -- the name of a network option
 abbrev pub option_name : NetOption → List ℕ

@@ -1,5 +1,5 @@
 -- That words over some files have one answer.
-use Rattle.std.proofs.Common.{◌≡◌, ◌≤◌, ℕ, suc, length, true, List, ◌++◌, Option, Some, None, Result, Ok, Err, refl, sym, ◌∙◌, ap, inl, inr, arith, true≢false}
+use Rattle.std.proofs.Common.{◌≡◌, ◌≤◌, ℕ, suc, length, List, ◌++◌, Option, Some, None, Result, Ok, Err, refl, sym, ◌∙◌, ap, inl, inr, arith}
 use Rattle.std.specs.Prelude.{◌⊎◌, codes}
 use Rattle.sync_edge.specs.Contents.{Contents}
 use Rattle.sync_topo.specs.declared.event.Event.{Event}
@@ -28,6 +28,8 @@ use Rattle.sync_top.specs.Forms.Check.{documents, IsVerdict}
 use Rattle.sync_top.specs.Forms.Rank.{IsPlanned, cycle_text}
 use Rattle.sync_top.specs.Forms.Hops.{AreHopRows, hops_text}
 use Rattle.sync_top.specs.Forms.Nominate.{IsNominatedText}
+use Rattle.plan_file.specs.Spelling.{plan_text}
+use Rattle.nominate.specs.Nomination.{nominated_plan}
 use Rattle.nominate.proofs.HopLaws.{one-list}
 use Rattle.sync_top.specs.Forms.Captures.{captured, pcap_rows}
 use Rattle.sync_top.specs.Forms.Sim.{plan_and_events, IsReport}
@@ -40,7 +42,6 @@ use Rattle.sync_top.proofs.PriorityAnswers.{one_priority_verdict, one_priority_p
 use Rattle.sync_top.specs.Forms.Priority.{IsPriorityVerdict, IsPriorityPlanned, IsPriorityRun}
 use Rattle.sync_top.specs.Forms.Node.{node_rows, AreFramesSent}
 use Rattle.sync_top.proofs.NodeAnswers.{one_sent}
-use Rattle.sync_top.specs.OneAnswer.{has_one_text}
 use Rattle.plan_gen.specs.Ladder.{ladder}
 use Rattle.sync_top.specs.Forms.Trial.{TrialAnswer}
 use Rattle.sync_top.proofs.LastFits.{one_last}
@@ -229,88 +230,53 @@ module _ (one_whole : (plan : Topology) (events : List Event) (until : ℕ) (tex
       let same = one-sweep plan at until first.1.0 second.1.0 first.1.1 second.1.1 in
       (first.0 ∙ sym second.0, first.1.2 ∙ ap (table_text plan) same ∙ sym second.1.2)
 
-  -- a nominated plan has one status
-  one_nominated : (read : Result Topology End) (status other : Status) (text another : List ℕ) → Answered IsNominatedText read status text
-      → Answered IsNominatedText read other another → status ≡ other
-  one_nominated (Ok plan) status other text another first second = first.0 ∙ sym second.0
-  one_nominated (Err no_file) status other text another first second = absurd first
-  one_nominated (Err (answered known written)) status other text another first second = first.0 ∙ sym second.0
+  -- the hop counts of a plan are one, and so are the plan that is nominated by them and its text
+  one_nominated : (plan : Topology) → IsOne (IsNominatedText plan)
+  one_nominated plan status other text another first second =
+      let mine = first.1.1 in
+      let theirs = second.1.1 in
+      let counts = one-list plan mine.counts theirs.counts mine.are theirs.are in
+      (first.0 ∙ sym second.0, first.1.2 ∙ ap plan_text (mine.is ∙ ap (nominated_plan plan) counts ∙ sym theirs.is) ∙ sym second.1.2)
 
-  -- a form has one status
-  form_status : (form : Option Form) (files : Contents) (status other : Status) (text another : List ℕ) → FormAnswer form files status text
-      → FormAnswer form files other another → status ≡ other
-  form_status None files status other text another first second = first.0 ∙ sym second.0
-  form_status (Some (check plan cert)) files status other text another first second =
-      (one_answered (λ read. IsVerdict read.0 read.1) (λ read. one_verdict read.0 read.1) (documents plan cert files) status other text another first second).0
-  form_status (Some (rank plan)) files status other text another first second =
-      (one_answered IsPlanned one_planned (plan_in plan files) status other text another first second).0
-  form_status (Some (asked.hops plan)) files status other text another first second =
-      (one_answered AreHopRows one_hop_rows (plan_in plan files) status other text another first second).0
-  form_status (Some (asked.nominate plan)) files status other text another first second =
-      one_nominated (plan_in plan files) status other text another first second
-  form_status (Some (decode option name)) files status other text another first second =
-      (one_answered IsText one_asked (captured decoded_text option name files) status other text another first second).0
-  form_status (Some (encode option name)) files status other text another first second =
-      (one_answered IsText one_asked (captured encoded_text option name files) status other text another first second).0
-  form_status (Some (pcap_decode option name)) files status other text another first second =
-      (one_answered IsText one_asked (pcap_rows option name files) status other text another first second).0
-  form_status (Some (pcap_encode option name)) files status other text another first second =
-      (one_answered IsText one_asked (captured encoded_pcap option name files) status other text another first second).0
-  form_status (Some (gen n)) files status other text another first second = first.0 ∙ sym second.0
-  form_status (Some (trial n)) files status other text another first second =
-      (one_trial n status other text another first second).0
-  form_status (Some (sim plan events until)) files status other text another first second =
-      (one_answered (λ read. IsReport read.0 read.1 until) (λ read. one_report read.0 read.1 until) (plan_and_events plan events files) status other text another first second).0
-  form_status (Some (sweep plan at until)) files status other text another first second =
-      (one_answered (λ read. IsSweepTable read at until) (λ read. one_sweep_table read at until) (plan_in plan files) status other text another first second).0
-  form_status (Some (prio_check plan cert)) files status other text another first second =
-      (one_answered (λ read. IsPriorityVerdict read.0 read.1) (λ read. one_priority_verdict read.0 read.1) (documents plan cert files) status other text another first second).0
-  form_status (Some (prio_rank plan)) files status other text another first second =
-      (one_answered IsPriorityPlanned one_priority_planned (plan_in plan files) status other text another first second).0
-  form_status (Some (prio_sim plan events until)) files status other text another first second =
-      (one_answered (λ read. IsPriorityRun read.0 read.1 until) (λ read. one_priority_run read.0 read.1 until) (plan_and_events plan events files) status other text another first second).0
-  form_status (Some (node plan element name until)) files status other text another first second =
-      (one_answered (λ read. AreFramesSent read.0 read.1 read.2 until) (λ read. one_sent read.0 read.1 read.2 until) (node_rows plan element name files) status other text another first second).0
-
-  -- and one text, but for `gen` and `nominate`
-  form_text : (form : Option Form) (files : Contents) (status other : Status) (text another : List ℕ) → FormAnswer form files status text
-      → FormAnswer form files other another → has_one_text form ≡ true → text ≡ another
-  form_text None files status other text another first second one = first.1 ∙ sym second.1
-  form_text (Some (check plan cert)) files status other text another first second one =
-      (one_answered (λ read. IsVerdict read.0 read.1) (λ read. one_verdict read.0 read.1) (documents plan cert files) status other text another first second).1
-  form_text (Some (rank plan)) files status other text another first second one =
-      (one_answered IsPlanned one_planned (plan_in plan files) status other text another first second).1
-  form_text (Some (asked.hops plan)) files status other text another first second one =
-      (one_answered AreHopRows one_hop_rows (plan_in plan files) status other text another first second).1
-  form_text (Some (asked.nominate plan)) files status other text another first second one = absurd (true≢false (sym one))
-  form_text (Some (decode option name)) files status other text another first second one =
-      (one_answered IsText one_asked (captured decoded_text option name files) status other text another first second).1
-  form_text (Some (encode option name)) files status other text another first second one =
-      (one_answered IsText one_asked (captured encoded_text option name files) status other text another first second).1
-  form_text (Some (pcap_decode option name)) files status other text another first second one =
-      (one_answered IsText one_asked (pcap_rows option name files) status other text another first second).1
-  form_text (Some (pcap_encode option name)) files status other text another first second one =
-      (one_answered IsText one_asked (captured encoded_pcap option name files) status other text another first second).1
-  form_text (Some (gen n)) files status other text another first second one = absurd (true≢false (sym one))
-  form_text (Some (trial n)) files status other text another first second one =
-      (one_trial n status other text another first second).1
-  form_text (Some (sim plan events until)) files status other text another first second one =
-      (one_answered (λ read. IsReport read.0 read.1 until) (λ read. one_report read.0 read.1 until) (plan_and_events plan events files) status other text another first second).1
-  form_text (Some (sweep plan at until)) files status other text another first second one =
-      (one_answered (λ read. IsSweepTable read at until) (λ read. one_sweep_table read at until) (plan_in plan files) status other text another first second).1
-  form_text (Some (prio_check plan cert)) files status other text another first second one =
-      (one_answered (λ read. IsPriorityVerdict read.0 read.1) (λ read. one_priority_verdict read.0 read.1) (documents plan cert files) status other text another first second).1
-  form_text (Some (prio_rank plan)) files status other text another first second one =
-      (one_answered IsPriorityPlanned one_priority_planned (plan_in plan files) status other text another first second).1
-  form_text (Some (prio_sim plan events until)) files status other text another first second one =
-      (one_answered (λ read. IsPriorityRun read.0 read.1 until) (λ read. one_priority_run read.0 read.1 until) (plan_and_events plan events files) status other text another first second).1
-  form_text (Some (node plan element name until)) files status other text another first second one =
-      (one_answered (λ read. AreFramesSent read.0 read.1 read.2 until) (λ read. one_sent read.0 read.1 read.2 until) (node_rows plan element name files) status other text another first second).1
+  -- a form has one answer
+  one_form : (form : Option Form) (files : Contents) → IsOne (FormAnswer form files)
+  one_form None files status other text another first second = (first.0 ∙ sym second.0, first.1 ∙ sym second.1)
+  one_form (Some (check plan cert)) files status other text another first second =
+      one_answered (λ read. IsVerdict read.0 read.1) (λ read. one_verdict read.0 read.1) (documents plan cert files) status other text another first second
+  one_form (Some (rank plan)) files status other text another first second =
+      one_answered IsPlanned one_planned (plan_in plan files) status other text another first second
+  one_form (Some (asked.hops plan)) files status other text another first second =
+      one_answered AreHopRows one_hop_rows (plan_in plan files) status other text another first second
+  one_form (Some (asked.nominate plan)) files status other text another first second =
+      one_answered IsNominatedText one_nominated (plan_in plan files) status other text another first second
+  one_form (Some (decode option name)) files status other text another first second =
+      one_answered IsText one_asked (captured decoded_text option name files) status other text another first second
+  one_form (Some (encode option name)) files status other text another first second =
+      one_answered IsText one_asked (captured encoded_text option name files) status other text another first second
+  one_form (Some (pcap_decode option name)) files status other text another first second =
+      one_answered IsText one_asked (pcap_rows option name files) status other text another first second
+  one_form (Some (pcap_encode option name)) files status other text another first second =
+      one_answered IsText one_asked (captured encoded_pcap option name files) status other text another first second
+  one_form (Some (gen n)) files status other text another first second = (first.0 ∙ sym second.0, first.1 ∙ sym second.1)
+  one_form (Some (trial n)) files status other text another first second =
+      one_trial n status other text another first second
+  one_form (Some (sim plan events until)) files status other text another first second =
+      one_answered (λ read. IsReport read.0 read.1 until) (λ read. one_report read.0 read.1 until) (plan_and_events plan events files) status other text another first second
+  one_form (Some (sweep plan at until)) files status other text another first second =
+      one_answered (λ read. IsSweepTable read at until) (λ read. one_sweep_table read at until) (plan_in plan files) status other text another first second
+  one_form (Some (prio_check plan cert)) files status other text another first second =
+      one_answered (λ read. IsPriorityVerdict read.0 read.1) (λ read. one_priority_verdict read.0 read.1) (documents plan cert files) status other text another first second
+  one_form (Some (prio_rank plan)) files status other text another first second =
+      one_answered IsPriorityPlanned one_priority_planned (plan_in plan files) status other text another first second
+  one_form (Some (prio_sim plan events until)) files status other text another first second =
+      one_answered (λ read. IsPriorityRun read.0 read.1 until) (λ read. one_priority_run read.0 read.1 until) (plan_and_events plan events files) status other text another first second
+  one_form (Some (node plan element name until)) files status other text another first second =
+      one_answered (λ read. AreFramesSent read.0 read.1 read.2 until) (λ read. one_sent read.0 read.1 read.2 until) (node_rows plan element name files) status other text another first second
 
   pub one_status : (words : List (List ℕ)) (files : Contents) (status other : Status) (text another : List ℕ) → IsAnswer words files status text
       → IsAnswer words files other another → status ≡ other
-  one_status words files = form_status (form_of words) files
+  one_status words files status other text another first second = (one_form (form_of words) files status other text another first second).0
 
   pub one_text : (words : List (List ℕ)) (files : Contents) (status other : Status) (text another : List ℕ) → IsAnswer words files status text
-      → IsAnswer words files other another → has_one_text (form_of words) ≡ true → text ≡ another
-  one_text words files = form_text (form_of words) files
+      → IsAnswer words files other another → text ≡ another
+  one_text words files status other text another first second = (one_form (form_of words) files status other text another first second).1

@@ -3,7 +3,6 @@ pub mod Form
 pub mod Reading
 pub mod Forms
 pub mod Answer
-pub mod OneAnswer
 pub mod Examples
 pub mod Work
 pub mod Runs

@@ -1,18 +1,23 @@
-ghost use Rattle.std.specs.Prelude.{◌≤◌, IfOk};
+ghost use Rattle.std.specs.Prelude.{◌≡◌, ◌≤◌, length, IfOk};
 ghost use Rattle.plan_file.specs.IsPlanText.{IsPlanText};
+ghost use Rattle.plan_file.specs.Spelling.{plan_text};
 ghost use Rattle.plan_gen.specs.Ladder.{ladder};
+ghost use Rattle.sync_top.specs.Reading.{file_limit};
 
 use plan_file::write_plan;
 use plan_gen::generate;
 use std::alloc::Global;
 use sync_edge::{NoMemory, Text};
 
-/// A text of the ladder of `n` elements. It reads no file.
+/// The text of the ladder of `n` elements. It reads no file.
 pub(crate) fn ladder_text(alloc: Global, n: u32) -> Result<Text, NoMemory>
     requires least { 2 ≤ n }
     requires greatest { n ≤ 2000 }
     ensures text { IfOk result (IsPlanText (ladder n)) }
+    ensures spelled { IfOk result (λ text. text ≡ plan_text (ladder n)) }
+    ensures short { IfOk result (λ text. length text ≤ file_limit) }
 {
     let plan = generate(alloc, n)?;
-    write_plan(alloc, &plan)
+    let text = write_plan(alloc, &plan)?;
+    Ok(text)
 }

@@ -1,18 +1,15 @@
 // What follows from the definition of an answer alone.
 
-ghost use Rattle.std.specs.Prelude.{◌≡◌, ◌<◌, ℕ, List, [], ◌∷◌, length, codes, true, Some};
+ghost use Rattle.std.specs.Prelude.{◌≡◌, ◌<◌, ℕ, List, [], ◌∷◌, length, codes, Some};
 ghost use Rattle.std.specs.FinMap.{get};
 ghost use Rattle.sync_edge.specs.Contents.{Contents};
 ghost use Rattle.sync_top.specs.declared.status.Status.{Status};
 ghost use Rattle.sync_top.specs.Reading.{text_line};
 ghost use Rattle.sync_top.specs.Answer.{IsAnswer};
-ghost use Rattle.sync_top.specs.Form.{form_of};
-ghost use Rattle.sync_top.specs.OneAnswer.{has_one_text};
 
 use trace_report::one_report_law;
 
-/// The law of the one answer: over given files some words have one status, and but for `gen` and
-/// `nominate` one text.
+/// The law of the one answer: over given files some words have one status and one text.
 ///
 /// It does nothing: its contract is the law. This project's own.
 pub fn one_answer_law()
@@ -21,7 +18,7 @@ pub fn one_answer_law()
         → IsAnswer words files other another → status ≡ other }
     ensures text { (words : List (List ℕ)) → (files : Contents) → (status other : Status)
         → (text another : List ℕ) → IsAnswer words files status text
-        → IsAnswer words files other another → has_one_text (form_of words) ≡ true → text ≡ another }
+        → IsAnswer words files other another → text ≡ another }
 {
     one_report_law();
 }

@@ -13,7 +13,7 @@ use std::alloc::Global;
 use sync_edge::{Folder, NoMemory};
 use sync_topo::Plan;
 
-/// The reply to a plan: a text of the plan with priorities by fewest hops.
+/// The reply to a plan: the text of the plan with priorities by fewest hops.
 fn nominated(alloc: Global, plan: &Plan) -> Result<Reply, NoMemory>
     ensures nominated { IfOk result (λ reply. IsNominatedText plan.now reply.status reply.text) }
     ensures form { IfOk result (λ reply. reply.status ≢ Status.Usage) }

@@ -1,19 +1,20 @@
-use Rattle.std.proofs.Common.{string_bytes, ◌≤◌, ◌∙◌, ap, Some}
-use Rattle.std.proofs.lemmas.Str.{IsUtf8-string_bytes}
-use Rattle.toml.specs.Data.{members_depth, members_have_valid_dates}
-use Rattle.toml.specs.View.{table_view}
-use Rattle.plan_file.proofs.WrittenPlan.{document_depth, document_dated, only_memory, IsPlanText-written}
+use Rattle.std.proofs.Common.{subst, sym, ◌≤◌, length, codes}
+use Rattle.plan_file.specs.IsPlanText.{IsPlanText}
+use Rattle.plan_file.specs.Writing.{element_table, link_table, source_table}
+use Rattle.plan_file.specs.Spelling.{fields_text, rows_text, head_fields, plan_text, plan_size}
+use Rattle.plan_file.proofs.Puts.{whole_put}
+use Rattle.plan_file.proofs.SpelledPlan.{plan_text-read, plan_text-short}
 use Rattle.plan_file.proofs.writing.write_plan.Goals as goal
 
-pub returns-in-Ok : goal.returns-in-Ok
-returns-in-Ok c =
+pub returns-clause-spelled : goal.returns-clause-spelled
+unfolding plan_text
+returns-clause-spelled c =
     let plan = c.args.plan.now in
-    let text = string_bytes c.in-Ok.text in
-    let same = c.in_ok-document.ensures.document in
-    let deep : members_depth (table_view c.in_ok-document.document) ≤ 80 = rw same (document_depth plan) in
-    let parsed = c.in-Ok.ensures.reads_back deep ∙ ap Some same in
-    record { text = rw (c.from.ensures, c.into_bytes.ensures.value) (IsPlanText-written plan text c.in_ok-document.ensures.well_formed (IsUtf8-string_bytes c.in-Ok.text) parsed) }
+    whole_put (fields_text (head_fields plan)) (rows_text (codes "element") element_table plan.elements) (rows_text (codes "link") (link_table plan) plan.links) (rows_text (codes "source") (source_table plan) plan.sources)
+    c.put_head.new.text c.put_elements.new.text c.put_links.new.text c.put_sources.new.text (rw c.new-text.ensures at c.in_ok-put_head.ensures.put) c.in_ok-put_elements.ensures c.in_ok-put_links.ensures c.in_ok-put_sources.ensures
 
-pub want_of_memory-requires : goal.want_of_memory-requires
-want_of_memory-requires c =
-    only_memory c.in-Err.error (members_have_valid_dates (table_view c.in_ok-document.document)) c.in-Err.ensures.dates (rw c.in_ok-document.ensures.document (document_dated c.args.plan.now))
+pub returns-clause-text : goal.returns-clause-text
+returns-clause-text c = subst (IsPlanText c.args.plan.now) (sym (returns-clause-spelled c)) (plan_text-read c.args.plan.now c.put_head.ensures.well_formed)
+
+pub returns-clause-short : goal.returns-clause-short
+returns-clause-short c = subst (λ text. length text ≤ plan_size) (sym (returns-clause-spelled c)) (plan_text-short c.args.plan.now c.put_head.ensures.well_formed)
