@@ -86,11 +86,26 @@ fn order_text(alloc: Global, plan: &Plan) -> Result<Text, NoMemory> {
     write_cert(alloc, &nominated, &cert)
 }
 
+fn has_hops_of(alloc: Global, plan: &Plan, other: &Plan) -> Result<bool, NoMemory> {
+    let hops = least_hops(alloc, other)?;
+    Ok(plan.elements() == other.elements() && hops_ok(plan, &hops))
+}
+
+fn is_right(rt: &(impl Abort + AllocGlobal), plan: &Plan) -> Result<(), Fail> {
+    assert!(rt; has_hops_of(rt.alloc(), plan, plan)?);
+    Ok(())
+}
+
+fn order_is(rt: &(impl Abort + AllocGlobal), plan: &Plan, want: &[u8]) -> Result<(), Fail> {
+    let order = order_text(rt.alloc(), plan)?;
+    assert!(rt; order.bytes() == want);
+    Ok(())
+}
+
 fn has_order(rt: &(impl Abort + AllocGlobal), text: &[u8], want: &[u8]) -> Result<(), Fail> {
     let plan = read_plan(rt.alloc(), text)?;
-    let order = order_text(rt.alloc(), &plan)?;
-    assert_eq!(rt; order.bytes(), want);
-    Ok(())
+    is_right(rt, &plan)?;
+    order_is(rt, &plan, want)
 }
 
 #[test]
@@ -117,20 +132,20 @@ fn order_of_a_crowded_element(rt: HostRuntime) -> Result<(), Fail> {
     has_order(&rt, text.bytes(), b"line,rank\nL1>B,0\n")
 }
 
-fn has_hops_of(alloc: Global, plan: &Plan, other: &Plan) -> Result<bool, NoMemory> {
-    let hops = least_hops(alloc, other)?;
-    Ok(plan.elements() == other.elements() && hops_ok(plan, &hops))
+fn is_wrong(rt: &(impl Abort + AllocGlobal), plan: &Plan, other: &Plan) -> Result<(), Fail> {
+    assert!(rt; !has_hops_of(rt.alloc(), plan, other)?);
+    Ok(())
+}
+
+fn hops_are_wrong(rt: &(impl Abort + AllocGlobal), text: &[u8], other: &[u8]) -> Result<(), Fail> {
+    let plan = read_plan(rt.alloc(), text)?;
+    let other = read_plan(rt.alloc(), other)?;
+    is_wrong(rt, &plan, &other)
 }
 
 #[test]
 fn hops_of_another_plan_are_wrong(rt: HostRuntime) -> Result<(), Fail> {
-    let alloc = rt.alloc();
-    let chain = read_plan(alloc, CHAIN)?;
-    let ring = read_plan(alloc, RING)?;
-    let clockless = read_plan(alloc, CLOCKLESS)?;
-    assert!(&rt; has_hops_of(alloc, &chain, &chain)?);
-    assert!(&rt; !has_hops_of(alloc, &chain, &ring)?);
-    assert!(&rt; !has_hops_of(alloc, &ring, &chain)?);
-    assert!(&rt; !has_hops_of(alloc, &ring, &clockless)?);
-    Ok(())
+    hops_are_wrong(&rt, CHAIN, RING)?;
+    hops_are_wrong(&rt, RING, CHAIN)?;
+    hops_are_wrong(&rt, RING, CLOCKLESS)
 }
