@@ -22,7 +22,7 @@ fn run_all<L: Ledger>(rt: &(impl Abort + AllocGlobal), blank: Blank) -> Result<(
 {
     let mut steps = Steps::<L>::new(blank);
     heard::hears_a_delay_later(rt, &mut steps)?;
-    traced::follows_a_ring(rt, &mut steps)?;
+    traced::are_followed(rt, &mut steps)?;
     back::goes_back(rt, &mut steps)
 }
 
