@@ -1,5 +1,4 @@
 ghost use Rattle.std.specs.Prelude.{◌≡◌, ◌≤◌, ◌<◌, ◌+◌, ℕ, IsTrue, IfSome, IfOk, All, length};
-ghost use Rattle.sync_ql.specs.Switches.{NamesInput};
 ghost use Rattle.sync_ql.specs.Moment.{Settings};
 ghost use Rattle.sync_ql.specs.Told.{IsOfOption, FitsElement};
 ghost use Rattle.sync_element.specs.Fitting.{FitsOption};
@@ -11,10 +10,9 @@ use std::sync::ledger::{Blank, Ledger};
 use std::test::Fail;
 use sync_edge::{Rows, Steps};
 use sync_element::ClockState::{FreeRun, Holdover, Locked};
-use sync_element::Cmd::{Clear, Forced, Lockout, Manual, Unlock};
 use sync_element::Cond::{Failed, Good, HoldOff, Restoring};
-use sync_element::Mode::{Auto, Forced as ByForce, Manual as ByHand};
-use sync_element::{ClockState, Cmd, Cond, Config, Element, InputConfig, InputEvent, Mode};
+use sync_element::Mode::Auto;
+use sync_element::{ClockState, Cond, Config, Element, InputConfig, InputEvent, Mode};
 use sync_ql::{Level, NetOption, level_of_name};
 
 /// What is told, with levels by their names, and "" for none.
@@ -22,12 +20,10 @@ use sync_ql::{Level, NetOption, level_of_name};
 enum Told {
     Up(u32),
     Down(u32),
-    Cleared(u32),
     Has(u32, &'static str),
-    Gives(Cmd),
 }
 
-use Told::{Cleared, Down, Gives, Has, Up};
+use Told::{Down, Has, Up};
 
 /// A millisecond and what is told in it; then the input, the level, the mode and the state.
 type Row = (
@@ -52,148 +48,19 @@ struct Case {
     rows: &'static [Row],
 }
 
-const CASES: [Case; 8] = [
-    Case {
-        shows: "on_a_tie_the_other_stays_when_the_first_is_good_again",
-        wtr: 0,
-        floor: "",
-        inputs: &[(1, "QL-PRC", 0), (1, "QL-PRC", 1)],
-        rows: &[
-            (0, &[], Some(0), "QL-PRC", Auto, Locked),
-            (1000, &[Down(0)], Some(0), "QL-PRC", Auto, Locked),
-            (1300, &[], Some(1), "QL-PRC", Auto, Locked),
-            (2000, &[Up(0)], Some(1), "QL-PRC", Auto, Locked),
-        ],
-    },
-    Case {
-        shows: "forced_to_do_not_use_is_holdover_until_a_lockout",
-        wtr: 300_000,
-        floor: "",
-        inputs: &[(1, "QL-PRC", 0), (2, "QL-SSU-A", 1)],
-        rows: &[
-            (0, &[], Some(0), "QL-PRC", Auto, Locked),
-            (1000, &[Has(1, "QL-DNU")], Some(0), "QL-PRC", Auto, Locked),
-            (2000, &[Gives(Forced(1))], None, "QL-SEC", ByForce, Holdover),
-            (3000, &[Gives(Lockout(1))], Some(0), "QL-PRC", Auto, Locked),
-            (3500, &[Gives(Forced(1))], Some(0), "QL-PRC", Auto, Locked),
-        ],
-    },
-    Case {
-        shows: "free_running_before_the_first_input_and_in_holdover_after_the_last",
-        wtr: 0,
-        floor: "",
-        inputs: &[(1, "", 0), (2, "", 1)],
-        rows: &[
-            (0, &[], None, "QL-SEC", Auto, FreeRun),
-            (10, &[Has(0, "QL-DNU")], None, "QL-SEC", Auto, FreeRun),
-            (20, &[Has(1, "QL-SSU-B")], Some(1), "QL-SSU-B", Auto, Locked),
-            (30, &[Has(1, "")], None, "QL-SEC", Auto, Holdover),
-        ],
-    },
-    Case {
-        shows: "a_level_equal_to_the_floor_is_taken_and_a_worse_one_is_not",
-        wtr: 0,
-        floor: "QL-SSU-A",
-        inputs: &[(1, "QL-SSU-B", 0), (2, "QL-SSU-A", 1)],
-        rows: &[
-            (0, &[], Some(1), "QL-SSU-A", Auto, Locked),
-            (5, &[Has(0, "QL-PRC")], Some(0), "QL-PRC", Auto, Locked),
-            (6, &[Has(0, "QL-SSU-B")], Some(1), "QL-SSU-A", Auto, Locked),
-            (7, &[Has(1, "QL-SEC")], None, "QL-SEC", Auto, Holdover),
-        ],
-    },
-    Case {
-        shows: "a_manual_switch_ends_for_a_better_level_a_clear_or_a_lockout",
-        wtr: 0,
-        floor: "",
-        inputs: &[(1, "QL-PRC", 0), (2, "QL-PRC", 1)],
-        rows: &[
-            (0, &[], Some(0), "QL-PRC", Auto, Locked),
-            (1, &[Gives(Manual(1))], Some(1), "QL-PRC", ByHand, Locked),
-            (2, &[Has(1, "QL-SSU-A")], Some(0), "QL-PRC", Auto, Locked),
-            (3, &[Has(1, "QL-PRC")], Some(0), "QL-PRC", Auto, Locked),
-            (
-                4,
-                &[Gives(Manual(1)), Gives(Clear)],
-                Some(0),
-                "QL-PRC",
-                Auto,
-                Locked,
-            ),
-            (
-                5,
-                &[Gives(Clear), Gives(Manual(1))],
-                Some(1),
-                "QL-PRC",
-                ByHand,
-                Locked,
-            ),
-            (6, &[Gives(Lockout(1))], Some(0), "QL-PRC", Auto, Locked),
-            (
-                7,
-                &[Gives(Unlock(1)), Gives(Forced(1))],
-                Some(1),
-                "QL-PRC",
-                ByForce,
-                Locked,
-            ),
-            (8, &[Gives(Manual(0))], Some(1), "QL-PRC", ByForce, Locked),
-        ],
-    },
-    Case {
-        shows: "a_failed_input_is_taken_again_when_restored_or_cleared",
-        wtr: 500,
-        floor: "",
-        inputs: &[(1, "QL-PRC", 0), (2, "QL-SSU-A", 1)],
-        rows: &[
-            (0, &[], Some(0), "QL-PRC", Auto, Locked),
-            (100, &[Down(0)], Some(0), "QL-PRC", Auto, Locked),
-            (399, &[], Some(0), "QL-PRC", Auto, Locked),
-            (400, &[], Some(1), "QL-SSU-A", Auto, Locked),
-            (450, &[Up(0)], Some(1), "QL-SSU-A", Auto, Locked),
-            (949, &[], Some(1), "QL-SSU-A", Auto, Locked),
-            (950, &[], Some(0), "QL-PRC", Auto, Locked),
-            (1000, &[Down(0)], Some(0), "QL-PRC", Auto, Locked),
-            (1310, &[Up(0)], Some(1), "QL-SSU-A", Auto, Locked),
-            (1320, &[Cleared(0)], Some(0), "QL-PRC", Auto, Locked),
-        ],
-    },
-    Case {
-        shows: "two_inputs_fail_in_one_millisecond_and_come_back_in_two",
-        wtr: 500,
-        floor: "",
-        inputs: &[(1, "QL-PRC", 0), (1, "QL-PRC", 1), (2, "QL-SSU-A", 2)],
-        rows: &[
-            (0, &[], Some(0), "QL-PRC", Auto, Locked),
-            (1000, &[Down(0), Down(1)], Some(0), "QL-PRC", Auto, Locked),
-            (1299, &[], Some(0), "QL-PRC", Auto, Locked),
-            (1300, &[], Some(2), "QL-SSU-A", Auto, Locked),
-            (1400, &[Up(1)], Some(2), "QL-SSU-A", Auto, Locked),
-            (1401, &[Up(0)], Some(2), "QL-SSU-A", Auto, Locked),
-            (1900, &[], Some(1), "QL-PRC", Auto, Locked),
-            (1901, &[], Some(1), "QL-PRC", Auto, Locked),
-        ],
-    },
-    Case {
-        shows: "of_one_millisecond_the_last_signal_and_level_count",
-        wtr: 0,
-        floor: "",
-        inputs: &[(1, "QL-DNU", 0), (2, "QL-SSU-A", 1)],
-        rows: &[
-            (
-                0,
-                &[Has(0, "QL-SEC"), Has(0, "QL-PRC")],
-                Some(0),
-                "QL-PRC",
-                Auto,
-                Locked,
-            ),
-            (1, &[Down(0), Up(0)], Some(0), "QL-PRC", Auto, Locked),
-            (400, &[Up(0), Down(0)], Some(0), "QL-PRC", Auto, Locked),
-            (700, &[], Some(1), "QL-SSU-A", Auto, Locked),
-        ],
-    },
-];
+/// Sources have a level from the first; lines may have none.
+const LINES: Case = Case {
+    shows: "free_running_before_the_first_input_and_in_holdover_after_the_last",
+    wtr: 0,
+    floor: "",
+    inputs: &[(1, "", 0), (2, "", 1)],
+    rows: &[
+        (0, &[], None, "QL-SEC", Auto, FreeRun),
+        (10, &[Has(0, "QL-DNU")], None, "QL-SEC", Auto, FreeRun),
+        (20, &[Has(1, "QL-SSU-B")], Some(1), "QL-SSU-B", Auto, Locked),
+        (30, &[Has(1, "")], None, "QL-SEC", Auto, Holdover),
+    ],
+};
 
 /// A millisecond and what is told in it; then of two inputs the conditions and what goes back, when
 /// a step is due, and the number of later steps.
@@ -266,9 +133,7 @@ fn event_of(told: Told) -> InputEvent {
     match told {
         Up(i) => InputEvent::Signal(i, true),
         Down(i) => InputEvent::Signal(i, false),
-        Cleared(i) => InputEvent::ClearWtr(i),
         Has(i, name) => InputEvent::Heard(i, level_of_name(NetOption::I, name.as_bytes())),
-        Gives(command) => InputEvent::Command(command),
     }
 }
 
@@ -339,22 +204,13 @@ fn is_input(input: &InputConfig) -> bool
     1 <= input.priority && is_of(NetOption::I, input.first)
 }
 
-fn names_input(inputs: usize, command: Cmd) -> bool
-    ensures { IsTrue result → NamesInput inputs command }
-{
-    match command {
-        Lockout(i) | Unlock(i) | Forced(i) | Manual(i) => (i as usize) < inputs,
-        Clear => true,
-    }
-}
-
 fn fits(inputs: usize, event: &InputEvent) -> bool
     ensures { IsTrue result → FitsOption NetOption.I inputs event.now }
 {
     match *event {
         InputEvent::Signal(i, _) | InputEvent::ClearWtr(i) => (i as usize) < inputs,
         InputEvent::Heard(i, level) => (i as usize) < inputs && is_of(NetOption::I, level),
-        InputEvent::Command(command) => names_input(inputs, command),
+        InputEvent::Command(_) => false,
     }
 }
 
@@ -390,7 +246,7 @@ fn answer_of(element: &Element) -> Answer {
     )
 }
 
-/// Steps an element where something is told or due, and compares it after each row.
+/// Steps an element in which nothing is due, and compares it after each row.
 fn agrees<L: Ledger>(
     rt: &(impl Abort + AllocGlobal),
     case: &Case,
@@ -402,7 +258,7 @@ fn agrees<L: Ledger>(
     for row in case.rows {
         let at = row.0;
         assert!(rt; next <= at && at <= 86_400_000);
-        come_to(rt, case.shows, &mut element, next, at, steps);
+        assert!(rt; 0 < next || at == 0);
         tell(rt, &mut element, inputs, at, row.1, steps)?;
         let expected = (row.2, level(rt, row.3), row.4, row.5);
         compare(rt, case.shows, at, answer_of(&element), expected);
@@ -452,73 +308,13 @@ fn tell<L: Ledger>(
     Ok(())
 }
 
-fn come_to<L: Ledger>(
-    rt: &impl Abort,
-    shows: &'static str,
-    element: &mut Element,
-    next: u64,
-    at: u64,
-    steps: &mut Steps<L>,
-)
-    requires next { element.old.next ≡ next }
-    requires order { next ≤ at }
-    requires in_range { at ≤ 86400000 }
-    ensures started { element.new.next ≡ 0 → at ≡ 0 }
-    ensures later { element.new.next ≤ at }
-    ensures kept { element.new.settings ≡ element.old.settings }
-{
-    if next == at {
-        return;
-    }
-    assert!(rt; 0 < next, "{shows}: the first row is at 0");
-    wait_until(rt, element, next, at, steps);
-}
-
-fn wait_until<L: Ledger>(
-    rt: &impl Abort,
-    element: &mut Element,
-    from: u64,
-    until: u64,
-    steps: &mut Steps<L>,
-)
-    requires started { 0 < element.old.next }
-    requires later { element.old.next ≤ from }
-    requires order { from ≤ until }
-    requires in_range { until ≤ 86400000 }
-    ensures started { 0 < element.new.next }
-    ensures later { element.new.next ≤ until }
-    ensures kept { element.new.settings ≡ element.old.settings }
-{
-    for now in from..until {
-        wait(rt, element, now, steps);
-    }
-}
-
-/// A millisecond in which nothing is told, which is a step where one is due.
-fn wait<L: Ledger>(rt: &impl Abort, element: &mut Element, now: u64, steps: &mut Steps<L>)
-    requires started { 0 < element.old.next }
-    requires later { element.old.next ≤ now }
-    requires in_range { now ≤ 86400000 }
-    ensures started { 0 < element.new.next }
-    ensures later { element.new.next ≤ now + 1 }
-    ensures kept { element.new.settings ≡ element.old.settings }
-{
-    if element.due() == Some(now) {
-        assert!(rt; is_in_time(element, now));
-        element.step(now, &[], steps);
-    }
-}
-
 fn run_all<L: Ledger>(rt: &(impl Abort + AllocGlobal), blank: Blank) -> Result<(), Fail>
     requires name { blank.name ≡ L.name }
     requires parts { blank.parts ≡ L.parts }
     requires some { 0 < blank.parts }
 {
     let mut steps = Steps::<L>::new(blank);
-    for case in &CASES {
-        agrees(rt, case, &mut steps)?;
-    }
-    Ok(())
+    agrees(rt, &LINES, &mut steps)
 }
 
 #[test]
@@ -575,74 +371,4 @@ fn show<L: Ledger>(rt: &(impl Abort + AllocGlobal), blank: Blank) -> Result<(), 
 #[test]
 fn conditions_due_and_what_goes_back(rt: HostRuntime) -> Result<(), Fail> {
     show::<Brand>(&rt, Blank::new(1))
-}
-
-/// Two parallel links in a bundle, and an input beside them.
-const BUNDLED: Case = Case {
-    shows: "a_bundle_goes_back_together",
-    wtr: 500,
-    floor: "",
-    inputs: &[(1, "QL-PRC", 4), (2, "QL-PRC", 4), (3, "QL-SSU-A", 5)],
-    rows: &[],
-};
-
-fn show_bundle<L: Ledger>(rt: &(impl Abort + AllocGlobal), blank: Blank) -> Result<(), Fail>
-    requires name { blank.name ≡ L.name }
-    requires parts { blank.parts ≡ L.parts }
-    requires some { 0 < blank.parts }
-{
-    let mut steps = Steps::<L>::new(blank);
-    let mut element = element_of(rt, &BUNDLED, 3)?;
-    assert!(rt; is_in_time(&element, 0));
-    element.step(0, &[], &mut steps);
-    assert_eq!(rt; element.selected(), Some(0));
-    assert_eq!(rt;
-        element.out_to(0),
-        level(rt, "QL-DNU"),
-        "the input that is taken"
-    );
-    assert_eq!(rt;
-        element.out_to(1),
-        level(rt, "QL-DNU"),
-        "the other of its bundle"
-    );
-    assert_eq!(rt;
-        element.out_to(2),
-        level(rt, "QL-PRC"),
-        "the input beside it"
-    );
-    Ok(())
-}
-
-#[test]
-fn a_bundle_goes_back_together(rt: HostRuntime) -> Result<(), Fail> {
-    show_bundle::<Brand>(&rt, Blank::new(1))
-}
-
-/// As many inputs as an element may have, all of one bundle.
-const FULL: Case = Case {
-    shows: "an_element_has_64_inputs",
-    wtr: 0,
-    floor: "",
-    inputs: &[(1, "QL-PRC", 0); 64],
-    rows: &[],
-};
-
-fn show_full<L: Ledger>(rt: &(impl Abort + AllocGlobal), blank: Blank) -> Result<(), Fail>
-    requires name { blank.name ≡ L.name }
-    requires parts { blank.parts ≡ L.parts }
-    requires some { 0 < blank.parts }
-{
-    let mut steps = Steps::<L>::new(blank);
-    let mut element = element_of(rt, &FULL, 64)?;
-    assert!(rt; is_in_time(&element, 0));
-    element.step(0, &[], &mut steps);
-    assert_eq!(rt; element.selected(), Some(0));
-    assert_eq!(rt; element.out_to(63), level(rt, "QL-DNU"), "the last input");
-    Ok(())
-}
-
-#[test]
-fn an_element_has_64_inputs(rt: HostRuntime) -> Result<(), Fail> {
-    show_full::<Brand>(&rt, Blank::new(1))
 }

@@ -5,7 +5,7 @@ use std::test::Fail;
 use std::{fs, io};
 use sync_edge::{
     Failed, Folder, MemFile, MemFolder, MemSink, NoMemory, ReadErr, RealFolder, RealSink, Rows,
-    Sink, Text, WriteFailed, read_all, read_number, write_all,
+    Sink, Text, WriteFailed, read_all, write_all,
 };
 
 fn text(alloc: Global, bytes: &[u8]) -> Result<Text, NoMemory> {
@@ -282,27 +282,4 @@ fn errors_are_printed_in_words(rt: HostRuntime) -> Result<(), Fail> {
     let memory = format!(in alloc; "{NoMemory}, {}", ReadErr::NoMemory)?;
     assert_eq!(rt; memory.as_str(), "out of memory, out of memory");
     Ok(())
-}
-
-#[test]
-fn only_plain_decimals_are_numbers(rt: HostRuntime) {
-    let rows: [(&[u8], Option<u64>); 14] = [
-        (b"0", Some(0)),
-        (b"7", Some(7)),
-        (b"10", Some(10)),
-        (b"86400000", Some(86_400_000)),
-        (b"18446744073709551615", Some(18_446_744_073_709_551_615)),
-        (b"", None),
-        (b"00", None),
-        (b"01", None),
-        (b"+1", None),
-        (b"-1", None),
-        (b" 1", None),
-        (b"1\xff", None),
-        (b"18446744073709551616", None),
-        (b"100000000000000000000", None),
-    ];
-    for (bytes, number) in rows {
-        assert_eq!(rt; read_number(bytes), number, "at {bytes:?}");
-    }
 }

@@ -1,4 +1,4 @@
-//! Tests of texts, files, frames, plans, events and certificates, over what their crates make public. No code stands here.
+//! Tests of texts, files, captures, plans and certificates, over what their crates make public. No code stands here.
 #![tactic(auto)]
 
 #[cfg(test)]
@@ -8,16 +8,8 @@ mod certificates;
 #[cfg(test)]
 mod edges;
 #[cfg(test)]
-mod event_files;
-#[cfg(test)]
-mod frame_rows;
-#[cfg(test)]
-mod frames;
-#[cfg(test)]
-mod ladder;
-#[cfg(test)]
-mod plan_files;
-#[cfg(test)]
 mod plans;
+#[cfg(test)]
+mod printed;
 #[cfg(test)]
 mod records;

@@ -1,76 +1,18 @@
-//! What no clause says: that a plan is made, that names and events are told apart, and printed texts.
+//! What no clause says: that a plan is made, and that names and events are told apart.
 
-use std::alloc::Global;
+use plan_file::read_plan;
 use std::process::Abort;
 use std::test::Fail;
-use sync_edge::{NoMemory, Rows, Text};
 use sync_ql::{NetOption, do_not_use};
-use sync_topo::{
-    ElementRow, Event, InputId, LineId, LinkRow, Part, Place, Plan, PlanErr, PlanRows, Section,
-    SourceRow, What,
-};
-
-fn text(alloc: Global, bytes: &str) -> Result<Text, NoMemory> {
-    let mut text = Text::new(alloc);
-    text.put(bytes.as_bytes())?;
-    Ok(text)
-}
-
-fn element(alloc: Global, name: &str) -> Result<ElementRow, NoMemory> {
-    Ok(ElementRow {
-        name: text(alloc, name)?,
-        own: None,
-        floor: None,
-        holdoff: None,
-        wtr: None,
-    })
-}
-
-/// A link that is nominated at both ends.
-fn link(alloc: Global, name: &str, a: &str, b: &str) -> Result<LinkRow, NoMemory> {
-    Ok(LinkRow {
-        name: text(alloc, name)?,
-        a: text(alloc, a)?,
-        b: text(alloc, b)?,
-        priority_a: Some(1),
-        priority_b: Some(1),
-        delay_a: None,
-        delay_b: None,
-        bundle: None,
-    })
-}
-
-/// One that names the bundle T.
-fn bundled(alloc: Global, name: &str, a: &str, b: &str) -> Result<LinkRow, NoMemory> {
-    let mut row = link(alloc, name, a, b)?;
-    row.bundle = Some(text(alloc, "T")?);
-    Ok(row)
-}
+use sync_topo::{Event, InputId, LineId, Part, Plan, What};
 
 /// Three links in a bundle, the second with its ends swapped, one beside it, and a source.
-fn rows(alloc: Global) -> Result<PlanRows, NoMemory> {
-    let mut elements = Rows::new(alloc);
-    elements.push(element(alloc, "A")?)?;
-    elements.push(element(alloc, "B")?)?;
-    let mut links = Rows::new(alloc);
-    links.push(bundled(alloc, "L1", "A", "B")?)?;
-    links.push(bundled(alloc, "L2", "B", "A")?)?;
-    links.push(link(alloc, "L3", "A", "B")?)?;
-    links.push(bundled(alloc, "L4", "A", "B")?)?;
-    let mut sources = Rows::new(alloc);
-    sources.push(SourceRow {
-        name: text(alloc, "S")?,
-        at: text(alloc, "B")?,
-        level: text(alloc, "QL-PRC")?,
-        priority: None,
-    })?;
-    Ok(PlanRows {
-        option: NetOption::I,
-        elements,
-        links,
-        sources,
-    })
-}
+const PLAN: &[u8] = b"version = 2\nelement = [{ name = 'A' }, { name = 'B' }]\n\
+link = [{ name = 'L1', a = 'A', b = 'B', priority_a = 1, priority_b = 1, bundle = 'T' },\n\
+ { name = 'L2', a = 'B', b = 'A', priority_a = 1, priority_b = 1, bundle = 'T' },\n\
+ { name = 'L3', a = 'A', b = 'B', priority_a = 1, priority_b = 1 },\n\
+ { name = 'L4', a = 'A', b = 'B', priority_a = 1, priority_b = 1, bundle = 'T' }]\n\
+source = [{ name = 'S', at = 'B', level = 'QL-PRC' }]\n";
 
 fn element_is(rt: &impl Abort, plan: &Plan, name: &str, number: Option<u32>) {
     assert_eq!(rt; plan.element_of_name(name.as_bytes()), number, "{name}");
@@ -159,44 +101,9 @@ fn takes_its_own_events(rt: &impl Abort, plan: &Plan) {
 
 #[test]
 fn plan_tells_names_bundles_and_events(rt: HostRuntime) -> Result<(), Fail> {
-    let plan = Plan::new(rt.alloc(), rows(rt.alloc())?)?;
+    let plan = read_plan(rt.alloc(), PLAN)?;
     is_told_apart(&rt, &plan);
     goes_back_by_bundle(&rt, &plan);
     takes_its_own_events(&rt, &plan);
-    Ok(())
-}
-
-#[test]
-fn refusals_name_the_place(rt: HostRuntime) -> Result<(), Fail> {
-    let at = Place {
-        section: Section::Links,
-        row: 2,
-    };
-    let head = Place {
-        section: Section::Head,
-        row: 0,
-    };
-    for (error, text, number) in [
-        (
-            PlanErr::Limit(at),
-            "link 2: a limit of the plan is passed",
-            Some(15),
-        ),
-        (
-            PlanErr::Bundle(at),
-            "link 2: a bundle has a bad name, or joins other elements",
-            Some(39),
-        ),
-        (
-            PlanErr::Name(head),
-            "head: a name breaks the rule for names",
-            Some(16),
-        ),
-        (PlanErr::NoMemory, "out of memory", None),
-    ] {
-        let printed = format!(in rt.alloc(); "{error}")?;
-        assert_eq!(rt; printed.as_str(), text);
-        assert_eq!(rt; error.number(), number, "{text}");
-    }
     Ok(())
 }

@@ -4,10 +4,6 @@
 #[cfg(test)]
 mod networks;
 #[cfg(test)]
-mod priority;
-#[cfg(test)]
 mod runs;
 #[cfg(test)]
 mod sweeps;
-#[cfg(test)]
-mod traces;

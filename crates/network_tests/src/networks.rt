@@ -1,4 +1,4 @@
-//! What no clause says: that a network is made and steps, over runs by hand.
+//! What no run of the program shows of a network: what is heard and due, its traces, going back, and want of memory.
 
 ghost use Rattle.std.specs.Prelude.{◌≡◌, ◌<◌};
 
@@ -10,11 +10,10 @@ use sync_edge::Steps;
 
 mod back;
 mod busy;
-mod by_hand;
-mod cases;
 mod heard;
 mod making;
 mod running;
+mod traced;
 
 fn run_all<L: Ledger>(rt: &(impl Abort + AllocGlobal), blank: Blank) -> Result<(), Fail>
     requires name { blank.name ≡ L.name }
@@ -22,22 +21,9 @@ fn run_all<L: Ledger>(rt: &(impl Abort + AllocGlobal), blank: Blank) -> Result<(
     requires some { 0 < blank.parts }
 {
     let mut steps = Steps::<L>::new(blank);
-    by_hand::agrees(rt, &cases::CHAIN, &mut steps)?;
-    by_hand::agrees(rt, &cases::PAIR, &mut steps)?;
-    by_hand::agrees(rt, &cases::TIE, &mut steps)?;
-    by_hand::agrees(rt, &cases::SWITCHES, &mut steps)?;
-    by_hand::agrees(rt, &cases::LINES, &mut steps)?;
-    by_hand::agrees(rt, &cases::NO_INPUTS, &mut steps)?;
-    by_hand::agrees(rt, &cases::SOURCES, &mut steps)?;
-    by_hand::agrees(rt, &cases::COMMANDS, &mut steps)?;
-    by_hand::agrees(rt, &cases::ORDERS, &mut steps)?;
-    by_hand::agrees(rt, &cases::MANY_INPUTS, &mut steps)?;
-    run_pairs(rt, &mut steps)
-}
-
-fn run_pairs<L: Ledger>(rt: &(impl Abort + AllocGlobal), steps: &mut Steps<L>) -> Result<(), Fail> {
-    heard::hears_a_delay_later(rt, steps)?;
-    back::goes_back(rt, steps)
+    heard::hears_a_delay_later(rt, &mut steps)?;
+    traced::are_followed(rt, &mut steps)?;
+    back::goes_back(rt, &mut steps)
 }
 
 #[test]

@@ -1,122 +1,28 @@
-//! What no clause says: that a simulator is made and runs, over runs by hand.
+//! What no run of the program shows of a simulator: a run in several advances, one that is not watched, and one that is stopped.
 
 ghost use Rattle.std.specs.Prelude.{◌≡◌, ◌≤◌, ◌<◌, IsTrue};
 ghost use Rattle.event_sim.specs.SimState.{first_after};
 
 use event_sim::{Change, Reach, Sim, Watch};
-use std::alloc::Global;
+use plan_file::read_plan;
 use std::marker::Brand;
 use std::process::Abort;
 use std::sync::ledger::{Blank, Ledger};
 use std::test::Fail;
-use sync_edge::{NoMemory, Rows, Steps, Text};
+use sync_edge::{NoMemory, Steps};
 use sync_ql::limits::LAST_MILLISECOND;
 use sync_ql::rules::ClockState::{self, Holdover, Locked};
 use sync_ql::rules::Mode;
 use sync_ql::{Level, NetOption, level_of_name};
-use sync_topo::{
-    ElementRow, Event, InputId, LineId, LinkRow, Part, Plan, PlanRows, SourceRow, What,
-};
+use sync_topo::{Event, InputId, LineId, Part, Plan, What};
 
-/// The ends a and b, by their numbers, the priorities of the lines into a and into b, and the
-/// delay of both.
-type LinkCase = (u64, u64, i64, i64, i64);
+const CHAIN: &[u8] = b"element = [{ name = 'A' }, { name = 'B' }, { name = 'C' }]\n\
+link = [{ name = 'L1', a = 'A', b = 'B', priority_b = 1, delay_a = 10, delay_b = 10 },\n\
+ { name = 'L2', a = 'B', b = 'C', priority_b = 1, delay_a = 10, delay_b = 10 }]\n\
+source = [{ name = 'S', at = 'A', level = 'QL-PRC' }]\n";
 
-/// A plan of elements alike, and sources at the first of them.
-#[derive(Drop)]
-struct Network {
-    elements: u64,
-    links: &'static [LinkCase],
-    sources: u64,
-}
-
-const CHAIN: Network = Network {
-    elements: 3,
-    links: &[(0, 1, 0, 1, 10), (1, 2, 0, 1, 10)],
-    sources: 1,
-};
-
-const PAIR: Network = Network {
-    elements: 2,
-    links: &[(0, 1, 1, 1, 1)],
-    sources: 0,
-};
-
-fn text(alloc: Global, letter: &str, number: u64) -> Result<Text, NoMemory> {
-    let mut text = Text::new(alloc);
-    text.put(letter.as_bytes())?;
-    text.put_number(number)?;
-    Ok(text)
-}
-
-fn element_row(alloc: Global, number: u64) -> Result<ElementRow, NoMemory> {
-    Ok(ElementRow {
-        name: text(alloc, "E", number)?,
-        own: None,
-        floor: None,
-        holdoff: None,
-        wtr: None,
-    })
-}
-
-fn link_row(alloc: Global, number: u64, link: LinkCase) -> Result<LinkRow, NoMemory> {
-    Ok(LinkRow {
-        name: text(alloc, "L", number)?,
-        a: text(alloc, "E", link.0)?,
-        b: text(alloc, "E", link.1)?,
-        priority_a: Some(link.2),
-        priority_b: Some(link.3),
-        delay_a: Some(link.4),
-        delay_b: Some(link.4),
-        bundle: None,
-    })
-}
-
-fn source_row(alloc: Global, number: u64) -> Result<SourceRow, NoMemory> {
-    let mut level = Text::new(alloc);
-    level.put(b"QL-PRC")?;
-    Ok(SourceRow {
-        name: text(alloc, "S", number)?,
-        at: text(alloc, "E", 0)?,
-        level,
-        priority: Some(1),
-    })
-}
-
-fn element_rows(alloc: Global, network: &Network) -> Result<Rows<ElementRow>, NoMemory> {
-    let mut elements = Rows::new(alloc);
-    for number in 0..network.elements {
-        elements.push(element_row(alloc, number)?)?;
-    }
-    Ok(elements)
-}
-
-fn link_rows(alloc: Global, network: &Network) -> Result<Rows<LinkRow>, NoMemory> {
-    let mut links = Rows::new(alloc);
-    for (number, link) in network.links.iter().enumerate() {
-        links.push(link_row(alloc, number as u64, *link)?)?;
-    }
-    Ok(links)
-}
-
-fn source_rows(alloc: Global, network: &Network) -> Result<Rows<SourceRow>, NoMemory> {
-    let mut sources = Rows::new(alloc);
-    for number in 0..network.sources {
-        sources.push(source_row(alloc, number)?)?;
-    }
-    Ok(sources)
-}
-
-fn plan_of(alloc: Global, network: &Network) -> Result<Plan, Fail> {
-    let rows = PlanRows {
-        option: NetOption::I,
-        elements: element_rows(alloc, network)?,
-        links: link_rows(alloc, network)?,
-        sources: source_rows(alloc, network)?,
-    };
-    let plan = Plan::new(alloc, rows)?;
-    Ok(plan)
-}
+const PAIR: &[u8] = b"element = [{ name = 'A' }, { name = 'B' }]\n\
+link = [{ name = 'L1', a = 'A', b = 'B', priority_a = 1, priority_b = 1 }]\n";
 
 /// The millisecond, the element, the input, the level and the state of a row; all are selected
 /// automatically.
@@ -253,14 +159,14 @@ fn pair_stops<L: Ledger>(
 }
 
 fn chains<L: Ledger>(rt: &(impl Abort + AllocGlobal), steps: &mut Steps<L>) -> Result<(), Fail> {
-    let plan = plan_of(rt.alloc(), &CHAIN)?;
+    let plan = read_plan(rt.alloc(), CHAIN)?;
     chain_changes(rt, &plan, Watch::Changes, &CHAIN_ROWS, steps)?;
     chain_changes(rt, &plan, Watch::Nothing, &[], steps)?;
     Ok(())
 }
 
 fn pair<L: Ledger>(rt: &(impl Abort + AllocGlobal), steps: &mut Steps<L>) -> Result<(), Fail> {
-    let plan = plan_of(rt.alloc(), &PAIR)?;
+    let plan = read_plan(rt.alloc(), PAIR)?;
     pair_stops(rt, &plan, steps)?;
     Ok(())
 }

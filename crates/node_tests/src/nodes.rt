@@ -1,4 +1,4 @@
-//! Elements on files in pieces: texts and refusals that are known from outside.
+//! Elements on files in pieces.
 
 ghost use Rattle.std.specs.Prelude.{◌<◌, ◌≤◌, length};
 
@@ -7,12 +7,10 @@ use node_replay::{Node, Replayed};
 use std::alloc::Global;
 use std::process::Abort;
 use std::test::Fail;
-use sync_edge::{NoMemory, Text};
 use sync_ql::limits::LAST_MILLISECOND;
 use sync_topo::Plan;
 
 mod histories;
-mod limits;
 mod refusals;
 
 /// Three elements in a row, each of which hears the one before it.
@@ -29,19 +27,6 @@ source = [{ name = 'S', at = 'B', level = 'QL-SSU-A', priority = 2 }]\n";
 
 /// The element that is fed: the second of each plan here, whose name is B.
 const FED: u32 = 1;
-
-/// Puts the digits of a frame, by what differs in it: the octet of version and event flag, and that of
-/// its level's code. Its source address is that of the second element.
-fn put_frame(text: &mut Text, version_and_flag: &str, code: &str) -> Result<(), NoMemory> {
-    text.put(b"0180c200000202000000000188090a0019a70001")?;
-    text.put(version_and_flag.as_bytes())?;
-    text.put(b"000000010004")?;
-    text.put(code.as_bytes())?;
-    for _ in 0..32 {
-        text.put(b"00")?;
-    }
-    Ok(())
-}
 
 /// What an element gives for bytes that come in pieces of at most this size.
 fn fed(

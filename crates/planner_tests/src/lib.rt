@@ -1,7 +1,5 @@
-//! Tests of ranks and nomination, over what their crates make public. No code stands here.
+//! Tests of nomination that no run of the program shows, over what its crate makes public. No code stands here.
 #![tactic(auto)]
 
 #[cfg(test)]
 mod nominations;
-#[cfg(test)]
-mod ranks;

@@ -1,323 +1,89 @@
-// Plans worked by hand.
+// Plans worked by hand: what no run of the program shows of hop counts and of the order of elements.
 
-ghost use Rattle.std.specs.Prelude.{◌≡◌, length};
-ghost use Rattle.nominate.specs.Nomination.{IsNominatedPlan};
-
-use nominate::{Hops, hops_ok, least_hops, nominate, order_cert};
-use rank_cert::{Verdict, check, write_cert};
+use nominate::{hops_ok, least_hops, nominate, order_cert};
+use plan_file::read_plan;
+use rank_cert::write_cert;
 use std::alloc::Global;
 use std::process::Abort;
 use std::test::Fail;
-use sync_edge::{NoMemory, Rows, Text};
-use sync_ql::NetOption;
-use sync_topo::{ElementRow, InputId, LineId, LinkRow, Plan, PlanErr, PlanRows, SourceRow};
+use sync_edge::{NoMemory, Text};
+use sync_topo::Plan;
 
-/// A link's name, the names of its ends a and b, and its bundle.
-type Joined = (
-    &'static [u8],
-    &'static [u8],
-    &'static [u8],
-    Option<&'static [u8]>,
-);
+const CHAIN: &[u8] = b"element = [{ name = 'A' }, { name = 'B' }, { name = 'C' }]\n\
+link = [{ name = 'L1', a = 'A', b = 'B' }, { name = 'L2', a = 'B', b = 'C' }]\n\
+source = [{ name = 'S', at = 'A', level = 'QL-PRC', priority = 1 }]\n";
 
-/// A source's name, its element, and its priority.
-type Fed = (&'static [u8], &'static [u8], i64);
+const RING: &[u8] = b"element = [{ name = 'A' }, { name = 'B' }, { name = 'C' }]\n\
+link = [{ name = 'L1', a = 'A', b = 'B' }, { name = 'L2', a = 'B', b = 'C' }, { name = 'L3', a = 'C', b = 'A' }]\n\
+source = [{ name = 'S', at = 'A', level = 'QL-PRC', priority = 1 }]\n";
 
-#[derive(Drop)]
-struct Row {
-    shows: &'static str,
-    elements: &'static [&'static [u8]],
-    links: &'static [Joined],
-    sources: &'static [Fed],
-    /// How many sources of priority 1 the element B has besides.
-    crowd: u32,
-    /// The counts, the priorities of the lines, the bundles of the links, and the certificate.
-    text: &'static [u8],
-}
+const CLOCKLESS: &[u8] = b"element = [{ name = 'A' }, { name = 'B' }, { name = 'C' }]\n\
+link = [{ name = 'L1', a = 'A', b = 'B' }, { name = 'L2', a = 'B', b = 'C' }, { name = 'L3', a = 'C', b = 'A' }]\n\
+source = []\n";
 
-const ABC: &[&[u8]] = &[b"A", b"B", b"C"];
-
-const AB: &[&[u8]] = &[b"A", b"B"];
-
-const RING: &[Joined] = &[
-    (b"L1", b"A", b"B", None),
-    (b"L2", b"B", b"C", None),
-    (b"L3", b"C", b"A", None),
+/// A plan, and the certificate of the order of its elements: of each nominated line the place of its sender.
+const ORDERS: [(&[u8], &[u8]); 10] = [
+    // a chain is counted from its clock
+    (CHAIN, b"line,rank\nL1>B,0\nL2>C,1\n"),
+    // of two lines round a ring the one from the clock is first
+    (RING, b"line,rank\nL1>B,0\nL2>C,1\nL3>C,0\n"),
+    // without a clock nothing is nominated
+    (CLOCKLESS, b"line,rank\n"),
+    // a source that is not nominated is no clock
+    (
+        b"element = [{ name = 'A' }, { name = 'B' }]\n\
+link = [{ name = 'L1', a = 'A', b = 'B' }]\n\
+source = [{ name = 'S', at = 'A', level = 'QL-PRC', priority = 0 }]\n",
+        b"line,rank\n",
+    ),
+    // a part without a clock has no counts
+    (
+        b"element = [{ name = 'A' }, { name = 'B' }, { name = 'C' }, { name = 'D' }]\n\
+link = [{ name = 'L1', a = 'A', b = 'B' }, { name = 'L2', a = 'C', b = 'D' }]\n\
+source = [{ name = 'S', at = 'B', level = 'QL-PRC', priority = 1 }]\n",
+        b"line,rank\nL1>A,0\n",
+    ),
+    // parallel links come by their numbers
+    (
+        b"element = [{ name = 'A' }, { name = 'B' }]\n\
+link = [{ name = 'L1', a = 'A', b = 'B' }, { name = 'L2', a = 'A', b = 'B' }]\n\
+source = [{ name = 'S', at = 'A', level = 'QL-PRC', priority = 1 }]\n",
+        b"line,rank\nL1>B,0\nL2>B,0\n",
+    ),
+    // bundles are kept
+    (
+        b"version = 2\nelement = [{ name = 'A' }, { name = 'B' }]\n\
+link = [{ name = 'L1', a = 'A', b = 'B', bundle = 'T' }, { name = 'L2', a = 'B', b = 'A', bundle = 'T' }]\n\
+source = [{ name = 'S', at = 'A', level = 'QL-PRC', priority = 1 }]\n",
+        b"line,rank\nL1>B,0\nL2>B,0\n",
+    ),
+    // lines follow an elements own sources
+    (
+        b"element = [{ name = 'A' }, { name = 'B' }]\n\
+link = [{ name = 'L1', a = 'B', b = 'A' }]\n\
+source = [{ name = 'S', at = 'A', level = 'QL-PRC', priority = 3 }, { name = 'T', at = 'B', level = 'QL-PRC', priority = 7 }, { name = 'U', at = 'B', level = 'QL-PRC', priority = 2 }]\n",
+        b"line,rank\nL1>B,0\n",
+    ),
+    // a priority is at most 255
+    (
+        b"element = [{ name = 'A' }, { name = 'B' }]\n\
+link = [{ name = 'L1', a = 'A', b = 'B' }, { name = 'L2', a = 'A', b = 'B' }]\n\
+source = [{ name = 'S', at = 'A', level = 'QL-PRC', priority = 1 }, { name = 'T', at = 'B', level = 'QL-PRC', priority = 254 }]\n",
+        b"line,rank\nL1>B,0\n",
+    ),
+    // a lower count comes before a lower number
+    (
+        b"element = [{ name = 'A' }, { name = 'B' }, { name = 'C' }, { name = 'D' }]\n\
+link = [{ name = 'L1', a = 'A', b = 'D' }, { name = 'L2', a = 'C', b = 'B' }, { name = 'L3', a = 'A', b = 'B' }, { name = 'L4', a = 'D', b = 'B' }]\n\
+source = [{ name = 'S', at = 'C', level = 'QL-PRC', priority = 1 }]\n",
+        b"line,rank\nL1>D,2\nL2>B,0\nL3>A,1\nL4>D,1\n",
+    ),
 ];
 
-const TWIN: &[Joined] = &[(b"L1", b"A", b"B", None), (b"L2", b"A", b"B", None)];
-
-const ROWS: [Row; 11] = [
-    Row {
-        shows: "a_chain_is_counted_from_its_clock",
-        elements: ABC,
-        links: &[(b"L1", b"A", b"B", None), (b"L2", b"B", b"C", None)],
-        sources: &[(b"S", b"A", 1)],
-        crowd: 0,
-        text: b"0 1 2 \n1 0 1 0 \n0 1 \nline,rank\nL1>B,0\nL2>C,1\n",
-    },
-    Row {
-        shows: "of_two_lines_round_a_ring_the_one_from_the_clock_is_first",
-        elements: ABC,
-        links: RING,
-        sources: &[(b"S", b"A", 1)],
-        crowd: 0,
-        text: b"0 1 1 \n1 0 2 0 0 1 \n0 1 2 \nline,rank\nL1>B,0\nL2>C,1\nL3>C,0\n",
-    },
-    Row {
-        shows: "without_a_clock_nothing_is_nominated",
-        elements: ABC,
-        links: RING,
-        sources: &[],
-        crowd: 0,
-        text: b"- - - \n0 0 0 0 0 0 \n0 1 2 \nline,rank\n",
-    },
-    Row {
-        shows: "a_source_that_is_not_nominated_is_no_clock",
-        elements: AB,
-        links: &[(b"L1", b"A", b"B", None)],
-        sources: &[(b"S", b"A", 0)],
-        crowd: 0,
-        text: b"- - \n0 0 \n0 \nline,rank\n",
-    },
-    Row {
-        shows: "a_part_without_a_clock_has_no_counts",
-        elements: &[b"A", b"B", b"C", b"D"],
-        links: &[(b"L1", b"A", b"B", None), (b"L2", b"C", b"D", None)],
-        sources: &[(b"S", b"B", 1)],
-        crowd: 0,
-        text: b"1 0 - - \n0 1 0 0 \n0 1 \nline,rank\nL1>A,0\n",
-    },
-    Row {
-        shows: "parallel_links_come_by_their_numbers",
-        elements: AB,
-        links: TWIN,
-        sources: &[(b"S", b"A", 1)],
-        crowd: 0,
-        text: b"0 1 \n1 0 2 0 \n0 1 \nline,rank\nL1>B,0\nL2>B,0\n",
-    },
-    Row {
-        shows: "bundles_are_kept",
-        elements: AB,
-        links: &[
-            (b"L1", b"A", b"B", Some(b"T")),
-            (b"L2", b"B", b"A", Some(b"T")),
-        ],
-        sources: &[(b"S", b"A", 1)],
-        crowd: 0,
-        text: b"0 1 \n1 0 0 2 \n0 0 \nline,rank\nL1>B,0\nL2>B,0\n",
-    },
-    Row {
-        shows: "lines_follow_an_elements_own_sources",
-        elements: AB,
-        links: &[(b"L1", b"B", b"A", None)],
-        sources: &[(b"S", b"A", 3), (b"T", b"B", 7), (b"U", b"B", 2)],
-        crowd: 0,
-        text: b"0 0 \n0 8 \n0 \nline,rank\nL1>B,0\n",
-    },
-    Row {
-        shows: "a_priority_is_at_most_255",
-        elements: AB,
-        links: TWIN,
-        sources: &[(b"S", b"A", 1), (b"T", b"B", 254)],
-        crowd: 0,
-        text: b"0 0 \n255 0 0 0 \n0 1 \nline,rank\nL1>B,0\n",
-    },
-    Row {
-        shows: "an_element_has_at_most_64_inputs",
-        elements: AB,
-        links: TWIN,
-        sources: &[(b"S", b"A", 1)],
-        crowd: 63,
-        text: b"0 0 \n2 0 0 0 \n0 1 \nline,rank\nL1>B,0\n",
-    },
-    Row {
-        shows: "a_lower_count_comes_before_a_lower_number",
-        elements: &[b"A", b"B", b"C", b"D"],
-        links: &[
-            (b"L1", b"A", b"D", None),
-            (b"L2", b"C", b"B", None),
-            (b"L3", b"A", b"B", None),
-            (b"L4", b"D", b"B", None),
-        ],
-        sources: &[(b"S", b"C", 1)],
-        crowd: 0,
-        text: b"2 1 0 2 \n2 0 1 0 0 1 0 1 \n0 1 2 3 \nline,rank\nL1>D,2\nL2>B,0\nL3>A,1\nL4>D,1\n",
-    },
-];
-
-fn text(alloc: Global, bytes: &[u8]) -> Result<Text, NoMemory> {
-    let mut text = Text::new(alloc);
-    text.put(bytes)?;
-    Ok(text)
-}
-
-fn bundle_text(alloc: Global, bundle: Option<&[u8]>) -> Result<Option<Text>, NoMemory> {
-    match bundle {
-        Some(name) => Ok(Some(text(alloc, name)?)),
-        None => Ok(None),
-    }
-}
-
-fn numbered(alloc: Global, front: &[u8], number: u32) -> Result<Text, NoMemory> {
-    let mut name = text(alloc, front)?;
-    name.put_number(u64::from(number))?;
-    Ok(name)
-}
-
-fn source_row(alloc: Global, name: Text, at: &[u8], priority: i64) -> Result<SourceRow, NoMemory> {
-    Ok(SourceRow {
-        name,
-        at: text(alloc, at)?,
-        level: text(alloc, b"QL-PRC")?,
-        priority: Some(priority),
-    })
-}
-
-fn link_row(alloc: Global, link: &Joined) -> Result<LinkRow, NoMemory> {
-    let (name, a, b, bundle) = link;
-    Ok(LinkRow {
-        name: text(alloc, name)?,
-        a: text(alloc, a)?,
-        b: text(alloc, b)?,
-        priority_a: Some(9),
-        priority_b: None,
-        delay_a: None,
-        delay_b: None,
-        bundle: bundle_text(alloc, *bundle)?,
-    })
-}
-
-fn element_row(alloc: Global, name: &[u8]) -> Result<ElementRow, NoMemory> {
-    Ok(ElementRow {
-        name: text(alloc, name)?,
-        own: None,
-        floor: None,
-        holdoff: None,
-        wtr: None,
-    })
-}
-
-fn element_rows(alloc: Global, names: &[&[u8]]) -> Result<Rows<ElementRow>, NoMemory> {
-    let mut rows = Rows::new(alloc);
-    for name in names {
-        rows.push(element_row(alloc, name)?)?;
-    }
-    Ok(rows)
-}
-
-fn link_rows(alloc: Global, links: &[Joined]) -> Result<Rows<LinkRow>, NoMemory> {
-    let mut rows = Rows::new(alloc);
-    for link in links {
-        rows.push(link_row(alloc, link)?)?;
-    }
-    Ok(rows)
-}
-
-fn put_sources(alloc: Global, rows: &mut Rows<SourceRow>, sources: &[Fed]) -> Result<(), NoMemory> {
-    for (name, at, priority) in sources {
-        rows.push(source_row(alloc, text(alloc, name)?, at, *priority)?)?;
-    }
-    Ok(())
-}
-
-fn put_crowd(alloc: Global, rows: &mut Rows<SourceRow>, crowd: u32) -> Result<(), NoMemory> {
-    for number in 0..crowd {
-        rows.push(source_row(alloc, numbered(alloc, b"M", number)?, b"B", 1)?)?;
-    }
-    Ok(())
-}
-
-fn plan_of(alloc: Global, row: &Row) -> Result<Plan, PlanErr> {
-    let mut sources = Rows::new(alloc);
-    put_sources(alloc, &mut sources, row.sources)?;
-    put_crowd(alloc, &mut sources, row.crowd)?;
-    Plan::new(
-        alloc,
-        PlanRows {
-            option: NetOption::I,
-            elements: element_rows(alloc, row.elements)?,
-            links: link_rows(alloc, row.links)?,
-            sources,
-        },
-    )
-}
-
-fn put_hops(text: &mut Text, plan: &Plan, hops: &Hops) -> Result<(), NoMemory>
-    requires { length hops.now ≡ length plan.now.elements }
-{
-    for element in 0..plan.elements() {
-        match hops.of(element) {
-            Some(count) => text.put_number(u64::from(count))?,
-            None => text.put(b"-")?,
-        }
-        text.put(b" ")?;
-    }
-    text.put(b"\n")
-}
-
-fn put_priorities(text: &mut Text, plan: &Plan) -> Result<(), NoMemory> {
-    for number in 0..plan.lines() {
-        text.put_number(u64::from(plan.priority(InputId::Line(LineId(number)))))?;
-        text.put(b" ")?;
-    }
-    text.put(b"\n")
-}
-
-fn put_bundles(text: &mut Text, plan: &Plan) -> Result<(), NoMemory> {
-    for link in 0..plan.links() {
-        text.put_number(u64::from(plan.bundle(link)))?;
-        text.put(b" ")?;
-    }
-    text.put(b"\n")
-}
-
-fn put_cert(alloc: Global, text: &mut Text, plan: &Plan, nominated: &Plan) -> Result<(), NoMemory>
-    requires { IsNominatedPlan plan.now nominated.now }
-{
-    let cert = order_cert(alloc, plan)?;
-    if check(nominated, &cert) != Verdict::Rising {
-        text.put(b"falls\n")?;
-    }
-    let written = write_cert(alloc, nominated, &cert)?;
-    text.put(written.bytes())
-}
-
-fn put_answer(alloc: Global, text: &mut Text, plan: &Plan) -> Result<(), NoMemory> {
-    let hops = least_hops(alloc, plan)?;
-    if !hops_ok(plan, &hops) {
-        text.put(b"wrong hops\n")?;
-    }
-    put_hops(text, plan, &hops)
-}
-
-fn put_nominated(alloc: Global, text: &mut Text, plan: &Plan) -> Result<(), NoMemory> {
+fn order_text(alloc: Global, plan: &Plan) -> Result<Text, NoMemory> {
     let nominated = nominate(alloc, plan)?;
-    put_priorities(text, &nominated)?;
-    put_bundles(text, &nominated)?;
-    put_cert(alloc, text, plan, &nominated)
-}
-
-fn answer(alloc: Global, plan: &Plan) -> Result<Text, NoMemory> {
-    let mut answer = Text::new(alloc);
-    put_answer(alloc, &mut answer, plan)?;
-    put_nominated(alloc, &mut answer, plan)?;
-    Ok(answer)
-}
-
-fn passes(rt: &(impl Abort + AllocGlobal), row: &Row) -> Result<(), Fail> {
-    let plan = plan_of(rt.alloc(), row)?;
-    let answer = answer(rt.alloc(), &plan)?;
-    assert_eq!(rt; answer.bytes(), row.text, "{}", row.shows);
-    Ok(())
-}
-
-#[test]
-fn worked_plans_are_nominated(rt: HostRuntime) -> Result<(), Fail> {
-    for row in ROWS {
-        passes(&rt, &row)?;
-    }
-    Ok(())
+    let cert = order_cert(alloc, plan)?;
+    write_cert(alloc, &nominated, &cert)
 }
 
 fn has_hops_of(alloc: Global, plan: &Plan, other: &Plan) -> Result<bool, NoMemory> {
@@ -325,15 +91,61 @@ fn has_hops_of(alloc: Global, plan: &Plan, other: &Plan) -> Result<bool, NoMemor
     Ok(plan.elements() == other.elements() && hops_ok(plan, &hops))
 }
 
+fn is_right(rt: &(impl Abort + AllocGlobal), plan: &Plan) -> Result<(), Fail> {
+    assert!(rt; has_hops_of(rt.alloc(), plan, plan)?);
+    Ok(())
+}
+
+fn order_is(rt: &(impl Abort + AllocGlobal), plan: &Plan, want: &[u8]) -> Result<(), Fail> {
+    let order = order_text(rt.alloc(), plan)?;
+    assert!(rt; order.bytes() == want);
+    Ok(())
+}
+
+fn has_order(rt: &(impl Abort + AllocGlobal), text: &[u8], want: &[u8]) -> Result<(), Fail> {
+    let plan = read_plan(rt.alloc(), text)?;
+    is_right(rt, &plan)?;
+    order_is(rt, &plan, want)
+}
+
+#[test]
+fn ranks_are_the_places_in_the_order_of_elements(rt: HostRuntime) -> Result<(), Fail> {
+    for (plan, want) in ORDERS {
+        has_order(&rt, plan, want)?;
+    }
+    Ok(())
+}
+
+/// The element B has 63 sources of its own, so that one line more is its last input.
+#[test]
+fn order_of_a_crowded_element(rt: HostRuntime) -> Result<(), Fail> {
+    let mut text = Text::new(rt.alloc());
+    text.put(b"element = [{ name = 'A' }, { name = 'B' }]\n")?;
+    text.put(b"link = [{ name = 'L1', a = 'A', b = 'B' }, { name = 'L2', a = 'A', b = 'B' }]\n")?;
+    text.put(b"source = [{ name = 'S', at = 'A', level = 'QL-PRC' }")?;
+    for number in 0..63 {
+        text.put(b", { at = 'B', level = 'QL-PRC', name = 'M")?;
+        text.put_number(number)?;
+        text.put(b"' }")?;
+    }
+    text.put(b"]\n")?;
+    has_order(&rt, text.bytes(), b"line,rank\nL1>B,0\n")
+}
+
+fn is_wrong(rt: &(impl Abort + AllocGlobal), plan: &Plan, other: &Plan) -> Result<(), Fail> {
+    assert!(rt; !has_hops_of(rt.alloc(), plan, other)?);
+    Ok(())
+}
+
+fn hops_are_wrong(rt: &(impl Abort + AllocGlobal), text: &[u8], other: &[u8]) -> Result<(), Fail> {
+    let plan = read_plan(rt.alloc(), text)?;
+    let other = read_plan(rt.alloc(), other)?;
+    is_wrong(rt, &plan, &other)
+}
+
 #[test]
 fn hops_of_another_plan_are_wrong(rt: HostRuntime) -> Result<(), Fail> {
-    let alloc = rt.alloc();
-    let chain = plan_of(alloc, &ROWS[0])?;
-    let ring = plan_of(alloc, &ROWS[1])?;
-    let clockless = plan_of(alloc, &ROWS[2])?;
-    assert!(&rt; has_hops_of(alloc, &chain, &chain)?);
-    assert!(&rt; !has_hops_of(alloc, &chain, &ring)?);
-    assert!(&rt; !has_hops_of(alloc, &ring, &chain)?);
-    assert!(&rt; !has_hops_of(alloc, &ring, &clockless)?);
-    Ok(())
+    hops_are_wrong(&rt, CHAIN, RING)?;
+    hops_are_wrong(&rt, RING, CHAIN)?;
+    hops_are_wrong(&rt, RING, CLOCKLESS)
 }

@@ -1,5 +1,4 @@
-//! Tests of the program's call, from words to answer, over what their crates make public. No code
-//! stands here.
+//! Tests of the program's call over files and output that fail. No code stands here.
 #![tactic(auto)]
 
 #[cfg(test)]

@@ -3,18 +3,16 @@
 ghost use Rattle.std.specs.Prelude.{◌≡◌, false, OnOk};
 ghost use Rattle.sync_net.specs.Evaluated.{AreAloneEvaluated, AreAloneCalled};
 
-use super::cases::PAIR;
-use super::making::Told::{Down, EsmcOff};
-use super::making::{Told, all_at, all_fit, events_of, plan_of};
+use super::making::{PAIR, Told, all_at, all_fit, events_of};
 use super::running::{come_to, is_in_time};
+use plan_file::read_plan;
 use std::process::Abort;
 use std::sync::ledger::Ledger;
 use std::test::Fail;
 use sync_edge::Steps;
 use sync_net::Net;
 use sync_ql::limits::LAST_MILLISECOND;
-use sync_topo::Part::Link;
-use sync_topo::{Event, LineId};
+use sync_topo::Event;
 
 fn step_at<L: Ledger>(
     rt: &impl Abort,
@@ -66,14 +64,14 @@ fn step_and_go_back<L: Ledger>(
     net: &mut Net<'_>,
     base: &Net<'_>,
     at: u64,
-    told: &[Told],
+    told: Told,
     steps: &mut Steps<L>,
 ) -> Result<(), Fail>
     requires same { net.old ≡ base.now }
     requires live { base.now.spent ≡ false }
     ensures { OnOk result (net.new ≡ base.now) }
 {
-    let events = events_of(rt, at, told)?;
+    let events = events_of(rt.alloc(), net.plan(), at, told)?;
     step_at(rt, net, at, events.as_slice(), steps)?;
     go_back(rt, net, base)?;
     compare(rt, net, base);
@@ -90,8 +88,8 @@ fn go_back_again<L: Ledger>(
     requires same { net.old ≡ base.now }
     requires live { base.now.spent ≡ false }
 {
-    step_and_go_back(rt, net, base, 11, &[Down(Link(0))], steps)?;
-    step_and_go_back(rt, net, base, 12, &[EsmcOff(LineId(1))], steps)?;
+    step_and_go_back(rt, net, base, 11, &[",down,L,\n"], steps)?;
+    step_and_go_back(rt, net, base, 12, &[",esmc-off,L>A,\n"], steps)?;
     step_and_go_back(rt, net, base, 20, &[], steps)
 }
 
@@ -121,7 +119,7 @@ pub fn goes_back<L: Ledger>(
     rt: &(impl Abort + AllocGlobal),
     steps: &mut Steps<L>,
 ) -> Result<(), Fail> {
-    let plan = plan_of(rt.alloc(), &PAIR.network)?;
+    let plan = read_plan(rt.alloc(), PAIR)?;
     let mut base = Net::new(rt.alloc(), &plan)?;
     come_and_go_back(rt, &mut base, steps)
 }

@@ -2,38 +2,36 @@
 
 ghost use Rattle.std.specs.Prelude.{◌≡◌, ◌<◌};
 
-use super::making::Told::{Clear, Down, EsmcOff, EsmcOn, Forced, Lockout, Says, Unlock, Up};
-use super::making::{Network, Told, all_at, all_fit, events_of, plan_of};
+use super::making::{Told, all_at, all_fit, events_of};
 use super::running::is_in_time;
+use plan_file::read_plan;
 use std::process::Abort;
 use std::sync::ledger::{Blank, Ledger};
 use std::test::Fail;
 use sync_edge::Steps;
 use sync_net::Net;
 use sync_ql::limits::LAST_MILLISECOND;
-use sync_topo::Part::Link;
-use sync_topo::{InputId, LineId};
 
 /// A source fails and comes back, levels change, and a pair swings.
-const BUSY: Network = Network {
-    elements: 4,
-    wtr: 0,
-    links: &[(0, 1, 0, 1, 1), (1, 2, 1, 1, 1), (2, 3, 1, 1, 2)],
-    sources: &[(0, "QL-SEC", 1), (3, "QL-PRC", 1)],
-};
+const BUSY: &[u8] =
+    b"element = [{ name = 'E0', wtr = 0 }, { name = 'E1', wtr = 0 }, { name = 'E2', wtr = 0 }, { name = 'E3', wtr = 0 }]\n\
+link = [{ name = 'L0', a = 'E0', b = 'E1', priority_b = 1 },\n\
+ { name = 'L1', a = 'E1', b = 'E2', priority_a = 1, priority_b = 1 },\n\
+ { name = 'L2', a = 'E2', b = 'E3', priority_a = 1, priority_b = 1, delay_a = 2, delay_b = 2 }]\n\
+source = [{ name = 'S0', at = 'E0', level = 'QL-SEC' }, { name = 'S1', at = 'E3', level = 'QL-PRC' }]\n";
 
 /// What happens in a millisecond of a hundred.
-fn busy_told(now: u64) -> &'static [Told] {
+fn busy_told(now: u64) -> Told {
     match now % 5 {
-        0 => &[Says(0, "QL-SSU-A"), Down(Link(1))],
-        1 => &[Up(Link(1)), Lockout(InputId::Source(1))],
+        0 => &[",level,S0,QL-SSU-A\n", ",down,L1,\n"],
+        1 => &[",up,L1,\n", ",lockout,S1,\n"],
         2 => &[
-            Unlock(InputId::Source(1)),
-            Says(1, "QL-SSU-B"),
-            EsmcOff(LineId(4)),
+            ",unlock,S1,\n",
+            ",level,S1,QL-SSU-B\n",
+            ",esmc-off,L2>E3,\n",
         ],
-        3 => &[EsmcOn(LineId(4)), Forced(InputId::Source(1)), Clear(3)],
-        _ => &[Says(0, "QL-SEC"), Says(1, "QL-PRC"), Clear(2)],
+        3 => &[",esmc-on,L2>E3,\n", ",forced,S1,\n", ",clear,E3,\n"],
+        _ => &[",level,S0,QL-SEC\n", ",level,S1,QL-PRC\n", ",clear,E2,\n"],
     }
 }
 
@@ -47,7 +45,7 @@ fn step_or_be_spent<L: Ledger>(
     if net.spent() {
         return Ok(());
     }
-    let events = events_of(rt, now, busy_told(now))?;
+    let events = events_of(rt.alloc(), net.plan(), now, busy_told(now))?;
     assert!(rt; now <= LAST_MILLISECOND);
     assert!(rt; is_in_time(net, now));
     assert!(rt; all_fit(net.plan(), events.as_slice()));
@@ -64,7 +62,7 @@ pub fn step_on<L: Ledger>(rt: &(impl Abort + AllocGlobal), blank: Blank) -> Resu
     requires some { 0 < blank.parts }
 {
     let mut steps = Steps::<L>::new(blank);
-    let plan = plan_of(rt.alloc(), &BUSY)?;
+    let plan = read_plan(rt.alloc(), BUSY)?;
     let mut net = Net::new(rt.alloc(), &plan)?;
     assert!(rt; !net.spent());
     for now in 0..100_u64 {

@@ -1,10 +1,10 @@
 //! What is heard on both lines of a pair is the level that was sent a delay ago.
 
-use super::cases::PAIR;
-use super::making::plan_of;
+use super::making::PAIR;
 use super::running::{come_to, is_not_past};
+use plan_file::read_plan;
 use std::process::Abort;
-use std::sync::ledger::{Blank, Ledger};
+use std::sync::ledger::Ledger;
 use std::test::Fail;
 use sync_edge::Steps;
 use sync_net::Net;
@@ -63,7 +63,7 @@ pub fn hears_a_delay_later<L: Ledger>(
     rt: &(impl Abort + AllocGlobal),
     steps: &mut Steps<L>,
 ) -> Result<(), Fail> {
-    let plan = plan_of(rt.alloc(), &PAIR.network)?;
+    let plan = read_plan(rt.alloc(), PAIR)?;
     let mut net = Net::new(rt.alloc(), &plan)?;
     assert_eq!(rt; net.now(), None);
     for place in 0..HEARD.len() {

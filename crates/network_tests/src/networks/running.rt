@@ -84,13 +84,13 @@ pub fn come_to<L: Ledger>(
     rt: &(impl Abort + AllocGlobal),
     net: &mut Net<'_>,
     at: u64,
-    told: &[Told],
+    told: Told,
     steps: &mut Steps<L>,
 ) -> Result<(), Fail> {
     if net.now() == Some(at) {
         return Ok(());
     }
     wait_until(rt, net, at, steps)?;
-    let events = events_of(rt, at, told)?;
+    let events = events_of(rt.alloc(), net.plan(), at, told)?;
     step_at(rt, net, at, events.as_slice(), steps)
 }

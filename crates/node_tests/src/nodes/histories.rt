@@ -1,9 +1,8 @@
-//! What an element received, and the frames that it has to send.
+//! What an element received, in pieces of every size: the frames that it has to send are those of the whole file, which cases/ has.
 
-use super::{CHAIN, FED, WITH_SOURCE, fed, put_frame};
+use super::{CHAIN, FED, WITH_SOURCE, fed};
 use node_replay::NodeEnd;
 use plan_file::read_plan;
-use std::alloc::Global;
 use std::process::Abort;
 use std::test::Fail;
 use sync_edge::{NoMemory, Text};
@@ -14,16 +13,12 @@ use sync_topo::Plan;
 /// frame.
 type Line = (&'static str, &'static str);
 
-/// A row: what stands before its frame, the octet of version and event flag, and that of the code.
-type Sent = (&'static str, &'static str, &'static str);
-
 #[derive(Drop)]
 struct Case {
     shows: &'static str,
     plan: &'static [u8],
     until: u64,
     lines: &'static [Line],
-    rows: &'static [Sent],
 }
 
 const CASES: [Case; 6] = [
@@ -32,14 +27,6 @@ const CASES: [Case; 6] = [
         plan: CHAIN,
         until: 1000,
         lines: &[("10,frame,L1>B,", "02")],
-        rows: &[
-            ("0,L1>A,", "10", "0b"),
-            ("0,L2>C,", "10", "0b"),
-            ("10,L1>A,", "18", "0f"),
-            ("10,L2>C,", "18", "02"),
-            ("1000,L1>A,", "10", "0f"),
-            ("1000,L2>C,", "10", "02"),
-        ],
     },
     Case {
         shows: "each_word",
@@ -65,33 +52,6 @@ const CASES: [Case; 6] = [
             ("2300,down,S,", ""),
             ("2301,up,S,", ""),
         ],
-        rows: &[
-            ("0,L1>A,", "10", "04"),
-            ("0,L2>C,", "10", "04"),
-            // What is heard goes back as do-not-use.
-            ("100,L1>A,", "18", "0f"),
-            ("100,L2>C,", "18", "02"),
-            ("200,L1>A,", "18", "04"),
-            ("200,L2>C,", "18", "04"),
-            ("300,L1>A,", "18", "0f"),
-            ("300,L2>C,", "18", "02"),
-            ("400,L1>A,", "18", "04"),
-            ("400,L2>C,", "18", "04"),
-            ("500,L1>A,", "18", "0f"),
-            ("500,L2>C,", "18", "02"),
-            ("700,L1>A,", "18", "02"),
-            ("800,L1>A,", "18", "0f"),
-            ("1000,L1>A,", "10", "0f"),
-            ("1100,L2>C,", "18", "02"),
-            ("1300,L1>A,", "18", "0f"),
-            // The hold-off time of 300 ms is over.
-            ("1700,L1>A,", "18", "02"),
-            ("2000,L1>A,", "10", "02"),
-            ("2000,L2>C,", "10", "02"),
-            ("2200,L1>A,", "18", "0f"),
-            ("3000,L1>A,", "10", "0f"),
-            ("3000,L2>C,", "10", "02"),
-        ],
     },
     Case {
         shows: "each_command_on_a_line_and_on_a_source",
@@ -115,33 +75,6 @@ const CASES: [Case; 6] = [
             ("1400,lockout,L1>B,", ""),
             ("1500,clear-wtr,S,", ""),
         ],
-        rows: &[
-            ("0,L1>A,", "10", "04"),
-            ("0,L2>C,", "10", "04"),
-            ("100,L1>A,", "18", "0f"),
-            ("100,L2>C,", "18", "02"),
-            ("300,L1>A,", "18", "0b"),
-            ("300,L2>C,", "18", "0b"),
-            ("400,L1>A,", "18", "04"),
-            ("400,L2>C,", "18", "04"),
-            ("500,L1>A,", "18", "0f"),
-            ("500,L2>C,", "18", "02"),
-            ("600,L1>A,", "18", "04"),
-            ("600,L2>C,", "18", "04"),
-            ("700,L1>A,", "18", "0f"),
-            ("700,L2>C,", "18", "02"),
-            ("910,L1>A,", "18", "02"),
-            ("920,L1>A,", "18", "0f"),
-            ("1000,L1>A,", "10", "0f"),
-            ("1000,L2>C,", "10", "02"),
-            // The source has failed, and is in its wait-to-restore time.
-            ("1400,L1>A,", "18", "0b"),
-            ("1400,L2>C,", "18", "0b"),
-            ("1500,L1>A,", "18", "02"),
-            ("1500,L2>C,", "18", "02"),
-            ("2000,L1>A,", "10", "02"),
-            ("2000,L2>C,", "10", "02"),
-        ],
     },
     Case {
         shows: "a_frame_of_no_level_hides_an_earlier_level",
@@ -154,20 +87,6 @@ const CASES: [Case; 6] = [
             ("30,frame,L1>B,", "04"),
             ("40,frame,L1>B,", "02"),
             ("40,frame,L1>B,", "01"),
-        ],
-        rows: &[
-            ("0,L1>A,", "10", "0b"),
-            ("0,L2>C,", "10", "0b"),
-            ("10,L1>A,", "18", "0f"),
-            ("10,L2>C,", "18", "02"),
-            ("20,L1>A,", "18", "0b"),
-            ("20,L2>C,", "18", "0b"),
-            ("30,L1>A,", "18", "0f"),
-            ("30,L2>C,", "18", "04"),
-            ("40,L1>A,", "18", "0b"),
-            ("40,L2>C,", "18", "0b"),
-            ("1000,L1>A,", "10", "0b"),
-            ("1000,L2>C,", "10", "0b"),
         ],
     },
     Case {
@@ -184,59 +103,40 @@ const CASES: [Case; 6] = [
             ("800,up,L1>B,", ""),
             ("5501,frame,L1>B,", "04"),
         ],
-        rows: &[
-            ("0,L1>A,", "10", "0b"),
-            ("0,L2>C,", "10", "0b"),
-            ("500,L1>A,", "18", "0f"),
-            ("500,L2>C,", "18", "02"),
-            ("1000,L1>A,", "10", "0f"),
-            ("1000,L2>C,", "10", "02"),
-            ("2000,L1>A,", "10", "0f"),
-            ("2000,L2>C,", "10", "02"),
-            ("3000,L1>A,", "10", "0f"),
-            ("3000,L2>C,", "10", "02"),
-            ("4000,L1>A,", "10", "0f"),
-            ("4000,L2>C,", "10", "02"),
-            ("5000,L1>A,", "10", "0f"),
-            ("5000,L2>C,", "10", "02"),
-            ("5500,L1>A,", "18", "0b"),
-            ("5500,L2>C,", "18", "0b"),
-        ],
     },
     Case {
         shows: "an_element_that_receives_nothing_sends_its_own_level",
         plan: CHAIN,
         until: 0,
         lines: &[],
-        rows: &[("0,L1>A,", "10", "0b"), ("0,L2>C,", "10", "0b")],
     },
 ];
 
-/// The sizes of pieces; the last is that of a whole file.
-const SIZES: [usize; 9] = [1, 2, 3, 7, 61, 1000, 4096, 5000, 1_000_000];
+/// The sizes of pieces.
+const SIZES: [usize; 8] = [1, 2, 3, 7, 61, 1000, 4096, 5000];
+
+/// Puts the digits of a frame of this code, sent by the second element.
+fn put_frame(text: &mut Text, code: &str) -> Result<(), NoMemory> {
+    text.put(b"0180c200000202000000000188090a0019a7000110000000010004")?;
+    text.put(code.as_bytes())?;
+    for _ in 0..32 {
+        text.put(b"00")?;
+    }
+    Ok(())
+}
 
 fn put_lines(file: &mut Text, lines: &[Line]) -> Result<(), NoMemory> {
     for (before, code) in lines {
         file.put(before.as_bytes())?;
         if !code.is_empty() {
-            put_frame(file, "10", code)?;
+            put_frame(file, code)?;
         }
         file.put(b"\n")?;
     }
     Ok(())
 }
 
-fn text_of(alloc: Global, rows: &[Sent]) -> Result<Text, NoMemory> {
-    let mut text = Text::new(alloc);
-    for (before, version_and_flag, code) in rows {
-        text.put(before.as_bytes())?;
-        put_frame(&mut text, version_and_flag, code)?;
-        text.put(b"\n")?;
-    }
-    Ok(text)
-}
-
-/// The text of a file, cut into pieces of one size.
+/// A file that is cut into pieces of one size gives what it gives whole.
 fn gives(
     rt: &(impl Abort + AllocGlobal),
     plan: &Plan,
@@ -247,16 +147,12 @@ fn gives(
     assert!(rt; FED < plan.elements());
     assert!(rt; case.until <= LAST_MILLISECOND);
     let sent = fed(rt.alloc(), plan, file, size, case.until)?;
-    let want = text_of(rt.alloc(), case.rows)?;
-    assert_eq!(rt;
-        sent.end,
-        NodeEnd::Until,
-        "{} in pieces of {size}",
-        case.shows
-    );
+    let whole = fed(rt.alloc(), plan, file, file.len(), case.until)?;
+    assert_eq!(rt; sent.end, NodeEnd::Until);
+    assert!(rt; !sent.text.bytes().is_empty());
     assert_eq!(rt;
         sent.text.bytes(),
-        want.bytes(),
+        whole.text.bytes(),
         "{} in pieces of {size}",
         case.shows
     );

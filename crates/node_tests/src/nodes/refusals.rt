@@ -1,6 +1,6 @@
 //! Lines that are refused, each by the piece that brings its end.
 
-use super::{CHAIN, FED, WITH_SOURCE, fed, last_piece_is_refused, put_frame};
+use super::{CHAIN, FED, WITH_SOURCE, fed, last_piece_is_refused};
 use esmc_frame::FrameErr;
 use node_file::NodeErr;
 use plan_file::read_plan;
@@ -13,7 +13,7 @@ use sync_topo::Plan;
 /// A file, the size of its last piece, which brings the end of a line that breaks a rule, and the refusal.
 type Refused = (&'static str, usize, NodeErr);
 
-const REFUSED: [Refused; 21] = [
+const REFUSED: [Refused; 23] = [
     ("10,down,L2>C,\n10,up,L2>C\n", 1, NodeErr::Fields(2)),
     (
         "10,down,L2>C,\n\r\n\n20,up,L2>C,,\r\n",
@@ -47,6 +47,17 @@ const REFUSED: [Refused; 21] = [
         "10,up,L1>B,\n10,frame,L1>B,0180\n",
         1,
         NodeErr::Frame(2, FrameErr::Length),
+    ),
+    // The last octet is cut off, and the version isn't 1.
+    (
+        "10,up,L1>B,\n20,frame,L1>B,0180c200000202000000000188090a0019a70001100000000100040200000000000000000000000000000000000000000000000000000000000000\n",
+        1,
+        NodeErr::Frame(2, FrameErr::Length),
+    ),
+    (
+        "10,up,L1>B,\n20,frame,L1>B,0180c200000202000000000188090a0019a7000100000000010004020000000000000000000000000000000000000000000000000000000000000000\n",
+        1,
+        NodeErr::Frame(2, FrameErr::Version),
     ),
 ];
 
@@ -86,29 +97,33 @@ fn a_refusal_comes_with_the_end_of_its_line(rt: HostRuntime) -> Result<(), Fail>
     are_refused(&rt, &plan, &REFUSED)
 }
 
-/// A file of two lines, the second with a frame from whose end so many digits are cut off.
-fn file_with(alloc: Global, version_and_flag: &str, cut: usize) -> Result<Text, NoMemory> {
-    let mut frame = Text::new(alloc);
-    put_frame(&mut frame, version_and_flag, "02")?;
-    let digits = frame.bytes();
-    let mut file = Text::new(alloc);
-    file.put(b"10,up,L1>B,\n20,frame,L1>B,")?;
-    file.put(digits.split_at(digits.len().saturating_sub(cut)).0)?;
-    file.put(b"\n")?;
-    Ok(file)
+/// A line of so many bytes, the frame in which is longer than a frame may be.
+fn line_of(alloc: Global, bytes: usize) -> Result<Text, NoMemory> {
+    let mut line = Text::new(alloc);
+    line.put(b"10,frame,L1>B,")?;
+    for _ in 14..bytes {
+        line.put(b"0")?;
+    }
+    Ok(line)
 }
 
-/// Frames whose last octet is cut off, and whose version isn't 1.
+/// A line of 4,096 bytes, a carriage return among them, is read, and its frame is refused at its end. The
+/// next byte is one too many, whether a line feed follows or not.
 #[test]
-fn a_frame_is_refused_by_its_first_wrong_part(rt: HostRuntime) -> Result<(), Fail> {
+fn a_line_has_4096_bytes(rt: HostRuntime) -> Result<(), Fail> {
     let plan = read_plan(rt.alloc(), CHAIN)?;
-    for (version_and_flag, cut, wrong) in [
-        ("10", 2, FrameErr::Length),
-        ("00", 0, FrameErr::Version),
-    ] {
-        let file = file_with(rt.alloc(), version_and_flag, cut)?;
-        last_piece_is_refused(&rt, &plan, file.bytes(), 1, NodeErr::Frame(2, wrong))?;
-        front_is_refused(&rt, &plan, file.bytes(), 1, NodeErr::Frame(2, wrong));
+    let cases: [(usize, &[u8], NodeErr); 5] = [
+        (4096, b"\n", NodeErr::Frame(1, FrameErr::Length)),
+        (4096, b"0", NodeErr::Fields(1)),
+        (4096, b"\r", NodeErr::Fields(1)),
+        (4095, b"00\n", NodeErr::Fields(1)),
+        // Its digits are an odd number.
+        (4095, b"\r\n", NodeErr::Value(1)),
+    ];
+    for (bytes, last, want) in cases {
+        let mut line = line_of(rt.alloc(), bytes)?;
+        line.put(last)?;
+        last_piece_is_refused(&rt, &plan, line.bytes(), last.len(), want)?;
     }
     Ok(())
 }
