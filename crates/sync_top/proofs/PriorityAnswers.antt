@@ -16,7 +16,8 @@ use Rattle.prio_mode.proofs.RingLaws.{first-circles}
 use Rattle.sync_top.specs.declared.status.Status.{Status}
 use Rattle.sync_top.specs.declared.status.Status.TheVariants.{Done, Refuted, Usage, BadPlan, BadCert, BadEvents, BadFrames, ReadFault, WriteFault, TooLong, NoMemory, Stopped}
 use Rattle.sync_top.specs.Reading.{text_line}
-use Rattle.sync_top.specs.Forms.Priority.{IsPriorityVerdict, IsPriorityPlanned, IsPriorityRun, forced_text}
+use Rattle.prio_mode.specs.ForcedText.{forced_text}
+use Rattle.sync_top.specs.Forms.Priority.{IsPriorityVerdict, IsPriorityPlanned, IsPriorityRun}
 use Rattle.sync_top.proofs.OneText.{same_text}
 
 -- one status, and one text

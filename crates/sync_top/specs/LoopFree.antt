@@ -8,7 +8,8 @@ use Rattle.sync_top.specs.Form.{Form, check, trial}
 use Rattle.sync_top.specs.Reading.{plan_in}
 
 -- where the words ask to check a plan, one is read, and no timing loop can form in it, but two elements
--- that face each other on one link or bundle; where they ask for a trial, none can form in the ladder
+-- that face each other on one link or bundle; where they ask for a trial, none can form in the ladder,
+-- which is a fact of every ladder
 abbrev pub IsCheckedLoopFree : Option Form → Contents → Type 0
 IsCheckedLoopFree (Some (check plan_name certificate_name)) files =
     (plan : Topology) × (plan_in plan_name files ≡ Ok plan) × IsLoopFree plan

@@ -1,10 +1,9 @@
-ghost use Rattle.std.specs.Prelude.{◌≡◌, ◌≢◌, ◌+◌, ◌++◌, ◌<◌, ◌≤◌, Some, IfOk, IfSome, OnOk, codes, map};
-ghost use Rattle.std.specs.List.{All, concat};
+ghost use Rattle.std.specs.Prelude.{◌≡◌, ◌≢◌, ◌+◌, ◌≤◌, Some, IfOk, IfSome};
+ghost use Rattle.std.specs.List.{All};
 ghost use Rattle.sync_edge.specs.Contents.{KeepsFolder};
 ghost use Rattle.sync_topo.specs.Events.{Fits, IsInOrder};
-ghost use Rattle.sync_topo.specs.Lines.{line_count};
 ghost use Rattle.rank_cert.specs.Ranks.{IsRanked};
-ghost use Rattle.sync_top.specs.Forms.Priority.{IsPriorityVerdict, PrioCheckAnswer, forced_row, forced_text, IsPriorityPlanned, PrioRankAnswer, IsPriorityRun, PrioSimAnswer};
+ghost use Rattle.sync_top.specs.Forms.Priority.{IsPriorityVerdict, PrioCheckAnswer, IsPriorityPlanned, PrioRankAnswer, IsPriorityRun, PrioSimAnswer};
 ghost use Rattle.sync_top.specs.Answer.{across, FormMissesFile, FirstEnds};
 ghost use Rattle.sync_top.specs.Form.{prio_check, prio_rank, prio_sim};
 ghost use Rattle.sync_top.specs.Work.{Replies, NeverUsage, status_of};
@@ -14,12 +13,12 @@ use crate::plan_input::plan_in;
 use crate::reply::{Reply, Stop, line_text};
 use crate::sim::plan_and_events;
 use crate::status::Status;
-use prio_mode::{PrioRanked, prio_plan};
+use prio_mode::{PrioRanked, prio_plan, write_forced};
 use rank_cert::{Cert, Verdict, write_cert};
 use std::alloc::Global;
-use sync_edge::{Folder, NoMemory, Text};
+use sync_edge::{Folder, NoMemory};
 use sync_ql::limits::LAST_MILLISECOND;
-use sync_topo::{Event, InputId, LineId, Plan};
+use sync_topo::{Event, Plan};
 
 /// The reply to the ranks of a certificate, where elements choose by priority alone.
 fn priority_verdict(alloc: Global, plan: &Plan, cert: &Cert) -> Result<Reply, NoMemory>
@@ -64,29 +63,6 @@ pub(crate) fn prio_check<F: Folder>(
     }
 }
 
-/// Puts the row of a forced switch to a line at 0.
-fn put_forced(alloc: Global, text: &mut Text, plan: &Plan, line: LineId) -> Result<(), NoMemory>
-    requires { line.0 < line_count plan.now }
-    ensures { OnOk result (text.new ≡ text.old ++ forced_row plan.now line.0) }
-{
-    text.put(b"0,forced,")?;
-    plan.put_input_name(alloc, text, InputId::Line(line))?;
-    text.put(b",\n")
-}
-
-/// The event file of forced switches to some lines at 0.
-fn forced_text(alloc: Global, plan: &Plan, lines: &[LineId]) -> Result<Text, NoMemory>
-    requires { All (λ line. line < line_count plan.now) (map (λ line. line.0) lines.now) }
-    ensures { IfOk result (λ text. text ≡ forced_text plan.now (map (λ line. line.0) lines.now)) }
-{
-    let mut text = Text::new(alloc);
-    text.put(b"at,what,target,value\n")?;
-    for line in lines {
-        put_forced(alloc, &mut text, plan, *line)?;
-    }
-    Ok(text)
-}
-
 /// The reply to a plan, where elements choose by priority alone.
 fn priority_planned(alloc: Global, plan: &Plan) -> Result<Reply, NoMemory>
     ensures planned { IfOk result (λ reply. IsPriorityPlanned plan.now reply.status reply.text) }
@@ -99,7 +75,7 @@ fn priority_planned(alloc: Global, plan: &Plan) -> Result<Reply, NoMemory>
         }),
         PrioRanked::Loop(lines) => Ok(Reply {
             status: Status::Refuted,
-            text: forced_text(alloc, plan, lines.as_slice())?,
+            text: write_forced(alloc, plan, lines.as_slice())?,
         }),
     }
 }

@@ -161,7 +161,7 @@ pub fn run<R: Threads + Sync, F: Folder, K: Sink, G: Gate + Sync>(
 
     // Where `check` is done, a plan was read, and no timing loop can form in it, but two elements
     // that face each other on one link or bundle, whatever happens. Where `trial` is done, none can
-    // in the ladder.
+    // in the ladder, as in every one.
     ensures accepted_is_loop_free { result ≡ Status.Done → IfSome (F.contents folder.old)
         (IsCheckedLoopFree (form_of (map string_bytes words.now))) }
 

@@ -1,6 +1,5 @@
 -- The answers to `prio-check`, `prio-rank` and `prio-sim`: of networks whose elements choose by priority alone.
-use Rattle.std.specs.Prelude.{◌≡◌, ℕ, ◌≤◌, ⊤, List, ◌++◌, length, map, codes, Option, Some, Ok}
-use Rattle.std.specs.List.{concat}
+use Rattle.std.specs.Prelude.{◌≡◌, ℕ, ◌≤◌, ⊤, List, ◌++◌, length, codes, Option, Some, Ok}
 use Rattle.sync_edge.specs.Contents.{Contents}
 use Rattle.sync_topo.specs.declared.event.Event.{Event}
 use Rattle.sync_topo.specs.Topology.{Topology}
@@ -11,7 +10,9 @@ use Rattle.rank_cert.specs.CertificateText.{certificate_of, certificate_text}
 use Rattle.prio_mode.specs.PriorityHops.{hops_any, IsFirstFall}
 use Rattle.prio_mode.specs.PriorityLoops.{NeverLoops}
 use Rattle.prio_mode.specs.PriorityReport.{IsPriorityReport}
-use Rattle.prio_mode.specs.ForcedLoop.{IsForcedLoop}
+use Rattle.prio_mode.specs.ForcedLoop.{forced_on, IsForcedLoop}
+use Rattle.prio_mode.specs.ForcedText.{forced_text}
+use Rattle.event_file.specs.EventText.{events_of}
 use Rattle.sync_top.specs.declared.status.Status.{Status}
 use Rattle.sync_top.specs.declared.status.Status.TheVariants.{Done, Refuted}
 use Rattle.sync_top.specs.Form.{Form, prio_check}
@@ -32,22 +33,15 @@ abbrev pub PrioCheckAnswer : List ℕ → List ℕ → Contents → Status → L
 PrioCheckAnswer plan_name certificate_name files status text =
     Answered (λ read. IsPriorityVerdict read.0 read.1) (documents plan_name certificate_name files) status text
 
--- the row of a forced switch to a line at 0
-abbrev pub forced_row : Topology → ℕ → List ℕ
-forced_row plan line = codes "0,forced," ++ line_name plan line ++ codes ",\n"
-
--- the event file of forced switches to some lines at 0
-abbrev pub forced_text : Topology → List ℕ → List ℕ
-forced_text plan lines = codes "at,what,target,value\n" ++ concat (map (forced_row plan) lines)
-
--- the certificate of the least ranks, which is read back as these ranks, and they rise, and which is not too long
--- for a file; or the forced switches that make the first loop
+-- the certificate of the least ranks, which is read back as these ranks, and they rise; or the event file of the
+-- forced switches that make the first loop, which is read back as these switches. Neither is too long for a file
 abbrev pub IsPriorityPlanned : Topology → Status → List ℕ → Type 0
 IsPriorityPlanned plan Done text =
     (ranks : Ranks) × AreLeastRanks (hops_any plan) (is_nominated plan) (rank_at ranks) × Rises (hops_any plan) (rank_of ranks)
     × (text ≡ certificate_text plan ranks) × (certificate_of plan text ≡ Ok ranks) × (length text ≤ file_limit)
 IsPriorityPlanned plan Refuted text =
     (lines : List ℕ) × IsFirstCycle (hops_any plan) lines × IsForcedLoop plan lines × (text ≡ forced_text plan lines)
+    × (events_of plan text ≡ Ok (forced_on lines)) × (length text ≤ file_limit)
 IsPriorityPlanned plan status text = ⊥
 
 -- the answer to `prio-rank`

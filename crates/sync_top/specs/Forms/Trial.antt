@@ -56,9 +56,9 @@ IsSettledAt plan events until = IsSettled plan (signals_by plan events) (out_at 
 
 -- the text of a trial of n elements, over their plan
 pub record IsTrialText (n : ℕ) (plan : Topology) (text : List ℕ) : Type 0 where
-  -- the test of ranks accepts the least ranks of the plan, so that no timing loop can form in it
+  -- no timing loop can form in the plan, which is a fact of every ladder
   pub accepted : IsLoopFree plan
-  -- the greatest of these ranks
+  -- the greatest of its least ranks
   pub top : ℕ
   pub greatest : IsGreatest (IsRank plan) top
   -- the rows of the run that a report has
