@@ -10,7 +10,7 @@ from click.shell_completion import CompletionItem
 
 from murdjohe import core, documents, forms, run_form, streams, topics
 from murdjohe.forms import FORMS, Form
-from murdjohe.run_form import Settings
+from murdjohe.run_form import JSON, QUIET, Settings
 from murdjohe.streams import Output
 
 NAME = "murdjohe"
@@ -178,29 +178,34 @@ def command() -> Commands:
     )
 
 
-def unknown(words: list[str], name: str, output: Output) -> int:
+def passed_on(words: list[str], name: str | None, output: Output) -> int:
     """Answers words that begin with no command: by the program, which may know a form that the workbench doesn't."""
-    answer = core.run(words)
+    is_quiet = any(word in QUIET for word in words)
+    answer = core.run([word for word in words if word not in QUIET + JSON])
     output.put(answer.text)
-    if answer.status == core.USAGE:
-        meant = documents.hint(name, [*FORMS, *OWN])
-        streams.tell(f'"{name}" is no command{meant}; `{NAME} --help` lists them')
+    if answer.status == core.USAGE and not is_quiet:
+        what = (
+            "there is no command" if name is None else f'"{name}" is no command{documents.hint(name, [*FORMS, *OWN])}'
+        )
+        streams.tell(f"{what}; `{NAME} --help` lists them")
     return answer.status
 
 
 def run(words: list[str], output: Output) -> int:
     """Answers any words, and gives the exit status."""
-    completing = f"_{NAME.upper()}_COMPLETE" in os.environ
+    is_completing = f"_{NAME.upper()}_COMPLETE" in os.environ
     first = next((word for word in words if not word.startswith("-")), None)
-    if first is not None and first not in FORMS and first not in OWN and not completing:
-        return unknown(words, first, output)
-    arguments = words if words or completing else ["--help"]
+    is_bare = first is None and bool(words) and all(word in QUIET + JSON for word in words)
+    if not is_completing and (is_bare or first not in (None, *FORMS, *OWN)):
+        return passed_on(words, first, output)
+    arguments = words if words or is_completing else ["--help"]
     try:
         status = command().main(arguments, NAME, standalone_mode=False, obj=output)
     except click.exceptions.Abort as abort:
         raise KeyboardInterrupt from abort
     except click.ClickException as wrong:
-        streams.tell(f"{wrong.format_message().rstrip('.')}; see `{NAME} {first or ''} --help`".replace("  ", " "))
+        of = f"{NAME} {first}" if first else NAME
+        streams.tell(f"{wrong.format_message().rstrip('.')}; see `{of} --help`")
         return core.USAGE
     except SystemExit as end:
         return end.code if isinstance(end.code, int) else core.MISTAKE

@@ -6,11 +6,10 @@ import os
 import sys
 
 from murdjohe import core, forms, run_form, streams
-from murdjohe.run_form import Settings
+from murdjohe.run_form import JSON, QUIET, Settings
 from murdjohe.streams import Output
 from murdjohe.wrong import Wrong
 
-QUIET, JSON = ("-q", "--quiet"), ("--json",)
 INTERRUPTED = 130  # as a shell says of a command that Ctrl-C ended
 
 

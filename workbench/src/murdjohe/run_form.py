@@ -14,6 +14,8 @@ TYPE_CHECKING = False
 if TYPE_CHECKING:
     from collections.abc import Callable
 
+# Options that every form takes, as they are written.
+QUIET, JSON = ("-q", "--quiet"), ("--json",)
 COLOURS = {core.DONE: "green", core.REFUTED: "yellow", core.STOPPED: "yellow"}
 
 

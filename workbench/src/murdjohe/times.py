@@ -38,14 +38,3 @@ def of_units(word: str) -> int | None:
 def milliseconds(word: str) -> int | None:
     """The milliseconds of a word in one of the spellings with units; None for any other word, plain numbers too."""
     return of_clock(word) if ":" in word else of_units(word)
-
-
-def spoken(time: int) -> str:
-    """A number of milliseconds as people say it, as 20m, 1h30m or 1m0.300s."""
-    hours, rest = divmod(time, 3_600_000)
-    minutes, rest = divmod(rest, 60_000)
-    seconds, rest = divmod(rest, 1_000)
-    said = (f"{hours}h" if hours else "") + (f"{minutes}m" if minutes else "")
-    if rest:
-        return f"{said}{seconds}.{rest:03}s"
-    return said + (f"{seconds}s" if seconds or not said else "")
