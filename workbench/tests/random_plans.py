@@ -73,7 +73,8 @@ def random_plan(chance: random.Random) -> RandomPlan:
     plan = RandomPlan(chance, option, {"element": [], "link": [], "source": []})
     for name in elements:
         row: Row = {"name": name}
-        for key, values in (("own", levels[:-1]), ("floor", levels[:-1]), ("holdoff", [300, 1800]), ("wtr", [0, 12])):
+        own: dict[str, list[Any]] = {"own": levels[:-1], "floor": levels[:-1], "holdoff": [300, 1800], "wtr": [0, 12]}
+        for key, values in own.items():
             if chance.random() < 0.4:
                 row[key] = chance.choice(values)
         plan.rows["element"].append(row)

@@ -224,7 +224,7 @@ def test_plans_in_other_encodings(folder: Path) -> None:
         text, places = plan.text()
         (folder / "plan.toml").write_bytes(text.encode("latin-1"))
         line = places[section, number, "name"]
-        refused("rank", ["plan.toml"], "plan.toml", (22, line, "the octet fc, in Latin-1 a `ü`"), "bad plan N")
+        refused("rank", ["plan.toml"], "plan.toml", (22, line, "the octet fc, in Latin-1 a `ü`,"), "bad plan N")
         (folder / "plan.toml").write_bytes(text.encode("utf-16"))
         refused("rank", ["plan.toml"], "plan.toml", (22, 1, "UTF-16"), "bad plan N")
 
@@ -306,7 +306,10 @@ def test_certificates_without_a_line(folder: Path) -> None:
         )
 
 
-HEADERS = {"certificate.csv": ("check", [], 34, "line,rank"), "events.csv": ("sim", ["9"], 26, "at,what,target,value")}
+HEADERS: dict[str, tuple[str, list[str], int, str]] = {
+    "certificate.csv": ("check", [], 34, "line,rank"),
+    "events.csv": ("sim", ["9"], 26, "at,what,target,value"),
+}
 
 
 @pytest.mark.parametrize("name", list(HEADERS))
@@ -338,7 +341,7 @@ def event_rows(chance: random.Random, plan: RandomPlan) -> list[str]:
     """Rows of events that fit a plan, in order of time."""
     links, sources = [row["name"] for row in plan.rows["link"]], [row["name"] for row in plan.rows["source"]]
     lines, elements = lines_of(plan, True) + lines_of(plan, False), [row["name"] for row in plan.rows["element"]]
-    kinds = [
+    kinds: list[Callable[[], str]] = [
         lambda: f"{chance.choice(['down', 'up'])},{chance.choice(links + sources + lines)},",
         lambda: f"level,{chance.choice(sources)},{chance.choice(LEVELS[plan.option])}",
         lambda: f"{chance.choice(['lockout', 'forced', 'manual'])},{chance.choice(lines + sources)},",

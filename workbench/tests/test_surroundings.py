@@ -11,7 +11,7 @@ from pathlib import Path
 
 import pytest
 from conftest import EXAMPLES, LAUNCHER, WORKBENCH, murdjohe, started
-from murdjohe import failure, main, streams
+from murdjohe import main, streams
 
 RING = EXAMPLES / "ring"
 CHECK = f"{LAUNCHER} check plan.toml certificate.csv"
@@ -19,7 +19,7 @@ ANSWER = b"falls L3>A L1>B\n"
 
 
 def shell(script: str, **settings: str) -> tuple[int, bytes, str]:
-    ran = started(["sh", "-c", script], RING, **settings)
+    ran = started(["sh", "-c", script], RING, b"", **settings)
     return ran.status, ran.out, ran.err
 
 
@@ -140,7 +140,7 @@ def test_a_mistake_of_our_own_is_one_line_with_the_place_of_its_trace(
     monkeypatch: pytest.MonkeyPatch, capfd: pytest.CaptureFixture[str], tmp_path: Path
 ) -> None:
     mistaken(monkeypatch)
-    monkeypatch.setattr(failure.tempfile, "tempdir", str(tmp_path))
+    monkeypatch.setattr("tempfile.tempdir", str(tmp_path))
     assert main.guarded(["check"], streams.Output(False)) == 70
     said = capfd.readouterr().err
     (trace,) = tmp_path.iterdir()
@@ -157,7 +157,7 @@ def test_a_mistake_is_told_where_there_is_no_place_for_its_trace(
     def full(*_: object) -> None:
         raise OSError(errno.ENOSPC, "No space left on device")
 
-    monkeypatch.setattr(failure.tempfile, "mkstemp", full)
+    monkeypatch.setattr("tempfile.mkstemp", full)
     assert main.guarded(["check"], streams.Output(False)) == 70
     assert capfd.readouterr().err.endswith("there is no place for its trace\n")
 

@@ -15,8 +15,8 @@ if TYPE_CHECKING:
 LINE_SHOWN = 100  # signs of a line that a sentence shows
 PLAN_ROW = re.compile(r"^\s*\[{1,2}\s*\"?(element|link|source)s?\"?\s*\]{1,2}", re.M)
 FRAME = re.compile(r"^0180c2[0-9a-f]{20,}$", re.M | re.I)
-# How files of a kind begin, and what they are.
-BEGINNINGS = (
+# How files of a kind begin, and what they are: first those that are no text.
+BINARIES = (
     (b"\xd4\xc3\xb2\xa1", "a capture"),
     (b"\xa1\xb2\xc3\xd4", "a capture"),
     (b"\x4d\x3c\xb2\xa1", "a capture with nanoseconds"),
@@ -25,6 +25,8 @@ BEGINNINGS = (
     (b"\x0a\x0d\x0d\x0a", "a capture in the format pcapng"),
     (b"\x1f\x8b", "a file packed by gzip"),
     (b"PK\x03\x04", "a spreadsheet or a zip file"),
+)
+BEGINNINGS = (
     (b"line,rank", "a certificate"),
     (b"at,what,target,value", "an event list"),
     (b"element,hops,from", "a table of `hops`"),
@@ -34,6 +36,7 @@ BEGINNINGS = (
     (b"falls ", "an answer of `check`"),
     (b"accepted\n", "an answer of `check`"),
 )
+WIDE_MARKS = (b"\xff\xfe", b"\xfe\xff")
 REFUSALS = (b"bad ", b"usage\n", b"read fault\n", b"too long\n")
 
 
@@ -46,7 +49,9 @@ class Document:
 
     @property
     def text(self) -> str:
-        """The text in UTF-8 without a byte order mark; what is none is replaced."""
+        """The text without a byte order mark, in UTF-8 but for one that begins with another's mark; what is none is replaced."""
+        if self.data[:2] in WIDE_MARKS:
+            return self.data.decode("utf-16", "replace")
         return self.data.removeprefix(b"\xef\xbb\xbf").decode("utf-8", "replace")
 
     @property
@@ -87,10 +92,15 @@ def hint(word: str, known: Iterable[str]) -> str:
     return f' (nearest: "{found}")' if found else ""
 
 
+def binary_kind_of(document: Document) -> str | None:
+    """What kind of file that is no text it looks like, in words, or None."""
+    return next((kind for beginning, kind in BINARIES if document.data.startswith(beginning)), None)
+
+
 def kind_of(document: Document) -> str | None:
     """What kind of file it looks like, in words, or None."""
     data = document.data.removeprefix(b"\xef\xbb\xbf")
-    for beginning, kind in BEGINNINGS:
+    for beginning, kind in (*BINARIES, *BEGINNINGS):
         if data.startswith(beginning):
             return kind
     if data.startswith(REFUSALS) and data.count(b"\n") <= 1:
@@ -105,14 +115,14 @@ def kind_of(document: Document) -> str | None:
 def encoding_fault(document: Document) -> tuple[int, str] | None:
     """Where the bytes are no text in UTF-8: the line, and what they seem to be."""
     data = document.data
-    if data[:2] in (b"\xff\xfe", b"\xfe\xff") or (b"\0" in data[:4] and len(data) > 3):
+    if data[:2] in WIDE_MARKS or (b"\0" in data[:4] and len(data) > 3):
         return 1, 'it is text in UTF-16, as Excel\'s "Unicode text" is: save it as UTF-8'
     try:
         data.decode("utf-8")
     except UnicodeDecodeError as fault:
         line = data.count(b"\n", 0, fault.start) + 1
         sign = data[fault.start : fault.start + 1].decode("latin-1")
-        meant = f", in Latin-1 a `{sign}`" if sign.isprintable() else ""
+        meant = f", in Latin-1 a `{sign}`," if sign.isprintable() else ""
         return line, f"the octet {data[fault.start]:02x}{meant} is no UTF-8: save the file as UTF-8"
     return None
 

@@ -8,7 +8,7 @@ from collections.abc import Iterable, Iterator
 from dataclasses import dataclass, field
 from typing import Any
 
-from murdjohe import files
+from murdjohe import files, toml_reader
 from murdjohe.wrong import Wrong
 
 # Colours of Okabe and Ito: told apart by people who don't tell red from green.
@@ -58,7 +58,7 @@ def rows_of(plan: Plan, section: str, texts: tuple[str, ...], numbers: tuple[str
 def read_plan(path: str) -> Plan:
     """The plan of a file, as far as a picture needs it to be right. Raises Wrong."""
     try:
-        plan = tomllib.loads(files.text(path))
+        plan = toml_reader.tables(files.text(path))
         names = {element["name"] for element in rows_of(plan, "element", ("name",))}
         for link in rows_of(plan, "link", ("name", "a", "b"), LINK_NUMBERS):
             if link["a"] not in names or link["b"] not in names:

@@ -5,6 +5,7 @@ from __future__ import annotations
 import re
 import tomllib
 
+from murdjohe import toml_reader
 from murdjohe.documents import Document
 
 TYPE_CHECKING = False
@@ -36,14 +37,6 @@ LIMITS = {
 ROWS = {"element": 2_000, "link": 4_000, "source": 2_000}
 INPUTS = 64  # nominated inputs that an element may have
 
-STRINGS = re.compile(r'"""(?:\\.|[^\\])*?"""|\'\'\'.*?\'\'\'|"(?:\\.|[^"\\\n])*"|\'[^\'\n]*\'|#[^\n]*', re.S)
-NO_BREAK = re.compile(r"[^\n]")
-
-
-def masked(text: str) -> str:
-    """The text with blanks in place of whatever stands in strings and comments; every place stays where it is."""
-    return STRINGS.sub(lambda found: NO_BREAK.sub(" ", found[0]), text)
-
 
 class Plan:
     """A plan's text, what Python's reader makes of it, and where its rows are."""
@@ -51,11 +44,11 @@ class Plan:
     def __init__(self, document: Document) -> None:
         self.document = document
         self.text = document.text
-        self.masked = masked(self.text)
+        self.masked = toml_reader.masked(self.text)
         self.fault: str | None = None
         self.tables: dict[str, Any] = {}
         try:
-            self.tables = tomllib.loads(self.text)
+            self.tables = toml_reader.tables(self.text)
         except (tomllib.TOMLDecodeError, RecursionError) as fault:
             self.fault = str(fault)
         self.regions = {section: list(self._regions(section)) for section in SECTIONS}

@@ -30,12 +30,12 @@ def have(names: list[str], what: str) -> str:
 
 def tables_of(words: Words) -> dict[str, Any] | None:
     """The plan as tables; None where Python's reader, or the disk, doesn't give them."""
-    import tomllib
+    from murdjohe import toml_reader
 
     file = words.file(forms.PLAN)
     try:
         with open(file.path if file else "", encoding="utf-8-sig") as source:
-            return tomllib.loads(source.read())
+            return toml_reader.tables(source.read())
     except (OSError, ValueError, RecursionError):
         return None
 
@@ -106,6 +106,8 @@ def nominations(words: Words, lines: list[str]) -> list[str]:
 
 def on_ring(words: Words, lines: list[str]) -> list[str]:
     """The ring over which timing may go round, and where each of its lines is nominated."""
+    if not lines:
+        raise ValueError("a ring has lines")
     ring = " -> ".join([*lines, *lines[:1]])
     first = f"timing may go round over {ring}: take the priority away from one of these lines (0 is not nominated)"
     return [first, *nominations(words, lines)]

@@ -16,16 +16,16 @@ from murdjohe.wrong import Wrong
 # How refusals begin, with their statuses.
 BEGINNINGS = (
     (b"usage\n", core.USAGE),
-    (b"bad plan ", core.BAD_PLAN),
-    (b"bad certificate ", core.BAD_CERTIFICATE),
-    (b"bad events ", core.BAD_EVENTS),
-    (b"bad frames ", core.BAD_FRAMES),
-    (b"bad capture ", core.BAD_FRAMES),
-    (b"bad node ", core.BAD_FRAMES),
+    (b"bad plan", core.BAD_PLAN),
+    (b"bad certificate", core.BAD_CERTIFICATE),
+    (b"bad events", core.BAD_EVENTS),
+    (b"bad frames", core.BAD_FRAMES),
+    (b"bad capture", core.BAD_FRAMES),
+    (b"bad node", core.BAD_FRAMES),
     (b"read fault\n", core.READ_FAULT),
     (b"too long\n", core.TOO_LONG),
-    (b"falls ", core.REFUTED),
-    (b"cycle ", core.REFUTED),
+    (b"falls", core.REFUTED),
+    (b"cycle", core.REFUTED),
 )
 
 

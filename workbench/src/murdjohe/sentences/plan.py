@@ -66,6 +66,8 @@ def keys_of(plan: Plan, section: str) -> dict[str, str]:
 def on_document(plan: Plan) -> Finding:
     """Where the bytes are no TOML document."""
     document = plan.document
+    if kind := documents.binary_kind_of(document):
+        return Finding(None, f"it is {kind}, and no plan", "name the plan here; are two words of the command swapped?")
     if fault := documents.encoding_fault(document):
         return Finding(fault[0], fault[1], "")
     kind = documents.kind_of(document)

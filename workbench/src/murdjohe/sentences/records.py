@@ -54,6 +54,8 @@ def rows_of(document: Document) -> list[Row]:
 def on_header(document: Document, table: str) -> str:
     """Where there is no header: what the file seems to be, or what its first line has in place of it."""
     wanted, first = HEADERS[table], document.line(1)
+    if kind := documents.binary_kind_of(document):
+        return f"{document.name}: it is {kind}, and no {NAMES[table]}; are two words of the command swapped?"
     if fault := documents.encoding_fault(document):
         return document.place(fault[0]) + fault[1]
     if not document.data.strip():
