@@ -51,7 +51,7 @@ def test_the_forms_are_those_of_the_formats() -> None:
 def test_the_page_of_the_manual_has_each_command() -> None:
     page = (TOP / "man" / "murdjohe.1").read_text(encoding="utf-8")
     for name in [*forms.FORMS, *cli.OWN]:
-        assert re.search(rf"^\.(Cm|It Cm|Nm) .*\b{name}\b", page, re.M), name
+        assert re.search(rf"^\.(Cm|It Cm) (.*, )?{name}\b", page, re.M), name
 
 
 def imported(path: Path) -> set[str]:

@@ -27,7 +27,7 @@ def first_line(words: list[str], folder: str) -> str | None:
 def built_of(program: str) -> tuple[str, str]:
     """The commit and the toolchain of a program, as the file beside it says, or as a checkout gives them for its own."""
     try:
-        with open(program + ABOUT, encoding="utf-8") as file:
+        with open(os.path.realpath(program) + ABOUT, encoding="utf-8") as file:
             lines = [*file.read().splitlines(), UNKNOWN, UNKNOWN]
             return lines[0], lines[1]
     except (OSError, UnicodeDecodeError):
