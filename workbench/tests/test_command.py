@@ -106,7 +106,10 @@ def test_the_version_of_an_installed_program_is_what_stands_beside_it(tmp_path: 
         (["sim", "p", "e", "1e6"], 'sim: UNTIL is "1e6"; it is a time up to a day'),
         (["sim", "p", "e", "1200000.0"], 'UNTIL is "1200000.0"'),
         (["sim", "p", "e", "-5"], 'UNTIL is "-5"'),
-        (["sim", "p", "e", "0600"], 'UNTIL is "0600"'),
+        (
+            ["sim", "p", "e", "0600"],
+            'UNTIL is "0600"; it is a time up to a day: milliseconds, or 20m, 90s, 1h30m, HH:MM:SS, without leading zeros',
+        ),
         (["sim", "p", "e", "86400001"], 'UNTIL is "86400001", which is more than a day'),
         (["sim", "p", "e", "25h"], 'UNTIL is "25h", which is more than a day'),
         (["sweep", "p", "400000", "60000"], 'AT, "400000", is after UNTIL, "60000"'),
@@ -117,6 +120,8 @@ def test_the_version_of_an_installed_program_is_what_stands_beside_it(tmp_path: 
         (["check", "-", "-"], "`-`, standard input, can be read for one word alone"),
         (["rank", ""], "PLAN is empty"),
         (["rank", "--plan", "p"], '"--plan" is no option'),
+        (["--plan", "p", "rank"], '"--plan" is no option before a command'),
+        (["version"], '"version" is no command (nearest: "--version")'),
         (["rank", "plan", "check"], '"check" is one word too many; the form is `murdjohe rank PLAN`'),
     ],
 )

@@ -7,7 +7,7 @@ import re
 import sys
 from pathlib import Path
 
-from conftest import TOP, WORKBENCH, started
+from conftest import EXAMPLES, TOP, WORKBENCH, started
 
 from murdjohe import cli, forms, refusals
 
@@ -95,3 +95,15 @@ def test_functions_and_modules_are_short() -> None:
         for node in ast.walk(ast.parse(text)):
             if isinstance(node, ast.FunctionDef):
                 assert (node.end_lineno or 0) - node.lineno < LONGEST_FUNCTION, f"{path.name}: {node.name}"
+
+
+def test_the_readme_of_the_workbench_runs(folder: Path) -> None:
+    text = (WORKBENCH / "README.md").read_text(encoding="utf-8")
+    (script,) = re.findall(r"^```python\n(.*?)^```", text, re.M | re.S)
+    (folder / "plan.toml").write_bytes((EXAMPLES / "ladder" / "plan.toml").read_bytes().replace(b'"S1"', b'"L1"'))
+    (folder / "other.toml").write_text('[[element]]\nname = "M.1"\n')
+    (folder / "script.py").write_text(script)
+    ran = started(["/usr/bin/python3", "script.py"], folder, b"", PYTHONPATH=str(WORKBENCH / "src"))
+    assert ran.status == 0, ran.err
+    elements, refused = ran.out.decode().splitlines()
+    assert elements == "[]" and refused.startswith('16 element 1 other.toml:2: `name = "M.1"`: ')

@@ -86,7 +86,10 @@ def test_a_ring_is_told_with_the_line_and_key_of_each_nomination() -> None:
 
 def test_a_fall_is_told() -> None:
     (line,) = said("check", "ring/plan.toml", "ring/certificate.csv", status=1)
-    assert "from line L3>A to line L1>B, and the rank of L1>B isn't greater" in line
+    assert (
+        "from line L3>A to line L1>B, and the rank of L1>B (0) isn't greater than that of L3>A (2): `murdjohe rank`"
+        in line
+    )
 
 
 def test_commands_that_make_a_loop_are_told() -> None:

@@ -57,11 +57,11 @@ def sentence(folder: Path, form: str, *files: str | bytes, more: tuple[str, ...]
         (PLAN + 'site = "Bern"\n', 'one:9: `site = "Bern"`: link "L1" has the unknown key "site"'),
         (
             PLAN + "priority_b = 256\n",
-            'one:9: `priority_b = 256`: link "L1" has priority_b = 256; it has to be 0 to 255, where 0 is not',
+            'one:9: `priority_b = 256`: link "L1" has priority_b = 256; it has to be 0 to 255, where 0 is not nominated',
         ),
         (
             '[[element]]\nname = "A"\nwtr = 300\n',
-            'one:3: `wtr = 300`: element "A" has wtr = 300; it has to be 0 to 12, minutes',
+            'one:3: `wtr = 300`: element "A" has wtr = 300; it has to be 0 to 12 minutes',
         ),
         (
             '[[element]]\nname = "A"\nholdoff = 500.0\n',
@@ -120,6 +120,27 @@ def test_certificates(folder: Path, certificate: str | bytes, said: str) -> None
     assert sentence(folder, "check", RING, certificate).startswith(said) or said in sentence(
         folder, "check", RING, certificate
     )
+
+
+@pytest.mark.parametrize(
+    ("row", "said"),
+    [
+        (
+            "5,down,LAG,",
+            'two:2: `5,down,LAG,`: "LAG" is a bundle; its links are L1, L2; `down` takes a link, a line, as L1>B, or a',
+        ),
+        ("5,down,B,", '"B" is an element; its inputs are L1>B, L2>B; `down` takes a link'),
+        ("5,lockout,L2,", '"L2" is a link; its lines are L2>B and L2>A; `lockout` takes a line, as L1>B, or a source'),
+        ("5,clear,L1>B,", '"L1>B" is a line, into element B; `clear` takes an element'),
+        ("5,level,L1>B,QL-PRC", '"L1>B" is a line, into element B; `level` takes a source'),
+        ("5,down,l1,", '"l1" names nothing in the plan (nearest: "L1")'),
+        ("20m,down,L1,", 'two:2: `20m,down,L1,`: the time "20m" has units; write milliseconds: 1200000'),
+    ],
+)
+def test_events(folder: Path, row: str, said: str) -> None:
+    ends = 'a = "A"\nb = "B"\nbundle = "LAG"\n'
+    plan = f'version = 2\nelement = [{{name = "A"}}, {{name = "B"}}]\n[[link]]\nname = "L1"\n{ends}[[link]]\nname = "L2"\n{ends}'
+    assert said in sentence(folder, "sim", plan, f"at,what,target,value\n{row}\n", more=("9",))
 
 
 def test_a_link_without_a_priority_has_the_line_of_its_row(folder: Path) -> None:

@@ -178,16 +178,23 @@ def command() -> Commands:
     )
 
 
+def no_command(words: list[str], name: str | None) -> str:
+    """Which word is no command, or no option."""
+    option = next((word for word in words if word.startswith("-") and word not in QUIET + JSON), None)
+    if option is not None:
+        return f'"{option}" is no option before a command'
+    if name is None:
+        return "there is no command"
+    return f'"{name}" is no command{documents.hint(name, [*FORMS, *OWN, "--version", "--help"], 0.6)}'
+
+
 def passed_on(words: list[str], name: str | None, output: Output) -> int:
     """Answers words that begin with no command: by the program, which may know a form that the workbench doesn't."""
     is_quiet = any(word in QUIET for word in words)
     answer = core.run([word for word in words if word not in QUIET + JSON])
     output.put(answer.text)
     if answer.status == core.USAGE and not is_quiet:
-        what = (
-            "there is no command" if name is None else f'"{name}" is no command{documents.hint(name, [*FORMS, *OWN])}'
-        )
-        streams.tell(f"{what}; `{NAME} --help` lists them")
+        streams.tell(f"{no_command(words, name)}; `{NAME} --help` lists them")
     return answer.status
 
 

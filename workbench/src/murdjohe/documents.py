@@ -78,17 +78,17 @@ def read(file: File) -> Document:
         return Document(file.name, source.read(LONGEST_FILE + 1) or b"")
 
 
-def nearest(word: str, known: Iterable[str]) -> str | None:
-    """The known word that is nearest, first of all one that differs in case alone."""
+def nearest(word: str, known: Iterable[str], likeness: float = 0.4) -> str | None:
+    """The known word that is nearest, first of all one that differs in case alone; None where none is so like it (0 to 1)."""
     names = list(dict.fromkeys(known))
     same = [name for name in names if name.lower() == word.lower()]
-    found = same or difflib.get_close_matches(word, names, 1, 0.4)
+    found = same or difflib.get_close_matches(word, names, 1, likeness)
     return found[0] if found else None
 
 
-def hint(word: str, known: Iterable[str]) -> str:
+def hint(word: str, known: Iterable[str], likeness: float = 0.4) -> str:
     """In brackets the known word that is nearest, where there is one."""
-    found = nearest(word, known)
+    found = nearest(word, known, likeness)
     return f' (nearest: "{found}")' if found else ""
 
 

@@ -27,12 +27,12 @@ KEYS = {
     "source": {"name": TEXT, "at": TEXT, "level": TEXT, "priority": NUMBER},
 }
 MUST = {"head": (), "element": ("name",), "link": ("name", "a", "b"), "source": ("name", "at", "level")}
-# The limits of numbers: least, greatest, and what they are.
+# The limits of numbers: least, greatest, and what they are, as it follows these.
 LIMITS = {
-    "holdoff": (300, 1800, "milliseconds"),
-    "wtr": (0, 12, "minutes"),
-    **dict.fromkeys(("priority", "priority_a", "priority_b"), (0, 255, "where 0 is not nominated")),
-    **dict.fromkeys(("delay_a", "delay_b"), (1, 2000, "milliseconds")),
+    "holdoff": (300, 1800, " milliseconds"),
+    "wtr": (0, 12, " minutes"),
+    **dict.fromkeys(("priority", "priority_a", "priority_b"), (0, 255, ", where 0 is not nominated")),
+    **dict.fromkeys(("delay_a", "delay_b"), (1, 2000, " milliseconds")),
 }
 ROWS = {"element": 2_000, "link": 4_000, "source": 2_000}
 INPUTS = 64  # nominated inputs that an element may have

@@ -1,11 +1,16 @@
-"""What is shown on a terminal while the program works for longer than two seconds."""
+"""What is shown on a terminal while something takes longer than two seconds."""
 
 from __future__ import annotations
 
-from collections.abc import Callable
+import os
+import threading
+from collections.abc import Callable, Iterator
+from contextlib import contextmanager
 
 from rich.console import Console
 from rich.progress import BarColumn, Progress, TextColumn, TimeElapsedColumn
+
+from murdjohe import core, streams
 
 
 def started(what: str) -> Callable[[], None]:
@@ -15,3 +20,21 @@ def started(what: str) -> Callable[[], None]:
     bar.add_task(what, total=None)
     bar.start()
     return bar.stop
+
+
+@contextmanager
+def watched(what: str) -> Iterator[None]:
+    """Shows such a bar, on a terminal, while what stands inside takes longer than the patience."""
+    if not os.isatty(streams.ERR):
+        yield
+        return
+    stops: list[Callable[[], None]] = []
+    timer = threading.Timer(core.PATIENCE_MS / 1000, lambda: stops.append(started(what)))
+    timer.start()
+    try:
+        yield
+    finally:
+        timer.cancel()
+        timer.join()
+        for stop in stops:
+            stop()

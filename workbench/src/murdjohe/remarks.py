@@ -64,14 +64,19 @@ def on_plan(words: Words, top: int | None) -> list[str]:
     return said + ([have(without, "no way to a clock over nominated lines")] if without else [])
 
 
-def on_accepted(words: Words) -> list[str]:
-    """What `check` accepted."""
+def certificate_of(words: Words) -> str:
+    """The text of the certificate; none where the disk doesn't give it any more."""
     file = words.file(forms.CERTIFICATE)
     try:
         with open(file.path if file else "", encoding="utf-8-sig") as source:
-            top = greatest_rank(source.read())
+            return source.read()
     except (OSError, ValueError):
-        top = None
+        return ""
+
+
+def on_accepted(words: Words) -> list[str]:
+    """What `check` accepted."""
+    top = greatest_rank(certificate_of(words))
     first, *rest = on_plan(words, top) or ["ranks rise over every hop"]
     return [f"accepted: {first}", *rest]
 
@@ -113,13 +118,23 @@ def on_ring(words: Words, lines: list[str]) -> list[str]:
     return [first, *nominations(words, lines)]
 
 
+def on_fall(words: Words, before: str, line: str) -> str:
+    """The hop over which the rank doesn't rise, with both ranks."""
+    rows = [row.replace('"', "").rpartition(",") for row in certificate_of(words).splitlines()]
+    ranks = {name: f" ({rank})" for name, _, rank in rows}
+    greater = f"the rank of {line}{ranks.get(line, '')} isn't greater than that of {before}{ranks.get(before, '')}"
+    form = "prio-rank" if words.form.name.startswith("prio-") else "rank"
+    return (
+        f"timing may go on from line {before} to line {line}, and {greater}: `murdjohe {form}` says whether any ranks rise; "
+        "mend the ranks, or break the ring"
+    )
+
+
 def on_refuted(words: Words, text: str) -> list[str]:
     """Why ranks fall, or no ranks rise."""
     said = text.split()
     if said and said[0] == "falls":
-        over = f"timing may go on from line {said[1]} to line {said[2]}, and the rank of {said[2]} isn't greater"
-        form = "prio-rank" if words.form.name.startswith("prio-") else "rank"
-        return [f"{over}: `murdjohe {form}` says whether any ranks rise; mend the ranks, or break the ring"]
+        return [on_fall(words, said[1], said[2])]
     if said and said[0] == "cycle":
         return on_ring(words, said[1:])
     lines = [row.split(",")[2] for row in text.splitlines()[1:]]

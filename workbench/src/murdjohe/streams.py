@@ -11,6 +11,7 @@ if TYPE_CHECKING:
     from collections.abc import Iterable
 
 OUT, ERR = 1, 2
+LONGEST_LINE = 1_000  # signs of a sentence that are shown
 COLOURS = {"red": "31", "green": "32", "yellow": "33", "bold": "1"}
 
 
@@ -63,10 +64,15 @@ def is_coloured() -> bool:
     return os.isatty(ERR) and not os.environ.get("NO_COLOR") and os.environ.get("TERM", "dumb") != "dumb"
 
 
+def cut(line: str) -> str:
+    """A line, or its beginning where it is longer than anybody reads."""
+    return line if len(line) <= LONGEST_LINE else line[: LONGEST_LINE - 3] + " .."
+
+
 def told(lines: Iterable[str], colour: str) -> str:
     """The lines as they are put on standard error: a name before each, in the colour where there is one."""
     before, after = (f"\x1b[{COLOURS[colour]}m", "\x1b[0m") if is_coloured() else ("", "")
-    return "".join(f"{before}murdjohe:{after} {printable(line)}\n" for line in lines)
+    return "".join(f"{before}murdjohe:{after} {printable(cut(line))}\n" for line in lines)
 
 
 def tell(*lines: str, colour: str = "red") -> None:

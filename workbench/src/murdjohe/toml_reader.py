@@ -13,6 +13,7 @@ if TYPE_CHECKING:
     from typing import Any
 
 STRINGS = re.compile(r'"""(?:\\.|[^\\])*?"""|\'\'\'.*?\'\'\'|"(?:\\.|[^"\\\n])*"|\'[^\'\n]*\'|#[^\n]*', re.S)
+LONGEST = 2_000_000  # signs of a document that is read a second time
 NO_BREAK = re.compile(r"[^\n]")
 NEW_ESCAPES = re.compile(r"\\(?:(\\)|e|x([0-9A-Fa-f]{2}))")
 
@@ -31,7 +32,7 @@ def older(text: str) -> str:
     """The text as version 1.0 spells it: inline tables on one line, without a comma at their end, and old escapes."""
     places = masked(text)
     found = re.finditer(r"[{}]", places)
-    inside: set[int] = set()
+    inside = bytearray(len(text))
     depth, start = 0, 0
     for brace in found:
         if brace[0] == "{":
@@ -40,10 +41,10 @@ def older(text: str) -> str:
         elif depth:
             depth -= 1
             if depth == 0:
-                inside.update(range(start, brace.start()))
-    signs = ["" if place in inside and sign == "\n" else sign for place, sign in enumerate(text)]
+                inside[start : brace.start()] = b"\1" * (brace.start() - start)
+    signs = ["" if is_inside and sign == "\n" else sign for is_inside, sign in zip(inside, text)]
     for comment in STRINGS.finditer(text):
-        if comment[0].startswith("#") and comment.start() in inside:
+        if comment[0].startswith("#") and inside[comment.start()]:
             signs[comment.start() : comment.end()] = [""] * len(comment[0])
         elif comment[0].startswith('"'):
             signs[comment.start()] = with_old_escapes(comment[0])
@@ -58,6 +59,8 @@ def tables(text: str) -> dict[str, Any]:
     try:
         return tomllib.loads(text)
     except tomllib.TOMLDecodeError:
+        if len(text) > LONGEST:
+            raise
         try:
             return tomllib.loads(older(text))
         except tomllib.TOMLDecodeError:

@@ -76,7 +76,7 @@ def limits(key: str) -> str:
     if key not in plans.LIMITS:
         return ""
     least, greatest, unit = plans.LIMITS[key]
-    return f" {least} to {greatest}, {unit}"
+    return f": {least} to {greatest}{unit}"
 
 
 def plan() -> str:

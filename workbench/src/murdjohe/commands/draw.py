@@ -6,7 +6,7 @@ import subprocess
 
 import click
 
-from murdjohe import core, drawing, files
+from murdjohe import core, drawing, files, progress
 from murdjohe.wrong import Wrong
 
 
@@ -57,7 +57,9 @@ def draw(
     """
     cut = drawing.nearby(drawing.read_plan(plan), near, links)
     shown = drawing.Shown(drawing.read_ranks(certificate), drawing.read_report(report), drawing.read_marks(answer))
-    files.written(output, rendered(drawing.picture_of(cut, shown), output.rpartition(".")[2]))
+    with progress.watched("draw"):
+        picture = rendered(drawing.picture_of(cut, shown), output.rpartition(".")[2])
+    files.written(output, picture)
     return core.DONE
 
 

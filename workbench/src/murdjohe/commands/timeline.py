@@ -7,7 +7,7 @@ from typing import Any
 
 import click
 
-from murdjohe import bands, core, files, times
+from murdjohe import bands, core, files, progress, times
 from murdjohe.bands import Band, Row
 from murdjohe.wrong import Wrong
 
@@ -125,7 +125,9 @@ def timeline(report: str, start: int | None, until: int | None, fold: int, outpu
     end = rows[-1].at + fold if until is None else until
     if end < rows[-1].at:
         raise Wrong(f"--until: the last change is at {rows[-1].at}")
-    files.written(output, picture(rows, order, end, fold, ending))
+    with progress.watched("timeline"):
+        data = picture(rows, order, end, fold, ending)
+    files.written(output, data)
     return core.DONE
 
 

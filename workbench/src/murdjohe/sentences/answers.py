@@ -26,7 +26,8 @@ def word_fault(word: forms.Word, text: str) -> str | None:
     if word.kind == forms.TIME:
         time = times.milliseconds(text)
         if time is None and not (times.is_digits(text) and str(int(text)) == text):
-            return f'{word.name} is "{text}"; it is {forms.MEANINGS[forms.TIME]}'
+            zero = ", without leading zeros" if times.is_digits(text) else ""
+            return f'{word.name} is "{text}"; it is {forms.MEANINGS[forms.TIME]}{zero}'
         if (int(text) if time is None else time) > forms.DAY_MS:
             return (
                 f'{word.name} is "{text}", which is more than a day; it is at most {forms.DAY_MS} milliseconds, or 24h'

@@ -208,7 +208,7 @@ def on_range(plan: Plan, section: str, number: int) -> Finding:
     for key, (least, greatest, unit) in plans.LIMITS.items():
         if key in row and not least <= row[key] <= greatest:
             what = f"{title(plan, section, number)} has {key} = {row[key]}"
-            return Finding(plan.line(section, number, key), what, f"it has to be {least} to {greatest}, {unit}")
+            return Finding(plan.line(section, number, key), what, f"it has to be {least} to {greatest}{unit}")
     return Finding(plan.line(section, number), f"{title(plan, section, number)} {refusals.says('plan', 20)}")
 
 
