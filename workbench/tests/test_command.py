@@ -205,6 +205,8 @@ def test_words_are_completed() -> None:
     assert completed("gen", "") == []
     assert "plain,--json" in completed("check", "--")
     assert completed("completion", "f") == ["plain,fish"]
+    assert completed("help", "pl") == ["plain,plan"]
+    assert completed("draw", "ring/pl") == ["file,ring/pl"]
 
 
 @pytest.mark.parametrize(

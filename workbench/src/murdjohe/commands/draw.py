@@ -27,15 +27,23 @@ def rendered(picture: str, ending: str) -> bytes:
 
 
 @click.command("draw")
-@click.argument("plan")
-@click.option("--certificate", help="writes the ranks of this file beside the priorities")
+@click.argument("plan", type=click.Path())
+@click.option("--certificate", type=click.Path(), help="writes the ranks of this file beside the priorities")
 @click.option(
-    "--report", help="gives each element its level and state at the end of this report, and draws thick what it takes"
+    "--report",
+    type=click.Path(),
+    help="gives each element its level and state at the end of this report, and draws thick what it takes",
 )
-@click.option("--answer", help="draws the lines of the ring or fall in this answer of `rank` or `check` red and dashed")
+@click.option(
+    "--answer",
+    type=click.Path(),
+    help="draws the lines of the ring or fall in this answer of `rank` or `check` red and dashed",
+)
 @click.option("--near", multiple=True, help="draws only what lies near this element; may be given again")
 @click.option("--links", type=click.IntRange(min=0), default=2, show_default=True, help="how many links are near")
-@click.option("-o", "--output", required=True, help="the picture: a file that ends in .svg, .png or .dot")
+@click.option(
+    "-o", "--output", type=click.Path(), required=True, help="the picture: a file that ends in .svg, .png or .dot"
+)
 def draw(
     plan: str,
     certificate: str | None,

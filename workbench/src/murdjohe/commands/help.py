@@ -8,8 +8,15 @@ from murdjohe import core, documents, streams, topics
 from murdjohe.forms import FORMS
 
 
+def begun(context: click.Context, parameter: click.Parameter, incomplete: str) -> list[str]:
+    """The topics and commands that begin so."""
+    from murdjohe import cli
+
+    return [name for name in [*topics.TOPICS, *FORMS, *cli.OWN] if name.startswith(incomplete)]
+
+
 @click.command("help")
-@click.argument("topic", required=False)
+@click.argument("topic", required=False, shell_complete=begun)
 @click.pass_context
 def help_command(context: click.Context, topic: str | None) -> int:
     """Says more of a command, or of a topic: plan, tables, events, certificate, levels, statuses, core."""

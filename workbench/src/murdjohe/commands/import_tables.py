@@ -9,10 +9,15 @@ from murdjohe import core, files, streams, tables, topics
 
 @click.command("import", epilog="\b\n" + topics.TABLES.replace("\n\n", "\n\n\b\n"))
 @click.option("--option", type=click.Choice(["I", "II"]), default="I", help="the network option; I where none is given")
-@click.option("-o", "--output", help="writes the plan to this file, whole or not at all, in place of standard output")
-@click.argument("elements")
-@click.argument("links")
-@click.argument("sources", required=False)
+@click.option(
+    "-o",
+    "--output",
+    type=click.Path(),
+    help="writes the plan to this file, whole or not at all, in place of standard output",
+)
+@click.argument("elements", type=click.Path())
+@click.argument("links", type=click.Path())
+@click.argument("sources", required=False, type=click.Path())
 @click.pass_context
 def import_tables(
     context: click.Context, option: str, output: str | None, elements: str, links: str, sources: str | None

@@ -92,7 +92,7 @@ def picture(rows: list[Row], order: list[str], end: int, fold: int, ending: str)
 
 
 @click.command("timeline")
-@click.argument("report")
+@click.argument("report", type=click.Path())
 @click.option(
     "--from", "start", type=Milliseconds(), help="the picture begins there, with the elements that change after it"
 )
@@ -100,7 +100,7 @@ def picture(rows: list[Row], order: list[str], end: int, fold: int, ending: str)
 @click.option(
     "--fold", type=Milliseconds(), default=1000, show_default=True, help="longer times without a change are left out"
 )
-@click.option("-o", "--output", required=True, help="the picture: a file that ends in .svg or .png")
+@click.option("-o", "--output", type=click.Path(), required=True, help="the picture: a file that ends in .svg or .png")
 def timeline(report: str, start: int | None, until: int | None, fold: int, output: str) -> int:
     """Draws the changes of a report over time: a band for each element, coloured by its quality level.
 
