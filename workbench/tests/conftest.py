@@ -9,6 +9,11 @@ from dataclasses import dataclass
 from pathlib import Path
 
 import pytest
+from hypothesis import settings
+
+# (the gate tries the same examples each time, however busy the machine is)
+settings.register_profile("gate", derandomize=True, deadline=None)
+settings.load_profile("gate")
 
 WORKBENCH = Path(__file__).resolve().parent.parent
 TOP = WORKBENCH.parent
@@ -30,7 +35,9 @@ class Ran:
 def started(words: Sequence[str], folder: Path | None = None, stdin: bytes = b"", **settings: str) -> Ran:
     """Runs a command as a process of its own, with more of the environment where it is given."""
     environment = {**os.environ, **settings}
-    run = subprocess.run(words, cwd=folder, input=stdin, capture_output=True, env=environment, check=False, timeout=300)
+    run = subprocess.run(
+        words, cwd=folder, input=stdin, capture_output=True, env=environment, check=False, timeout=1200
+    )
     return Ran(run.returncode, run.stdout, run.stderr.decode("utf-8", "replace"))
 
 

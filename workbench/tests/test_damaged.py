@@ -83,7 +83,7 @@ def test_damaged_plans_are_drawn_or_refused(folder: Path) -> None:
             plan = drawing.read_plan("damaged")
             assert drawing.picture_of(plan, drawing.Shown()).startswith("digraph plan {")
         except Wrong as wrong:
-            assert str(wrong).startswith("damaged: ")
+            assert str(wrong).startswith("damaged:")
 
 
 def test_damaged_reports_have_bands_or_are_refused(folder: Path) -> None:

@@ -32,6 +32,11 @@ def test_what_is_installed_runs(tmp_path: Path, core: str, prefix: str) -> None:
     assert lines[1].startswith(f"core {at}/lib/") and not lines[2].endswith("of the checkout")
     for page in ("man1/murdjohe.1", "man5/murdjohe-plan.5", "man5/murdjohe-events.5"):
         assert (at / "share" / "man" / page).stat().st_size > 500
+    modules = at / "lib" / ("python3" if prefix == "/usr" else "python3.11") / "dist-packages"
+    assert (modules / "murdjohe" / "py.typed").exists() and not (modules / "murdjohe" / "refusals.toml").is_symlink()
+    script = "import murdjohe; print(murdjohe.gen(2).result.text.count('[[link]]'))"
+    ran = started(["/usr/bin/python3", "-c", script], None, b"", PYTHONPATH=str(modules), **bare)
+    assert ran.out == b"1\n", ran.err
     assert "murdjohe" in (at / "share" / "bash-completion" / "completions" / "murdjohe").read_text()
     assert all(os.stat(path).st_mode & 0o444 == 0o444 for path in at.rglob("*"))
     make("uninstall", tmp_path, core, prefix)

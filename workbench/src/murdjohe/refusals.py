@@ -12,7 +12,8 @@ TYPE_CHECKING = False
 if TYPE_CHECKING:
     from typing import Any
 
-FILE = "refusals.toml"
+# The file with all meanings: docs/refusals.toml, to which a link beside the package leads.
+FILE = os.path.join(core.PACKAGE, "refusals.toml")
 TABLES = {
     core.BAD_PLAN: ("plan", b"bad plan "),
     core.BAD_CERTIFICATE: ("certificate", b"bad certificate "),
@@ -64,16 +65,10 @@ def of(status: int, text: bytes) -> Refusal | None:
         return None
 
 
-def path() -> str:
-    """Where the file with all meanings is: beside the package, or in the docs of a checkout."""
-    beside = os.path.join(core.PACKAGE, FILE)
-    return beside if os.path.exists(beside) else os.path.join(core.CHECKOUT, "docs", FILE)
-
-
 @functools.cache
 def meanings() -> dict[str, Any]:
     """All tables of the file."""
-    with open(path(), "rb") as file:
+    with open(FILE, "rb") as file:
         return tomllib.load(file)
 
 

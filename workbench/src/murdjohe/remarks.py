@@ -10,6 +10,7 @@ TYPE_CHECKING = False
 if TYPE_CHECKING:
     from typing import Any
 
+RING = 40  # lines of a ring of which it is said where they are nominated
 NAMED = 12  # names that a sentence lists before it says how many more there are
 
 
@@ -115,7 +116,8 @@ def on_ring(words: Words, lines: list[str]) -> list[str]:
         raise ValueError("a ring has lines")
     ring = " -> ".join([*lines, *lines[:1]])
     first = f"timing may go round over {ring}: take the priority away from one of these lines (0 is not nominated)"
-    return [first, *nominations(words, lines)]
+    more = len(lines) - RING
+    return [first, *nominations(words, lines[:RING]), *([f"and {more:,} lines more"] if more > 0 else [])]
 
 
 def on_fall(words: Words, before: str, line: str) -> str:

@@ -57,7 +57,7 @@ def draw(
 
     Each element is told with the level of its own clock, each arrow with its priority and delay; a link that nobody may take
     is a thin line. Colours are told apart without red and green; shapes tell the states as well. Past some 60 elements lines
-    can't be followed any more: draw a part, by --near.
+    can't be followed any more: draw a part, by --near. The status is 0, or 2 where a file can't be taken or written.
 
     \b
       $ murdjohe gen 5 > plan.toml

@@ -106,7 +106,8 @@ def timeline(report: str, start: int | None, until: int | None, fold: int, outpu
 
     REPORT is what `murdjohe sim` printed, or - for standard input. A band is hatched where its element is in holdover or
     free-running, and the input is written in it where there is room. Where nothing changes for longer than --fold, the rest
-    of that time is left out, and a dotted line stands there; close changes are drawn a twentieth of that apart.
+    of that time is left out, and a dotted line stands there; close changes are drawn a twentieth of that apart. The status
+    is 0, or 2 where a file can't be taken or written.
 
     \b
       $ murdjohe gen 5 > plan.toml
