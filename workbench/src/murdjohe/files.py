@@ -3,7 +3,6 @@
 from __future__ import annotations
 
 import os
-import sys
 import tempfile
 
 from murdjohe.inputs import STDIN
@@ -13,12 +12,10 @@ from murdjohe.wrong import Wrong, reason
 def octets(path: str) -> bytes:
     """The octets of a file, or of standard input for `-`. Raises Wrong."""
     try:
-        if path == STDIN:
-            return sys.stdin.buffer.read() if sys.stdin else b""
-        with open(path, "rb") as file:
+        with open(0 if path == STDIN else path, "rb", closefd=path != STDIN) as file:
             return file.read()
     except OSError as fault:
-        raise reason(path, fault) from None
+        raise reason("standard input" if path == STDIN else path, fault) from None
     except ValueError as fault:  # (a name with a zero octet)
         raise Wrong(f"{path}: {fault}") from None
 

@@ -2,11 +2,9 @@
 
 from __future__ import annotations
 
-import sys
-
 import click
 
-from murdjohe import core, documents, inputs, remarks
+from murdjohe import core, documents, files, inputs, remarks
 from murdjohe.core import Answer
 from murdjohe.forms import FORMS
 from murdjohe.inputs import Words
@@ -66,7 +64,7 @@ def explain(context: click.Context, words: tuple[str, ...]) -> int:
     line; anything else is passed on as it is. The status is that of the answer.
     """
     name, *given = words
-    text = sys.stdin.buffer.read() if sys.stdin else b""
+    text = files.octets(inputs.STDIN)
     status = status_of(name, text)
     if name not in FORMS:
         said = [f'"{name}" is no form of the program{documents.hint(name, FORMS)}']
