@@ -1,0 +1,219 @@
+"""The command by click: groups of commands, help, version and completion. Each command's module is imported when it is called."""
+
+from __future__ import annotations
+
+import importlib
+import os
+
+import click
+from click.shell_completion import CompletionItem
+
+from murdjohe import core, documents, forms, run_form, streams, topics
+from murdjohe.forms import FORMS, Form
+from murdjohe.run_form import JSON, QUIET, Settings
+from murdjohe.streams import Output
+
+NAME = "murdjohe"
+FILES = "Files and pictures"
+ABOUT = "About"
+# The workbench's own commands: their module, group, and what they do in a line.
+OWN = {
+    "import": ("import_tables", FILES, "makes a plan of tables of elements, links and sources"),
+    "draw": ("draw", FILES, "draws a plan, with the levels and selections of a report"),
+    "timeline": ("timeline", FILES, "draws what changes in a report, over time"),
+    "explain": ("explain", FILES, "says in a sentence what the program's own answer means"),
+    "help": ("help", ABOUT, "says more of a command, or of plan, tables, events, levels .."),
+    "completion": ("completion", ABOUT, "prints the completion for bash, zsh or fish"),
+}
+GROUPS = (forms.PLANNING, forms.RUNNING, forms.PRIORITY, forms.LAB, forms.TRYING, FILES, ABOUT)
+FIRST = f"""\
+A planner for frequency synchronization networks: does a plan leave a ring round which timing could go?
+Verdicts are those of a proved program; standard output has its bytes, standard error a sentence beside them.
+
+Begin with:
+  $ {NAME} help tables      tables of elements, links and sources that become a plan
+  $ {NAME} check --help     words, statuses and an example of a command
+"""
+
+
+def shown_help(context: click.Context, _: click.Parameter, is_asked: bool) -> None:
+    """Prints the help of a command and ends it."""
+    if is_asked and not context.resilient_parsing:
+        context.obj.put((context.get_help().rstrip("\n") + "\n").encode())
+        context.exit()
+
+
+def shown_version(context: click.Context, _: click.Parameter, is_asked: bool) -> None:
+    """Prints the version and ends the command."""
+    if is_asked and not context.resilient_parsing:
+        from murdjohe import version
+
+        context.obj.put(version.text().encode("utf-8", "surrogateescape"))
+        context.exit()
+
+
+def help_option() -> click.Option:
+    return click.Option(
+        ["-h", "--help"], is_flag=True, is_eager=True, expose_value=False, callback=shown_help, help="this text"
+    )
+
+
+def quiet_option() -> click.Option:
+    return click.Option(["-q", "--quiet"], is_flag=True, help="without sentences on standard error")
+
+
+def json_option() -> click.Option:
+    return click.Option(["--json"], is_flag=True, help="JSON in place of the program's bytes")
+
+
+def names_in(plan: str, incomplete: str) -> list[CompletionItem]:
+    """The elements of a plan whose names begin so."""
+    from murdjohe.inputs import File
+    from murdjohe.plans import Plan
+
+    try:
+        names = Plan(documents.read(File(forms.PLAN, plan, plan))).names("element")
+    except OSError:
+        return []
+    return [CompletionItem(name) for name in names if name.startswith(incomplete)]
+
+
+class FormWords(click.Argument):
+    """All words of a form, as they are; completed by what each of them is."""
+
+    def __init__(self, form: Form) -> None:
+        super().__init__(["words"], nargs=-1, type=click.UNPROCESSED)
+        self.form = form
+
+    def shell_complete(self, ctx: click.Context, incomplete: str) -> list[CompletionItem]:
+        given = list(ctx.params.get("words") or ())
+        if len(given) >= len(self.form.words):
+            return []
+        word = self.form.words[len(given)]
+        if word.is_file:
+            return [CompletionItem(incomplete, type="file")]
+        if word.kind == forms.OPTION:
+            return [CompletionItem(option) for option in ("I", "II") if option.startswith(incomplete)]
+        return names_in(given[0], incomplete) if word.kind == forms.ELEMENT else []
+
+
+class FormCommand(click.Command):
+    """A form of the program as a command."""
+
+    def __init__(self, form: Form) -> None:
+        super().__init__(
+            form.name,
+            {"ignore_unknown_options": True},
+            callback=self.called,
+            params=[FormWords(form), quiet_option(), json_option(), help_option()],
+            help=form.does,
+            short_help=form.does,
+            add_help_option=False,
+        )
+        self.form = form
+
+    def called(self, words: tuple[str, ...], quiet: bool, json: bool) -> int:
+        context = click.get_current_context()
+        asked = context.find_root().params
+        settings = Settings(quiet or asked["quiet"], json or asked["json"])
+        return run_form.run(self.form, list(words), settings, context.obj)
+
+    def collect_usage_pieces(self, ctx: click.Context) -> list[str]:
+        return [word.name for word in self.form.words] + ["[--quiet] [--json]"]
+
+    def format_options(self, ctx: click.Context, formatter: click.HelpFormatter) -> None:
+        formatter.write_paragraph()
+        formatter.write(topics.of_form(self.form))
+
+
+class Commands(click.Group):
+    """All commands, in groups, each made when it is asked for."""
+
+    def list_commands(self, ctx: click.Context) -> list[str]:
+        return [*FORMS, *OWN]
+
+    def get_command(self, ctx: click.Context, cmd_name: str) -> click.Command | None:
+        if cmd_name in FORMS:
+            return FormCommand(FORMS[cmd_name])
+        if cmd_name not in OWN:
+            return None
+        command = importlib.import_module(f"murdjohe.commands.{OWN[cmd_name][0]}").COMMAND
+        if not isinstance(command, click.Command):
+            raise TypeError(f"{cmd_name} is no command")
+        command.add_help_option = False
+        if not any("--help" in param.opts for param in command.params):
+            command.params.append(help_option())
+        return command
+
+    def format_options(self, ctx: click.Context, formatter: click.HelpFormatter) -> None:
+        lines = [(form.group, form.name, form.does) for form in FORMS.values()]
+        lines += [(group, name, does) for name, (_, group, does) in OWN.items()]
+        for group in GROUPS:
+            with formatter.section(group):
+                for name, does in ((name, does) for its, name, does in lines if its == group):
+                    formatter.write(f"  {name:<12}{does}\n")
+        click.Command.format_options(self, ctx, formatter)
+
+    def format_help_text(self, ctx: click.Context, formatter: click.HelpFormatter) -> None:
+        formatter.write_paragraph()
+        formatter.write(FIRST)
+
+
+def command() -> Commands:
+    """The whole command."""
+    version = click.Option(
+        ["-V", "--version"],
+        is_flag=True,
+        is_eager=True,
+        expose_value=False,
+        callback=shown_version,
+        help="which workbench and program",
+    )
+    return Commands(
+        NAME,
+        params=[quiet_option(), json_option(), version, help_option()],
+        callback=lambda quiet, json: None,
+        add_help_option=False,
+        context_settings={"max_content_width": 110},
+    )
+
+
+def no_command(words: list[str], name: str | None) -> str:
+    """Which word is no command, or no option."""
+    option = next((word for word in words if word.startswith("-") and word not in QUIET + JSON), None)
+    if option is not None:
+        return f'"{option}" is no option before a command'
+    if name is None:
+        return "there is no command"
+    return f'"{name}" is no command{documents.hint(name, [*FORMS, *OWN, "--version", "--help"], 0.6)}'
+
+
+def passed_on(words: list[str], name: str | None, output: Output) -> int:
+    """Answers words that begin with no command: by the program, which may know a form that the workbench doesn't."""
+    is_quiet = any(word in QUIET for word in words)
+    answer = core.run([word for word in words if word not in QUIET + JSON])
+    output.put(answer.text)
+    if answer.status == core.USAGE and not is_quiet:
+        streams.tell(f"{no_command(words, name)}; `{NAME} --help` lists them")
+    return answer.status
+
+
+def run(words: list[str], output: Output) -> int:
+    """Answers any words, and gives the exit status."""
+    is_completing = f"_{NAME.upper()}_COMPLETE" in os.environ
+    first = next((word for word in words if not word.startswith("-")), None)
+    is_bare = first is None and bool(words) and all(word in QUIET + JSON for word in words)
+    if not is_completing and (is_bare or first not in (None, *FORMS, *OWN)):
+        return passed_on(words, first, output)
+    arguments = words if words or is_completing else ["--help"]
+    try:
+        status = command().main(arguments, NAME, standalone_mode=False, obj=output)
+    except click.exceptions.Abort as abort:
+        raise KeyboardInterrupt from abort
+    except click.ClickException as wrong:
+        of = f"{NAME} {first}" if first else NAME
+        streams.tell(f"{wrong.format_message().rstrip('.')}; see `{of} --help`")
+        return core.USAGE
+    except SystemExit as end:
+        return end.code if isinstance(end.code, int) else core.MISTAKE
+    return status if isinstance(status, int) else core.DONE

@@ -1,0 +1,136 @@
+"""The proved program, and the one place that starts it: words in, status and bytes out.
+
+It is called murdjohe-core, and is looked for where the variable MURDJOHE_CORE says, beside the package, on the PATH, and
+where a checkout builds it. Every start of a command reads this module, so it imports nothing heavy.
+"""
+
+from __future__ import annotations
+
+import errno
+import os
+import select
+
+TYPE_CHECKING = False
+if TYPE_CHECKING:
+    from collections.abc import Callable, Sequence
+
+    # Shows that the program works, and gives what ends that.
+    Working = Callable[[], Callable[[], None]]
+
+NAME = "murdjohe-core"
+VARIABLE = "MURDJOHE_CORE"
+PACKAGE = os.path.dirname(os.path.abspath(__file__))
+# The top of the repository where the package is imported from a checkout.
+CHECKOUT = os.path.normpath(os.path.join(PACKAGE, "..", "..", ".."))
+BUILT = os.path.join("crates", "sync_main", "out", "sync_main")
+
+# Statuses of the program.
+DONE, REFUTED, USAGE, BAD_PLAN, BAD_CERTIFICATE, BAD_EVENTS, BAD_FRAMES = range(7)
+READ_FAULT, WRITE_FAULT, TOO_LONG, NO_MEMORY, STOPPED = range(7, 12)
+# Statuses of the workbench alone: the program isn't there, and a mistake of the workbench.
+UNAVAILABLE, MISTAKE = 69, 70
+
+LONGEST_FILE = 8_388_608  # octets that the program reads of a file
+PIECE = 1 << 16  # octets that are read at once
+PATIENCE_MS = 2_000  # after so long a wait it is said that the program works
+
+
+class Absent(Exception):
+    """There is no program to run; the text says how it is built."""
+
+
+class Ended(Exception):
+    """The program was ended from outside, by the signal that the text names."""
+
+
+class Answer:
+    """What the program answered: its status and the bytes that it wrote."""
+
+    __slots__ = ("status", "text")
+
+    def __init__(self, status: int, text: bytes) -> None:
+        self.status = status
+        self.text = text
+
+    @property
+    def said(self) -> str:
+        """What was written, as text; all but a capture is ASCII."""
+        return self.text.decode("utf-8", "replace")
+
+
+def is_program(path: str) -> bool:
+    return os.path.isfile(path) and os.access(path, os.X_OK)
+
+
+def candidates() -> list[str]:
+    """Where the program may be, in the order in which it is looked for, but for the variable."""
+    folders = [folder for folder in os.environ.get("PATH", os.defpath).split(os.pathsep) if folder]
+    beside = [os.path.join(folder, NAME) for folder in (PACKAGE, os.path.dirname(PACKAGE))]
+    return beside + [os.path.join(folder, NAME) for folder in folders] + [os.path.join(CHECKOUT, BUILT)]
+
+
+def find() -> str:
+    """The path of the program. Raises Absent where none is there."""
+    said = os.environ.get(VARIABLE)
+    if said:
+        if is_program(said):
+            return os.path.abspath(said)
+        raise Absent(f"{VARIABLE} is {said}, which is no program that can be run")
+    for path in candidates():
+        if is_program(path):
+            return path
+    raise Absent(
+        f"the proved program is not here: there is no {NAME} beside the package or on the PATH, and {VARIABLE} names none; "
+        "in a checkout `make core` builds it, or `cd crates/sync_main && rt run -- check data/chain0 data/cert`"
+    )
+
+
+def received(source: int, working: Working | None) -> bytes:
+    """All bytes that come from a pipe up to its end; where that takes longer than the patience, `working` shows it."""
+    pieces, stop = [], None
+    if working is not None:
+        poll = select.poll()
+        poll.register(source, select.POLLIN | select.POLLHUP)
+        if not poll.poll(PATIENCE_MS):
+            stop = working()
+    try:
+        while piece := os.read(source, PIECE):
+            pieces.append(piece)
+    finally:
+        if stop is not None:
+            stop()
+    return b"".join(pieces)
+
+
+def ended(code: int) -> int:
+    """The exit status of a wait status. Raises Ended where a signal ended the program."""
+    status = os.waitstatus_to_exitcode(code)
+    if status < 0:
+        raise Ended(f"{NAME} was ended by signal {-status}")
+    return status
+
+
+def run(words: Sequence[str | bytes], working: Working | None = None) -> Answer:
+    """Runs the program on these words, with the standard input and error of this process, and gives all that it wrote.
+
+    Raises Absent where there is no program, and Ended where a signal ended it.
+    """
+    program = find()
+    argv = [os.fsencode(program), *(os.fsencode(word) for word in words)]
+    source, sink = os.pipe()
+    try:
+        actions = [(os.POSIX_SPAWN_DUP2, sink, 1)]
+        try:
+            child = os.posix_spawn(program, argv, os.environ, file_actions=actions)
+        except OSError as fault:
+            raise Absent(f"{program} can't be run: {os.strerror(fault.errno or errno.ENOEXEC)}") from fault
+        finally:
+            os.close(sink)
+        try:
+            text = received(source, working)
+        finally:
+            os.close(source)
+            _, code = os.waitpid(child, 0)
+    except ValueError as fault:  # a word with a zero octet, which no program can be given
+        raise Absent(f"the words can't be given to a program: {fault}") from fault
+    return Answer(ended(code), text)

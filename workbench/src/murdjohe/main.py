@@ -1,0 +1,77 @@
+"""Where the command begins. A form with its plain words is answered at once; whatever else there is goes through `cli`."""
+
+from __future__ import annotations
+
+import os
+import sys
+
+from murdjohe import core, forms, run_form, streams
+from murdjohe.run_form import JSON, QUIET, Settings
+from murdjohe.streams import Output
+from murdjohe.wrong import Wrong
+
+INTERRUPTED = 130  # as a shell says of a command that Ctrl-C ended
+
+
+def plain(words: list[str]) -> tuple[forms.Form, list[str], Settings] | None:
+    """The form, its words and settings, where no other option stands among them; else None."""
+    if not words or words[0] not in forms.FORMS:
+        return None
+    form, rest = forms.FORMS[words[0]], words[1:]
+    settings = Settings(any(word in QUIET for word in rest), any(word in JSON for word in rest))
+    given = [word for word in rest if word not in QUIET + JSON]
+    has_option = any(word.startswith("-") and word != "-" for word in given)
+    return None if has_option else (form, given, settings)
+
+
+def answered(words: list[str], output: Output) -> int:
+    """Answers the words, and gives the exit status."""
+    if found := plain(words):
+        form, given, settings = found
+        return run_form.run(form, given, settings, output)
+    from murdjohe import cli
+
+    return cli.run(words, output)
+
+
+def guarded(words: list[str], output: Output) -> int:
+    """Answers the words; whatever goes wrong is told in one line, with a status of its own."""
+    try:
+        return answered(words, output)
+    except Wrong as wrong:
+        streams.tell(str(wrong))
+        return core.USAGE
+    except (core.Absent, core.Ended) as absent:
+        streams.tell(str(absent))
+        return core.UNAVAILABLE
+    except streams.Lost as lost:
+        if not lost.is_gone:
+            streams.tell(f"standard output: {lost}")
+        return core.WRITE_FAULT
+    except KeyboardInterrupt:
+        return INTERRUPTED
+    except MemoryError:
+        streams.tell("memory ran out; free some, and run again")
+        return core.NO_MEMORY
+    except Exception as mistake:
+        from murdjohe import failure
+
+        streams.tell(failure.told(mistake))
+        return core.MISTAKE
+
+
+def main() -> int:
+    """The command: the exit status of the words that the process was given."""
+    output = Output(streams.filled())
+    return guarded(sys.argv[1:], output)
+
+
+def start() -> None:
+    """Runs the command and ends the process, without what Python would write at its end."""
+    status = main()
+    try:
+        sys.stderr.flush()
+        sys.stdout.flush()
+    except (OSError, ValueError, AttributeError):
+        pass
+    os._exit(status)

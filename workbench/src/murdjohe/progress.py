@@ -1,0 +1,40 @@
+"""What is shown on a terminal while something takes longer than two seconds."""
+
+from __future__ import annotations
+
+import os
+import threading
+from collections.abc import Callable, Iterator
+from contextlib import contextmanager
+
+from rich.console import Console
+from rich.progress import BarColumn, Progress, TextColumn, TimeElapsedColumn
+
+from murdjohe import core, streams
+
+
+def started(what: str) -> Callable[[], None]:
+    """Shows a bar with the time that went by on standard error, and gives what takes it away again."""
+    columns = TextColumn("murdjohe {task.description}"), BarColumn(), TimeElapsedColumn()
+    bar = Progress(*columns, console=Console(stderr=True), transient=True)
+    bar.add_task(what, total=None)
+    bar.start()
+    return bar.stop
+
+
+@contextmanager
+def watched(what: str) -> Iterator[None]:
+    """Shows such a bar, on a terminal, while what stands inside takes longer than the patience."""
+    if not os.isatty(streams.ERR):
+        yield
+        return
+    stops: list[Callable[[], None]] = []
+    timer = threading.Timer(core.PATIENCE_MS / 1000, lambda: stops.append(started(what)))
+    timer.start()
+    try:
+        yield
+    finally:
+        timer.cancel()
+        timer.join()
+        for stop in stops:
+            stop()

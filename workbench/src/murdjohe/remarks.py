@@ -1,0 +1,284 @@
+"""What a planner should know beside an answer that is no refusal: a sentence or some, for standard error."""
+
+from __future__ import annotations
+
+from murdjohe import core, forms
+from murdjohe.core import Answer
+from murdjohe.inputs import Words
+
+TYPE_CHECKING = False
+if TYPE_CHECKING:
+    from typing import Any
+
+RING = 40  # lines of a ring of which it is said where they are nominated
+NAMED = 12  # names that a sentence lists before it says how many more there are
+
+
+def plural(number: int, what: str) -> str:
+    return f"{number:,} {what}{'' if number == 1 else 's'}"
+
+
+def listed(names: list[str]) -> str:
+    """The names, or the first of them and how many more there are."""
+    more = len(names) - NAMED
+    return ", ".join(names[:NAMED]) + (f" and {more:,} more" if more > 0 else "")
+
+
+def have(names: list[str], what: str) -> str:
+    """That so many elements have or are something, with their names."""
+    return f"{plural(len(names), 'element')} {'has' if len(names) == 1 else 'have'} {what}: {listed(names)}"
+
+
+def tables_of(words: Words) -> dict[str, Any] | None:
+    """The plan as tables; None where Python's reader, or the disk, doesn't give them."""
+    from murdjohe import toml_reader
+
+    file = words.file(forms.PLAN)
+    try:
+        with open(file.path if file else "", encoding="utf-8-sig") as source:
+            return toml_reader.tables(source.read())
+    except (OSError, ValueError, RecursionError):
+        return None
+
+
+def greatest_rank(certificate: str) -> int | None:
+    """The greatest rank of a certificate that was accepted or written; None where it has no row."""
+    rows = [row for row in certificate.splitlines()[1:] if row]
+    return max((int(row.rpartition(",")[2].strip('"')) for row in rows), default=None)
+
+
+def on_plan(words: Words, top: int | None) -> list[str]:
+    """What an accepted plan has, and which elements have no way to a clock."""
+    from murdjohe import network
+
+    tables = tables_of(words)
+    if tables is None:
+        return []
+    elements, lines = len(tables.get("element", [])), network.nominated_lines(tables)
+    rank = "" if top is None else f", greatest rank {top:,}"
+    said = [f"{plural(elements, 'element')}, {plural(lines, 'nominated line')}{rank}"]
+    if not elements:
+        return [*said, "the plan is empty: is it the file that was meant?"]
+    if not network.roots_of(tables):
+        return [*said, "no source is nominated, so nothing ever has a clock"]
+    without = network.without_way(tables)
+    return said + ([have(without, "no way to a clock over nominated lines")] if without else [])
+
+
+def certificate_of(words: Words) -> str:
+    """The text of the certificate; none where the disk doesn't give it any more."""
+    file = words.file(forms.CERTIFICATE)
+    try:
+        with open(file.path if file else "", encoding="utf-8-sig") as source:
+            return source.read()
+    except (OSError, ValueError):
+        return ""
+
+
+def on_accepted(words: Words) -> list[str]:
+    """What `check` accepted."""
+    top = greatest_rank(certificate_of(words))
+    first, *rest = on_plan(words, top) or ["ranks rise over every hop"]
+    return [f"accepted: {first}", *rest]
+
+
+def on_ranks(words: Words, text: str) -> list[str]:
+    """What was ranked."""
+    first, *rest = on_plan(words, greatest_rank(text)) or ["ranks rise over every hop"]
+    return [f"no ring is left: {first}", *rest]
+
+
+def nominations(words: Words, lines: list[str]) -> list[str]:
+    """Where each of these lines is nominated: the file, its line and the key."""
+    from murdjohe import documents, plans
+
+    file = words.file(forms.PLAN)
+    try:
+        plan = plans.Plan(documents.read(file)) if file else None
+    except OSError:
+        plan = None
+    found = plan.lines_of() if plan else {}
+    said = []
+    for line in lines:
+        if plan and line in found:
+            number, end = found[line]
+            priority = plan.row("link", number).get(f"priority_{end}")
+            place = plan.line("link", number, f"priority_{end}")
+            said.append(
+                f"{plan.document.name}:{place}: {line} is priority_{end} = {priority} of link {line.partition('>')[0]}"
+            )
+    return said
+
+
+def on_ring(words: Words, lines: list[str]) -> list[str]:
+    """The ring over which timing may go round, and where each of its lines is nominated."""
+    if not lines:
+        raise ValueError("a ring has lines")
+    ring = " -> ".join([*lines, *lines[:1]])
+    first = f"timing may go round over {ring}: take the priority away from one of these lines (0 is not nominated)"
+    more = len(lines) - RING
+    return [first, *nominations(words, lines[:RING]), *([f"and {more:,} lines more"] if more > 0 else [])]
+
+
+def on_fall(words: Words, before: str, line: str) -> str:
+    """The hop over which the rank doesn't rise, with both ranks."""
+    rows = [row.replace('"', "").rpartition(",") for row in certificate_of(words).splitlines()]
+    ranks = {name: f" ({rank})" for name, _, rank in rows}
+    greater = f"the rank of {line}{ranks.get(line, '')} isn't greater than that of {before}{ranks.get(before, '')}"
+    form = "prio-rank" if words.form.name.startswith("prio-") else "rank"
+    return (
+        f"timing may go on from line {before} to line {line}, and {greater}: `murdjohe {form}` says whether any ranks rise; "
+        "mend the ranks, or break the ring"
+    )
+
+
+def on_refuted(words: Words, text: str) -> list[str]:
+    """Why ranks fall, or no ranks rise."""
+    said = text.split()
+    if said and said[0] == "falls":
+        return [on_fall(words, said[1], said[2])]
+    if said and said[0] == "cycle":
+        return on_ring(words, said[1:])
+    lines = [row.split(",")[2] for row in text.splitlines()[1:]]
+    return [*on_ring(words, lines), "these commands make the loop: `murdjohe prio-sim PLAN EVENTS 0` shows it"]
+
+
+def after(words: Words, text: str) -> list[str]:
+    """How many events of a run stand after its end."""
+    file, until = words.file(forms.EVENTS), int(words.passed[-1])
+    try:
+        with open(file.path if file else "", encoding="utf-8-sig") as source:
+            times = [row.partition(",")[0].strip('"') for row in source.read().splitlines()[1:] if row]
+    except (OSError, ValueError):
+        return []
+    late = sum(time.isdigit() and int(time) > until for time in times)
+    if not late:
+        return []
+    return [
+        f"{late:,} of {plural(len(times), 'event')} {'is' if late == 1 else 'are'} after {until}, and had no effect"
+    ]
+
+
+def on_run(words: Words, text: str) -> list[str]:
+    """What a report of `sim` or `prio-sim` says at its end that a planner should not pass over."""
+    said, part, loops, own = after(words, text), "", [], []
+    for line in text.splitlines():
+        if line in ("changes", "inputs", "traces", "loops"):
+            part = line
+        elif part == "loops" and not line.startswith("settled "):
+            loops.append(line)
+        elif part == "traces" and line.split(",")[2] == "own":
+            own.append(line.partition(",")[0])
+    if loops:
+        verb = "loop stands" if len(loops) == 1 else "loops stand"
+        said.append(f"{len(loops):,} timing {verb} at the end: {'; '.join(loops[:3])}")
+    if own:
+        said.append(
+            f"{plural(len(own), 'element')} {'follows' if len(own) == 1 else 'follow'} no source, but own clocks, at the end: "
+            + listed(own_by(text))
+        )
+    if text.endswith("settled no\n"):
+        said.append(
+            "not settled: something would still change by itself; run to a later time before you judge by the end"
+        )
+    return said
+
+
+def own_by(text: str) -> list[str]:
+    """The elements whose trace ends at an own clock, each with that element where it is another."""
+    rows = [line.split(",") for line in text.splitlines() if line.count(",") == 3]
+    own = [row for row in rows if row[2] == "own"]
+    return [row[0] if row[0] == row[3] else f"{row[0]} (that of {row[3]})" for row in own]
+
+
+def on_sweep(text: str) -> list[str]:
+    """What a table of single failures says."""
+    rows = [line.split(",") for line in text.splitlines()[1:]]
+    left = [f"{row[0]} ({int(row[3]) + int(row[4])})" for row in rows if int(row[3]) + int(row[4])]
+    unsettled = [row[0] for row in rows if row[1] == "no"]
+    loops = [row[0] for row in rows if row[5] != "0"]
+    said = []
+    if left:
+        few = f"{len(left):,} of {plural(len(rows), 'cut')} leave elements in holdover or free-running (how many): "
+        said.append(few + listed(left))
+    if unsettled:
+        said.append(f"{plural(len(unsettled), 'row')} not settled, take a later UNTIL: {listed(unsettled)}")
+    if loops:
+        said.append(f"loops stand after {plural(len(loops), 'cut')}: {listed(loops)}")
+    caution = "`locked` counts whoever takes an input, also one that leads to an own clock: `sim` of a cut says whose clock it is"
+    return [*(said or [f"no cut of {len(rows):,} leaves anybody in holdover"]), caution]
+
+
+def on_hops(text: str) -> list[str]:
+    """Which elements have no way to a clock over any links."""
+    rows = [line.split(",") for line in text.splitlines()[1:]]
+    without = [row[0] for row in rows if row[1] == "none"]
+    if not rows:
+        return ["the plan is empty: is it the file that was meant?"]
+    return [have(without, "no way to a clock: a link or a source is missing")] if without else []
+
+
+def on_nominated(words: Words) -> list[str]:
+    """Which elements `nominate` could give no input: by the program's own count of hops."""
+    return on_hops(core.run(["hops", words.passed[1]]).text.decode("utf-8", "replace"))
+
+
+def on_capture(words: Words, text: str) -> list[str]:
+    """How many packets were none, and whether the other option is meant."""
+    rows = [line for line in text.splitlines() if not line.startswith("passed,")]
+    said, other = [], "II" if words.passed[1] == "I" else "I"
+    passed = text.rpartition("passed,")[2].strip() if "passed," in text else "0"
+    if passed != "0":
+        what = "packet is no ESMC frame" if passed == "1" else "packets are no ESMC frames"
+        said.append(f"{passed} {what} (another protocol, a VLAN tag, or cut below 60 octets)")
+    strange = sum(",code-" in row for row in rows)
+    if rows and strange * 2 > len(rows):
+        said.append(
+            f"{strange:,} of {plural(len(rows), 'frame')} have a code that the option doesn't know: is option {other} meant?"
+        )
+    return said
+
+
+def on_stopped(words: Words, text: str) -> list[str]:
+    """Where a run was stopped, and what to do."""
+    last = text.rstrip("\n").rpartition("stopped,")[2]
+    if words.form.name == "node":
+        return [f"stopped: more than 200,000 frames; all up to {last} ms are told. Replay to an earlier time"]
+    return [
+        f"stopped: more than 200,000 changes; all up to {last} ms are told. Run to an earlier time, or look whether two "
+        "elements swing, each taking and dropping the other, and give both a floor"
+    ]
+
+
+def on_done(words: Words, text: str) -> list[str]:
+    """What an answer with the status 0 leaves to be said."""
+    name = words.form.name
+    if name == "check":
+        return on_accepted(words)
+    if name == "rank":
+        return on_ranks(words, text)
+    if name == "prio-check":
+        return ["accepted: no loop can form among elements that choose by priority alone", *on_plan(words, None)[1:]]
+    if name == "prio-rank":
+        return ["no loop can form: " + (on_plan(words, greatest_rank(text)) or ["ranks rise over every hop"])[0]]
+    if name in ("sim", "prio-sim"):
+        return on_run(words, text)
+    if name == "trial":
+        return ["the ladder isn't settled at its end"] if text.endswith("settled no\n") else []
+    if name == "sweep":
+        return on_sweep(text)
+    if name == "hops":
+        return on_hops(text)
+    if name == "nominate":
+        return on_nominated(words)
+    return on_capture(words, text) if name in ("decode", "pcap-decode") else []
+
+
+def remarks(words: Words, answer: Answer) -> list[str]:
+    """The sentences on an answer that is no refusal."""
+    text = answer.text.decode("utf-8", "replace")
+    if answer.status == core.DONE:
+        return on_done(words, text)
+    if answer.status == core.REFUTED:
+        return on_refuted(words, text)
+    return on_stopped(words, text) if answer.status == core.STOPPED else []

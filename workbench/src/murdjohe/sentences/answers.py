@@ -1,0 +1,163 @@
+"""The sentence on whatever the program refused, by its words and its answer."""
+
+from __future__ import annotations
+
+import os
+import stat
+
+from murdjohe import core, documents, forms, refusals, times
+from murdjohe.core import Answer
+from murdjohe.documents import Document
+from murdjohe.inputs import STDIN, File, Words
+from murdjohe.plans import Plan
+from murdjohe.sentences import frames, plan as plan_sentences, records
+
+HOW = {
+    core.NO_MEMORY: "memory ran out, and nothing is written; free some, and run again",
+}
+
+
+def word_fault(word: forms.Word, text: str) -> str | None:
+    """What is wrong with a word of a form by itself, or None."""
+    if word.is_file and not text:
+        return f"{word.name} is empty; it is the name of a file"
+    if word.kind == forms.OPTION and text not in ("I", "II"):
+        return f'{word.name} is "{text}"; it is I or II'
+    if word.kind == forms.TIME:
+        time = times.milliseconds(text)
+        if time is None and not (times.is_digits(text) and str(int(text)) == text):
+            zero = ", without leading zeros" if times.is_digits(text) else ""
+            return f'{word.name} is "{text}"; it is {forms.MEANINGS[forms.TIME]}{zero}'
+        if (int(text) if time is None else time) > forms.DAY_MS:
+            return (
+                f'{word.name} is "{text}", which is more than a day; it is at most {forms.DAY_MS} milliseconds, or 24h'
+            )
+    if word.kind == forms.COUNT:
+        least, greatest = forms.SIZES
+        if not (times.is_digits(text) and str(int(text)) == text and least <= int(text) <= greatest):
+            return f'{word.name} is "{text}"; it is a number of elements, {least} to {greatest:,}'
+    return None
+
+
+def on_words(form: forms.Form, given: list[str]) -> str:
+    """Which word of a form is wrong, and what its words are."""
+    told = f"the form is `murdjohe {form.synopsis}`; see `murdjohe {form.name} --help`"
+    option = next((text for text in given if text.startswith("-") and text != STDIN and not text[1].isdigit()), None)
+    if option:
+        return f'{form.name}: "{option}" is no option; the options are --quiet, --json and --help; {told}'
+    if len(given) < len(form.words):
+        missing = form.words[len(given)]
+        return f"{form.name}: {missing.name} is missing, {forms.MEANINGS[missing.kind]}; {told}"
+    if len(given) > len(form.words):
+        return f'{form.name}: "{given[len(form.words)]}" is one word too many; {told}'
+    if sum(word.is_file and text == STDIN for word, text in zip(form.words, given)) > 1:
+        return f"{form.name}: `-`, standard input, can be read for one word alone; {told}"
+    for word, text in zip(form.words, given):
+        if fault := word_fault(word, text):
+            return f"{form.name}: {fault}; {told}"
+    if form.name == "sweep":
+        return f'{form.name}: AT, "{given[1]}", is after UNTIL, "{given[2]}"; {told}'
+    return f"{form.name}: a word isn't text in UTF-8; {told}"
+
+
+def read_fault(file: File) -> str | None:
+    """Why a file can't be read, or None where it can."""
+    try:
+        if stat.S_ISDIR(os.stat(file.path).st_mode):
+            return "it is a folder"
+        documents.read(file)
+    except (OSError, ValueError) as fault:
+        return getattr(fault, "strerror", None) or str(fault)
+    return None
+
+
+def on_reading(words: Words) -> str:
+    """Which file can't be read, and why. The program reads them in the order of the words."""
+    for file in words.files:
+        if why := read_fault(file):
+            return f"{file.name}: {why}; mend its name or its rights"
+    return f"one of {', '.join(file.name for file in words.files)} could not be read a moment ago, and now it can"
+
+
+def on_length(words: Words) -> str:
+    """Which file is too long."""
+    for file in words.files:
+        try:
+            size = len(documents.read(file).data)
+        except OSError:
+            continue
+        if size > core.LONGEST_FILE:
+            remedy = "a capture is split by `editcap -c`" if file.kind == forms.CAPTURE else "split it"
+            return f"{file.name}: it has more than {core.LONGEST_FILE:,} bytes; {remedy}"
+    return f"a file has more than {core.LONGEST_FILE:,} bytes; split it"
+
+
+def plan_of(words: Words) -> Plan | None:
+    """The plan that the words name, where it can be read."""
+    file = words.file(forms.PLAN)
+    try:
+        return Plan(documents.read(file)) if file else None
+    except OSError:
+        return None
+
+
+def document_of(words: Words, *kinds: str) -> Document:
+    """The file of these kinds. Raises OSError."""
+    file = words.file(*kinds)
+    return documents.read(file) if file else Document("the file", b"")
+
+
+def swapped(words: Words) -> str | None:
+    """The sentence on two files of a form that stand in each other's place."""
+    plan, other = words.file(forms.PLAN), words.file(forms.CERTIFICATE, forms.EVENTS)
+    if not plan or not other:
+        return None
+    wanted = "a certificate" if other.kind == forms.CERTIFICATE else "an event list"
+    kinds = documents.kind_of(documents.read(plan)), documents.kind_of(documents.read(other))
+    if kinds != (wanted, "a plan"):
+        return None
+    right = f"murdjohe {words.form.name} {other.name} {plan.name}"
+    return (
+        f"{plan.name} is {wanted}, and {other.name} is a plan: the two words are swapped; write `{right} ..`".replace(
+            " ..`", "`" if len(words.given) == 2 else " ..`"
+        )
+    )
+
+
+def on_refusal(words: Words, refusal: refusals.Refusal) -> str:
+    """The sentence on a file that is refused with a number. Raises OSError where it can't be read once more."""
+    if refusal.table == "plan":
+        both = swapped(words) if refusal.number == 22 else None
+        return both or plan_sentences.sentence(document_of(words, forms.PLAN), refusal)
+    if refusal.table == "certificate":
+        return records.of_certificate(document_of(words, forms.CERTIFICATE), refusal, plan_of(words))
+    if refusal.table == "events":
+        return records.of_events(document_of(words, forms.EVENTS), refusal, plan_of(words))
+    if refusal.table == "node":
+        document = Document("", b"") if refusal.number == 50 else document_of(words, forms.RECEIVED)
+        return frames.of_node(document, refusal, words.given[1], plan_of(words))
+    document = document_of(words, forms.FRAMES, forms.ROWS, forms.TIMED_ROWS, forms.CAPTURE)
+    if refusal.table == "capture":
+        return frames.of_capture(document, refusal)
+    option = words.given[0] if words.given[0] in ("I", "II") else "I"
+    return frames.of_frames(document, refusal, option, words.file(forms.TIMED_ROWS) is not None)
+
+
+def sentence(words: Words, answer: Answer) -> str | None:
+    """The sentence on an answer that is a refusal or a fault; None for one that isn't."""
+    if answer.status in HOW:
+        return HOW[answer.status]
+    if answer.status == core.USAGE:
+        return on_words(words.form, words.given)
+    if answer.status == core.READ_FAULT:
+        return on_reading(words)
+    if answer.status == core.TOO_LONG:
+        return on_length(words)
+    refusal = refusals.of(answer.status, answer.text)
+    if refusal is None:
+        return None
+    try:
+        return on_refusal(words, refusal)
+    except (OSError, ValueError):
+        says, remedy = refusals.says(refusal.table, refusal.number), refusals.remedy(refusal.table, refusal.number)
+        return f"{refusal.table} {refusal.place}: it {says}; {remedy}"

@@ -1,0 +1,218 @@
+"""Sentences on refused certificates and event lists: records with commas, whose rows count from 1 after a header."""
+
+from __future__ import annotations
+
+import csv
+import io
+import sys
+
+from murdjohe import documents, levels, refusals, times
+from murdjohe.documents import Document
+from murdjohe.plans import Plan
+from murdjohe.refusals import Refusal
+
+HEADERS = {"certificate": "line,rank", "events": "at,what,target,value"}
+NAMES = {"certificate": "certificate", "events": "event list"}
+HEADER_NUMBERS = (34, 26)
+# What a target is, by the word of an event.
+ON_INPUTS = ("lockout", "unlock", "forced", "manual", "clear-wtr")
+WORDS = ("down", "up", "esmc-off", "esmc-on", "level", *ON_INPUTS, "clear")
+ALIKE = {
+    "cut": "down",
+    "fail": "down",
+    "failed": "down",
+    "restore": "up",
+    "repair": "up",
+    "force": "forced",
+    "lock": "lockout",
+}
+
+
+class Row:
+    """A record, and the line on which it begins."""
+
+    def __init__(self, line: int, fields: list[str]) -> None:
+        self.line = line
+        self.fields = fields
+
+
+def rows_of(document: Document) -> list[Row]:
+    """The records that count, the header among them; damaged ones as far as they can be read."""
+    csv.field_size_limit(sys.maxsize)
+    reader = csv.reader(io.StringIO(document.text, newline=""))
+    found, line = [], 1
+    try:
+        for fields in reader:
+            if fields:
+                found.append(Row(line, fields))
+            line = reader.line_num + 1
+    except csv.Error:
+        pass
+    return found
+
+
+def on_header(document: Document, table: str) -> str:
+    """Where there is no header: what the file seems to be, or what its first line has in place of it."""
+    wanted, first = HEADERS[table], document.line(1)
+    if kind := documents.binary_kind_of(document):
+        return f"{document.name}: it is {kind}, and no {NAMES[table]}; are two words of the command swapped?"
+    if fault := documents.encoding_fault(document):
+        return document.place(fault[0]) + fault[1]
+    if not document.data.strip():
+        return f"{document.name}: it is empty; begin with `{wanted}`"
+    kind = documents.kind_of(document)
+    if kind:
+        return f"{document.place(1)}it is {kind}, and no {NAMES[table]}; are two words of the command swapped?"
+    if sign := documents.separator_of(first, wanted):
+        return f"{document.place(1)}its fields have {sign} between them; write commas, as in `{wanted}`"
+    same = [field.strip().lower() for field in first.split(",")] == wanted.split(",")
+    what = "its header has other letters or blanks" if same else "its first line is no header"
+    return f"{document.place(1)}{what}; begin with `{wanted}`"
+
+
+def line_missing(plan: Plan, name: str) -> str:
+    """Why a name is no nominated line of the plan, where that can be told, and what would be right."""
+    lines = plan.lines_of()
+    if name in lines:
+        number, end = lines[name]
+        link = plan.row("link", number)
+        line = plan.line("link", number, f"priority_{end}")
+        where = f", {plan.document.name}:{line}" if line else ""
+        return f'is a line that isn\'t nominated: link "{link.get("name")}" has no priority_{end} above 0{where}'
+    if name in plan.names("link"):
+        return f'names a link; its lines are {" and ".join(line for line in lines if line.startswith(name + ">"))}'
+    return f"names no line of the plan{documents.hint(name, lines)}"
+
+
+def of_certificate(document: Document, refusal: Refusal, plan: Plan | None) -> str:
+    """The sentence on a refused certificate."""
+    number, remedy = refusal.number, refusals.remedy("certificate", refusal.number)
+    if number == 34:
+        return on_header(document, "certificate")
+    if number == 38:
+        return f'{document.name}: the nominated line "{refusal.place}" has no row; {remedy}'
+    rows = rows_of(document)
+    if refusal.row >= len(rows):
+        return f"{document.name}: row {refusal.row} {refusals.says('certificate', number)}; {remedy}"
+    row = rows[refusal.row]
+    what = f"the row {refusals.says('certificate', number)}"
+    if number == 35 and len(row.fields) == 1 and ";" in row.fields[0]:
+        what, remedy = "the row has a semicolon between its fields", "write a comma"
+    elif number == 36 and plan:
+        what = f'"{row.fields[0]}" {line_missing(plan, row.fields[0])}'
+    elif number == 37:
+        first = next(other for other in rows[1:] if other.fields[:1] == row.fields[:1])
+        what = f'the line "{row.fields[0]}" has a row already, line {first.line}'
+    return f"{document.place(row.line)}{what}; {remedy}"
+
+
+def targets(plan: Plan, word: str) -> tuple[str, list[str]]:
+    """What a word of an event is said of, in words, and the names of these."""
+    lines, links, sources = list(plan.lines_of()), plan.names("link"), plan.names("source")
+    if word == "clear":
+        return "an element", plan.names("element")
+    if word == "level":
+        return "a source", sources
+    if word in ("esmc-off", "esmc-on"):
+        return "a line, as L1>B", lines
+    if word in ON_INPUTS:
+        return "a line, as L1>B, or a source", lines + sources
+    return "a link, a line, as L1>B, or a source", links + lines + sources
+
+
+def what_it_is(plan: Plan, name: str) -> str:
+    """What a name is in the plan, in words, and nothing where it is no name of it."""
+    if name in plan.names("link"):
+        return f"a link; its lines are {' and '.join(line for line in plan.lines_of() if line.startswith(name + '>'))}"
+    if name in plan.lines_of():
+        element = name.partition(">")[2]
+        return f"a line, into element {element}"
+    if name in plan.names("source"):
+        return "a source"
+    if name in plan.names("element"):
+        at = [line for line in plan.lines_of() if line.endswith(">" + name)]
+        sources = [row["name"] for row in plan.rows("source") if row.get("at") == name]
+        inputs = ", ".join([*at, *sources][:6])
+        return f"an element; its inputs are {inputs}" if inputs else "an element"
+    bundle = [link["name"] for link in plan.rows("link") if link.get("bundle") == name]
+    return f"a bundle; its links are {', '.join(bundle)}" if bundle else ""
+
+
+def on_target(plan: Plan | None, fields: list[str]) -> tuple[str, str]:
+    """What is wrong with the target of an event, and what would be right."""
+    word, name = fields[1], fields[2]
+    if plan is None:
+        return f'"{name}" {refusals.says("events", 31)}', refusals.remedy("events", 31)
+    right, names = targets(plan, word)
+    what = what_it_is(plan, name)
+    if what:
+        return f'"{name}" is {what}', f"`{word}` takes {right}"
+    return f'"{name}" names nothing in the plan{documents.hint(name, names)}', f"`{word}` takes {right}"
+
+
+def on_value(plan: Plan | None, fields: list[str]) -> tuple[str, str]:
+    """What is wrong with the value of an event, and what would be right."""
+    word, value = fields[1], fields[3]
+    if word != "level":
+        return f'`{word}` takes no value, and "{value}" stands there', "leave the value empty"
+    option = plan.option if plan else "I"
+    known = levels.LEVELS[option]
+    likely = levels.likely(value, option) or documents.nearest(value, known)
+    meant = f' (nearest: "{likely}")' if likely else ""
+    return f'"{value}" is no level of option {option}{meant}', f"the levels are {', '.join(known)}"
+
+
+def on_time(field: str) -> tuple[str, str]:
+    """What is wrong with the time of an event, and what would be right."""
+    time = times.milliseconds(field.strip())
+    if time is not None:
+        return f'the time "{field}" has units', f"write milliseconds: {time}"
+    if field != field.strip():
+        return f'the time "{field}" has blanks', refusals.remedy("events", 28)
+    return f'"{field}" is no number from 0 to 86400000', refusals.remedy("events", 28)
+
+
+def on_fields(row: Row) -> tuple[str, str]:
+    """What is wrong with a row that hasn't four fields, and what would be right."""
+    text = row.fields[0] if row.fields else ""
+    if text.lstrip().startswith("#"):
+        return "it is a remark, and event lists have none", "take it out"
+    if len(row.fields) == 1 and text.count(";") == 3:
+        return "its fields have semicolons between them", "write commas"
+    said = f"it has {len(row.fields)} field{'s' * (len(row.fields) != 1)} in place of four"
+    return said, refusals.remedy("events", 27)
+
+
+def on_event(number: int, rows: list[Row], at: int, plan: Plan | None) -> tuple[str, str]:
+    """What is wrong with a row of an event list, and what would be right."""
+    row = rows[at]
+    if number == 27:
+        return on_fields(row)
+    if number == 28:
+        return on_time(row.fields[0])
+    if number == 29:
+        before = rows[at - 1]
+        return f"its time is before {before.fields[0]}, that of line {before.line}", refusals.remedy("events", 29)
+    if number == 30:
+        word = row.fields[1]
+        likely = ALIKE.get(word.lower()) or documents.nearest(word, WORDS)
+        meant = f' (nearest: "{likely}")' if likely else ""
+        return f'"{word}" is no word of an event{meant}', f"the words are {', '.join(WORDS)}"
+    return on_target(plan, row.fields) if number == 31 else on_value(plan, row.fields)
+
+
+def of_events(document: Document, refusal: Refusal, plan: Plan | None) -> str:
+    """The sentence on a refused event list."""
+    number = refusal.number
+    if number == 26:
+        return on_header(document, "events")
+    rows = rows_of(document)
+    at = 100_001 if number == 33 else refusal.row
+    if at >= len(rows) or number not in range(27, 34):
+        says, remedy = refusals.says("events", number), refusals.remedy("events", number)
+        return f"{document.name}: row {at} {says}; {remedy}"
+    if number == 33:
+        what, remedy = f"the row {refusals.says('events', 33)}", refusals.remedy("events", 33)
+    else:
+        what, remedy = on_event(number, rows, at, plan)
+    return f"{document.place(rows[at].line)}{what}; {remedy}"

@@ -1,0 +1,140 @@
+"""What `murdjohe help TOPIC` says of files, levels, statuses and the program: enough to write them without another document."""
+
+from __future__ import annotations
+
+from murdjohe import core, forms, levels, plans, refusals
+from murdjohe.sentences import records
+
+PLAN = """\
+A plan is a TOML file. An element is what selects one reference; a link joins two elements and is two lines, one each
+way: L1>B is the line of L1 into B; a source is a clock at an element. A line is nominated where its end has a priority.
+
+[[element]]
+name = "A"
+
+[[element]]
+name = "B"
+
+[[link]]
+name = "L1"
+a = "A"
+b = "B"
+priority_b = 1
+
+[[source]]
+name = "S"
+at = "A"
+level = "QL-PRC"
+
+Without priorities `murdjohe nominate` gives them. The head may have option = "I" or "II", and version = 2, in which a
+link may have a bundle. The keys of each row, and their limits:
+"""
+EVENTS = """\
+An event list is a table with commas. `at` is in milliseconds and rises; `value` is empty but for `level`.
+
+at,what,target,value
+60000,down,L1,
+360000,up,L1,
+400000,level,S,QL-SSU-A
+500000,lockout,L1>B,
+
+"""
+CERTIFICATE = """\
+A certificate has a rank, a number from 0 on, for each nominated line. `murdjohe rank` writes it.
+
+line,rank
+L1>B,0
+"""
+TABLES = """\
+`murdjohe import ELEMENTS LINKS SOURCES` makes a plan of tables with commas and a header. The columns, in any order, those
+in brackets may be missing; an empty field has its default. Times are milliseconds, wtr is in minutes.
+
+  ELEMENTS  name [own] [holdoff] [wtr] [floor]
+  LINKS     name a b [priority_a] [priority_b] [delay_a] [delay_b] [bundle]
+  SOURCES   name at level [priority]
+
+  $ murdjohe import elements.csv links.csv sources.csv -o topology.toml
+  $ murdjohe nominate topology.toml > plan.toml
+  $ murdjohe rank plan.toml > certificate.csv
+  $ murdjohe check plan.toml certificate.csv
+  accepted
+"""
+CORE = f"""\
+`murdjohe` runs the proved program, {core.NAME}, for every verdict. It is looked for
+
+  1. where the variable {core.VARIABLE} says,
+  2. beside the package,
+  3. on the PATH, as {core.NAME},
+  4. in a checkout, at {core.BUILT}.
+
+In a checkout `make core` builds it, and `make install` installs both.
+"""
+
+
+def limits(key: str) -> str:
+    """The limits of a key, in words, where it has any."""
+    if key not in plans.LIMITS:
+        return ""
+    least, greatest, unit = plans.LIMITS[key]
+    return f": {least} to {greatest}{unit}"
+
+
+def plan() -> str:
+    """The plan: an example, and each key."""
+    lines = []
+    for section in plans.SECTIONS:
+        lines.append(f"\n  {section}")
+        for key in plans.KEYS[section]:
+            must = " (must be there)" if key in plans.MUST[section] else ""
+            lines.append(f"    {key}{must}{limits(key)}")
+    return PLAN + "\n".join(lines) + "\n\nThe levels are told by `murdjohe help levels`.\n"
+
+
+def events() -> str:
+    """The event list: an example, and each word with what it is said of."""
+    words = {
+        "down, up": "a link, a line, or a source",
+        "esmc-off, esmc-on": "a line",
+        "level": "a source; the value is a level",
+        ", ".join(records.ON_INPUTS): "a line or a source",
+        "clear": "an element",
+    }
+    return EVENTS + "\n".join(f"  {word}: {target}" for word, target in words.items()) + "\n"
+
+
+def level_table() -> str:
+    """The levels of both options, best first."""
+    rows = [f"  option {option}: {', '.join(names)}" for option, names in levels.LEVELS.items()]
+    return "Quality levels, best first; the last is do-not-use.\n\n" + "\n".join(rows) + "\n"
+
+
+def statuses(numbers: tuple[int, ...] | None = None) -> str:
+    """The exit statuses, or those of these numbers."""
+    entries = refusals.meanings()["status"]
+    rows = [
+        f"  {entry['number']:>2}  {entry['when']}" for entry in entries if numbers is None or entry["number"] in numbers
+    ]
+    return "\n".join(rows) + "\n"
+
+
+TOPICS = {
+    "plan": ("the plan file", plan),
+    "tables": ("tables that become a plan", lambda: TABLES),
+    "events": ("the event list", events),
+    "certificate": ("the certificate", lambda: CERTIFICATE),
+    "levels": ("quality levels", level_table),
+    "statuses": ("exit statuses", lambda: "Exit statuses:\n\n" + statuses()),
+    "core": ("the proved program, and where it is", lambda: CORE),
+}
+ALWAYS = (core.USAGE, core.WRITE_FAULT, core.NO_MEMORY, core.UNAVAILABLE, core.MISTAKE)
+
+
+def of_form(form: forms.Form) -> str:
+    """What `--help` says of a form below its first lines: words, statuses and an example."""
+    width = max(len(word.name) for word in form.words)
+    words = [f"  {word.name:<{width}}  {forms.MEANINGS[word.kind]}" for word in form.words]
+    has_files = any(word.is_file for word in form.words)
+    stdin = "  A file may be `-`, standard input.\n" if has_files else ""
+    numbers = tuple(sorted({*form.statuses, *ALWAYS}))
+    example = "\n".join(f"  $ {line}" for line in form.example)
+    return "Words:\n" + "\n".join(words) + f"\n{stdin}\nStatuses:\n{statuses(numbers)}\nExample:\n{example}\n"

@@ -1,0 +1,99 @@
+"""Any words at all: a status that has a meaning, and never a mistake of the command itself."""
+
+from __future__ import annotations
+
+import json
+from pathlib import Path
+
+import pytest
+from conftest import CASES, EXAMPLES
+from hypothesis import HealthCheck, given, settings
+from hypothesis import strategies as st
+
+from murdjohe import cli, main, streams
+from murdjohe.forms import FORMS
+
+FILES = [
+    "plan",
+    "certificate",
+    "events",
+    "report",
+    "capture",
+    "rows",
+    "nosuch",
+    ".",
+    "",
+    "-",
+    "/dev/null",
+    "p\udcffq",
+    "ä",
+]
+OPTIONS = [
+    "-q",
+    "--quiet",
+    "--json",
+    "--help",
+    "-h",
+    "--version",
+    "--",
+    "-x",
+    "--near",
+    "-o",
+    "out.dot",
+    "out.svg",
+    "--report",
+]
+OTHERS = [
+    "I",
+    "II",
+    "III",
+    "A",
+    "20m",
+    "0",
+    "99",
+    "-5",
+    "1e9",
+    "25h",
+    "12:00:00",
+    "3",
+    "2001",
+    "plan=",
+    "\n",
+    "\x1b[2J",
+]
+WORDS = st.lists(
+    st.one_of(
+        st.sampled_from([*FORMS, *cli.OWN]), st.sampled_from(FILES), st.sampled_from(OPTIONS), st.sampled_from(OTHERS)
+    ),
+    max_size=6,
+)
+LIKELY = st.builds(
+    lambda name, rest: [name, *rest],
+    st.sampled_from([*FORMS, *cli.OWN]),
+    st.lists(st.one_of(st.sampled_from(FILES), st.sampled_from(OTHERS), st.sampled_from(OPTIONS)), max_size=4),
+)
+
+
+@pytest.fixture
+def files(folder: Path) -> Path:
+    """A folder with a file of each kind."""
+    at = {
+        "plan": "ring/plan.toml",
+        "certificate": "ring/certificate.csv",
+        "events": "ring/events.csv",
+        "report": "ring/report",
+    }
+    for name, source in (at | {"capture": "lab/capture.pcap", "rows": "lab/stimulus.rows"}).items():
+        (folder / name).write_bytes((EXAMPLES / source).read_bytes())
+    return folder
+
+
+@settings(max_examples=2 * CASES, suppress_health_check=[HealthCheck.function_scoped_fixture])
+@given(words=st.one_of(WORDS, LIKELY))
+def test_any_words_have_a_status(files: Path, capfd: pytest.CaptureFixture[str], words: list[str]) -> None:
+    status = main.guarded(words, streams.Output(False))
+    out, err = capfd.readouterr()
+    assert status in range(12), (words, err)
+    assert "Traceback" not in err and all(line.startswith("murdjohe: ") for line in err.splitlines()), (words, err)
+    if "--json" in words and out.startswith("{"):
+        assert json.loads(out)["status"] == status

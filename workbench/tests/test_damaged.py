@@ -1,0 +1,122 @@
+"""Damaged files through every command that reads them: a status, at most one complaint, and never a trace.
+
+The damage, and the whole files, are those of bench/fuzz.py. Commands run within this process, pictures are worked out but
+not drawn.
+"""
+
+from __future__ import annotations
+
+import random
+import sys
+from collections.abc import Sequence
+from pathlib import Path
+from typing import Any
+
+import pytest
+from conftest import CASES, EXAMPLES, TOP
+
+from murdjohe import bands, cli, drawing, run_form, tables
+from murdjohe.forms import FORMS
+from murdjohe.streams import Output
+from murdjohe.wrong import Wrong
+
+sys.path.append(str(TOP / "bench"))
+fuzz: Any = pytest.importorskip("fuzz")
+INVENTORY = EXAMPLES / "inventory"
+
+
+def chances(what: str) -> list[random.Random]:
+    return [random.Random(f"damaged {what} {seed}") for seed in range(CASES)]
+
+
+@pytest.mark.parametrize("reader", ["plan", "certificate", "events", "frames", "rows", "capture", "timed-rows"])
+def test_each_refusal_has_one_sentence_with_the_files_name(folder: Path, reader: str) -> None:
+    for chance in chances(reader):
+        whole = fuzz.READERS[reader](chance)
+        (folder / "file").write_bytes(fuzz.damaged(chance, reader, whole.data))
+        if whole.text:
+            (folder / "plan").write_bytes(whole.text)
+        form, *given = [{"{}": "file"}.get(word, word) for word in whole.words]
+        words, answer = run_form.answered(FORMS[form], given)
+        said = run_form.said_of(words, answer)
+        if answer.text.startswith(b"bad "):
+            assert len(said) == 1 and ("file:" in said[0] or said[0].startswith("plan")), (said, answer.text)
+        assert all("\n" not in line for line in said)
+
+
+def called(words: Sequence[str], output: Output) -> int:
+    """The status of a command of the workbench's own."""
+    try:
+        return cli.run(list(words), output)
+    except Wrong as wrong:
+        assert str(wrong)
+        return 2
+
+
+def test_damaged_tables_are_written_or_refused(folder: Path) -> None:
+    names = ("elements.csv", "links.csv", "sources.csv")
+    for chance in chances("tables"):
+        paths = {kind: str(INVENTORY / name) for kind, name in zip(tables.TABLES, names)}
+        kind = chance.choice(list(paths))
+        (folder / "table").write_bytes(fuzz.damaged(chance, "rows", Path(paths[kind]).read_bytes()))
+        paths[kind] = "table"
+        try:
+            assert tables.plan_of(paths, "I").startswith(('option = "I"\n', "version = 2\n"))
+        except Wrong as wrong:
+            assert str(wrong).startswith("table:")
+
+
+@pytest.mark.parametrize(
+    ("word", "file"), [("--report", "report"), ("--certificate", "certificate.csv"), ("--answer", "output")]
+)
+def test_what_is_drawn_beside_a_plan_is_taken_or_refused(folder: Path, word: str, file: str) -> None:
+    for chance in chances(word):
+        at = EXAMPLES / chance.choice(["ring", "option-two", "bundle"])
+        (folder / "damaged").write_bytes(fuzz.damaged(chance, "rows", (at / file).read_bytes()))
+        assert called(["draw", str(at / "plan.toml"), word, "damaged", "-o", "plan.dot"], Output(False)) in (0, 2)
+
+
+def test_damaged_plans_are_drawn_or_refused(folder: Path) -> None:
+    for chance in chances("draw"):
+        (folder / "damaged").write_bytes(fuzz.damaged(chance, "plan", fuzz.whole_plan(chance)[1]))
+        try:
+            plan = drawing.read_plan("damaged")
+            assert drawing.picture_of(plan, drawing.Shown()).startswith("digraph plan {")
+        except Wrong as wrong:
+            assert str(wrong).startswith("damaged:")
+
+
+def test_damaged_reports_have_bands_or_are_refused(folder: Path) -> None:
+    for chance in chances("timeline"):
+        at = EXAMPLES / chance.choice(["ring", "option-two", "bundle"])
+        (folder / "damaged").write_bytes(fuzz.damaged(chance, "rows", (at / "report").read_bytes()))
+        try:
+            rows, order = bands.changes_of("damaged")
+        except Wrong as wrong:
+            assert str(wrong).startswith("damaged:")
+            continue
+        moments = sorted({row.at for row in rows})
+        assert set(bands.colours_of(rows)) == {row.level for row in rows}
+        assert set(bands.places_of(moments, 1000)[0]) == set(moments)
+        assert sum(map(len, bands.bands_of(rows, order, moments[-1] + 1).values())) == len(rows)
+
+
+def test_damaged_answers_are_explained_or_passed_on(folder: Path) -> None:
+    from murdjohe.commands import explain
+    from murdjohe.core import Answer
+    from murdjohe.inputs import Words
+
+    for chance in chances("answers"):
+        reader = chance.choice(list(fuzz.READERS))
+        whole = fuzz.READERS[reader](chance)
+        (folder / "file").write_bytes(fuzz.damaged(chance, reader, whole.data))
+        (folder / "plan").write_bytes(whole.text or b"")
+        form, *given = [{"{}": "file"}.get(word, word) for word in whole.words]
+        words, answer = run_form.answered(FORMS[form], given)
+        text = fuzz.damaged(chance, "rows", answer.text[:200])
+        assert isinstance(words, Words)
+        try:
+            said = explain.said_of(words, Answer(explain.status_of(form, text), text))
+        except Wrong as wrong:
+            said = [str(wrong)]
+        assert all("\n" not in line for line in said)

@@ -1,0 +1,109 @@
+"""What stands once: refusals and their tables, numbers of the program, the packages that are needed, the shape of the code."""
+
+from __future__ import annotations
+
+import ast
+import re
+import sys
+from pathlib import Path
+
+from conftest import EXAMPLES, TOP, WORKBENCH, started
+
+from murdjohe import cli, forms, refusals
+
+SOURCES = sorted((WORKBENCH / "src" / "murdjohe").rglob("*.py"))
+LONGEST_FUNCTION, LONGEST_MODULE = 40, 400
+PLAN = {22, 23, 24, 15, 16, 17, 18, 19, 20, 21, 39}
+
+
+def test_the_tables_of_the_formats_are_made_of_the_refusals() -> None:
+    ran = started([str(TOP / "docs" / "refusal_tables")])
+    assert (ran.status, ran.err) == (0, "")
+
+
+def test_each_number_of_the_program_has_a_meaning_once() -> None:
+    wanted = {
+        "plan": PLAN,
+        "certificate": set(range(34, 39)),
+        "events": set(range(26, 34)),
+        "frames": {12, 13, 14},
+        "capture": {40, 41, 42, 14},
+        "node": set(range(43, 51)),
+        "frame": set(range(4, 12)),
+        "status": {*range(12), 69, 70},
+    }
+    tables = refusals.meanings()
+    assert set(tables) == set(wanted)
+    for table, numbers in wanted.items():
+        found = [entry["number"] for entry in tables[table]]
+        assert sorted(found) == sorted(numbers)
+        keys = ("name", "when") if table == "status" else ("when", "remedy", "says")
+        assert all(entry[key] for entry in tables[table] for key in keys)
+
+
+def test_the_forms_are_those_of_the_formats() -> None:
+    text = (TOP / "docs" / "formats.md").read_text(encoding="utf-8")
+    table = text[text.index("| words | what it does |") : text.index("PLAN, CERT, EVENTS and FILE")]
+    written = re.findall(r"^\| `([^`]+)` \|", table, re.M)
+    assert sorted(form.synopsis for form in forms.FORMS.values()) == sorted(written)
+
+
+def test_the_page_of_the_manual_has_each_command() -> None:
+    page = (TOP / "man" / "murdjohe.1").read_text(encoding="utf-8")
+    for name in [*forms.FORMS, *cli.OWN]:
+        assert re.search(rf"^\.(Cm|It Cm) (.*, )?{name}\b", page, re.M), name
+
+
+def imported(path: Path) -> set[str]:
+    """The packages that a module imports, anywhere in it."""
+    found = set()
+    for node in ast.walk(ast.parse(path.read_text(encoding="utf-8"))):
+        if isinstance(node, ast.Import):
+            found |= {name.name.partition(".")[0] for name in node.names}
+        elif isinstance(node, ast.ImportFrom):
+            found.add((node.module or "").partition(".")[0])
+    return found - set(sys.stdlib_module_names) - {"murdjohe"}
+
+
+def test_only_declared_packages_are_imported() -> None:
+    declared = {
+        line.split()[0] for line in (WORKBENCH / "packages").read_text().splitlines() if line and line[0] != "#"
+    }
+    needed = {f"python3-{package}" for path in SOURCES for package in imported(path)}
+    assert needed <= declared
+    tests = {f"python3-{package}" for path in (WORKBENCH / "tests").glob("*.py") for package in imported(path)}
+    ours = {f"python3-{path.stem}" for path in (WORKBENCH / "tests").glob("*.py")} | {"python3-fuzz"}
+    assert tests - ours <= declared
+
+
+def test_click_is_in_the_command_line_alone() -> None:
+    users = {path.relative_to(WORKBENCH / "src" / "murdjohe").parts[0] for path in SOURCES if "click" in imported(path)}
+    assert users <= {"cli.py", "commands"}
+
+
+def test_one_place_starts_the_program() -> None:
+    starters = [
+        path.name for path in SOURCES if re.search(r"posix_spawn|os\.exec|Popen", path.read_text(encoding="utf-8"))
+    ]
+    assert starters == ["core.py"]
+
+
+def test_functions_and_modules_are_short() -> None:
+    for path in SOURCES:
+        text = path.read_text(encoding="utf-8")
+        assert text.count("\n") <= LONGEST_MODULE, path.name
+        for node in ast.walk(ast.parse(text)):
+            if isinstance(node, ast.FunctionDef):
+                assert (node.end_lineno or 0) - node.lineno < LONGEST_FUNCTION, f"{path.name}: {node.name}"
+
+
+def test_the_readme_of_the_workbench_runs(folder: Path) -> None:
+    text = (WORKBENCH / "README.md").read_text(encoding="utf-8")
+    (script,) = re.findall(r"^```python\n(.*?)^```", text, re.M | re.S)
+    (folder / "plan.toml").write_bytes((EXAMPLES / "ladder" / "plan.toml").read_bytes().replace(b'"S1"', b'"L1"'))
+    (folder / "other.toml").write_text('[[element]]\nname = "M.1"\n')
+    (folder / "script.py").write_text(script)
+    ran = started(["/usr/bin/python3", "script.py"], folder, b"", PYTHONPATH=str(WORKBENCH / "src"))
+    assert ran.status == 0, ran.err
+    elements, refused = ran.out.decode().splitlines()
+    assert elements == "[]" and refused.startswith('16 element 1 other.toml:2: `name = "M.1"`: ')

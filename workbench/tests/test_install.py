@@ -1,0 +1,94 @@
+"""`make install` into an empty folder: what is installed runs from there, and goes again."""
+
+from __future__ import annotations
+
+import os
+import subprocess
+from pathlib import Path
+
+import pytest
+from conftest import EXAMPLES, TOP, started
+
+from murdjohe.forms import FORMS
+
+RING = EXAMPLES / "ring"
+
+
+def make(target: str, root: Path, core: str, prefix: str) -> None:
+    words = ["make", "-s", "-C", str(TOP), target, f"DESTDIR={root}", f"PREFIX={prefix}", f"CORE={core}"]
+    subprocess.run(words, check=True, capture_output=True)
+
+
+@pytest.mark.parametrize("prefix", ["/usr/local", "/usr", "/opt/planner"])
+def test_what_is_installed_runs(tmp_path: Path, core: str, prefix: str) -> None:
+    make("install", tmp_path, core, prefix)
+    at = tmp_path / prefix[1:]
+    command, bare = str(at / "bin" / "murdjohe"), {"MURDJOHE_CORE": "", "PATH": "/usr/bin:/bin"}
+    ran = started([command, "check", "plan.toml", "certificate.csv"], RING, b"", **bare)
+    assert (ran.status, ran.out) == (1, b"falls L3>A L1>B\n")
+    ran = started([command, "check", "certificate.csv", "plan.toml"], RING, b"", **bare)
+    assert ran.status == 3 and "the two words are swapped" in ran.err
+    lines = started([command, "--version"], RING, b"", **bare).out.decode().splitlines()
+    assert lines[1].startswith(f"core {at}/lib/") and not lines[2].endswith("of the checkout")
+    for page in ("man1/murdjohe.1", "man5/murdjohe-plan.5", "man5/murdjohe-events.5"):
+        assert (at / "share" / "man" / page).stat().st_size > 500
+    modules = at / "lib" / ("python3" if prefix == "/usr" else "python3.11") / "dist-packages"
+    assert (modules / "murdjohe" / "py.typed").exists() and not (modules / "murdjohe" / "refusals.toml").is_symlink()
+    script = "import murdjohe; print(murdjohe.gen(2).result.text.count('[[link]]'))"
+    ran = started(["/usr/bin/python3", "-c", script], None, b"", PYTHONPATH=str(modules), **bare)
+    assert ran.out == b"1\n", ran.err
+    assert "murdjohe" in (at / "share" / "bash-completion" / "completions" / "murdjohe").read_text()
+    assert all(os.stat(path).st_mode & 0o444 == 0o444 for path in at.rglob("*"))
+    make("uninstall", tmp_path, core, prefix)
+    assert [path for path in tmp_path.rglob("*") if not path.is_dir()] == []
+
+
+def test_bash_completes_what_is_installed(tmp_path: Path, core: str) -> None:
+    make("install", tmp_path, core, "/usr")
+    script = (
+        f"PATH={tmp_path}/usr/bin:$PATH; . {tmp_path}/usr/share/bash-completion/completions/murdjohe\n"
+        "COMP_WORDS=(murdjohe prio-); COMP_CWORD=1; _murdjohe_completion murdjohe prio- murdjohe; echo ${COMPREPLY[@]}"
+    )
+    ran = started(["bash", "-c", script])
+    assert ran.out.decode().split() == [name for name in FORMS if name.startswith("prio-")]
+
+
+FAKE_RT = """\
+#!/bin/sh
+[ "$1" = version ] && exit 0
+echo "arguments: $*"
+sh -c 'sleep 6' --crate-name sync_ql src/lib.rt &
+wait
+case $FAKE in fail) echo "the last line"; exit 3 ;; esac
+mkdir -p out; printf '#!/bin/sh\\n' > out/sync_main; chmod 755 out/sync_main
+"""
+
+
+def bare_checkout(folder: Path) -> Path:
+    """A checkout with what building the program needs, and nothing else."""
+    top = folder / "top"
+    (top / "packaging").mkdir(parents=True)
+    (top / "crates" / "sync_main").mkdir(parents=True)
+    for name in ("packaging/build_core", "crates.txt", "Makefile"):
+        (top / name).write_bytes((TOP / name).read_bytes())
+    return top
+
+
+@pytest.mark.parametrize("fake", ["", "fail"])
+def test_the_program_is_built_where_it_is_not_there(tmp_path: Path, fake: str) -> None:
+    (tmp_path / "rt").write_text(FAKE_RT)
+    (tmp_path / "rt").chmod(0o755)
+    top = bare_checkout(tmp_path)
+    ran = started(["make", "-s", "-C", str(top), "core"], None, b"", PATH=f"{tmp_path}:/usr/bin:/bin", FAKE=fake)
+    text = ran.out.decode()
+    assert "half an hour or more on four idle processors" in text and "  sync_ql (" in text
+    if fake:
+        assert ran.status != 0 and "the last line" in ran.err and "rt ends with 3" in ran.err
+    else:
+        assert ran.status == 0 and text.endswith("is proved and built\n")
+
+
+def test_without_the_toolchain_that_is_told(tmp_path: Path) -> None:
+    build = bare_checkout(tmp_path) / "packaging" / "build_core"
+    ran = started(["/usr/bin/python3", str(build)], None, b"", PATH=str(tmp_path))
+    assert ran.status == 1 and "there is no `rt`" in ran.err

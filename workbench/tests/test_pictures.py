@@ -1,0 +1,167 @@
+"""`draw`, `timeline` and `explain` on the examples: what they write is what is stored, or what the files say."""
+
+from __future__ import annotations
+
+import re
+from pathlib import Path
+
+import pytest
+from conftest import EXAMPLES, murdjohe, started
+
+from murdjohe import bands, drawing
+from murdjohe.bands import Band, Row
+
+PLANS = sorted(EXAMPLES.glob("*/*.toml"))
+REPORTS = sorted(
+    path for path in EXAMPLES.glob("*/*report") if path.parent.name != "reserve-clock" or path.name == "report"
+)
+STORED = sorted(EXAMPLES.glob("*/timeline.svg"))
+
+
+def name(path: Path) -> str:
+    return f"{path.parent.name}-{path.name}"
+
+
+@pytest.mark.parametrize("plan", PLANS, ids=name)
+def test_each_plan_is_drawn_with_all_that_it_has(folder: Path, plan: Path) -> None:
+    ran = murdjohe("draw", str(plan), "-o", "plan.dot", folder=folder)
+    assert (ran.status, ran.err) == (0, "")
+    dot, tables = (folder / "plan.dot").read_text(), drawing.read_plan(str(plan))
+    for element in tables["element"]:
+        assert f'"e {element["name"]}" [label="' in dot
+    arrows = sum(link.get(f"priority_{end}", 0) > 0 for link in tables.get("link", []) for end in "ab")
+    quiet = sum(not any(link.get(f"priority_{end}", 0) for end in "ab") for link in tables.get("link", []))
+    assert dot.count(" -> ") == arrows + quiet + len(tables.get("source", []))
+
+
+@pytest.mark.parametrize("ending", ["svg", "png", "dot"])
+def test_pictures_of_each_format(folder: Path, ending: str) -> None:
+    at = EXAMPLES / "metro-ring"
+    words = [
+        "draw",
+        str(at / "plan.toml"),
+        "--report",
+        str(at / "report"),
+        "--certificate",
+        str(at / "certificate.csv"),
+    ]
+    assert murdjohe(*words, "-o", f"plan.{ending}", folder=folder).status == 0
+    begins = {"svg": b"<?xml", "png": b"\x89PNG", "dot": b"digraph plan {"}[ending]
+    assert (folder / f"plan.{ending}").read_bytes().startswith(begins)
+
+
+def test_what_is_taken_is_thick_and_what_makes_a_ring_is_red(folder: Path) -> None:
+    inventory = EXAMPLES / "inventory"
+    words = ["draw", str(inventory / "first.toml"), "--answer", str(inventory / "first.answer"), "-o", "plan.dot"]
+    assert murdjohe(*words, folder=folder).status == 0
+    ring = (inventory / "first.answer").read_text().split()[1:]
+    assert (folder / "plan.dot").read_text().count('color="#D55E00", style=dashed') == len(ring)
+    at = EXAMPLES / "ladder"
+    assert (
+        murdjohe("draw", str(at / "plan.toml"), "--report", str(at / "report"), "-o", "plan.dot", folder=folder).status
+        == 0
+    )
+    taken = {
+        row.split(",")[1]: row.split(",")[3] for row in (at / "report").read_text().splitlines() if row.count(",") == 5
+    }
+    thick = sum(taken != "none" for taken in taken.values())
+    assert (folder / "plan.dot").read_text().count('color="#0072B2", penwidth=3') == thick
+
+
+def test_near_draws_a_part(folder: Path) -> None:
+    plan = str(EXAMPLES / "mesh" / "plan.toml")
+    assert murdjohe("draw", plan, "--near", "cell-2", "--links", "1", "-o", "part.dot", folder=folder).status == 0
+    drawn = set(re.findall(r'^  "e ([\w-]+)" \[', (folder / "part.dot").read_text(), re.M))
+    assert drawn == {"cell-1", "cell-2", "cell-3"}
+
+
+@pytest.mark.parametrize("stored", STORED, ids=name)
+def test_the_stored_timelines_are_drawn(folder: Path, stored: Path) -> None:
+    report = stored.parent / ("loss.report" if stored.parent.name == "inventory" else "report")
+    ran = murdjohe("timeline", str(report), "--until", "20m", "-o", "timeline.svg", folder=folder)
+    assert (ran.status, ran.err) == (0, "")
+    assert (folder / "timeline.svg").read_bytes() == stored.read_bytes()
+
+
+@pytest.mark.parametrize("report", REPORTS, ids=name)
+def test_bands_cover_the_run(report: Path) -> None:
+    rows, order = bands.changes_of(str(report))
+    end = rows[-1].at + 1000
+    for element, its in bands.bands_of(rows, order, end).items():
+        own = [row for row in rows if row.element == element]
+        assert [band.start for band in its] == [row.at for row in own]
+        assert [band.stop for band in its] == [*(row.at for row in own[1:]), end]
+
+
+def test_a_picture_from_a_millisecond_on() -> None:
+    rows = [
+        Row(0, "A", "S", "QL-PRC", "locked"),
+        Row(0, "B", "L", "QL-PRC", "locked"),
+        Row(50, "A", "none", "QL-SEC", "holdover"),
+    ]
+    later = bands.rows_from(rows, 20)
+    assert later == [Row(20, "A", "S", "QL-PRC", "locked"), rows[2]]
+    assert bands.bands_of(later, ["B", "A"], 90) == {
+        "A": [Band(20, 50, "S", "QL-PRC", "locked"), Band(50, 90, "none", "QL-SEC", "holdover")]
+    }
+
+
+def test_long_times_are_folded() -> None:
+    places, folds = bands.places_of([0, 10, 5000, 5001], 1000)
+    assert places == {0: 0, 10: 50, 5000: 1050, 5001: 1100} and folds == [550]
+    assert bands.labelled([0, 10, 5000, 5001], places, 60) == [0, 5000]
+
+
+@pytest.mark.parametrize(
+    ("words", "said"),
+    [
+        (["draw", "plan.toml", "-o", "plan.gif"], "a picture ends in .svg, .png or .dot"),
+        (["draw", "plan.toml", "-o", "nosuch/plan.dot"], "nosuch/plan.dot: No such file or directory"),
+        (["draw", "nosuch", "-o", "plan.dot"], "nosuch: No such file or directory"),
+        (["draw", ".", "-o", "plan.dot"], ".: Is a directory"),
+        (["draw", "events.csv", "-o", "plan.dot"], "events.csv: it is no TOML document"),
+        (["draw", "plan.toml", "--near", "Q", "-o", "plan.dot"], "--near: Q names no element"),
+        (["draw", "plan.toml", "--report", "plan.toml", "-o", "plan.dot"], "plan.toml: it is no report of sim"),
+        (["draw", "plan.toml", "--certificate", "report", "-o", "plan.dot"], "report: it is no certificate"),
+        (["draw", "plan.toml", "--answer", "report", "-o", "plan.dot"], "report: it is no answer of rank or check"),
+        (["draw", "plan.toml", "-o", "/dev/full"], "a picture ends in"),
+        (["timeline", "plan.toml", "-o", "t.svg"], "plan.toml: it doesn't begin with the line `changes`"),
+        (["timeline", "report", "-o", "t.pdf"], "t.pdf: a picture ends in .svg or .png"),
+        (["timeline", "report", "--until", "1ms", "-o", "t.svg"], "--until: the last change is at "),
+        (["timeline", "report", "--from", "23h", "-o", "t.svg"], "--from: nothing changes after 82800000"),
+        (["timeline", "report", "--fold", "0", "-o", "t.svg"], "--fold: at least 1 millisecond"),
+    ],
+)
+def test_what_can_not_be_drawn_is_one_line(words: list[str], said: str) -> None:
+    ran = murdjohe(*words, folder=EXAMPLES / "ring")
+    assert (ran.status, ran.out) == (2, b"") and ran.err.startswith(f"murdjohe: {said}") and ran.err.count("\n") == 1
+
+
+def test_a_report_by_priority_alone_is_no_timeline(folder: Path) -> None:
+    report = EXAMPLES / "reserve-clock" / "priority-report"
+    ran = murdjohe("timeline", str(report), "-o", "t.svg", folder=folder)
+    assert ran.status == 2 and f"{report}:2: it is no row of changes of `sim`" in ran.err
+
+
+def test_explain_says_what_the_program_itself_answered(core: str) -> None:
+    ring, script = EXAMPLES / "ring", "{} {} | {} explain {}"
+    launcher = Path(__file__).resolve().parent.parent / "murdjohe"
+    for words, status, said in (
+        ("rank plan.toml", 1, "timing may go round over L1>B -> L2>C -> L3>A -> L1>B"),
+        ("check plan.toml certificate.csv", 1, "timing may go on from line L3>A to line L1>B"),
+        ("check plan.toml plan.toml", 4, "it is a plan, and no certificate"),
+        ("rank certificate.csv", 3, "it is a certificate, and no plan"),
+        ("rank nosuch", 7, "nosuch: No such file or directory"),
+        ("sim plan.toml events.csv soon", 2, 'UNTIL is "soon"'),
+        ("rnk plan.toml", 2, '"rnk" is no form of the program (nearest: "rank")'),
+    ):
+        ran = started(["sh", "-c", script.format(core, words, launcher, words)], ring)
+        assert ran.status == status and said in ran.out.decode() and ran.err == ""
+    hops = started(["sh", "-c", script.format(core, "hops plan.toml", launcher, "hops plan.toml")], ring)
+    assert (hops.status, hops.out) == (0, started([core, "hops", "plan.toml"], ring).out)
+
+
+def test_explain_refuses_what_the_program_does_not_write() -> None:
+    for text in (b"bad plan\n", b"bad plan x\n", b"bad frames 13\n", b"cycle\n"):
+        ran = murdjohe("explain", "rank", "plan.toml", folder=EXAMPLES / "ring", stdin=text)
+        assert ran.status == 2 and "is no answer of the program" in ran.err

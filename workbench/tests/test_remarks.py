@@ -1,0 +1,139 @@
+"""What is said beside verdicts and reports, against counts by hand of the examples."""
+
+from __future__ import annotations
+
+from pathlib import Path
+
+import pytest
+from conftest import EXAMPLES, murdjohe
+
+CHAIN = """\
+[[element]]
+name = "A"
+[[element]]
+name = "B"
+[[element]]
+name = "C"
+[[element]]
+name = "D"
+[[link]]
+name = "L1"
+a = "A"
+b = "B"
+priority_b = 1
+[[link]]
+name = "L2"
+a = "C"
+b = "D"
+priority_b = 3
+"""
+SOURCE = '[[source]]\nname = "S"\nat = "A"\nlevel = "QL-PRC"\n'
+
+
+def said(*words: str, stdin: str = "", status: int = 0) -> list[str]:
+    ran = murdjohe(*words, folder=EXAMPLES, stdin=stdin.encode())
+    assert ran.status == status
+    return [line.removeprefix("murdjohe: ") for line in ran.err.splitlines()]
+
+
+def test_accepted_says_what_was_accepted() -> None:
+    # (counted by hand in the plan, and in the stored certificate)
+    assert said("check", "mesh/redundant.toml", "mesh/redundant.csv") == [
+        "accepted: 7 elements, 11 nominated lines, greatest rank 5"
+    ]
+
+
+def test_elements_without_a_way_to_a_clock_are_named() -> None:
+    first, *rest = said("rank", "-", stdin=CHAIN + SOURCE)
+    assert first == "no ring is left: 4 elements, 2 nominated lines, greatest rank 0"
+    assert rest == ["2 elements have no way to a clock over nominated lines: C, D"]
+    assert said("hops", "-", stdin=CHAIN + SOURCE) == [
+        "2 elements have no way to a clock: a link or a source is missing: C, D"
+    ]
+    assert said("nominate", "-", stdin=CHAIN + SOURCE) == said("hops", "-", stdin=CHAIN + SOURCE)
+
+
+def test_a_plan_without_a_clock_is_told() -> None:
+    assert said("rank", "-", stdin=CHAIN)[1:] == ["no source is nominated, so nothing ever has a clock"]
+    assert said("rank", "-", stdin=CHAIN + SOURCE + "priority = 0\n")[1:] == [
+        "no source is nominated, so nothing ever has a clock"
+    ]
+
+
+@pytest.mark.parametrize("form", ["rank", "hops", "nominate", "prio-rank"])
+def test_an_empty_plan_is_told(form: str) -> None:
+    assert any("the plan is empty" in line or "0 elements" in line for line in said(form, "-"))
+
+
+def test_an_empty_plan_that_is_accepted_is_told() -> None:
+    assert said("check", "-", "ring/empty.csv", status=7) != []
+    ran = murdjohe("check", "/dev/null", "-", stdin=b"line,rank\n")
+    assert (ran.status, ran.out) == (
+        0,
+        b"accepted\n",
+    ) and "the plan is empty: is it the file that was meant?" in ran.err
+
+
+def test_a_ring_is_told_with_the_line_and_key_of_each_nomination() -> None:
+    first, *rest = said("rank", "ring/plan.toml", status=1)
+    assert first.startswith("timing may go round over L1>B -> L2>C -> L3>A -> L1>B: take the priority away")
+    lines = (EXAMPLES / "ring" / "plan.toml").read_text().splitlines()
+    assert [lines[int(row.split(":")[1]) - 1] for row in rest] == ["priority_b = 1"] * 3
+    assert [row.split(": ")[1] for row in rest] == [
+        f"{line} is priority_b = 1 of link {line[:2]}" for line in ("L1>B", "L2>C", "L3>A")
+    ]
+
+
+def test_a_fall_is_told() -> None:
+    (line,) = said("check", "ring/plan.toml", "ring/certificate.csv", status=1)
+    assert (
+        "from line L3>A to line L1>B, and the rank of L1>B (0) isn't greater than that of L3>A (2): `murdjohe rank`"
+        in line
+    )
+
+
+def test_commands_that_make_a_loop_are_told() -> None:
+    first, *rest = said("prio-rank", "reserve-clock/plan.toml", status=1)
+    assert "Fibre>East -> Fibre>West -> Fibre>East" in first and "prio-sim" in rest[-1] and len(rest) == 3
+    assert said("prio-check", "reserve-clock/mended.toml", "reserve-clock/mended.csv")[0].startswith(
+        "accepted: no loop can form"
+    )
+
+
+def test_a_sweep_names_the_cuts_and_warns_of_locked() -> None:
+    first, last = said("sweep", "mesh/plan.toml", "60s", "400s")
+    assert first == "3 of 8 cuts leave elements in holdover or free-running (how many): N1 (2), A1 (1), A4 (1)"
+    assert last.startswith("`locked` counts whoever takes an input")
+    assert said("sweep", "mesh/redundant.toml", "60s", "400s")[0] == "no cut of 8 leaves anybody in holdover"
+
+
+def test_a_run_says_who_follows_no_clock_and_that_it_goes_on(folder: Path) -> None:
+    events = "at,what,target,value\n60000,down,N1,\n9000000,up,N1,\n"
+    lines = said("sim", "mesh/plan.toml", "-", "700s", stdin=events)
+    assert lines == [
+        "1 of 2 events is after 700000, and had no effect",
+        "2 elements follow no source, but own clocks, at the end: hub-north, cell-1",
+    ]
+    lines = said("sim", "mesh/plan.toml", "-", "60100", stdin=events)
+    assert lines[-1].startswith("not settled: ")
+
+
+def test_a_loop_that_stands_is_told() -> None:
+    assert "1 timing loop stands at the end: L1>B L2>C L3>A" in said("sim", "ring/plan.toml", "ring/events.csv", "120s")
+
+
+def test_packets_that_are_none_and_the_other_option_are_told() -> None:
+    assert said("pcap-decode", "I", "lab/capture.pcap") == [
+        "2 packets are no ESMC frames (another protocol, a VLAN tag, or cut below 60 octets)"
+    ]
+    rows = "".join(f"020000000001,info,code-{code}\n" for code in (2, 8, 11))
+    frames = murdjohe("encode", "II", "-", stdin=rows.encode()).out
+    (line,) = said("decode", "II", "-", stdin=frames.decode())
+    assert line == "3 of 3 frames have a code that the option doesn't know: is option I meant?"
+
+
+def test_a_run_that_was_stopped_is_told(folder: Path) -> None:
+    plan = CHAIN.partition('[[link]]\nname = "L2"')[0] + "priority_a = 1\n"
+    (folder / "plan").write_text(plan)
+    (line,) = said("sim", str(folder / "plan"), "-", "10m", stdin="at,what,target,value\n", status=11)
+    assert line.startswith("stopped: more than 200,000 changes; all up to 100000 ms are told")
