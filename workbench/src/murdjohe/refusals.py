@@ -12,8 +12,7 @@ TYPE_CHECKING = False
 if TYPE_CHECKING:
     from typing import Any
 
-# The file with all meanings: docs/refusals.toml, to which a link beside the package leads.
-FILE = os.path.join(core.PACKAGE, "refusals.toml")
+FILE = "refusals.toml"
 TABLES = {
     core.BAD_PLAN: ("plan", b"bad plan "),
     core.BAD_CERTIFICATE: ("certificate", b"bad certificate "),
@@ -65,10 +64,16 @@ def of(status: int, text: bytes) -> Refusal | None:
         return None
 
 
+def path() -> str:
+    """Where the file with all meanings is: in an installed package, or in the docs of a checkout."""
+    beside = os.path.join(core.PACKAGE, FILE)
+    return beside if os.path.exists(beside) else os.path.join(core.CHECKOUT, "docs", FILE)
+
+
 @functools.cache
 def meanings() -> dict[str, Any]:
     """All tables of the file."""
-    with open(FILE, "rb") as file:
+    with open(path(), "rb") as file:
         return tomllib.load(file)
 
 
