@@ -89,7 +89,7 @@ def test_one_place_starts_the_program() -> None:
 
 
 def test_functions_and_modules_are_short() -> None:
-    for path in SOURCES:
+    for path in [*SOURCES, *(WORKBENCH / "tests").glob("*.py")]:
         text = path.read_text(encoding="utf-8")
         assert text.count("\n") <= LONGEST_MODULE, path.name
         for node in ast.walk(ast.parse(text)):

@@ -43,6 +43,14 @@ def test_accepted_says_what_was_accepted() -> None:
     ]
 
 
+@pytest.mark.parametrize("end", ["\n", "\r\n", "\r"])
+def test_any_spelling_of_a_certificate_will_do(folder: Path, end: str) -> None:
+    (folder / "plan").write_text(CHAIN + SOURCE)
+    rows = ["\ufeff", "", '"line",rank', '"L1>B","7"', "", "L2>D,0", ""]
+    lines = said("check", str(folder / "plan"), "-", stdin=rows[0] + end.join(rows[1:]))
+    assert lines[0] == "accepted: 4 elements, 2 nominated lines, greatest rank 7"
+
+
 def test_elements_without_a_way_to_a_clock_are_named() -> None:
     first, *rest = said("rank", "-", stdin=CHAIN + SOURCE)
     assert first == "no ring is left: 4 elements, 2 nominated lines, greatest rank 0"

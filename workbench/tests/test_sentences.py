@@ -159,6 +159,14 @@ def test_swapped_files_are_told(folder: Path, form: str) -> None:
     assert told == f"one is {kind}, and two is a plan: the two words are swapped; write `murdjohe {form} two one{end}"
 
 
+def test_a_refused_plan_is_told_where_the_other_file_is_not_there(folder: Path) -> None:
+    (folder / "one").write_text("line,rank\n")
+    for other in ("nosuch", "."):
+        ran = murdjohe("check", "one", other, folder=folder)
+        assert (ran.status, ran.out) == (3, b"bad plan 22\n")
+        assert ran.err.startswith("murdjohe: one:1: `line,rank`: it is a certificate, and no plan")
+
+
 def test_which_file_can_not_be_read_and_why(folder: Path) -> None:
     (folder / "plan").write_text(RING)
     (folder / "folder").mkdir()

@@ -41,9 +41,14 @@ def tables_of(words: Words) -> dict[str, Any] | None:
         return None
 
 
+def rows_of(text: str) -> list[str]:
+    """The rows of a table that the program took: without its header and blank lines."""
+    return [line for line in text.splitlines() if line][1:]
+
+
 def greatest_rank(certificate: str) -> int | None:
     """The greatest rank of a certificate that was accepted or written; None where it has no row."""
-    rows = [row for row in certificate.splitlines()[1:] if row]
+    rows = rows_of(certificate)
     return max((int(row.rpartition(",")[2].strip('"')) for row in rows), default=None)
 
 
@@ -148,7 +153,7 @@ def after(words: Words, text: str) -> list[str]:
     file, until = words.file(forms.EVENTS), int(words.passed[-1])
     try:
         with open(file.path if file else "", encoding="utf-8-sig") as source:
-            times = [row.partition(",")[0].strip('"') for row in source.read().splitlines()[1:] if row]
+            times = [row.partition(",")[0].strip('"') for row in rows_of(source.read())]
     except (OSError, ValueError):
         return []
     late = sum(time.isdigit() and int(time) > until for time in times)

@@ -12,9 +12,7 @@ from murdjohe.inputs import STDIN, File, Words
 from murdjohe.plans import Plan
 from murdjohe.sentences import frames, plan as plan_sentences, records
 
-HOW = {
-    core.NO_MEMORY: "memory ran out, and nothing is written; free some, and run again",
-}
+NO_MEMORY = "memory ran out, and nothing is written; free some, and run again"
 
 
 def word_fault(word: forms.Word, text: str) -> str | None:
@@ -113,15 +111,13 @@ def swapped(words: Words) -> str | None:
     if not plan or not other:
         return None
     wanted = "a certificate" if other.kind == forms.CERTIFICATE else "an event list"
-    kinds = documents.kind_of(documents.read(plan)), documents.kind_of(documents.read(other))
-    if kinds != (wanted, "a plan"):
+    if read_fault(other) or documents.kind_of(documents.read(other)) != "a plan":
         return None
-    right = f"murdjohe {words.form.name} {other.name} {plan.name}"
-    return (
-        f"{plan.name} is {wanted}, and {other.name} is a plan: the two words are swapped; write `{right} ..`".replace(
-            " ..`", "`" if len(words.given) == 2 else " ..`"
-        )
-    )
+    if documents.kind_of(documents.read(plan)) != wanted:
+        return None
+    more = "" if len(words.given) == 2 else " .."
+    right = f"murdjohe {words.form.name} {other.name} {plan.name}{more}"
+    return f"{plan.name} is {wanted}, and {other.name} is a plan: the two words are swapped; write `{right}`"
 
 
 def on_refusal(words: Words, refusal: refusals.Refusal) -> str:
@@ -145,8 +141,8 @@ def on_refusal(words: Words, refusal: refusals.Refusal) -> str:
 
 def sentence(words: Words, answer: Answer) -> str | None:
     """The sentence on an answer that is a refusal or a fault; None for one that isn't."""
-    if answer.status in HOW:
-        return HOW[answer.status]
+    if answer.status == core.NO_MEMORY:
+        return NO_MEMORY
     if answer.status == core.USAGE:
         return on_words(words.form, words.given)
     if answer.status == core.READ_FAULT:

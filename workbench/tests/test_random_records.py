@@ -1,0 +1,214 @@
+"""Random refusals of certificates and event lists: the sentence names the line on which something was broken.
+
+Each kind makes a whole file, breaks one line of it whose number is known by how it is made, and asks the program, which
+has to refuse it with the number of this kind.
+"""
+
+from __future__ import annotations
+
+import random
+from collections.abc import Callable
+from pathlib import Path
+
+import pytest
+from conftest import CASES
+from random_plans import RandomPlan, lines_of, random_plan
+from refusing import refused
+
+from murdjohe.levels import LEVELS
+
+
+def with_blank_lines(chance: random.Random, rows: list[str]) -> tuple[str, list[int]]:
+    """The rows with blank lines between them, and the line of each."""
+    lines: list[str] = []
+    places = []
+    for row in rows:
+        lines += [""] * chance.choice([0, 0, 0, 1, 2])
+        places.append(len(lines) + 1)
+        lines.append(row)
+    end = chance.choice(["\n", "\r\n"])
+    return chance.choice(["", "\ufeff"]) + end.join(lines) + end, places
+
+
+def ranked_plan(chance: random.Random, folder: Path) -> tuple[RandomPlan, list[str]]:
+    """A plan with nominated lines, in a file, and these lines in order."""
+    plan = random_plan(chance)
+    while len(lines_of(plan, True)) < 2 or not lines_of(plan, False):
+        plan = random_plan(chance)
+    (folder / "plan.toml").write_bytes(plan.text()[0].encode())
+    return plan, lines_of(plan, True)
+
+
+def broken_certificate(chance: random.Random, plan: RandomPlan, rows: list[str], number: int) -> tuple[int, str]:
+    """Breaks a row of a certificate: which it is, 0 for the header, and words of the sentence."""
+    at = chance.randrange(1, len(rows))
+    line = rows[at].partition(",")[0]
+    if number == 35:
+        rows[at] = chance.choice(
+            [line, f"{line},-1", f"{line},1.5", f"{line},01", f"{line},1,2", f"{line},99999999999999999999"]
+        )
+        return at, "LINE,RANK"
+    if number == 36:
+        other, link = chance.choice(lines_of(plan, False)), line.partition(">")[0]
+        name, words = chance.choice(
+            [
+                (other, "isn't nominated"),
+                (link, "names a link"),
+                (f"{line}x", "names no line"),
+                ("nobody>X", "names no line"),
+            ]
+        )
+        rows[at] = f"{name},1"
+        return at, words
+    first = chance.randrange(1, len(rows) - 1)
+    rows[-1] = rows[first].partition(",")[0] + ",7"
+    return len(rows) - 1, "has a row already, line "
+
+
+@pytest.mark.parametrize("number", [35, 36, 37])
+def test_certificates(folder: Path, number: int) -> None:
+    for seed in range(CASES):
+        chance = random.Random(f"certificate {number} {seed}")
+        plan, lines = ranked_plan(chance, folder)
+        rows = ["line,rank"] + [f"{line},{chance.randrange(9)}" for line in chance.sample(lines, len(lines))]
+        at, words = broken_certificate(chance, plan, rows, number)
+        text, places = with_blank_lines(chance, rows)
+        (folder / "certificate.csv").write_bytes(text.encode())
+        broken = (number, places[at], words)
+        refused("check", ["plan.toml", "certificate.csv"], "certificate.csv", broken, rf"bad certificate N {at}")
+
+
+def test_certificates_without_a_line(folder: Path) -> None:
+    for seed in range(CASES):
+        chance = random.Random(f"certificate 38 {seed}")
+        _, lines = ranked_plan(chance, folder)
+        missing = chance.choice(lines)
+        rows = ["line,rank", *(f"{line},1" for line in lines if line != missing)]
+        (folder / "certificate.csv").write_text("\n".join(rows))
+        words = f'the nominated line "{missing}" has no row'
+        refused(
+            "check",
+            ["plan.toml", "certificate.csv"],
+            "certificate.csv",
+            (38, None, words),
+            f"bad certificate N {missing}",
+        )
+
+
+HEADERS: dict[str, tuple[str, list[str], int, str]] = {
+    "certificate.csv": ("check", [], 34, "line,rank"),
+    "events.csv": ("sim", ["9"], 26, "at,what,target,value"),
+}
+
+
+@pytest.mark.parametrize("name", list(HEADERS))
+def test_headers(folder: Path, name: str) -> None:
+    form, more, number, header = HEADERS[name]
+    for seed in range(CASES):
+        chance = random.Random(f"header {name} {seed}")
+        ranked_plan(chance, folder)
+        first, words = chance.choice(
+            [
+                (header.replace(",", ";"), "its fields have semicolons"),
+                (header.replace(",", "\t"), "its fields have tabs"),
+                (header.upper(), "other letters or blanks"),
+                (header.replace(",", ", "), "other letters or blanks"),
+                ("L1>B,0", "its first line is no header"),
+                ("1000,down,L1,", "its first line is no header"),
+                ("cycle L1>B L2>C L3>A", "the answer of a `rank` that found a ring"),
+                ("bad plan 25 18 link 7", "the refusal `bad plan 25 18 link 7` of an earlier command"),
+                ('[[element]]\nname = "A"', "it is a plan"),
+            ]
+        )
+        (folder / name).write_bytes((first + "\n").encode(chance.choice(["utf-8", "utf-8", "utf-8-sig"])))
+        refused(form, ["plan.toml", name, *more], name, (number, 1, words), r"bad \w+ N")
+        (folder / name).write_bytes((first + "\n").encode("utf-16"))
+        refused(form, ["plan.toml", name, *more], name, (number, 1, "UTF-16"), r"bad \w+ N")
+
+
+def event_rows(chance: random.Random, plan: RandomPlan) -> list[str]:
+    """Rows of events that fit a plan, in order of time."""
+    links, sources = [row["name"] for row in plan.rows["link"]], [row["name"] for row in plan.rows["source"]]
+    lines, elements = lines_of(plan, True) + lines_of(plan, False), [row["name"] for row in plan.rows["element"]]
+    kinds: list[Callable[[], str]] = [
+        lambda: f"{chance.choice(['down', 'up'])},{chance.choice(links + sources + lines)},",
+        lambda: f"level,{chance.choice(sources)},{chance.choice(LEVELS[plan.option])}",
+        lambda: f"{chance.choice(['lockout', 'forced', 'manual'])},{chance.choice(lines + sources)},",
+        lambda: f"clear,{chance.choice(elements)},",
+    ]
+    times = sorted(chance.randrange(1, 50) for _ in range(chance.randint(2, 6)))
+    return ["at,what,target,value", *(f"{time},{chance.choice(kinds)()}" for time in times)]
+
+
+def broken_event(chance: random.Random, plan: RandomPlan, rows: list[str], number: int) -> tuple[int, str]:
+    """Breaks a row of events: which it is, and words of the sentence."""
+    at = chance.randrange(2 if number == 29 else 1, len(rows))
+    time, what, target, value = rows[at].split(",")
+    link, source = plan.rows["link"][0], plan.rows["source"][0]["name"]
+    line, element = f"{link['name']}>{link['a']}", link["a"]
+    broken = {
+        27: [
+            (f"{time},{what}", "2 fields in place of four"),
+            (f"{time};{what};x;", "semicolons"),
+            ("# cut", "a remark"),
+        ],
+        28: [(f"{word},{what},{target},{value}", says) for word, says in WRONG_TIMES],
+        29: [(f"0,{what},{target},{value}", f"its time is before {rows[at - 1].partition(',')[0]}")],
+        30: [(f"{time},{word},{target},{value}", says) for word, says in WRONG_WORDS],
+        31: [
+            (f"{time},lockout,{link['name']},", "is a link; its lines are"),
+            (f"{time},clear,{line},", "is a line, into element"),
+            (f"{time},down,{element},", "is an element; its inputs are"),
+            (f"{time},level,{line},{LEVELS[plan.option][0]}", "is a line"),
+            (f"{time},esmc-off,{source},", "is a source"),
+            (f"{time},down,nobody,", '"nobody" names nothing'),
+        ],
+        32: [
+            (f"{time},down,{source},x", "takes no value"),
+            (f"{time},level,{source},PRTC", f"is no level of option {plan.option}"),
+        ],
+    }[number]
+    rows[at], words = chance.choice(broken)
+    return at, words
+
+
+WRONG_TIMES = [
+    ("-5", "no number"),
+    ("1.5", "no number"),
+    ("", "no number"),
+    ("20m", "write milliseconds: 1200000"),
+    (" 7", "blanks"),
+]
+WRONG_WORDS = [
+    ("DOWN", '(nearest: "down")'),
+    ("cut", '(nearest: "down")'),
+    ("lokcout", '(nearest: "lockout")'),
+    ("", "no word"),
+]
+
+
+@pytest.mark.parametrize("number", [27, 28, 29, 30, 31, 32])
+def test_events(folder: Path, number: int) -> None:
+    for seed in range(CASES):
+        chance = random.Random(f"events {number} {seed}")
+        plan, _ = ranked_plan(chance, folder)
+        rows = event_rows(chance, plan)
+        at, words = broken_event(chance, plan, rows, number)
+        text, places = with_blank_lines(chance, rows)
+        (folder / "events.csv").write_bytes(text.encode())
+        broken = (number, places[at], words)
+        refused("sim", ["plan.toml", "events.csv", "10"], "events.csv", broken, rf"bad events N {at}")
+
+
+def test_events_past_the_limit(folder: Path) -> None:
+    chance = random.Random("limit")
+    ranked_plan(chance, folder)
+    (folder / "events.csv").write_text("at,what,target,value\n" + "5,clear,nobody,\n" * 100_001)
+    refused(
+        "sim", ["plan.toml", "events.csv", "10"], "events.csv", (31, 2, '"nobody" names nothing'), r"bad events N 1"
+    )
+    plan = random_plan(chance)
+    (folder / "plan.toml").write_bytes(plan.text()[0].encode())
+    element = plan.rows["element"][0]["name"]
+    (folder / "events.csv").write_text("at,what,target,value\n" + f"5,clear,{element},\n" * 100_001)
+    refused("sim", ["plan.toml", "events.csv", "10"], "events.csv", (33, 100_002, "one too many"), r"bad events N")
