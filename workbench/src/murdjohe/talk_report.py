@@ -109,8 +109,8 @@ def text(capture: Capture, talk: Talk, clock: Clock, name: str) -> str:
     return "".join(f"{line}\n" for line in lines)
 
 
-def remarks(capture: Capture, talk: Talk, clock: Clock) -> Iterator[str]:
-    """What was done to frames, what was left out and why, and what isn't as it is asked; a sentence each."""
+def of_capture(capture: Capture) -> Iterator[str]:
+    """What was done to frames, and what was left out and why; a sentence each."""
     for done, count in capture.done.items():
         yield f"{said(count, 'frame')} {done}"
     if passed := capture.passed.total():
@@ -122,6 +122,11 @@ def remarks(capture: Capture, talk: Talk, clock: Clock) -> Iterator[str]:
         yield f"{frames} that option {capture.option} doesn't know and option {other} does: is it --option {other}?"
     if capture.backwards:
         yield f"{said(capture.backwards, 'packet is', 'packets are')} earlier than the one before"
+
+
+def remarks(capture: Capture, talk: Talk, clock: Clock) -> Iterator[str]:
+    """The same, and what isn't as it is asked."""
+    yield from of_capture(capture)
     if talk.left_out:
         yield f"{talk.left_out} more transitions and silences are counted, and not listed; --frames has all frames"
     yield from off_rates(talk, clock)
