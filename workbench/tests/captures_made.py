@@ -110,6 +110,18 @@ def mapped(change: object, *words: object) -> Records:
     return [(at, change(data, *words)) for at, data in RECORDS]
 
 
+def night() -> bytes:
+    """A pcapng with tags of two ports that speak each second from 10:03:00 on; the second is silent for 6.2 seconds."""
+    begin, frame = 1_764_324_180 * 10**9, tagged(FRAMES[0], (0x8100, 100))
+    first = [(begin + second * 10**9, 0) for second in range(35)]
+    late = [0 if second <= 11 else 5_200_000_000 for second in range(30)]
+    second_port = [(begin + second * 10**9 + 412_000_000 + more, 1) for second, more in enumerate(late)]
+    out = section() + interface(name=b"port 1") + interface(name=b"port 2", resolution=9)
+    for at, port in sorted([*first, *second_port]):
+        out += packet(at if port else at // 1000, frame, at=port)
+    return out
+
+
 KINDS: dict[str, bytes] = {
     "pcap": classic(RECORDS),
     "pcap, big-endian": classic(RECORDS, ">"),

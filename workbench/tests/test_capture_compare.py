@@ -25,7 +25,7 @@ SENT = [
 ]
 CABLES = ("west", "east", "south")
 ZERO = 1_764_324_180_000  # milliseconds: 2025-11-28 10:03:00
-LINES = ["west>device=02:00:00:00:00:a1", "east>device=0200000000A2@east"]
+LINES = ["west>device=@west", "east>device=02:00:00:00:00:A2"]
 LINES += [f"{cable}>tester=02-00-00-00-00-01@{cable}" for cable in CABLES]
 WORDS = [word for line in LINES for word in ("--line", line)]
 Said = list[tuple[int, str, str]]
@@ -112,15 +112,23 @@ def changed(
     return sorted(found)
 
 
-def test_a_late_device(folder: Path) -> None:
-    said = changed(
+def late() -> Said:
+    """A device that tells its do-not-use 600 milliseconds late."""
+    return changed(
         played(),
         lambda at, cable, octets: cable == "east" and at == 3_500 + DELAY,
         lambda at, octets: [(at + 580, octets)],
     )
+
+
+def test_a_late_device(folder: Path) -> None:
+    said = late()
+    # (the stored capture is that of this device)
+    assert (BENCH / "bench.pcapng").read_bytes() == capture(said)
+    assert (BENCH / "events").read_text() == EVENTS
     ran = compared(folder, said)
-    late = "QL-DNU (do-not-use) had to be said, and came 600 ms later"
-    assert (ran.status, rows_of(ran)) == (1, [["3500", "east>tester", "late", late]])
+    words = "QL-DNU (do-not-use) had to be said, and came 600 ms later"
+    assert (ran.status, rows_of(ran)) == (1, [["3500", "east>tester", "late", words]])
     assert compared(folder, said, "--tolerance", "1s").status == 0
     assert b"10:03:03.500" in ran.out
 
@@ -188,6 +196,16 @@ def test_a_device_that_says_what_nobody_asked(folder: Path) -> None:
     assert found["zero"] == ZERO * 10**6
 
 
+def test_an_input_without_a_line_is_told(folder: Path) -> None:
+    (folder / "c").write_bytes(capture(played()))
+    words = ["--line", "west>device=@west", "--line", "west>tester=020000000001@west"]
+    ran = murdjohe("capture", "compare", str(BENCH / "plan.toml"), "device", "c", *words, folder=folder)
+    words = ["--line", "west>device=@west", "--line", "east>tester=@east"]
+    both = murdjohe("capture", "compare", str(BENCH / "plan.toml"), "device", "c", *words, folder=folder)
+    assert "the frames of line west>device come from 2 sources: 020000000001, 0200000000a1; name one\n" in both.err
+    assert "east>device has no --line: what came over it isn't known, and device was asked without it\n" in ran.err
+
+
 @pytest.mark.parametrize(
     ("words", "status", "said"),
     [
@@ -195,6 +213,7 @@ def test_a_device_that_says_what_nobody_asked(folder: Path) -> None:
         (["--line", "west>device=12"], 2, '--line: "12" is no source address'),
         (["--line", "wets>device=@west"], 2, '--line: the plan has no line "wets>device" (nearest: "west>device")'),
         (["--line", "west>device=@west"], 2, "--line: none of the lines leads out of device"),
+        (["--line", "west>tester=@west", "--from", "9s"], 2, "nothing can be compared: c is at its end at 8600 ms"),
         (["--tolerance", "soon"], 2, "'soon' is no time"),
         (["--line", "west>tester=@west", "--events", "nosuch"], 2, "nosuch: No such file or directory"),
         (["--line", "west>tester=@west", "--events", "bad"], 2, "bad:1: `at,what`: it doesn't begin with milliseconds"),

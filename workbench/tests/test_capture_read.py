@@ -66,22 +66,9 @@ time             source        port  from     to       by     after
     assert murdjohe("capture", "read", "-", stdin=data).out.partition(b"\n")[2] == ran.out.partition(b"\n")[2]
 
 
-def ports(gap_at: int, gap: int) -> bytes:
-    """A pcapng with tags of two ports that speak each second from 10:03:00 on, of which the second is silent for a while."""
-    begin = 1_764_324_180 * 10**9  # 2025-11-28 10:03:00
-    out = made.section() + made.interface(name=b"port 1") + made.interface(name=b"port 2", resolution=9)
-    frame = made.tagged(made.FRAMES[0], (0x8100, 100))
-    for second in range(35):
-        at = begin + second * 10**9
-        out += made.packet(at // 1000, frame, at=0)
-        late = 0 if second <= gap_at else gap - 10**9
-        if second < 30:
-            out += made.packet(at + 412_000_000 + late, frame, at=1)
-    return out
-
-
 def test_a_port_that_was_silent_is_named(folder: Path) -> None:
-    (folder / "night.pcapng").write_bytes(ports(11, 6_200_000_000))
+    assert (EXAMPLES / "lab" / "night.pcapng").read_bytes() == made.night()
+    (folder / "night.pcapng").write_bytes(made.night())
     ran = murdjohe("capture", "read", "night.pcapng", folder=folder)
     lines = ran.out.decode().splitlines()
     assert lines[-2:] == [

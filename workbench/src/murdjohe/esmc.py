@@ -54,7 +54,7 @@ class Capture:
         self.frames = 0
         self.first: int | None = None  # the times of the first and the last packet
         self.last: int | None = None
-        self.backwards = 0  # packets that are earlier than the one before
+        self.backwards = 0  # packets that are earlier than one before
         self.done: Counter[str] = Counter()  # what was done to frames
         self.passed: Counter[str] = Counter()  # why packets are no ESMC frames
         self.ports: set[str] = set()

@@ -78,9 +78,11 @@ class Bench:
     """What a capture holds of the lines that are named; times are milliseconds from the first packet on."""
 
     def __init__(self, wheres: list[Where]) -> None:
-        self.wheres = wheres
+        # (who says more of a frame goes first, so that an interface alone has what no source on it has)
+        self.wheres = sorted(wheres, key=lambda where: (not where.source, not where.port))
         self.zero: int | None = None  # nanoseconds since 1970 began, a whole millisecond
         self.messages: list[Message] = []
+        self.sources: dict[str, set[str]] = {}  # who speaks on each line
         self.outside = 0  # frames before the first packet, or more than a day after it
         self.others: dict[tuple[str, str], int] = {}  # frames of sources that no line has, by interface and source
 
@@ -94,6 +96,7 @@ class Bench:
                 who = (frame.port, frame.says.source)
                 self.others[who] = self.others.get(who, 0) + 1
                 continue
+            self.sources.setdefault(where.line, set()).add(frame.says.source)
             at, says = (frame.time - self.zero) // MILLISECOND, frame.says
             if 0 <= at <= DAY_MS:
                 self.messages.append(Message(at, where.line, says.kind, says.level, frame.octets.hex()))

@@ -58,6 +58,8 @@ def of_bench(bench: Bench, lines: set[str], clock: Clock) -> Iterator[str]:
     for line, count in counts.items():
         if not count:
             yield f"no frame of the capture is of line {line}"
+        elif len(sources := bench.sources[line]) > 1:
+            yield f"the frames of line {line} come from {len(sources)} sources: {', '.join(sorted(sources))}; name one"
     if bench.others:
         names = [f"{talk_report.who(*name)} with {said(count, 'frame')}" for name, count in bench.others.items()]
         more = f" and {len(names) - SOURCES} more" if len(names) > SOURCES else ""
@@ -108,6 +110,8 @@ def compared(asked: Asked, bench: Bench, plan: Plan, data: bytes, last: int | No
     messages = [message for message in bench.messages if message.at <= end]
     text = lab_lines.received(messages, taken, events)
     wanted, end = asked_of(asked, data, text.encode(), end)
+    if asked.begin >= end:
+        raise Wrong(f"nothing can be compared: {asked.file} is at its end at {end} ms, and --from is {asked.begin} ms")
     limits = Limits(asked.tolerance, asked.begin, end)
     sent = [message for message in messages if message.line in out and message.at >= asked.begin]
     return Compared(device.compared(wanted, messages, out, limits), len(sent), limits)
@@ -120,12 +124,13 @@ def remarks(bench: Bench, plan: Plan, asked: Asked, found: Compared, clock: Cloc
     for line in sorted(into):
         if not lab_lines.nominated(plan, line):
             yield f"{line} is not nominated: what comes over it has no effect"
-    begin, end = found.limits.begin, found.limits.end
+    for line, (number, end) in plan.lines_of().items():
+        is_own = plan.row("link", number).get(end) == asked.element and lab_lines.nominated(plan, line)
+        if is_own and line not in into:
+            yield f"{line} has no --line: what came over it isn't known, and {asked.element} was asked without it"
     counts = f"{said(found.messages, 'message')} on {said(len(out), 'line')}"
-    if begin > end:
-        yield f"nothing is compared: the capture ends at {end} ms, before {begin} ms; see --from"
-    else:
-        yield f"compared: {counts}, from {begin} to {end} ms, with a tolerance of {asked.tolerance} ms"
+    span = f"from {found.limits.begin} to {found.limits.end} ms"
+    yield f"compared: {counts}, {span}, with a tolerance of {asked.tolerance} ms"
 
 
 def text(bench: Bench, found: Compared, clock: Clock) -> str:

@@ -121,7 +121,7 @@ def of_capture(capture: Capture) -> Iterator[str]:
         frames = said(capture.known_elsewhere, "frame has a code", "frames have codes")
         yield f"{frames} that option {capture.option} doesn't know and option {other} does: is it --option {other}?"
     if capture.backwards:
-        yield f"{said(capture.backwards, 'packet is', 'packets are')} earlier than the one before"
+        yield f"{said(capture.backwards, 'packet is', 'packets are')} earlier than one before"
 
 
 def remarks(capture: Capture, talk: Talk, clock: Clock) -> Iterator[str]:

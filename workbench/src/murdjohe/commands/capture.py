@@ -197,7 +197,7 @@ def compare(context: click.Context, plan: str, element: str, file: str, line: tu
 
     \b
       $ murdjohe gen 2 > plan.toml
-      $ echo 1,5,020000000001,info,QL-PRC > rows
+      $ yes 020000000001,info,QL-PRC | head -n 9 > rows
       $ murdjohe capture write rows -o capture.pcap
       $ murdjohe capture compare plan.toml E1 capture.pcap --line S1\\>E1=020000000001 --line S1\\>E0=020000000002
     """
@@ -217,6 +217,38 @@ def compare(context: click.Context, plan: str, element: str, file: str, line: tu
     shown = lab_report.as_json(bench, found, said) if is_json else lab_report.text(bench, found, clock)
     context.obj.put(shown.encode("utf-8", "backslashreplace"))
     return ended(context, taken, said) or (core.REFUTED if found.findings else core.DONE)
+
+
+@capture.command("write", short_help="a capture to send, of rows")
+@click.argument("rows", type=click.Path())
+@OPTION
+@click.option("--every", type=Milliseconds(), default="1s", show_default=True, help="between rows without times")
+@click.option("-o", "--output", type=click.Path(), help="writes to this file, whole or not at all")
+def write(rows: str, option: str, every: int, output: str | None) -> int:
+    """Makes a capture of rows, for a sender such as tcpreplay.
+
+    ROWS are rows as `capture read --rows` or `pcap-decode` prints them, SEC,USEC,SOURCE,KIND,LEVEL and more, or as `decode`
+    does, SOURCE,KIND,LEVEL and more, which get times; or - for standard input. It is a classic pcap of Ethernet. The status is
+    0, 6 where a row is refused, and 2 where the file can't be read or written.
+
+    \b
+      $ printf '020000000001,info,QL-PRC\\n020000000001,event,QL-SEC\\n' > rows
+      $ murdjohe capture write rows -o to-send.pcap
+      $ murdjohe capture read to-send.pcap
+    """
+    from murdjohe import files, rows_written
+
+    name = "standard input" if rows == "-" else rows
+    try:
+        data = b"".join(rows_written.capture_of(name, files.octets(rows), option, every))
+    except rows_written.Refused as refused:
+        streams.tell(str(refused))
+        return refused.status
+    if output is None:
+        click.get_current_context().obj.put(data)
+    else:
+        files.written(output, data)
+    return core.DONE
 
 
 COMMAND = capture
