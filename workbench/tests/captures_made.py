@@ -101,7 +101,7 @@ def cooked_2(data: bytes, number: int = 7) -> bytes:
 
 def short(data: bytes) -> bytes:
     """The frame before padding."""
-    return data[:43] if data[28:31] == b"\x02\x00\x14" else data[:28]
+    return data[:48] if data[28:31] == b"\x02\x00\x14" else data[:28]
 
 
 def mapped(change: object, *words: object) -> Records:

@@ -148,7 +148,8 @@ OTHERS = {
     "slow protocol that has another OUI than 00-19-a7": made.FRAMES[0][:15] + b"\0\0\0" + made.FRAMES[0][18:],
     "slow protocol that goes to another address than 01-80-c2-00-00-02": b"\0" * 6 + made.FRAMES[0][6:],
     "slow protocol that has no QL TLV of type 01 and length 0004 at octet 24": made.FRAMES[0][:24] + b"\0" * 36,
-    "slow protocol of 27 octets, too few for a QL TLV": made.FRAMES[0][:27],
+    "slow protocol of 27 octets, which ends before its TLVs do": made.FRAMES[0][:27],
+    "slow protocol of 47 octets, which ends before its TLVs do": made.FRAMES[0][:47],
 }
 
 
@@ -161,10 +162,10 @@ def test_what_is_no_esmc_frame_is_told_by_its_reason(folder: Path, reason: str) 
 
 
 def test_a_level_that_may_have_been_cut_off_is_not_guessed(folder: Path) -> None:
-    records = [(at, data[:42]) for at, data in made.RECORDS]
-    (folder / "c").write_bytes(made.classic(records, lengths=18))
+    records = [(at, data[:47]) for at, data in made.RECORDS]
+    (folder / "c").write_bytes(made.classic(records, lengths=13))
     ran = murdjohe("capture", "read", "--rows", "c", folder=folder)
-    reason = "8 slow protocol, of which the capture holds 42 octets: capture at least 60"
+    reason = "8 slow protocol, of which the capture holds 47 octets: capture at least 60"
     assert (ran.out, ran.err) == (b"", f"murdjohe: 8 packets are no ESMC frames: {reason}\n")
 
 

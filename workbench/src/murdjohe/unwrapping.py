@@ -16,7 +16,8 @@ SLOW_OCTETS = b"\x88\x09"
 GROUP = bytes.fromhex("0180c2000002")  # the address to which slow protocols are sent
 LEAST = 60  # octets of a frame without its check sequence
 # Octets up to the end of the QL TLV, and of an extended QL TLV behind it.
-QL_END, EXTENDED_END = 28, 43
+QL_END, EXTENDED_END = 28, 48
+EXTENDED = b"\x02"  # how an extended QL TLV begins
 TAGS = (ethernet.ETH_TYPE_8021Q, ethernet.ETH_TYPE_8021AD, 0x9100)
 HEADS = {COOKED: 16, COOKED_2: 20}  # octets of cooked headers
 # What was done to a frame.
@@ -73,9 +74,10 @@ def padded(frame: bytes, is_cut: bool, is_short: bool) -> tuple[bytes, tuple[str
     """The frame with at least 60 octets, and what was done; or why nothing can be put in place of what isn't there."""
     if len(frame) >= LEAST:
         return frame, ()
-    if len(frame) < (EXTENDED_END if is_cut else QL_END):
+    has_more = is_cut or frame[QL_END : QL_END + 1] == EXTENDED
+    if len(frame) < (EXTENDED_END if has_more else QL_END):
         cut = f"slow protocol, of which the capture holds {len(frame)} octets: capture at least {LEAST}"
-        return cut if is_cut else f"slow protocol of {len(frame)} octets, too few for a QL TLV"
+        return cut if is_cut else f"slow protocol of {len(frame)} octets, which ends before its TLVs do"
     done = (CUT,) if is_cut else (PADDED,) if is_short else ()
     return frame.ljust(LEAST, b"\0"), done
 
