@@ -228,6 +228,19 @@ def test_words_that_can_not_be_taken(folder: Path, words: list[str], status: int
     assert (ran.status, ran.out) == (status, b"") and said in ran.err and ran.err.count("\n") == 1
 
 
+@pytest.mark.parametrize("words", [["node", "c", "device"], ["compare", str(BENCH / "plan.toml"), "device", "c"]])
+def test_what_is_no_capture_is_told(folder: Path, words: list[str]) -> None:
+    (folder / "c").write_bytes(b"line,rank\n")
+    ran = murdjohe("capture", *words, *WORDS, folder=folder)
+    said = "murdjohe: c: it is no capture: it begins neither as a pcap nor as a pcapng\n"
+    assert (ran.status, ran.out, ran.err) == (6, b"", said)
+    whole = capture(played())
+    (folder / "c").write_bytes(whole[:-9])
+    ran = murdjohe("capture", *words, *WORDS, folder=folder)
+    assert ran.status == 6 and ran.out
+    assert ran.err.splitlines()[-1].endswith("; what comes before is whole, and was read")
+
+
 def test_a_refused_plan_or_element_is_told(folder: Path) -> None:
     (folder / "c").write_bytes(capture([]))
     (folder / "plan.toml").write_text('[[element]]\nname = "M.1"\n')

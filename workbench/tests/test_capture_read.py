@@ -124,6 +124,13 @@ def test_nanoseconds_and_days_are_shown(folder: Path) -> None:
     assert local.out.decode().splitlines()[1].startswith("2025-11-27 05:30:00.103412007,")
 
 
+def test_what_a_terminal_would_act_on_is_shown_as_it_is_written(folder: Path) -> None:
+    data = made.section() + made.interface(name=b"\x1b[31mred") + made.packet(9, made.FRAMES[0])
+    (folder / "c").write_bytes(data)
+    ran = murdjohe("capture", "read", "c", folder=folder)
+    assert ran.status == 0 and b"\x1b" not in ran.out and b"\\x1b[31mred" in ran.out
+
+
 def test_an_interface_of_a_cooked_header_is_the_port(folder: Path) -> None:
     records = [(at, made.cooked_2(data, 3 + number % 2)) for number, (at, data) in enumerate(made.RECORDS[:4])]
     (folder / "c").write_bytes(made.classic(records, link=276))

@@ -15,6 +15,7 @@ from typing import IO, Any, NamedTuple
 
 from dpkt import dpkt, pcap, pcapng
 
+from murdjohe import streams
 from murdjohe.inputs import STDIN
 from murdjohe.wrong import Wrong, reason
 
@@ -101,7 +102,7 @@ def interface_of(block: bytes, order: str, number: int) -> Interface:
         options = {option.code: bytes(option.data) for option in found.opts}
     except (dpkt.Error, struct.error, ValueError, IndexError, TypeError) as fault:
         raise Damaged(f"its interface {number} can't be read: {fault or type(fault).__name__}") from None
-    name = options.get(pcapng.PCAPNG_OPT_IF_NAME, b"").rstrip(b"\0").decode("utf-8", "replace")
+    name = streams.printable(options.get(pcapng.PCAPNG_OPT_IF_NAME, b"").rstrip(b"\0").decode("utf-8", "replace"))
     resolution = options.get(pcapng.PCAPNG_OPT_IF_TSRESOL) or b"\x06"
     shift = options.get(pcapng.PCAPNG_OPT_IF_TSOFFSET, b"")
     offset = struct.unpack(order + "q", shift)[0] * SECOND if len(shift) == 8 else 0

@@ -3,6 +3,7 @@
 from __future__ import annotations
 
 import re
+import sys
 from collections.abc import Iterable
 from typing import NamedTuple
 
@@ -97,9 +98,10 @@ class Bench:
                 self.others[who] = self.others.get(who, 0) + 1
                 continue
             self.sources.setdefault(where.line, set()).add(frame.says.source)
+            # (a day's messages are few frames, each kept once)
             at, says = (frame.time - self.zero) // MILLISECOND, frame.says
             if 0 <= at <= DAY_MS:
-                self.messages.append(Message(at, where.line, says.kind, says.level, frame.octets.hex()))
+                self.messages.append(Message(at, where.line, says.kind, says.level, sys.intern(frame.octets.hex())))
             else:
                 self.outside += 1
         self.messages.sort(key=lambda message: message.at)

@@ -165,6 +165,8 @@ def node(
     if not lines:
         raise Wrong(f"--line: none of the lines leads into {element}, as L1>{element} does")
     bench, taken = bench_of(file, option, line)
+    if taken.damage and not taken.packets:
+        return ended(context, taken, [])
     text = lab_lines.received(bench.messages, lines, lab_report.events_of(events))
     context.obj.put(text.encode())
     said = [*lab_report.of_bench(bench, lines, clock_times.Clock(local)), *talk_report.of_capture(taken)]
@@ -211,6 +213,8 @@ def compare(context: click.Context, plan: str, element: str, file: str, line: tu
         streams.tell(refused.sentence)
         return refused.status
     bench, taken = bench_of(file, read_plan.option, line)
+    if taken.damage and not taken.packets:
+        return ended(context, taken, [])
     found = lab_report.compared(asked, bench, read_plan, data, taken.last)
     clock = lab_report.day_of(bench, taken, asked.local)
     said = [*lab_report.remarks(bench, read_plan, asked, found, clock), *talk_report.of_capture(taken)]
