@@ -208,6 +208,15 @@ def test_a_cut_capture_is_read_as_far_as_it_is_whole(folder: Path) -> None:
     assert ran.err.endswith("cut.pcap: it ends within its record 6; what comes before is whole, and was read\n")
 
 
+@pytest.mark.parametrize("end", [-1, -8, -9])
+def test_a_packed_capture_that_was_cut_is_read_as_far_as_it_goes(folder: Path, end: int) -> None:
+    (folder / "c").write_bytes(gzip.compress(made.KINDS["pcap"])[:end])
+    ran = murdjohe("capture", "read", "--rows", "c", folder=folder)
+    # (the last eight octets are its check; the one before them is of the last packet)
+    assert ran.status == 6 and ran.out.decode().splitlines()[:7] == made.ROWS[:7]
+    assert ran.err.startswith("murdjohe: c: it is packed by gzip, and damaged there: ") and ran.err.count("\n") == 1
+
+
 def packets_of(path: Path) -> tuple[list[capture_files.Packet], bool]:
     """The packets that are read, and whether the file was said to be damaged."""
     found: list[capture_files.Packet] = []

@@ -11,7 +11,7 @@ import struct
 import zlib
 from collections.abc import Iterator
 from contextlib import contextmanager
-from typing import IO, Any, NamedTuple
+from typing import IO, Any, NamedTuple, Protocol
 
 from dpkt import dpkt, pcap, pcapng
 
@@ -24,6 +24,7 @@ TIMELESS = -1  # the link type that is told of packets without a time
 LINK_BITS = 0xFFFF  # of a pcap's link type; the others say how long check sequences are
 LONGEST = 1 << 24  # octets of a record or block; a longer one is damage, since no Ethernet frame is so long
 SECOND = 1_000_000_000  # nanoseconds
+PIECE = 1 << 16  # octets that are unpacked at once
 GZIP = b"\x1f\x8b"
 SECTION = struct.pack("<I", pcapng.PCAPNG_BT_SHB)  # (the same in both orders)
 # The first four octets of a pcap: the order of its numbers, nanoseconds in its unit of time, and the octets of a record's head.
@@ -64,7 +65,31 @@ class Interface(NamedTuple):
     offset: int
 
 
-def taken(file: IO[bytes], count: int, what: str) -> bytes:
+class Octets(Protocol):
+    """What octets are read of, in order: fewer than asked for only at the end."""
+
+    def read(self, count: int, /) -> bytes:
+        ...
+
+
+class Unpacked:
+    """The octets of a file that is packed by gzip. Where it is damaged all before that is read first."""
+
+    def __init__(self, file: IO[bytes]) -> None:
+        self.file = gzip.GzipFile(fileobj=file)
+        self.piece = b""
+        self.at = 0
+
+    def read(self, count: int, /) -> bytes:
+        """So many octets, or fewer at the end. Raises EOFError, zlib.error and gzip.BadGzipFile."""
+        while len(self.piece) - self.at < count and (more := self.file.read1(PIECE)):
+            self.piece, self.at = self.piece[self.at :] + more, 0
+        data = self.piece[self.at : self.at + count]
+        self.at += len(data)
+        return data
+
+
+def taken(file: Octets, count: int, what: str) -> bytes:
     """So many octets. Raises Damaged where there are fewer."""
     data = file.read(count)
     if len(data) < count:
@@ -72,7 +97,7 @@ def taken(file: IO[bytes], count: int, what: str) -> bytes:
     return data
 
 
-def of_pcap(file: IO[bytes], magic: bytes) -> Iterator[Packet]:
+def of_pcap(file: Octets, magic: bytes) -> Iterator[Packet]:
     """The packets of a classic pcap, whose first four octets are read. Raises Damaged."""
     order, unit, head = PCAPS[magic]
     header = taken(file, 20, "its header")
@@ -109,7 +134,7 @@ def interface_of(block: bytes, order: str, number: int) -> Interface:
     return Interface(name or str(number), found.linktype, found.snaplen, ticks_of(resolution[0]), offset)
 
 
-def blocks(file: IO[bytes]) -> Iterator[tuple[str, int, bytes]]:
+def blocks(file: Octets) -> Iterator[tuple[str, int, bytes]]:
     """The blocks of a pcapng, whose first four octets are read, each with the order of its numbers and its kind; they are
     whole, with their lengths. Raises Damaged."""
     order, begin, number = "<", SECTION, 1
@@ -155,7 +180,7 @@ def of_block(order: str, kind: int, block: bytes, interfaces: list[Interface], n
     return Packet(time, interface.name, link, block[head : head + caught], length)
 
 
-def of_pcapng(file: IO[bytes]) -> Iterator[Packet]:
+def of_pcapng(file: Octets) -> Iterator[Packet]:
     """The packets of a pcapng, whose first four octets are read. Raises Damaged."""
     interfaces: list[Interface] = []
     number = 0
@@ -169,7 +194,7 @@ def of_pcapng(file: IO[bytes]) -> Iterator[Packet]:
             yield of_block(order, kind, block, interfaces, number)
 
 
-def of_stream(file: IO[bytes]) -> Iterator[Packet]:
+def of_stream(file: Octets) -> Iterator[Packet]:
     """The packets of an open capture that isn't packed. Raises Damaged."""
     magic = file.read(4)
     if magic in PCAPS:
@@ -201,7 +226,7 @@ def packets(path: str) -> Iterator[Packet]:
     with opened(path) as file:
         try:
             is_packed = file.peek(2)[:2] == GZIP
-            yield from of_stream(gzip.GzipFile(fileobj=file) if is_packed else file)
+            yield from of_stream(Unpacked(file) if is_packed else file)
         except (EOFError, gzip.BadGzipFile, zlib.error) as fault:
             raise Damaged(f"it is packed by gzip, and damaged there: {fault}") from None
         except OSError as fault:
