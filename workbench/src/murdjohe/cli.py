@@ -18,6 +18,7 @@ FILES = "Files and pictures"
 ABOUT = "About"
 # The workbench's own commands: their module, group, and what they do in a line.
 OWN = {
+    "capture": ("capture", forms.LAB, "reads any capture; compares a device with the rules"),
     "import": ("import_tables", FILES, "makes a plan of tables of elements, links and sources"),
     "draw": ("draw", FILES, "draws a plan, with the levels and selections of a report"),
     "timeline": ("timeline", FILES, "draws what changes in a report, over time"),
@@ -56,6 +57,16 @@ def help_option() -> click.Option:
     return click.Option(
         ["-h", "--help"], is_flag=True, is_eager=True, expose_value=False, callback=shown_help, help="this text"
     )
+
+
+def with_help(command: click.Command) -> click.Command:
+    """The command with our option for help, and each below it too."""
+    command.add_help_option = False
+    if not any("--help" in param.opts for param in command.params):
+        command.params.append(help_option())
+    for below in command.commands.values() if isinstance(command, click.Group) else ():
+        with_help(below)
+    return command
 
 
 def quiet_option() -> click.Option:
@@ -140,10 +151,7 @@ class Commands(click.Group):
         command = importlib.import_module(f"murdjohe.commands.{OWN[cmd_name][0]}").COMMAND
         if not isinstance(command, click.Command):
             raise TypeError(f"{cmd_name} is no command")
-        command.add_help_option = False
-        if not any("--help" in param.opts for param in command.params):
-            command.params.append(help_option())
-        return command
+        return with_help(command)
 
     def format_options(self, ctx: click.Context, formatter: click.HelpFormatter) -> None:
         lines = [(form.group, form.name, form.does) for form in FORMS.values()]

@@ -7,28 +7,15 @@ from typing import Any
 
 import click
 
-from murdjohe import bands, core, files, progress, times
+from murdjohe import bands, core, files, progress
 from murdjohe.bands import Band, Row
+from murdjohe.commands.common import Milliseconds
 from murdjohe.wrong import Wrong
 
 DARK = "#0072B2"
 HATCHES = {"holdover": "///", "freerun": "xxx"}
 HIGH = 40  # elements from which on the times are written above too
 SETTINGS = {"svg.fonttype": "none", "svg.hashsalt": "murdjohe", "hatch.linewidth": 0.6}  # (no number by chance)
-
-
-class Milliseconds(click.ParamType):
-    """A time in one of the spellings that the command takes."""
-
-    name = "TIME"
-
-    def convert(self, value: Any, param: click.Parameter | None, ctx: click.Context | None) -> int:
-        if isinstance(value, int):
-            return value
-        time = times.milliseconds(value)
-        if time is None and times.is_digits(value):
-            time = int(value)
-        return time if time is not None else self.fail(f"{value!r} is no time, as 60000, 20m or 1h30m", param, ctx)
 
 
 def drawn_band(axes: Any, row: int, band: Band, left: float, right: float, width: float, colour: str) -> None:
