@@ -19,6 +19,8 @@ ABOUT = "About"
 # The workbench's own commands: their module, group, and what they do in a line.
 OWN = {
     "import": ("import_tables", FILES, "makes a plan of tables of elements, links and sources"),
+    "export": ("export", FILES, "writes the tables of a plan, with its priorities"),
+    "apply": ("apply", FILES, "takes the priorities of one plan into another, spelling kept"),
     "draw": ("draw", FILES, "draws a plan, with the levels and selections of a report"),
     "timeline": ("timeline", FILES, "draws what changes in a report, over time"),
     "explain": ("explain", FILES, "says in a sentence what the program's own answer means"),

@@ -12,6 +12,8 @@ from murdjohe.inputs import STDIN
 from murdjohe.plans import Plan
 from murdjohe.wrong import Wrong, reason
 
+ACCEPTED = "accepted"  # what `check` says of ranks that rise
+
 
 class PlanFile:
     """A plan that was taken: its name in sentences, its octets, its text with lines, and what `rank` answers to it."""
