@@ -19,6 +19,7 @@ ABOUT = "About"
 # The workbench's own commands: their module, group, and what they do in a line.
 OWN = {
     "import": ("import_tables", FILES, "makes a plan of tables of elements, links and sources"),
+    "repair": ("repair", forms.PLANNING, "finds what to take away so that timing can't go round"),
     "export": ("export", FILES, "writes the tables of a plan, with its priorities"),
     "apply": ("apply", FILES, "takes the priorities of one plan into another, spelling kept"),
     "draw": ("draw", FILES, "draws a plan, with the levels and selections of a report"),
