@@ -20,6 +20,7 @@ ABOUT = "About"
 OWN = {
     "import": ("import_tables", FILES, "makes a plan of tables of elements, links and sources"),
     "repair": ("repair", forms.PLANNING, "finds what to take away so that timing can't go round"),
+    "orders": ("orders", forms.PLANNING, "prints what to set at each element"),
     "export": ("export", FILES, "writes the tables of a plan, with its priorities"),
     "apply": ("apply", FILES, "takes the priorities of one plan into another, spelling kept"),
     "draw": ("draw", FILES, "draws a plan, with the levels and selections of a report"),
