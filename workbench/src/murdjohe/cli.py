@@ -19,6 +19,7 @@ ABOUT = "About"
 # The workbench's own commands: their module, group, and what they do in a line.
 OWN = {
     "import": ("import_tables", FILES, "makes a plan of tables of elements, links and sources"),
+    "lint": ("lint", forms.PLANNING, "says what to look at in a plan, with lines and remedies"),
     "repair": ("repair", forms.PLANNING, "finds what to take away so that timing can't go round"),
     "orders": ("orders", forms.PLANNING, "prints what to set at each element"),
     "export": ("export", FILES, "writes the tables of a plan, with its priorities"),
