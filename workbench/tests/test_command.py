@@ -60,7 +60,7 @@ def test_the_example_in_the_help_of_a_picture_runs(folder: Path, name: str) -> N
     assert (folder / lines[-1].rpartition(" ")[2]).read_bytes().startswith(b"<?xml")
 
 
-PLANNERS = ["lint", "repair", "orders", "export", "apply"]
+PLANNERS = ["lint", "diff", "repair", "orders", "export", "apply"]
 
 
 @pytest.mark.parametrize("name", PLANNERS)
