@@ -148,3 +148,48 @@ def test_findings_stand_in_the_order_of_the_file(seed: int) -> None:
 )
 def test_levels_in_names(name: str, option: str, level: str | None) -> None:
     assert findings.named_level(name, option) == level
+
+
+def test_all_mistakes_of_a_refused_plan_are_told(folder: Path) -> None:
+    changes = (
+        ('name = "A"\n', 'name = "A.1"\n'),
+        ('name = "L2"', 'name = "L1"'),
+        ('b = "C"\npriority_b = 1', 'b = "c"\npriority_b = 1'),
+        ('level = "QL-PRC"', 'level = "PRC"'),
+        ("priority = 1", "priority = 256"),
+        ('floor = "QL-SSU-B"\n[[element]]\nname = "C"', 'floor = "QL-DNU"\n[[element]]\nname = "C"'),
+    )
+    plan = GOOD
+    for old, new in changes:
+        assert old in plan
+        plan = plan.replace(old, new, 1)
+    (folder / "plan.toml").write_text(plan)
+    for words in (["lint", "plan.toml"], ["repair", "plan.toml"], ["orders", "plan.toml"]):
+        ran = murdjohe(*words, folder=folder)
+        said = [line.removeprefix("murdjohe: plan.toml:") for line in ran.err.splitlines()]
+        assert (ran.status, ran.out) == (3, b"") and said[0].startswith('3: `name = "A.1"`: ')
+        assert [(line.split(":")[0], line.split(": ")[1].split(",")[0]) for line in said[1:]] == [
+            ("7", "floor is 'QL-DNU'"),
+            ("12", "a is 'A'"),
+            ("17", "name is 'L1'"),
+            ("18", "a is 'A'"),
+            ("19", "b is 'c'"),
+            ("28", "at is 'A'"),
+            ("29", "level is 'PRC'"),
+            ("34", "priority is '256'"),
+        ]
+
+
+def test_of_many_mistakes_of_a_plan_twenty_are_told() -> None:
+    plan = GOOD + "".join(f'[[element]]\nname = "x.{number}"\n' for number in range(30))
+    lines = murdjohe("lint", "-", stdin=plan.encode()).err.splitlines()
+    assert len(lines) == 21 and lines[-1] == "murdjohe: and 10 more mistakes"
+
+
+def test_a_file_whose_name_is_no_text_is_looked_at(folder: Path) -> None:
+    name = b"plan\xff.toml"
+    (Path(str(folder)) / name.decode("utf-8", "surrogateescape")).write_text(
+        GOOD.replace("priority = 1\n", "priority = 0\n")
+    )
+    ran = murdjohe("lint", name.decode("utf-8", "surrogateescape"), folder=folder)
+    assert ran.status == 0 and ran.out.startswith(name + b":5: warning: ")

@@ -19,12 +19,12 @@ class Mistakes:
         """One more mistake."""
         self.found.append((path, line, what))
 
-    def lines(self) -> list[str]:
-        """The mistakes in the order of files and lines, at most twenty, and how many more there are."""
+    def lines(self, shown: int = SHOWN) -> list[str]:
+        """The mistakes in the order of files and lines, at most so many, and how many more there are."""
         files = list(dict.fromkeys(path for path, _, _ in self.found))
         ordered = sorted(self.found, key=lambda mistake: (files.index(mistake[0]), mistake[1]))
-        told = [f"{path}:{line}: {what}" for path, line, what in ordered[:SHOWN]]
-        more = len(ordered) - SHOWN
+        told = [f"{path}:{line}: {what}" for path, line, what in ordered[:shown]]
+        more = len(ordered) - shown
         return told + ([f"and {more:,} more mistake{'s' if more > 1 else ''}"] if more > 0 else [])
 
     def end(self) -> None:

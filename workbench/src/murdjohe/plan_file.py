@@ -7,8 +7,9 @@ from __future__ import annotations
 
 from typing import Any
 
-from murdjohe import api, core, documents, forms, inputs, reports
+from murdjohe import api, core, documents, forms, inputs, refusals, reports
 from murdjohe.inputs import STDIN
+from murdjohe.mistakes import SHOWN
 from murdjohe.plans import Plan
 from murdjohe.wrong import Wrong, reason
 
@@ -39,8 +40,23 @@ class PlanFile:
         return answer.text.decode().strip()
 
 
+def others_of(document: documents.Document, refused: api.Refused) -> list[str]:
+    """The mistakes of a refused plan that stand on other lines than the one that the program names."""
+    from murdjohe import plan_mistakes
+    from murdjohe.sentences import plan as sentences
+
+    found = refusals.of(refused.status, refused.text)
+    plan = Plan(document)
+    if found is None or refused.status != core.BAD_PLAN or found.number not in plan_mistakes.OF_ROWS or plan.fault:
+        return []
+    first = sentences.finding(plan, found).line
+    mistakes = plan_mistakes.mistakes_of(plan)
+    mistakes.found = [mistake for mistake in mistakes.found if mistake[1] != first]
+    return mistakes.lines(SHOWN - 1)
+
+
 def taken(name: str, data: bytes) -> PlanFile:
-    """The plan of some octets. Raises Wrong with the program's status where it refuses them."""
+    """The plan of some octets. Raises Wrong with the program's status where it refuses them, and all mistakes of its rows."""
     file = inputs.File(forms.PLAN, name, name)
     try:
         answer = api.rank(data)
@@ -51,7 +67,8 @@ def taken(name: str, data: bytes) -> PlanFile:
             file.path = path
             words = inputs.Words(forms.FORMS["rank"], [name], ["rank", path], [file])
             sentence = answers.sentence(words, core.Answer(refused.status, refused.text))
-        raise Wrong(sentence or refused.sentence, status=refused.status) from None
+        more = others_of(documents.Document(name, data), refused)
+        raise Wrong(sentence or refused.sentence, *more, status=refused.status) from None
     return PlanFile(name, data, answer.result, answer.text)
 
 

@@ -94,7 +94,7 @@ def wrong_name(value: str) -> str | None:
     """What is wrong with a name."""
     if NAME.fullmatch(value):
         return None
-    return f"which no plan can have: {RULE}, as {legal(value)!r}; --rename gives such names"
+    return f"which no plan can have: {RULE}, as {legal(value)!r}"
 
 
 def wrong_number(column: str, value: str) -> str | None:
@@ -120,6 +120,8 @@ def wrong_level(column: str, value: str, option: str) -> str | None:
 
 class Reading:
     """Tables on their way to a plan, with the mistakes so far."""
+
+    rename_hint = "; --rename gives such names"
 
     def __init__(self, settings: Settings) -> None:
         self.settings = settings
@@ -180,8 +182,8 @@ class Reading:
                         self.wrong(table, row, column, f"and each {kind} has to have one; write it there")
                 for column, value in row.fields.items():
                     what = None
-                    if column in NAMED[kind]:
-                        what = wrong_name(value)
+                    if column in NAMED[kind] and (wrong := wrong_name(value)):
+                        what = wrong + self.rename_hint
                     elif column in NUMBERS:
                         what = wrong_number(column, value)
                     elif column in LEVELS:

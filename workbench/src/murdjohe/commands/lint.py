@@ -34,7 +34,7 @@ def lint(context: click.Context, plan: str, as_json: bool) -> int:
         text = json.dumps([dataclasses.asdict(finding) for finding in found], ensure_ascii=False, indent=2) + "\n"
     else:
         text = "".join(f"{finding.told(taken.name)}\n" for finding in found)
-    context.obj.put(text.encode())
+    context.obj.put(text.encode("utf-8", "surrogateescape"))
     counts = [plural(sum(one.kind == kind for one in found), kind) for kind in KINDS]
     has_errors = any(finding.kind == ERROR for finding in found)
     if not context.find_root().params["quiet"]:

@@ -79,7 +79,8 @@ def repair_plan(context: click.Context, plan: str, patch: bool, output: str | No
     said = report(taken, repair, verdict)
     if output:
         files.written(output, data)
-    context.obj.put(repairs.patch(plan, taken.data, data) if patch else "".join(f"{line}\n" for line in said).encode())
+    text = "".join(f"{line}\n" for line in said).encode("utf-8", "surrogateescape")
+    context.obj.put(repairs.patch(plan, taken.data, data) if patch else text)
     if patch and not is_quiet:
         streams.tell(*said, colour="green")
     return core.DONE if verdict == plan_file.ACCEPTED else core.REFUTED
