@@ -136,7 +136,7 @@ def test_sets_are_least_of_all(seed: int) -> None:
     assert sum(count for _, count, _ in repair.knots) == sum(1 for _ in nx.simple_cycles(graph))
 
 
-@TRIED
+@settings(max_examples=max(15, CASES))
 @given(st.integers(0, 2**32))
 def test_after_a_repair_the_program_gives_ranks(seed: int) -> None:
     text = random_network(seed)
@@ -161,6 +161,28 @@ def test_greedy_sets_leave_no_ring_and_take_nothing_needless(seed: int) -> None:
     removed = greedy_sets.greedy_set(graph, inputs, 5)
     assert rings.rings_left(graph, removed) == []
     assert all(rings.rings_left(graph, removed - {line}) for line in removed)
+
+
+def test_where_time_runs_out_the_set_is_found_alone() -> None:
+    tables, inputs, graph = in_knots(METRO)
+    repair = repairs.repair_of(tables, 0.0)
+    (found,) = repair.sets
+    assert not repair.is_least and rings.rings_left(graph, [line.name for line in found.lines]) == []
+    assert found.cost >= (0, 0, 1014)  # (256 - 2, 256 - 3, 256 - 2 and 256 - 3 for the least set)
+
+
+def test_knots_apart_are_repaired_together() -> None:
+    parts = [METRO.replace("version = 2\n", "")] * 2
+    other = re.sub(r'(name|a|b|at) = "', r'\1 = "x-', parts[1])
+    rows = [text.split("[[source]]", 1) for text in (parts[0], other)]
+    links = [text[0].split("[[link]]", 1) for text in rows]
+    text = "".join(
+        [links[0][0], links[1][0], *("[[link]]" + one[1] for one in links), *("[[source]]" + one[1] for one in rows)]
+    )
+    tables, _, graph = in_knots(text)
+    repair = repairs.repair_of(tables)
+    assert repair.knots == [(24, 36, True)] * 2 and len(graph) == 48 and repair.is_least
+    assert [found.cost for found in repair.sets] == [(0, 0, 2028), (0, 0, 2029), (0, 0, 2029)]
 
 
 def both_ways(elements: int) -> str:

@@ -16,7 +16,7 @@ from scipy.optimize import Bounds, LinearConstraint, milp
 from scipy.sparse import csr_matrix
 
 from murdjohe.knots import Inputs
-from murdjohe.rings import rings_left
+from murdjohe.rings import ring_through, rings_left
 
 Terms = dict[int, float]  # coefficients by the number of their variable
 OPTIMAL = 0  # the status of a solution that is proved to be least
@@ -42,11 +42,20 @@ class Search:
         for number, element in enumerate(self.elements, start=len(self.lines)):
             own = {self.at[name]: -1.0 for name in inputs.of[element]}
             self.rows.append(({**own, number: 1.0}, 1.0 - len(own), numpy.inf))
-        self.add(rings_left(knot, ()))
+        self.known: set[frozenset[str]] = set()
+        self.add([ring_through(knot, knot, name) for name in self.lines])
 
     def add(self, rings: list[list[str]]) -> None:
         """That each of these rings loses a line."""
-        self.rows += [({self.at[name]: 1.0 for name in ring}, 1.0, numpy.inf) for ring in rings]
+        new: dict[frozenset[str], None] = {frozenset(ring): None for ring in rings}
+        self.rows += [({self.at[name]: 1.0 for name in ring}, 1.0, numpy.inf) for ring in new if ring not in self.known]
+        self.known.update(new)
+
+    def left(self, removed: Collection[str]) -> list[list[str]]:
+        """Rings without these lines, none exactly where none is left: a shortest one through each line that is on one."""
+        kept = set(self.lines).difference(removed)
+        on_rings = {name for ring in rings_left(self.knot, removed) for name in ring}
+        return [ring_through(self.knot, kept, name) for name in sorted(on_rings)]
 
     def stages(self) -> list[Terms]:
         """What is made least, one after the other."""
@@ -88,7 +97,7 @@ class Search:
                 if values is None:
                     return None
                 removed = frozenset(name for name, value in zip(self.lines, values) if value > 0.5)
-                left = rings_left(self.knot, removed)
+                left = self.left(removed)
                 if not left:
                     break
                 self.add(left)

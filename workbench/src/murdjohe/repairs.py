@@ -4,6 +4,7 @@ from __future__ import annotations
 
 import os
 import re
+import time
 from dataclasses import dataclass
 from itertools import product
 from typing import Any
@@ -16,7 +17,7 @@ from murdjohe.knots import LARGE, Cost, Inputs, Line
 from murdjohe.plans import Plan
 
 SETS = 3  # sets that are told
-SECONDS = 20.0  # for the least sets of a knot, and for bettering those of a large one
+SECONDS = 20.0  # for all least sets together; as long again for bettering those that aren't known to be least
 CONTEXT = 3  # lines around a change in a patch
 LINES = re.compile(rb"[^\n]*\n|[^\n]+")
 
@@ -49,25 +50,28 @@ def groups_of(parts: list[nx.DiGraph], inputs: Inputs) -> list[nx.DiGraph]:
     return found
 
 
-def sets_of(group: nx.DiGraph, inputs: Inputs, seconds: float) -> tuple[list[frozenset[str]], bool]:
-    """The best sets of a group, and whether they are known to be least."""
+def sets_of(group: nx.DiGraph, inputs: Inputs, end: float, later: float) -> tuple[list[frozenset[str]], bool]:
+    """The best sets of a group, and whether they are known to be least.
+
+    Least sets are sought up to the time `end`, others are bettered up to `later`, both of the monotonic clock.
+    """
     if len(group) <= LARGE:
         try:
-            return least_sets.least_sets(group, inputs, SETS, seconds), True
+            return least_sets.least_sets(group, inputs, SETS, end - time.monotonic()), True
         except least_sets.Unsolved:
             pass
-    return [greedy_sets.greedy_set(group, inputs, seconds)], False
+    return [greedy_sets.greedy_set(group, inputs, later - time.monotonic())], False
 
 
 def repair_of(tables: dict[str, Any], seconds: float = SECONDS) -> Repair:
-    """The repair of a plan; one without sets where no ring is left."""
+    """The repair of a plan; one without sets where no ring is left. The search takes twice these seconds at most, and little more."""
     lines = knots.lines_of(tables)
     inputs = knots.inputs_of(tables, lines)
     parts = knots.knots_of(knots.graph_of(lines))
     best: list[frozenset[str]] = [frozenset()] if parts else []
-    is_least = True
+    is_least, start = True, time.monotonic()
     for group in groups_of(parts, inputs):
-        found, is_known = sets_of(group, inputs, seconds)
+        found, is_known = sets_of(group, inputs, start + seconds, start + 2 * seconds)
         is_least = is_least and is_known
         both = [one | other for one, other in product(best, found)]
         best = sorted(both, key=lambda removed: (inputs.cost(removed), sorted(removed)))[:SETS]

@@ -52,9 +52,9 @@ def repair_plan(context: click.Context, plan: str, patch: bool, output: str | No
     """Finds the cheapest nominations to take away where `rank` says `cycle`.
 
     All knots of lines are looked at, and how many rings they have. A set costs first the elements that lose their last input,
-    then the first choices that it takes, then how high its priorities are. Up to 400 lines in a knot the set is least, and it
-    is said so; else it is found, perhaps not least. Up to three sets are told. The plan without the first is put before the
-    program. The status is 0 where the program accepts it, and where no ring was there.
+    then the first choices that it takes, then how high its priorities are. It is told as least where that is known: up to 400
+    lines in a knot, and within 20 seconds; else as found, perhaps not least. Up to three sets are told. The plan without the
+    first is put before the program. The status is 0 where the program accepts it, and where no ring was there.
 
     \b
       $ printf '[[element]]\\nname = "A"\\n[[element]]\\nname = "B"\\n[[element]]\\nname = "C"\\n' > plan.toml
