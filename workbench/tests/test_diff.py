@@ -2,6 +2,7 @@
 
 from __future__ import annotations
 
+import json
 import random
 from pathlib import Path
 
@@ -67,6 +68,11 @@ def test_a_link_that_is_new_is_told_with_its_priorities(folder: Path) -> None:
         "part,subject,what,old,new",
         "topology,link L3,ends,B and C,none",
         "priorities,link L3,priority of L3>C,2,none",
+    ]
+    rows = json.loads("\n".join(told(folder, gone, "--json")))
+    assert [list(row.values()) for row in rows] == [
+        ["topology", "link L3", "ends", "B and C", "none"],
+        ["priorities", "link L3", "priority of L3>C", "2", "none"],
     ]
 
 

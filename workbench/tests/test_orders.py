@@ -3,6 +3,7 @@
 from __future__ import annotations
 
 import csv
+import json
 import random
 from pathlib import Path
 
@@ -82,6 +83,9 @@ def test_orders_of_a_small_plan(folder: Path) -> None:
     ran = murdjohe("orders", "plan.toml", folder=folder)
     assert (ran.status, ran.out.decode(), ran.err) == (0, TEXT, "murdjohe: checked: accepted\n")
     assert murdjohe("orders", "plan.toml", "--csv", folder=folder).out.decode() == TABLE
+    table = list(csv.DictReader(TABLE.splitlines()))
+    for words in (["orders", "plan.toml", "--json"], ["--json", "orders", "plan.toml"]):
+        assert json.loads(murdjohe(*words, folder=folder).out) == table
     lines = murdjohe("orders", "plan.toml", "--markdown", folder=folder).out.decode().splitlines()
     assert lines[0] == "| " + " | ".join(TABLE.splitlines()[0].split(",")) + " |" and lines[1].count("---") == 11
     assert lines[2:] == ["| " + " | ".join(row.split(",")) + " |" for row in TABLE.splitlines()[1:]]

@@ -8,7 +8,7 @@ import io
 
 import click
 
-from murdjohe import api, core, differences, plan_file, progress, streams
+from murdjohe import api, core, differences, plain_json, plan_file, progress, streams
 from murdjohe.plan_file import PlanFile
 from murdjohe.wrong import Wrong
 
@@ -22,8 +22,12 @@ def swept(taken: PlanFile, times: tuple[str, str]) -> differences.Facts:
         raise Wrong(f"--sweep: {refused.sentence}", status=refused.status) from None
 
 
-def as_table(found: list[differences.Difference]) -> bytes:
-    """The differences as a table with commas."""
+def shown(found: list[differences.Difference], form: str) -> bytes:
+    """The differences in one of their forms."""
+    if form == "json":
+        return plain_json.text([dataclasses.asdict(one) for one in found])
+    if form != "csv":
+        return "".join(f"{line}\n" for line in differences.text_of(found)).encode()
     out = io.StringIO(newline="")
     rows = [dataclasses.astuple(one) for one in found]
     csv.writer(out, lineterminator="\n").writerows([differences.COLUMNS, *rows])
@@ -36,9 +40,10 @@ def as_table(found: list[differences.Difference]) -> bytes:
 @click.option(
     "--sweep", nargs=2, metavar="AT UNTIL", help="also what differs where each link fails at AT, looked at in UNTIL"
 )
-@click.option("--csv", "as_csv", is_flag=True, help="as a table with commas: part, subject, what, old, new")
+@click.option("--csv", "form", flag_value="csv", help="as a table with commas: part, subject, what, old, new")
+@click.option("--json", "form", flag_value="json", help="as JSON: the rows of that table")
 @click.pass_context
-def diff(context: click.Context, old: str, new: str, sweep: tuple[str, str] | None, as_csv: bool) -> int:
+def diff(context: click.Context, old: str, new: str, sweep: tuple[str, str] | None, form: str | None) -> int:
     """Says what differs in plan B from plan A, whatever their order and spelling.
 
     Topology, priorities, floors, times and levels, where keys that are left out count as their defaults; with --sweep also
@@ -55,8 +60,7 @@ def diff(context: click.Context, old: str, new: str, sweep: tuple[str, str] | No
     if sweep:
         facts = [said | swept(taken, sweep) for taken, said in zip(pair, facts)]
     found = differences.between(*facts)
-    lines = differences.text_of(found)
-    context.obj.put(as_table(found) if as_csv else "".join(f"{line}\n" for line in lines).encode())
+    context.obj.put(shown(found, form or ("json" if context.find_root().params["json"] else "")))
     if not context.find_root().params["quiet"]:
         verdicts = "; ".join(f"{taken.name} checked: {taken.verdict()}" for taken in pair)
         number = f"{len(found):,} difference{'' if len(found) == 1 else 's'}"

@@ -3,11 +3,10 @@
 from __future__ import annotations
 
 import dataclasses
-import json
 
 import click
 
-from murdjohe import core, findings, plan_file, streams
+from murdjohe import core, findings, plain_json, plan_file, streams
 from murdjohe.findings import ERROR, KINDS
 from murdjohe.remarks import plural
 
@@ -31,10 +30,10 @@ def lint(context: click.Context, plan: str, as_json: bool) -> int:
     found = findings.findings_of(taken.plan, taken.ranking.ring)
     verdict = taken.verdict()
     if as_json or context.find_root().params["json"]:
-        text = json.dumps([dataclasses.asdict(finding) for finding in found], ensure_ascii=False, indent=2) + "\n"
+        context.obj.put(plain_json.text([dataclasses.asdict(finding) for finding in found]))
     else:
         text = "".join(f"{finding.told(taken.name)}\n" for finding in found)
-    context.obj.put(text.encode("utf-8", "surrogateescape"))
+        context.obj.put(text.encode("utf-8", "surrogateescape"))
     counts = [plural(sum(one.kind == kind for one in found), kind) for kind in KINDS]
     has_errors = any(finding.kind == ERROR for finding in found)
     if not context.find_root().params["quiet"]:

@@ -7,7 +7,7 @@ import io
 
 import click
 
-from murdjohe import core, orders, plan_file, streams
+from murdjohe import core, orders, plain_json, plan_file, streams
 from murdjohe.orders import Order
 
 
@@ -17,6 +17,8 @@ def shown(columns: tuple[str, ...], rows: list[tuple[str, ...]], text: list[str]
         out = io.StringIO(newline="")
         csv.writer(out, lineterminator="\n").writerows([columns, *rows])
         return out.getvalue().encode()
+    if form == "json":
+        return plain_json.text([dict(zip(columns, row)) for row in rows])
     lines = orders.markdown_of(columns, rows) if form == "markdown" else text
     return "".join(f"{line}\n" for line in lines).encode()
 
@@ -31,6 +33,7 @@ def all_of(path: str) -> tuple[list[Order], str]:
 @click.argument("plan", type=click.Path())
 @click.option("--csv", "form", flag_value="csv", help="as a table with commas")
 @click.option("--markdown", "form", flag_value="markdown", help="as a table in Markdown")
+@click.option("--json", "form", flag_value="json", help="as JSON: the rows of that table")
 @click.option("--from", "old", type=click.Path(), help="only what differs from this plan")
 @click.pass_context
 def print_orders(context: click.Context, plan: str, form: str | None, old: str | None) -> int:
@@ -46,6 +49,7 @@ def print_orders(context: click.Context, plan: str, form: str | None, old: str |
       $ murdjohe orders plan.toml --csv > orders.csv
     """
     new, verdict = all_of(plan)
+    form = form or ("json" if context.find_root().params["json"] else None)
     if old is None:
         data = shown(orders.COLUMNS, orders.rows_of(new), orders.text_of(new), form or "")
     else:
