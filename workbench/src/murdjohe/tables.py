@@ -11,6 +11,7 @@ import unicodedata
 from dataclasses import dataclass, field
 
 from murdjohe import documents, files, levels, plans, table_reader
+from murdjohe.inputs import STDIN
 from murdjohe.mistakes import Mistakes
 from murdjohe.table_reader import Columns, Row, Table
 from murdjohe.wrong import Wrong
@@ -135,6 +136,7 @@ class Reading:
 
         columns, headers = TABLES[kind], self.settings.headers.get(kind, {})
         text = files.text(path)
+        path = "standard input" if path == STDIN else path
         if self.settings.is_netbox and kind in netbox.COLUMNS:
             table = netbox.read(kind, path, text, headers, self.mistakes)
         else:
