@@ -71,9 +71,10 @@ def repair_plan(context: click.Context, plan: str, patch: bool, output: str | No
         repair = repairs.repair_of(taken.tables)
     is_quiet = context.find_root().params["quiet"]
     if not repair.sets:
+        verdict = taken.verdict()
         if not is_quiet:
-            streams.tell(f"no ring is left; checked: {taken.verdict()}", colour="green")
-        return core.DONE
+            streams.tell(f"no ring is left; checked: {verdict}", colour="green")
+        return core.DONE if verdict == plan_file.ACCEPTED else core.REFUTED
     data = repairs.mended(taken.plan, repair.sets[0])
     verdict = plan_file.taken("the repaired plan", data).verdict()
     said = report(taken, repair, verdict)
