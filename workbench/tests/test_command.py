@@ -60,6 +60,17 @@ def test_the_example_in_the_help_of_a_picture_runs(folder: Path, name: str) -> N
     assert (folder / lines[-1].rpartition(" ")[2]).read_bytes().startswith(b"<?xml")
 
 
+PLANNERS = ["lint", "diff", "repair", "orders", "export", "apply"]
+
+
+@pytest.mark.parametrize("name", PLANNERS)
+def test_the_example_in_the_help_of_a_command_runs(folder: Path, name: str) -> None:
+    (folder / "murdjohe").symlink_to(LAUNCHER)
+    lines = re.findall(r"^ +\$ (.+)$", murdjohe(name, "--help").out.decode(), re.M)
+    ran = started(["sh", "-c", "set -e; PATH=$PWD:$PATH\n" + "\n".join(lines)], folder)
+    assert any(f"murdjohe {name} " in line for line in lines) and ran.status == 0, ran.err
+
+
 @pytest.mark.parametrize("topic", list(topics.TOPICS))
 def test_topics_are_told(topic: str) -> None:
     ran = murdjohe("help", topic)

@@ -61,9 +61,10 @@ def test_damaged_tables_are_written_or_refused(folder: Path) -> None:
         (folder / "table").write_bytes(fuzz.damaged(chance, "rows", Path(paths[kind]).read_bytes()))
         paths[kind] = "table"
         try:
-            assert tables.plan_of(paths, "I").startswith(('option = "I"\n', "version = 2\n"))
+            assert tables.made_of(paths, tables.Settings()).plan.startswith(('option = "I"\n', "version = 2\n"))
         except Wrong as wrong:
-            assert str(wrong).startswith("table:")
+            starts = tuple(f"{path}:" for path in paths.values())
+            assert all(line.startswith((*starts, "and ")) for line in wrong.lines)
 
 
 @pytest.mark.parametrize(

@@ -1,4 +1,4 @@
-"""Tables become plans: the stored ones byte for byte, and random ones back again."""
+"""Tables become plans: the stored ones byte for byte, tables as spreadsheets write them, and all mistakes at once."""
 
 from __future__ import annotations
 
@@ -6,17 +6,46 @@ import csv
 import io
 import tomllib
 from pathlib import Path
-from typing import Any
 
 import pytest
-from conftest import EXAMPLES, murdjohe
+from conftest import EXAMPLES, Ran, murdjohe
 from hypothesis import HealthCheck, given, settings
 from hypothesis import strategies as st
 
 from murdjohe import tables
-from murdjohe.wrong import Wrong
+from murdjohe.mistakes import SHOWN
+from murdjohe.tables import NAME, Settings
 
 INVENTORY = EXAMPLES / "inventory"
+ELEMENTS, LINKS, SOURCES = "name\nA\nB\n", "name,a,b\nL1,A,B\n", "name,at,level\nS,A,QL-PRC\n"
+PLAN = b"""option = "I"
+
+[[element]]
+name = "A"
+
+[[element]]
+name = "B"
+
+[[link]]
+name = "L1"
+a = "A"
+b = "B"
+
+[[source]]
+name = "S"
+at = "A"
+level = "QL-PRC"
+"""
+
+
+def imported(
+    folder: Path, *more: str, elements: str | bytes = ELEMENTS, links: str = LINKS, sources: str = SOURCES
+) -> Ran:
+    """Imports these tables."""
+    (folder / "e.csv").write_bytes(elements if isinstance(elements, bytes) else elements.encode())
+    (folder / "l.csv").write_text(links)
+    (folder / "s.csv").write_text(sources)
+    return murdjohe("import", "e.csv", "l.csv", "s.csv", *more, folder=folder)
 
 
 @pytest.mark.parametrize(("links", "plan"), [("links.csv", "plan.toml"), ("links-first.csv", "first.toml")])
@@ -31,81 +60,215 @@ def test_two_tables_to_an_accepted_plan(folder: Path) -> None:
     ran = murdjohe("import", "elements.csv", "links.csv", "-o", "topology.toml", folder=folder)
     assert (ran.status, ran.out) == (0, b"") and "nothing in the plan is a clock yet" in ran.err
     (folder / "sources.csv").write_text("name,at,level\nS,A,QL-PRC\n")
-    assert (
-        murdjohe("import", "elements.csv", "links.csv", "sources.csv", "-o", "topology.toml", folder=folder).err == ""
-    )
-    for words, file in ((["nominate", "topology.toml"], "plan.toml"), (["rank", "plan.toml"], "certificate.csv")):
-        (folder / file).write_bytes(murdjohe(*words, folder=folder).out)
+    words = ["import", "elements.csv", "links.csv", "sources.csv", "-o", "topology.toml"]
+    before = (folder / "topology.toml").read_bytes()
+    ran = murdjohe(*words, folder=folder)
+    assert (ran.status, ran.err) == (2, "murdjohe: topology.toml is there already; --force writes over it\n")
+    assert (folder / "topology.toml").read_bytes() == before
+    assert murdjohe(*words, "--force", folder=folder).err == ""
+    for forms, file in ((["nominate", "topology.toml"], "plan.toml"), (["rank", "plan.toml"], "certificate.csv")):
+        (folder / file).write_bytes(murdjohe(*forms, folder=folder).out)
     ran = murdjohe("check", "plan.toml", "certificate.csv", folder=folder)
     assert (ran.status, ran.out) == (0, b"accepted\n")
     assert ran.err == "murdjohe: accepted: 3 elements, 2 nominated lines, greatest rank 1\n"
 
 
 @pytest.mark.parametrize(
+    "elements",
+    [
+        "name;own\nA;\nB;\n",
+        "name\town\nA\t\nB\t\n",
+        "sep=;\nname;own\nA;\nB;\n",
+        "sep=|\r\nName|Own\r\nA|\r\nB|\r\n",
+        "\ufeffNAME,own\r\nA,\r\n\r\nB,\r\n",
+        '"Name"\n"A"\nB,,\n',
+        "sep=,\nname\nA\nB",
+    ],
+)
+def test_tables_as_spreadsheets_write_them(folder: Path, elements: str) -> None:
+    ran = imported(folder, elements=elements)
+    assert (ran.status, ran.out, ran.err) == (0, PLAN, "")
+
+
+def test_other_headers_are_mapped(folder: Path) -> None:
+    elements = "Hostname,name,WTR\nA,first,\nB,second,\n"
+    ran = imported(folder, "--map", "name=Hostname", "--ignore-extra", elements=elements)
+    assert (ran.status, ran.out) == (0, PLAN) and "e.csv: name: no columns of a plan" in ran.err
+    links = "Label,Side A,Side B\nL1,A,B\n"
+    ran = imported(folder, "--map", "link.name=label", "--map", "a=Side A", "--map", "b=side-b", links=links)
+    assert (ran.status, ran.out) == (0, PLAN)
+    for pair, said in (("nam=X", "it has to be COLUMN=HEADER"), ("name", "it has to be"), ("name=X", "no table has")):
+        ran = imported(folder, "--map", pair)
+        assert (ran.status, ran.out) == (2, b"") and said in ran.err
+
+
+def test_names_are_changed_and_listed(folder: Path) -> None:
+    long = "x" * 40
+    links = f"name,a,b\nge-0/0/1,core 1.bern,core-1-bern\n{long},core-1-bern,Zürich\n"
+    ran = imported(
+        folder,
+        *("--rename", "names.csv", "-o", "plan.toml"),
+        elements="name\ncore 1.bern\ncore-1-bern\nZürich\n",
+        links=links,
+        sources="name,at,level\nS,Zürich,QL-PRC\n",
+    )
+    assert (ran.status, ran.out) == (0, b"") and "4 names changed, as names.csv lists them" in ran.err
+    written = (folder / "names.csv").read_text().splitlines()
+    assert written == [
+        "what,old,new",
+        "element,core 1.bern,core-1-bern-2",
+        "element,Zürich,Zurich",
+        "link or source,ge-0/0/1,ge-0-0-1",
+        f"link or source,{long},{'x' * 32}",
+    ]
+    plan = tomllib.loads((folder / "plan.toml").read_text())
+    assert [row["name"] for row in plan["element"]] == ["core-1-bern-2", "core-1-bern", "Zurich"]
+    assert [(row["a"], row["b"]) for row in plan["link"]] == [
+        ("core-1-bern-2", "core-1-bern"),
+        ("core-1-bern", "Zurich"),
+    ]
+    assert plan["source"][0]["at"] == "Zurich"
+
+
+def test_all_mistakes_are_told_at_once(folder: Path) -> None:
+    ran = imported(
+        folder,
+        elements="name,own,Hold-off,wtr\nA,QL-EEC1,300,13\nB.1,QL-DNU,500.0,\nA,,,\n,,,\n,QL-SEC,,\n",
+        links="name,a,b,priority_b,bundle\nL1,A,a,256,X\nL2,A,A,,X\nL1,A,C,,\n",
+        sources="name,at,level\nL1,A,PRC\n",
+    )
+    assert (ran.status, ran.out) == (2, b"")
+    said = [line.removeprefix("murdjohe: ") for line in ran.err.splitlines()]
+    for begin in (
+        "e.csv:1: there is no column 'Hold-off' in a table of elements (nearest: \"holdoff\"); the columns are",
+        "e.csv:2: own is 'QL-EEC1', which is no level of option I (nearest: \"QL-SEC\"); the levels are",
+        "e.csv:2: wtr is '13', which is outside its limits; it has to be 0 to 12 minutes",
+        "e.csv:3: name is 'B.1', which no plan can have",
+        "e.csv:3: own is 'QL-DNU', which is do-not-use",
+        "e.csv:4: name is 'A', as it is in e.csv:2; choose another name",
+        "e.csv:6: name is empty, and each element has to have one",
+        "l.csv:2: priority_b is '256', which is outside its limits; it has to be 0 to 255, where 0 is not nominated",
+        "l.csv:2: b is 'a', which names no element (nearest: \"A\")",
+        "l.csv:3: b is 'A', as a is; a link joins two elements",
+        "l.csv:4: name is 'L1', as it is in l.csv:2",
+        "s.csv:2: name is 'L1', as it is in l.csv:2",
+        "s.csv:2: level is 'PRC', which is no level of option I (nearest: \"QL-PRC\")",
+    ):
+        assert [line for line in said if line.startswith(begin)], begin
+    assert said == sorted(said, key=lambda line: ("els".index(line[0]), int(line.split(":")[1])))
+
+
+def test_of_many_mistakes_twenty_are_told(folder: Path) -> None:
+    ran = imported(folder, elements="name\nA\nB\n" + "".join(f"x.{number}\n" for number in range(27)))
+    lines = ran.err.splitlines()
+    assert ran.status == 2 and len(lines) == SHOWN + 1 == 21 and lines[-1] == "murdjohe: and 7 more mistakes"
+
+
+@pytest.mark.parametrize(
     ("elements", "said"),
     [
         (
-            "name;own\nA;QL-SEC\n",
-            "elements.csv:1: there is no column 'name;own' in a table of elements; the fields have semicolons",
-        ),
-        ("name\town\nA\tQL-SEC\n", "the fields have tabs between them, and commas are wanted"),
-        (
             "name,vendor\nA,X\n",
-            "elements.csv:1: there is no column 'vendor' in a table of elements; its columns are name, own, ",
+            "e.csv:1: there is no column 'vendor' in a table of elements; the columns are name, own, ",
         ),
-        ("own\nQL-SEC\n", "elements.csv:1: the column 'name' is missing"),
-        ("name,name\nA,B\n", "elements.csv:1: the column 'name' stands there twice"),
-        ("name,wtr\nA,5\nB\n", "elements.csv:3: 1 fields under 2 columns"),
-        ("name,holdoff\n\nA,500.0\n", "elements.csv:3: holdoff is '500.0', which is no whole number"),
-        ('name\n"A\n', "elements.csv:2: it is no CSV"),
-        ("", "elements.csv:1: the column 'name' is missing"),
+        ("own\nQL-SEC\n", "e.csv:1: the column 'name' is missing"),
+        ("name,Name\nA,B\n", "e.csv:1: the column 'name' stands there twice"),
+        ("name,wtr\nA,5\nB\n", "e.csv:3: 1 field under 2 columns"),
+        ('name\n"A\n', "e.csv:2: it is no CSV"),
+        ("", "e.csv:1: the column 'name' is missing"),
+        ("name\n", "e.csv:1: there is no element below the header"),
+        (
+            "name,holdoff\n\nA,500.0\n",
+            "e.csv:3: holdoff is '500.0', which is no whole number; it has to be 300 to 1800",
+        ),
+        ("name\nA\x7f\n", "e.csv:2: name is 'A\\x7f'"),
     ],
 )
-def test_what_can_not_be_a_plan_is_refused_with_its_line(folder: Path, elements: str, said: str) -> None:
-    (folder / "elements.csv").write_text(elements)
-    (folder / "links.csv").write_text("name,a,b\n")
+def test_what_can_not_be_a_plan_is_refused_and_nothing_written(folder: Path, elements: str, said: str) -> None:
     (folder / "plan.toml").write_text("# what stood there before\n")
-    ran = murdjohe("import", "elements.csv", "links.csv", "-o", "plan.toml", folder=folder)
-    assert (ran.status, ran.out) == (2, b"") and said in ran.err and ran.err.count("\n") == 1
+    ran = imported(folder, "-o", "plan.toml", "--force", elements=elements)
+    assert (ran.status, ran.out) == (2, b"") and said in ran.err
     assert (folder / "plan.toml").read_text() == "# what stood there before\n"
-    assert sorted(path.name for path in folder.iterdir()) == ["elements.csv", "links.csv", "plan.toml"]
+    assert sorted(path.name for path in folder.iterdir()) == ["e.csv", "l.csv", "plan.toml", "s.csv"]
+
+
+def test_of_two_files_none_is_written_where_one_can_not_be(folder: Path) -> None:
+    ran = imported(folder, "-o", "plan.toml", "--rename", "no/where.csv")
+    assert ran.status == 2 and "no/where.csv" in ran.err
+    assert sorted(path.name for path in folder.iterdir()) == ["e.csv", "l.csv", "s.csv"]
+
+
+def test_the_program_has_the_last_word(folder: Path) -> None:
+    many = "".join(f"L{number},A,B,1\n" for number in range(65))
+    ran = imported(folder, links="name,a,b,priority_b\n" + many)
+    assert (ran.status, ran.out) == (3, b"") and 'nominated input 65 of element "B"' in ran.err
 
 
 @pytest.mark.parametrize("data", ["name\nA\n".encode("utf-16"), b"name\n\xfc\n"])
 def test_other_encodings_are_told(folder: Path, data: bytes) -> None:
-    (folder / "elements.csv").write_bytes(data)
-    ran = murdjohe("import", "elements.csv", "elements.csv", folder=folder)
-    assert ran.status == 2 and "elements.csv:" in ran.err and "UTF-8" in ran.err
+    ran = imported(folder, elements=data)
+    assert ran.status == 2 and "e.csv:" in ran.err and "UTF-8" in ran.err
 
 
-def test_a_full_disk_is_told(folder: Path) -> None:
+def test_a_full_disk_is_told() -> None:
     ran = murdjohe("import", "elements.csv", "links.csv", "sources.csv", "-o", "/dev/full", folder=INVENTORY)
     assert (ran.status, ran.err) == (2, "murdjohe: /dev/full: No space left on device\n")
 
 
-NAMES = st.text(st.characters(blacklist_categories=("Cs",), blacklist_characters="\0"), min_size=1, max_size=8)
-OTHERS: dict[str, st.SearchStrategy[Any]] = {"own": NAMES, "floor": NAMES, "wtr": st.integers(-(2**63), 2**63 - 1)}
-MUST: dict[str, st.SearchStrategy[Any]] = {"name": NAMES}
-ROWS = st.fixed_dictionaries(MUST, optional=OTHERS)
+def test_netbox_devices_and_cables(folder: Path) -> None:
+    devices = "Name,Status,Site\nA,Active,Bern\nB,Active,Bern\n"
+    cables = (
+        "ID,Label,Device A,Termination A,Device B,Termination B\n7,,A,ge-0,B,ge-1\n8,L1,A,ge-2,B,ge-3\n9,L1,B,x,A,y\n"
+    )
+    ran = imported(folder, "--netbox", elements=devices, links=cables)
+    plan = tomllib.loads(ran.out.decode())
+    assert ran.status == 0 and [row["name"] for row in plan["element"]] == ["A", "B"]
+    assert [(row["name"], row["a"], row["b"]) for row in plan["link"]] == [
+        ("cable-7", "A", "B"),
+        ("L1", "A", "B"),
+        ("cable-9", "B", "A"),
+    ]
+    bulk = "side_a_device,side_a_type,side_a_name,side_b_device,side_b_type,side_b_name\nA,dcim.interface,x,B,t,y\n"
+    ran = imported(folder, "--netbox", elements=devices, links=bulk)
+    assert [row["name"] for row in tomllib.loads(ran.out.decode())["link"]] == ["cable-1"]
+
+
+NAMES = st.text(st.characters(blacklist_categories=("Cs",), blacklist_characters="\0\r\n"), min_size=1, max_size=40)
+
+
+@given(st.lists(NAMES, max_size=12))
+def test_new_names_are_legal_and_differ(names: list[str]) -> None:
+    new = tables.new_names(names)
+    after = [new.get(name, name) for name in dict.fromkeys(names)]
+    assert all(NAME.fullmatch(name) for name in after) and len(set(after)) == len(after)
+    assert not any(NAME.fullmatch(name) for name in new)
+
+
+FIELDS = {
+    "name": st.from_regex(r"[A-Za-z0-9_-]{1,6}", fullmatch=True),
+    "own": st.sampled_from(["", "QL-SEC", "QL-eEEC"]),
+    "wtr": st.sampled_from(["", "0", "12"]),
+    "floor": st.sampled_from(["", "QL-SSU-B"]),
+}
 
 
 @settings(suppress_health_check=[HealthCheck.function_scoped_fixture])
-@given(st.lists(ROWS, max_size=5))
-def test_what_a_table_holds_the_plan_holds(tmp_path: Path, rows: list[dict[str, object]]) -> None:
+@given(
+    st.lists(st.fixed_dictionaries(FIELDS), min_size=1, max_size=5, unique_by=lambda row: str(row["name"])),
+    st.permutations(list(FIELDS)),
+    st.sampled_from(",;\t"),
+    st.sampled_from([str.upper, str.lower, str.title]),
+)
+def test_what_a_table_holds_the_plan_holds(
+    tmp_path: Path, rows: list[dict[str, str]], order: list[str], sign: str, spelled: object
+) -> None:
     out = io.StringIO(newline="")
-    writer = csv.DictWriter(out, ["wtr", "name", "own", "floor"])
-    writer.writeheader()
-    writer.writerows(rows)
-    path = tmp_path / "elements.csv"
-    path.write_bytes(b"\xef\xbb\xbf" + out.getvalue().encode())
-    kept = [{key: str(value).strip() for key, value in row.items() if str(value).strip()} for row in rows]
-    text = "\n".join("\n".join(entry) for entry in tables.entries_of(str(path), "element"))
-    read = [{key: str(value) for key, value in row.items()} for row in tomllib.loads(text).get("element", [])]
-    assert read == [row for row in kept if row]
-
-
-def test_a_whole_number_is_one_of_64_bits() -> None:
-    assert tables.value_of("t:2", "wtr", "-0") == "0"
-    for field in (str(2**63), "1_0", "٣", "+1", "", "0x1"):
-        with pytest.raises(Wrong):
-            tables.value_of("t:2", "wtr", field)
+    writer = csv.writer(out, delimiter=sign)
+    writer.writerow([spelled(name) for name in order] if callable(spelled) else order)
+    writer.writerows([row[name] for name in order] for row in rows)
+    paths = {"element": str(tmp_path / "e.csv"), "link": str(tmp_path / "l.csv")}
+    (tmp_path / "e.csv").write_bytes(b"\xef\xbb\xbf" + out.getvalue().encode())
+    (tmp_path / "l.csv").write_text("name,a,b\n")
+    read = tomllib.loads(tables.made_of(paths, Settings()).plan)["element"]
+    kept = [{key: value for key, value in row.items() if value} for row in rows]
+    assert [{key: str(value) for key, value in row.items()} for row in read] == kept

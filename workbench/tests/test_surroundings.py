@@ -50,10 +50,18 @@ def test_other_streams_may_be_closed_or_full(closing: str) -> None:
     assert (status, out) == (1, ANSWER)
 
 
-@pytest.mark.parametrize("words", ["explain rank plan.toml", "timeline - -o t.svg", "draw - -o t.dot", "import - - -"])
+@pytest.mark.parametrize(
+    "words",
+    [
+        *("explain rank plan.toml", "timeline - -o t.svg", "draw - -o t.dot", "import - - -", "export -", "apply - -"),
+        *("lint -", "repair -", "orders -", "diff - -"),
+    ],
+)
 def test_standard_input_that_is_closed_is_empty(words: str) -> None:
     status, _, err = shell(f"cd $(mktemp -d); {LAUNCHER} {words} <&-")
-    assert status in (0, 2) and "Traceback" not in err and err.count("\n") <= 1
+    assert status in ((1,) if words == "lint -" else (0, 2))
+    assert "Traceback" not in err and all(line.startswith("murdjohe: ") for line in err.splitlines())
+    assert len(err.splitlines()) <= (7 if words.startswith("import") else 1)
 
 
 def test_all_streams_may_be_closed() -> None:

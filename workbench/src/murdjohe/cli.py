@@ -20,6 +20,12 @@ ABOUT = "About"
 OWN = {
     "capture": ("capture", forms.LAB, "reads any capture; compares a device with the rules"),
     "import": ("import_tables", FILES, "makes a plan of tables of elements, links and sources"),
+    "lint": ("lint", forms.PLANNING, "says what to look at in a plan, with lines and remedies"),
+    "repair": ("repair", forms.PLANNING, "finds what to take away so that timing can't go round"),
+    "diff": ("diff", forms.PLANNING, "says what differs between two plans"),
+    "orders": ("orders", forms.PLANNING, "prints what to set at each element"),
+    "export": ("export", FILES, "writes the tables of a plan, with its priorities"),
+    "apply": ("apply", FILES, "takes the priorities of one plan into another, spelling kept"),
     "draw": ("draw", FILES, "draws a plan, with the levels and selections of a report"),
     "timeline": ("timeline", FILES, "draws what changes in a report, over time"),
     "explain": ("explain", FILES, "says in a sentence what the program's own answer means"),

@@ -32,28 +32,54 @@ def text(path: str) -> str:
         raise Wrong(f"{path}:{line}: it is no text in UTF-8") from None
 
 
+def is_device(path: str) -> bool:
+    """Whether a path is there and is no plain file, such as a device or a pipe."""
+    return os.path.exists(path) and not os.path.isfile(path)
+
+
+def staged(path: str, data: bytes) -> str:
+    """Writes a file beside the one that is meant, and gives its path. Raises OSError, and nothing is left then."""
+    number, beside = tempfile.mkstemp(dir=os.path.dirname(path) or ".", prefix=".murdjohe-")
+    try:
+        with os.fdopen(number, "wb") as file:
+            file.write(data)
+        os.chmod(beside, 0o666 & ~mask())
+    except OSError:
+        os.unlink(beside)
+        raise
+    return beside
+
+
 def written(path: str, data: bytes) -> None:
     """Writes a file whole: where that fails, whatever stood there before still does. Raises Wrong."""
-    if os.path.exists(path) and not os.path.isfile(path):
-        try:
-            with open(path, "wb") as device:
-                device.write(data)
-            return
-        except OSError as fault:
-            raise reason(path, fault) from None
-    folder = os.path.dirname(path) or "."
+    all_written({path: data})
+
+
+def all_written(contents: dict[str, bytes]) -> None:
+    """Writes all these files, each whole, and none where one of them can't be written. Raises Wrong."""
+    beside: dict[str, str] = {}
+    path = ""
     try:
-        number, beside = tempfile.mkstemp(dir=folder, prefix=".murdjohe-")
-        try:
-            with os.fdopen(number, "wb") as file:
-                file.write(data)
-            os.chmod(beside, 0o666 & ~mask())
-            os.replace(beside, path)
-        except OSError:
-            os.unlink(beside)
-            raise
+        for path, data in contents.items():
+            if is_device(path):
+                with open(path, "wb") as device:
+                    device.write(data)
+            else:
+                beside[path] = staged(path, data)
+        for path in list(beside):
+            os.replace(beside.pop(path), path)
     except OSError as fault:
         raise reason(path, fault) from None
+    finally:
+        for left in beside.values():
+            os.unlink(left)
+
+
+def free(paths: list[str], is_forced: bool) -> None:
+    """Raises Wrong where one of these files is there already, and isn't to be written over."""
+    there = [path for path in paths if os.path.isfile(path)]
+    if there and not is_forced:
+        raise Wrong(f"{', '.join(there)} {'is' if len(there) == 1 else 'are'} there already; --force writes over it")
 
 
 def mask() -> int:

@@ -39,8 +39,8 @@ def guarded(words: list[str], output: Output) -> int:
     try:
         return answered(words, output)
     except Wrong as wrong:
-        streams.tell(str(wrong))
-        return core.USAGE
+        streams.tell(*wrong.lines)
+        return wrong.status
     except (core.Absent, core.Ended) as absent:
         streams.tell(str(absent))
         return core.UNAVAILABLE

@@ -1,85 +1,288 @@
 """Tables of elements, links and sources, as inventories give them, and the plan that they become.
 
-Whether it is a plan that keeps the rules, the program decides: here only what can't be written as a plan is refused.
+All mistakes are found at once, so that they can be mended in one round. Whether it is a plan, the program decides after that.
 """
 
 from __future__ import annotations
 
-import csv
-import io
 import json
-from collections.abc import Iterator
+import re
+import unicodedata
+from dataclasses import dataclass, field
 
-from murdjohe import files
+from murdjohe import documents, files, levels, plans, table_reader
+from murdjohe.inputs import STDIN
+from murdjohe.mistakes import Mistakes
+from murdjohe.table_reader import Columns, Row, Table
 from murdjohe.wrong import Wrong
 
 # For each table the columns that it must have, and those that may be missing.
 TABLES = {
-    "element": (("name",), ("own", "holdoff", "wtr", "floor")),
-    "link": (("name", "a", "b"), ("priority_a", "priority_b", "delay_a", "delay_b", "bundle")),
-    "source": (("name", "at", "level"), ("priority",)),
+    "element": Columns(("name",), ("own", "holdoff", "wtr", "floor")),
+    "link": Columns(("name", "a", "b"), ("priority_a", "priority_b", "delay_a", "delay_b", "bundle")),
+    "source": Columns(("name", "at", "level"), ("priority",)),
 }
-NUMBERS = {"holdoff", "wtr", "priority_a", "priority_b", "delay_a", "delay_b", "priority"}
-INTEGERS = range(-(2**63), 2**63)
+NUMBERS = frozenset(plans.LIMITS)
+LEVELS = ("own", "floor", "level")
+NAMED = {"element": ("name",), "link": ("name", "bundle"), "source": ("name",)}
+NAME = re.compile(r"[A-Za-z0-9_-]{1,32}")
+LONGEST_NAME = 32
+RULE = "a name is 1 to 32 of A-Z a-z 0-9 _ -"
 
 
-def separator_hint(header: list[str]) -> str:
-    """What a header of one field shows of another separator."""
-    for sign, words in ((";", "semicolons"), ("\t", "tabs")):
-        if len(header) == 1 and sign in header[0]:
-            return f"; the fields have {words} between them, and commas are wanted"
-    return ""
+@dataclass
+class Settings:
+    """How tables are read: the option, other headers, and whether headers may be unknown and names be changed.
+
+    `headers` has the column for each plain header, by the kind of table. `is_netbox` takes NetBox's own headers.
+    """
+
+    option: str = "I"
+    headers: dict[str, dict[str, str]] = field(default_factory=dict)
+    ignores_extra: bool = False
+    renames: bool = False
+    is_netbox: bool = False
 
 
-def columns_of(path: str, kind: str, header: list[str]) -> list[str]:
-    """The table's columns: all that are needed, and none that a plan doesn't have. Raises Wrong."""
-    needed, others = TABLES[kind]
-    for name in header:
-        if name not in needed + others:
-            known = ", ".join(needed + others)
-            hint = separator_hint(header) or f"; its columns are {known}"
-            raise Wrong(f"{path}:1: there is no column {name!r} in a table of {kind}s{hint}")
-        if header.count(name) > 1:
-            raise Wrong(f"{path}:1: the column {name!r} stands there twice")
-    for name in needed:
-        if name not in header:
-            raise Wrong(f"{path}:1: the column {name!r} is missing in a table of {kind}s")
-    return header
+@dataclass
+class Made:
+    """What became of the tables: the plan, the names that were changed (kind, old, new), and the headers left out."""
+
+    plan: str
+    renamed: list[tuple[str, str, str]]
+    ignored: list[str]
 
 
-def value_of(place: str, column: str, field: str) -> str:
-    """The field as TOML: a number in its columns, text in all others, whose quotes and controls are escaped."""
-    if column not in NUMBERS:
-        return json.dumps(field, ensure_ascii=False).replace("\x7f", "\\u007f")
-    is_whole = field.isascii() and field.removeprefix("-").isdigit() and len(field) <= 20
-    if not is_whole or int(field) not in INTEGERS:
-        raise Wrong(f"{place}: {column} is {field!r}, which is no whole number")
-    return str(int(field))
+def mapping_of(pairs: list[str]) -> dict[str, dict[str, str]]:
+    """What `[TABLE.]COLUMN=HEADER` says, as the column of each plain header by table. Raises Wrong."""
+    found: dict[str, dict[str, str]] = {kind: {} for kind in TABLES}
+    for pair in pairs:
+        target, sign, header = pair.partition("=")
+        kind, dot, column = target.rpartition(".")
+        kinds = [one for one in TABLES if kind in ("", one, f"{one}s") and column in TABLES[one].all]
+        if not sign or not header.strip() or not kinds:
+            known = ", ".join(dict.fromkeys(name for columns in TABLES.values() for name in columns.all))
+            raise Wrong(f"--map {pair}: it has to be COLUMN=HEADER, or link.COLUMN=HEADER; the columns are {known}")
+        for one in kinds:
+            found[one][table_reader.plain(header)] = column
+    return found
 
 
-def entries_of(path: str, kind: str) -> Iterator[list[str]]:
-    """The entries of one table as TOML, a list of lines for each. Raises Wrong."""
-    records = csv.reader(io.StringIO(files.text(path), newline=""), strict=True)
-    try:
-        header = columns_of(path, kind, [name.strip() for name in next(records, [])])
-        for record in records:
-            place = f"{path}:{records.line_num}"
-            fields = [field.strip() for field in record]
-            if not any(fields):
-                continue
-            if len(fields) != len(header):
-                raise Wrong(f"{place}: {len(fields)} fields under {len(header)} columns")
-            pairs = [(column, field) for column, field in zip(header, fields) if field]
-            yield [f"[[{kind}]]"] + [f"{column} = {value_of(place, column, field)}" for column, field in pairs]
-    except csv.Error as fault:
-        raise Wrong(f"{path}:{records.line_num}: it is no CSV: {fault}") from None
+def legal(name: str) -> str:
+    """A name that a plan can have, as near to this one as can be."""
+    bare = unicodedata.normalize("NFKD", name.strip())
+    letters = "".join(sign for sign in bare if not unicodedata.combining(sign))
+    return re.sub(r"[^A-Za-z0-9_-]", "-", letters)[:LONGEST_NAME] or "N1"
 
 
-def plan_of(paths: dict[str, str], option: str) -> str:
-    """The plan of these tables, by their kind; it is of version 2 where a link has a bundle. Raises Wrong."""
-    entries = [entry for kind, path in paths.items() for entry in entries_of(path, kind)]
-    has_bundle = any(line.startswith("bundle = ") for entry in entries for line in entry)
+def new_names(names: list[str]) -> dict[str, str]:
+    """For each name that a plan can't have one that it can: none is given twice, and none that stands there already."""
+    found: dict[str, str] = {}
+    taken = {name for name in names if NAME.fullmatch(name)}
+    for name in names:
+        if name in found or name in taken:
+            continue
+        new, number = legal(name), 1
+        while new in taken:
+            number += 1
+            new = f"{legal(name)[: LONGEST_NAME - 1 - len(str(number))]}-{number}"
+        taken.add(new)
+        found[name] = new
+    return found
+
+
+def wrong_name(value: str) -> str | None:
+    """What is wrong with a name."""
+    if NAME.fullmatch(value):
+        return None
+    return f"which no plan can have: {RULE}, as {legal(value)!r}"
+
+
+def wrong_number(column: str, value: str) -> str | None:
+    """What is wrong with a number: that it is none, or outside its limits."""
+    least, greatest, unit = plans.LIMITS[column]
+    digits = value.removeprefix("-")
+    right = f"it has to be {least} to {greatest}{unit}"
+    if not (digits.isascii() and digits.isdigit() and len(digits) < LONGEST_NAME):
+        return f"which is no whole number; {right}"
+    return None if least <= int(value) <= greatest else f"which is outside its limits; {right}"
+
+
+def wrong_level(column: str, value: str, option: str) -> str | None:
+    """What is wrong with a level: that the option doesn't have it, or that it is do-not-use where that can't be."""
+    right = levels.LEVELS[option] if column == "level" else levels.LEVELS[option][:-1]
+    if value in right:
+        return None
+    likely = levels.likely(value, option)
+    hint = f' (nearest: "{likely}")' if likely in right else documents.hint(value, right)
+    what = "is do-not-use" if value == levels.LEVELS[option][-1] else f"is no level of option {option}"
+    return f"which {what}{hint}; the levels are {', '.join(right)}"
+
+
+class Reading:
+    """Tables on their way to a plan, with the mistakes so far."""
+
+    rename_hint = "; --rename gives such names"
+
+    def __init__(self, settings: Settings) -> None:
+        self.settings = settings
+        self.mistakes = Mistakes()
+        self.tables: dict[str, Table] = {}
+        self.renamed: list[tuple[str, str, str]] = []
+
+    def take(self, kind: str, path: str) -> None:
+        """Reads one table."""
+        from murdjohe import netbox
+
+        columns, headers = TABLES[kind], self.settings.headers.get(kind, {})
+        text = files.text(path)
+        path = "standard input" if path == STDIN else path
+        if self.settings.is_netbox and kind in netbox.COLUMNS:
+            table = netbox.read(kind, path, text, headers, self.mistakes)
+        else:
+            table = table_reader.read(path, text, columns, headers, self.mistakes)
+        self.tables[kind] = table
+        if table.extra and not (self.settings.ignores_extra or self.settings.is_netbox):
+            for name in table.extra:
+                hint = documents.hint(name, columns.all, 0.6)
+                right = f"the columns are {', '.join(columns.all)}; --map names one, --ignore-extra passes it over"
+                self.mistakes.add(path, 1, f"there is no column {name!r} in a table of {kind}s{hint}; {right}")
+        if kind == "element" and not table.rows and not self.mistakes.found:
+            self.mistakes.add(path, 1, "there is no element below the header; write a row for each")
+
+    def wrong(self, table: Table, row: Row, column: str, what: str) -> None:
+        """Adds a mistake in a field, with the header, and the value where there is one."""
+        header = table.headers.get(column, column)
+        value = row.fields.get(column)
+        self.mistakes.add(table.path, row.line, f"{header} is {repr(value) if value else 'empty'}, {what}")
+
+    def rename(self) -> None:
+        """Gives names that a plan can have, in all tables."""
+        spaces: dict[str, list[tuple[str, str]]] = {
+            "element": [("element", "name"), ("link", "a"), ("link", "b"), ("source", "at")],
+            "link or source": [("link", "name"), ("source", "name")],
+            "bundle": [("link", "bundle")],
+        }
+        for what, places in spaces.items():
+            cells = [
+                (row.fields, column)
+                for kind, column in places
+                for row in (self.tables[kind].rows if kind in self.tables else [])
+                if column in row.fields
+            ]
+            new = new_names([fields[column] for fields, column in cells])
+            for fields, column in cells:
+                fields[column] = new.get(fields[column], fields[column])
+            self.renamed += [(what, old, name) for old, name in new.items()]
+
+    def check_fields(self) -> None:
+        """Finds what is wrong in a field by itself."""
+        for kind, table in self.tables.items():
+            for row in table.rows:
+                for column in TABLES[kind].needed:
+                    if column not in row.fields:
+                        self.wrong(table, row, column, f"and each {kind} has to have one; write it there")
+                for column, value in row.fields.items():
+                    what = None
+                    if column in NAMED[kind] and (wrong := wrong_name(value)):
+                        what = wrong + self.rename_hint
+                    elif column in NUMBERS:
+                        what = wrong_number(column, value)
+                    elif column in LEVELS:
+                        what = wrong_level(column, value, self.settings.option)
+                    if what:
+                        self.wrong(table, row, column, what)
+
+    def check_names(self) -> None:
+        """Finds names that stand there twice: among elements, and among links and sources together."""
+        for kinds in (("element",), ("link", "source")):
+            seen: dict[str, str] = {}
+            for table in (self.tables[kind] for kind in kinds if kind in self.tables):
+                for row in table.rows:
+                    name = row.fields.get("name", "")
+                    if name in seen:
+                        self.wrong(table, row, "name", f"as it is in {seen[name]}; choose another name")
+                    elif name:
+                        seen[name] = f"{table.path}:{row.line}"
+
+    def check_ends(self) -> None:
+        """Finds ends that are no elements, and links of one element to itself."""
+        elements = [row.fields.get("name", "") for row in self.tables["element"].rows]
+        known = set(elements)
+        for kind, table in self.tables.items():
+            for row in table.rows:
+                for column in ("a", "b", "at"):
+                    end = row.fields.get(column)
+                    if end and end not in known:
+                        hint = documents.hint(end, elements)
+                        self.wrong(
+                            table, row, column, f"which names no element{hint}; mend the name, or add the element"
+                        )
+                if kind == "link" and row.fields.get("a") and row.fields.get("a") == row.fields.get("b"):
+                    self.wrong(table, row, "b", "as a is; a link joins two elements")
+
+    def check_bundles(self) -> None:
+        """Finds links of one bundle that don't join the same two elements."""
+        first: dict[str, Row] = {}
+        table = self.tables.get("link", Table(""))
+        for row in table.rows:
+            if bundle := row.fields.get("bundle"):
+                other = first.setdefault(bundle, row)
+                if {row.fields.get(end) for end in "ab"} != {other.fields.get(end) for end in "ab"}:
+                    ends = f"{other.fields.get('a')} and {other.fields.get('b')}"
+                    self.wrong(table, row, "bundle", f"which joins {ends} on line {other.line}; choose another bundle")
+
+    def check_limits(self) -> None:
+        """Finds tables with more rows than a plan has."""
+        for kind, table in self.tables.items():
+            if len(table.rows) > plans.ROWS[kind]:
+                line = table.rows[plans.ROWS[kind]].line
+                what = f"it has {len(table.rows):,} {kind}s; a plan has at most {plans.ROWS[kind]:,}"
+                self.mistakes.add(table.path, line, what)
+
+    def checked(self) -> None:
+        """Raises Wrong with all mistakes, where there are any."""
+        if self.settings.renames:
+            self.rename()
+        self.check_fields()
+        self.check_names()
+        if self.tables["element"].is_whole:  # (an element that was left out may be the one that is meant)
+            self.check_ends()
+        self.check_bundles()
+        self.check_limits()
+        self.mistakes.end()
+
+    def unmapped(self) -> None:
+        """Finds headers of a mapping that are in no table."""
+        there = {table_reader.plain(header) for table in self.tables.values() for header in table.headers.values()}
+        wanted = {header for headers in self.settings.headers.values() for header in headers}
+        for header in sorted(wanted - there):
+            path = self.tables["element"].path
+            self.mistakes.add(path, 1, f"no table has the header {header!r}, which --map names; mend its spelling")
+
+
+def value_of(column: str, value: str) -> str:
+    """The field as TOML: a number in its columns, text in all others."""
+    return str(int(value)) if column in NUMBERS else json.dumps(value, ensure_ascii=False)
+
+
+def plan_text(rows: dict[str, list[dict[str, str]]], option: str) -> str:
+    """The plan of these rows; it is of version 2 where a link has a bundle."""
+    has_bundle = any("bundle" in row for row in rows.get("link", []))
     lines = ["version = 2"] * has_bundle + [f'option = "{option}"']
-    for entry in entries:
-        lines += ["", *entry]
+    for kind, its in rows.items():
+        for row in its:
+            lines += ["", f"[[{kind}]]", *(f"{column} = {value_of(column, value)}" for column, value in row.items())]
     return "\n".join(lines) + "\n"
+
+
+def made_of(paths: dict[str, str], settings: Settings) -> Made:
+    """The plan of these tables, by their kind. Raises Wrong with all their mistakes."""
+    reading = Reading(settings)
+    for kind, path in paths.items():
+        reading.take(kind, path)
+    reading.unmapped()
+    reading.checked()
+    rows = {kind: [row.fields for row in table.rows] for kind, table in reading.tables.items()}
+    ignored = [f"{table.path}: {', '.join(table.extra)}" for table in reading.tables.values() if table.extra]
+    return Made(plan_text(rows, settings.option), reading.renamed, ignored)

@@ -46,8 +46,9 @@ line,rank
 L1>B,0
 """
 TABLES = """\
-`murdjohe import ELEMENTS LINKS SOURCES` makes a plan of tables with commas and a header. The columns, in any order, those
-in brackets may be missing; an empty field has its default. Times are milliseconds, wtr is in minutes.
+`murdjohe import ELEMENTS LINKS SOURCES` makes a plan of tables with commas, semicolons or tabs and a header in any case.
+The columns, in any order, those in brackets may be missing; an empty field has its default. Times are milliseconds, wtr is
+in minutes.
 
   ELEMENTS  name [own] [holdoff] [wtr] [floor]
   LINKS     name a b [priority_a] [priority_b] [delay_a] [delay_b] [bundle]

@@ -1,0 +1,71 @@
+"""`murdjohe diff`: what differs between two plans."""
+
+from __future__ import annotations
+
+import csv
+import dataclasses
+import io
+
+import click
+
+from murdjohe import api, core, differences, plain_json, plan_file, progress, streams
+from murdjohe.plan_file import PlanFile
+from murdjohe.wrong import Wrong
+
+
+def swept(taken: PlanFile, times: tuple[str, str]) -> differences.Facts:
+    """What the program says of each link's failure. Raises Wrong where it refuses the times."""
+    try:
+        with progress.watched("diff"):
+            return differences.facts_of_cuts(api.sweep(taken.data, *times).result)
+    except api.Refused as refused:
+        raise Wrong(f"--sweep: {refused.sentence}", status=refused.status) from None
+
+
+def shown(found: list[differences.Difference], form: str) -> bytes:
+    """The differences in one of their forms."""
+    if form == "json":
+        return plain_json.text([dataclasses.asdict(one) for one in found])
+    if form != "csv":
+        return "".join(f"{line}\n" for line in differences.text_of(found)).encode()
+    out = io.StringIO(newline="")
+    rows = [dataclasses.astuple(one) for one in found]
+    csv.writer(out, lineterminator="\n").writerows([differences.COLUMNS, *rows])
+    return out.getvalue().encode()
+
+
+@click.command("diff")
+@click.argument("old", metavar="A", type=click.Path())
+@click.argument("new", metavar="B", type=click.Path())
+@click.option(
+    "--sweep", nargs=2, metavar="AT UNTIL", help="also what differs where each link fails at AT, looked at in UNTIL"
+)
+@click.option("--csv", "form", flag_value="csv", help="as a table with commas: part, subject, what, old, new")
+@click.option("--json", "form", flag_value="json", help="as JSON: the rows of that table")
+@click.pass_context
+def diff(context: click.Context, old: str, new: str, sweep: tuple[str, str] | None, form: str | None) -> int:
+    """Says what differs in plan B from plan A, whatever their order and spelling.
+
+    Topology, priorities, floors, times and levels, where keys that are left out count as their defaults; with --sweep also
+    what the program says of each link's failure. What the program says of both plans stands beside it. The status is 0 where
+    nothing differs, and 1 where something does.
+
+    \b
+      $ murdjohe gen 5 > plan.toml
+      $ sed 's/QL-PRC/QL-ePRC/' plan.toml > other.toml
+      $ murdjohe diff plan.toml other.toml --sweep 60s 20m || true
+    """
+    pair = [plan_file.read(old), plan_file.read(new)]
+    facts = [differences.facts_of(taken.tables, taken.plan.option) for taken in pair]
+    if sweep:
+        facts = [said | swept(taken, sweep) for taken, said in zip(pair, facts)]
+    found = differences.between(*facts)
+    context.obj.put(shown(found, form or ("json" if context.find_root().params["json"] else "")))
+    if not context.find_root().params["quiet"]:
+        verdicts = "; ".join(f"{taken.name} checked: {taken.verdict()}" for taken in pair)
+        number = f"{len(found):,} difference{'' if len(found) == 1 else 's'}"
+        streams.tell(f"{number}; {verdicts}", colour="yellow" if found else "green")
+    return core.REFUTED if found else core.DONE
+
+
+COMMAND = diff

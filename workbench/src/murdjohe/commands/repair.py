@@ -1,0 +1,90 @@
+"""`murdjohe repair`: what to take away where timing may go round."""
+
+from __future__ import annotations
+
+import click
+
+from murdjohe import core, files, plan_file, progress, repairs, streams
+from murdjohe.inputs import STDIN
+from murdjohe.plan_file import PlanFile
+from murdjohe.remarks import plural
+from murdjohe.repairs import Found, Repair
+from murdjohe.wrong import Wrong
+
+
+def on_knots(repair: Repair) -> list[str]:
+    """How many knots there are, with their lines and rings."""
+    said = []
+    for lines, rings, are_all in repair.knots:
+        number = plural(rings, "ring") if are_all else f"more than {rings:,} rings"
+        said.append(f"a knot of {lines:,} lines with {number}")
+    return said
+
+
+def on_cost(found: Found) -> str:
+    """What a set costs."""
+    lost, first, _ = found.cost
+    verb = "loses" if lost == 1 else "lose"
+    return f"{plural(lost, 'element')} {verb} the last input, {plural(first, 'first choice')} {'goes' if first == 1 else 'go'}"
+
+
+def report(taken: PlanFile, repair: Repair, verdict: str) -> list[str]:
+    """The knots, the edits of the best set and what the program says of it, and the next best sets."""
+    best, *others = repair.sets
+    kind = "least" if repair.is_least else "found, perhaps not least"
+    said = on_knots(repair)
+    said.append(f"take away {plural(len(best.lines), 'nomination')} ({kind}): {on_cost(best)}")
+    said += repairs.edit_lines(taken.plan, best)
+    said.append(f"checked: {verdict}")
+    said += [f"or {' '.join(line.name for line in found.lines)}: {on_cost(found)}" for found in others]
+    return said
+
+
+@click.command("repair")
+@click.argument("plan", type=click.Path())
+@click.option(
+    "--patch", is_flag=True, help="prints the first set as a patch, which `git apply` takes; the rest is said beside it"
+)
+@click.option("-o", "--output", type=click.Path(), help="writes the repaired plan to this file")
+@click.option("--force", is_flag=True, help="writes over a file that is there already, PLAN too")
+@click.pass_context
+def repair_plan(context: click.Context, plan: str, patch: bool, output: str | None, force: bool) -> int:
+    """Finds the cheapest nominations to take away where `rank` says `cycle`.
+
+    All knots of lines are looked at, and how many rings they have. A set costs first the elements that lose their last input,
+    then the first choices that it takes, then how high its priorities are. It is told as least where that is known: up to 400
+    lines in a knot, and within 20 seconds; else as found, perhaps not least. Up to three sets are told. The plan without the
+    first is put before the program. The status is 0 where the program accepts it, and where no ring was there.
+
+    \b
+      $ printf '[[element]]\\nname = "A"\\n[[element]]\\nname = "B"\\n[[element]]\\nname = "C"\\n' > plan.toml
+      $ printf '[[link]]\\nname = "L1"\\na = "A"\\nb = "B"\\npriority_b = 1\\n' >> plan.toml
+      $ printf '[[link]]\\nname = "L2"\\na = "B"\\nb = "C"\\npriority_b = 1\\n' >> plan.toml
+      $ printf '[[link]]\\nname = "L3"\\na = "C"\\nb = "A"\\npriority_b = 2\\n' >> plan.toml
+      $ murdjohe repair plan.toml
+    """
+    if patch and plan == STDIN:
+        raise Wrong("--patch: standard input has no name that a patch could have; name the file")
+    files.free([output] if output else [], force)
+    taken = plan_file.read(plan)
+    with progress.watched("repair"):
+        repair = repairs.repair_of(taken.tables)
+    is_quiet = context.find_root().params["quiet"]
+    if not repair.sets:
+        verdict = taken.verdict()
+        if not is_quiet:
+            streams.tell(f"no ring is left; checked: {verdict}", colour="green")
+        return core.DONE if verdict == plan_file.ACCEPTED else core.REFUTED
+    data = repairs.mended(taken.plan, repair.sets[0])
+    verdict = plan_file.taken("the repaired plan", data).verdict()
+    said = report(taken, repair, verdict)
+    if output:
+        files.written(output, data)
+    text = "".join(f"{line}\n" for line in said).encode("utf-8", "surrogateescape")
+    context.obj.put(repairs.patch(plan, taken.data, data) if patch else text)
+    if patch and not is_quiet:
+        streams.tell(*said, colour="green")
+    return core.DONE if verdict == plan_file.ACCEPTED else core.REFUTED
+
+
+COMMAND = repair_plan

@@ -1,0 +1,108 @@
+"""What differs between two plans, whatever their order and spelling: topology, priorities, floors, times, levels, and link failures."""
+
+from __future__ import annotations
+
+from dataclasses import dataclass
+from typing import Any
+
+from murdjohe import orders, reports
+from murdjohe.orders import NONE
+
+PARTS = ("topology", "priorities", "floors", "times", "levels", "sweep")
+COLUMNS = ("part", "subject", "what", "old", "new")
+DELAY_MS = 1  # where a plan says nothing else
+# What a row of `sweep` says, as it is told.
+CUTS = ("is_settled", "locked", "holdover", "freerun", "loops", "worst", "bound")
+
+# What a plan says, by the part, the subject, and what it is of it.
+Facts = dict[tuple[str, str, str], str]
+
+
+@dataclass(frozen=True)
+class Difference:
+    """What differs: the part, the subject, what it is of it, its old and its new value; `none` where it isn't there."""
+
+    part: str
+    subject: str
+    what: str
+    old: str
+    new: str
+
+
+def on_elements(tables: dict[str, Any], option: str) -> Facts:
+    """What a plan says of its elements."""
+    found: Facts = {("topology", "plan", "option"): option}
+    for order in orders.orders_of(tables, option):
+        subject = f"element {order.element}"
+        found["topology", subject, "element"] = "there"
+        found["floors", subject, "floor"] = order.floor
+        found["times", subject, "hold-off"] = f"{order.holdoff} ms"
+        found["times", subject, "wait-to-restore"] = f"{order.wtr} min"
+        found["levels", subject, "own clock"] = order.own
+    return found
+
+
+def on_links(tables: dict[str, Any]) -> Facts:
+    """What a plan says of its links; a priority of 0 is none."""
+    found: Facts = {}
+    for link in tables.get("link", []):
+        subject = f"link {link['name']}"
+        found["topology", subject, "ends"] = " and ".join(sorted((link["a"], link["b"])))
+        found["topology", subject, "bundle"] = link.get("bundle", NONE)
+        for end in "ab":
+            line = f"{link['name']}>{link[end]}"
+            found["priorities", subject, f"priority of {line}"] = str(link.get(f"priority_{end}", 0) or NONE)
+            found["times", subject, f"delay of {line}"] = f"{link.get(f'delay_{end}', DELAY_MS)} ms"
+    return found
+
+
+def on_sources(tables: dict[str, Any]) -> Facts:
+    """What a plan says of its sources."""
+    found: Facts = {}
+    for source in tables.get("source", []):
+        subject = f"source {source['name']}"
+        found["topology", subject, "at"] = source["at"]
+        found["priorities", subject, "priority"] = str(source.get("priority", 1) or NONE)
+        found["levels", subject, "level"] = source["level"]
+    return found
+
+
+def facts_of(tables: dict[str, Any], option: str) -> Facts:
+    """All that a plan says, with what stands for keys that are left out."""
+    return on_elements(tables, option) | on_links(tables) | on_sources(tables)
+
+
+def facts_of_cuts(sweep: reports.Sweep) -> Facts:
+    """What a network is after each link's failure."""
+    found: Facts = {}
+    for row in sweep.rows:
+        for what in CUTS:
+            value = getattr(row, what)
+            said = (
+                {True: "yes", False: "no"}[value] if isinstance(value, bool) else NONE if value is None else str(value)
+            )
+            found["sweep", f"cut of {row.link}", what.removeprefix("is_")] = said
+    return found
+
+
+def between(old: Facts, new: Facts) -> list[Difference]:
+    """What differs, part by part. Of what one plan alone has, its topology and its priorities are told."""
+    subjects = [{subject for _, subject, _ in facts} for facts in (old, new)]
+    in_both = subjects[0] & subjects[1]
+    found = []
+    for key in dict.fromkeys((*old, *new)):
+        part, subject, _ = key
+        was, now = old.get(key, NONE), new.get(key, NONE)
+        if was != now and (subject in in_both or part in ("topology", "priorities")):
+            found.append(Difference(*key, was, now))
+    return sorted(found, key=lambda one: PARTS.index(one.part))
+
+
+def text_of(differences: list[Difference]) -> list[str]:
+    """The differences as a person reads them, a heading for each part."""
+    said, last = [], ""
+    for one in differences:
+        said += [one.part] if one.part != last else []
+        said.append(f"  {one.subject}: {one.what} {one.new}, which was {one.old}")
+        last = one.part
+    return said

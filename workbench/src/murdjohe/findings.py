@@ -1,0 +1,162 @@
+"""What a planner should look at in a plan that the program took, each with its line and a remedy.
+
+Whether timing can go round the program says; the rest is counted here. Gaps in single failures and chains that are too long
+are no findings yet: no form of the program tells them.
+"""
+
+from __future__ import annotations
+
+import re
+from collections.abc import Iterator
+from dataclasses import dataclass
+
+from murdjohe import knots, levels, network
+from murdjohe.knots import Line
+from murdjohe.orders import NONE, Order, orders_of
+from murdjohe.plans import Plan
+
+ERROR, WARNING, NOTE = "error", "warning", "note"
+KINDS = (ERROR, WARNING, NOTE)
+
+
+@dataclass(frozen=True)
+class Finding:
+    """What was found: the line of the plan's file, from 1 on, its kind, what it is, and what would be right."""
+
+    line: int
+    kind: str
+    what: str
+    remedy: str
+
+    def told(self, name: str) -> str:
+        return f"{name}:{self.line}: {self.kind}: {self.what}; {self.remedy}"
+
+
+class Looked:
+    """A plan with what the findings rest on: orders by element, nominated lines, and the rows of elements by name."""
+
+    def __init__(self, plan: Plan) -> None:
+        self.plan = plan
+        self.orders = {order.element: order for order in orders_of(plan.tables, plan.option)}
+        self.lines = knots.lines_of(plan.tables)
+        self.by_name = {line.name: line for line in self.lines}
+        self.rows = {name: number for number, name in enumerate(plan.names("element"), start=1)}
+
+    def line(self, section: str, number: int, *keys: str) -> int:
+        """The line of a row, or of the first of these keys in it."""
+        return self.plan.line(section, number, *keys) or 1
+
+    def line_of(self, line: Line) -> int:
+        """Where a line is nominated."""
+        return self.line("link", line.number, line.key)
+
+
+def on_sources(looked: Looked) -> Iterator[Finding]:
+    """No source, sources that aren't nominated, and sources that nobody takes."""
+    sources = looked.plan.rows("source")
+    if not sources:
+        yield Finding(1, ERROR, "there is no source, so nothing ever has a clock", "add a [[source]] at an element")
+    worst = levels.LEVELS[looked.plan.option][-1]
+    for number, row in enumerate(sources, start=1):
+        title = f'source "{row["name"]}"'
+        if not row.get("priority", 1):
+            line = looked.line("source", number, "priority")
+            yield Finding(line, WARNING, f"{title} isn't nominated", "give it a priority, or take it out")
+        if row["level"] == worst:
+            line = looked.line("source", number, "level")
+            yield Finding(line, WARNING, f"{title} has {worst}, so nobody takes it", "give it the level that it has")
+
+
+def on_ways(looked: Looked) -> Iterator[Finding]:
+    """Elements with no way to a clock, and elements with one way in: one input, or several of one bundle."""
+    without = set(network.without_way(looked.plan.tables))
+    for name, number in looked.rows.items():
+        line, title, inputs = looked.line("element", number), f'element "{name}"', looked.orders[name].inputs
+        if name in without:
+            what = "has no nominated input" if not inputs else "has inputs, and none of them leads to a clock"
+            yield Finding(
+                line, ERROR, f"{title} {what}", "nominate a link that leads to one; `murdjohe nominate` does so"
+            )
+        elif len(inputs) == 1:
+            yield Finding(
+                line, WARNING, f"{title} has one way in, {inputs[0].name}", "nominate another one as a reserve"
+            )
+        elif len({one.bundle or one.name for one in inputs}) == 1:
+            what = f"{title} has one way in, all its inputs are of bundle {inputs[0].bundle}"
+            yield Finding(line, WARNING, what, "nominate another way as a reserve")
+
+
+def is_floored(order: Order, other: Order, option: str) -> bool:
+    """Whether an element has a floor that is better than the own clock of the other."""
+    ranks = levels.LEVELS[option]
+    return order.floor != NONE and ranks.index(order.floor) < ranks.index(other.own)
+
+
+def on_pairs(looked: Looked) -> Iterator[Finding]:
+    """Links and bundles that are nominated at both ends, where an element has no floor that keeps the other's own clock out."""
+    bundles: dict[tuple[str, str], list[Line]] = {}
+    for line in looked.lines:
+        bundles.setdefault(line.bundle, []).append(line)
+    for (kind, name), lines in bundles.items():
+        if len({line.receiver for line in lines}) < 2:
+            continue
+        two = [looked.orders[end] for end in (lines[0].receiver, lines[0].sender)]
+        pairs = ((two[0], two[1]), (two[1], two[0]))
+        bare = [one.element for one, other in pairs if not is_floored(one, other, looked.plan.option)]
+        if bare:
+            what = f'{kind} "{name}" is nominated at both ends, and {" and ".join(bare)} would follow the other\'s own clock'
+            remedy = f"give {'each' if len(bare) == 2 else 'it'} a floor better than that clock, or nominate one end"
+            yield Finding(min(map(looked.line_of, lines)), WARNING, what, remedy)
+
+
+def on_places(looked: Looked) -> Iterator[Finding]:
+    """Inputs of one element that have the same priority."""
+    sources = {row["name"]: number for number, row in enumerate(looked.plan.rows("source"), start=1)}
+    for order in looked.orders.values():
+        first: dict[int, str] = {}
+        for one in order.inputs:
+            other = first.setdefault(one.priority, one.name)
+            if other == one.name:
+                continue
+            found = looked.by_name.get(one.name)
+            line = looked.line_of(found) if found else looked.line("source", sources[one.name], "priority")
+            what = f'element "{order.element}" gives {other} and {one.name} the same priority, {one.priority}'
+            yield Finding(line, WARNING, what, "give them different ones, so that the order is yours")
+
+
+def named_level(name: str, option: str) -> str | None:
+    """The level that a name says, as `prc-east` says QL-PRC; None where it says none, or more than one."""
+    said = []
+    for level in levels.LEVELS[option][:-1]:
+        if re.search(rf"(?<![A-Za-z0-9]){level.removeprefix('QL-')}(?![A-Za-z0-9])", name, re.I):
+            said.append(level)
+    return said[0] if len(said) == 1 else None
+
+
+def on_levels(looked: Looked) -> Iterator[Finding]:
+    """Sources whose name says another level than they have."""
+    for number, row in enumerate(looked.plan.rows("source"), start=1):
+        level = named_level(row["name"], looked.plan.option)
+        if level and level != row["level"]:
+            line = looked.line("source", number, "level")
+            what = f'source "{row["name"]}" has {row["level"]}, and by its name it would give {level}'
+            yield Finding(line, NOTE, what, "look whether the level is right")
+
+
+def on_rings(looked: Looked, ring: tuple[str, ...] | None) -> Iterator[Finding]:
+    """The ring that the program found."""
+    if ring:
+        line = min(looked.line_of(looked.by_name[name]) for name in ring)
+        what = f"timing may go round over {' -> '.join([*ring, ring[0]])}"
+        yield Finding(line, ERROR, what, "`murdjohe repair` finds what to take away")
+
+
+def findings_of(plan: Plan, ring: tuple[str, ...] | None) -> list[Finding]:
+    """All findings in the order of the file; `ring` is what the program's `rank` found, where it found one."""
+    looked = Looked(plan)
+    if not looked.rows:
+        return [Finding(1, ERROR, "there is no element in the plan", "is it the file that was meant?")]
+    found = list(on_rings(looked, ring))
+    for look in (on_sources, on_ways, on_pairs, on_places, on_levels):
+        found += look(looked)
+    return sorted(found, key=lambda finding: (finding.line, KINDS.index(finding.kind)))

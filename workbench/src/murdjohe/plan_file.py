@@ -1,0 +1,85 @@
+"""A plan that the program took, with the lines of its file, and what the program says of it.
+
+Commands that read a plan begin here: a plan that the program refuses is told in its sentence, with the program's status.
+"""
+
+from __future__ import annotations
+
+from typing import Any
+
+from murdjohe import api, core, documents, forms, inputs, refusals, reports
+from murdjohe.inputs import STDIN
+from murdjohe.mistakes import SHOWN
+from murdjohe.plans import Plan
+from murdjohe.wrong import Wrong, reason
+
+ACCEPTED = "accepted"  # what `check` says of ranks that rise
+
+
+class PlanFile:
+    """A plan that was taken: its name in sentences, its octets, its text with lines, and what `rank` answers to it."""
+
+    def __init__(self, name: str, data: bytes, ranking: reports.Ranking, certificate: bytes) -> None:
+        self.name = name
+        self.data = data
+        self.ranking = ranking
+        self.certificate = certificate
+        self.plan = Plan(documents.Document(name, data))
+        if self.plan.fault:
+            raise Wrong(f"{name}: the program takes it, and Python's reader doesn't: {self.plan.fault}")
+
+    @property
+    def tables(self) -> dict[str, Any]:
+        return self.plan.tables
+
+    def verdict(self) -> str:
+        """What the program says of the plan: `accepted` where `check` takes the ranks of `rank`, or the ring."""
+        if self.ranking.ring is not None:
+            return f"cycle {' '.join(self.ranking.ring)}"
+        answer = api.check(self.data, self.certificate)
+        return answer.text.decode().strip()
+
+
+def others_of(document: documents.Document, refused: api.Refused) -> list[str]:
+    """The mistakes of a refused plan that stand on other lines than the one that the program names."""
+    from murdjohe import plan_mistakes
+    from murdjohe.sentences import plan as sentences
+
+    found = refusals.of(refused.status, refused.text)
+    plan = Plan(document)
+    if found is None or refused.status != core.BAD_PLAN or found.number not in plan_mistakes.OF_ROWS or plan.fault:
+        return []
+    first = sentences.finding(plan, found).line
+    mistakes = plan_mistakes.mistakes_of(plan)
+    mistakes.found = [mistake for mistake in mistakes.found if mistake[1] != first]
+    return mistakes.lines(SHOWN - 1)
+
+
+def taken(name: str, data: bytes) -> PlanFile:
+    """The plan of some octets. Raises Wrong with the program's status where it refuses them, and all mistakes of its rows."""
+    file = inputs.File(forms.PLAN, name, name)
+    try:
+        answer = api.rank(data)
+    except api.Refused as refused:
+        from murdjohe.sentences import answers
+
+        with api.named([data]) as (path,):
+            file.path = path
+            words = inputs.Words(forms.FORMS["rank"], [name], ["rank", path], [file])
+            sentence = answers.sentence(words, core.Answer(refused.status, refused.text))
+        more = others_of(documents.Document(name, data), refused)
+        raise Wrong(sentence or refused.sentence, *more, status=refused.status) from None
+    return PlanFile(name, data, answer.result, answer.text)
+
+
+def read(path: str) -> PlanFile:
+    """The plan in a file, or on standard input for `-`. Raises Wrong."""
+    try:
+        with open(0 if path == STDIN else path, "rb", closefd=path != STDIN) as file:
+            data = file.read(core.LONGEST_FILE + 1)
+    except OSError as fault:
+        wrong = reason("standard input" if path == STDIN else path, fault)
+        raise Wrong(str(wrong), status=core.READ_FAULT) from None
+    except ValueError as fault:  # (a name with a zero octet)
+        raise Wrong(f"{path}: {fault}", status=core.READ_FAULT) from None
+    return taken("standard input" if path == STDIN else path, data)

@@ -1,0 +1,195 @@
+"""`lint`: each finding on a plan that earns it, with its line; none on a plan that earns none."""
+
+from __future__ import annotations
+
+import json
+import random
+from pathlib import Path
+
+import pytest
+from conftest import CASES, EXAMPLES, murdjohe
+from hypothesis import given, settings
+from hypothesis import strategies as st
+from random_plans import random_plan
+
+from murdjohe import findings
+from murdjohe.documents import Document
+from murdjohe.findings import KINDS
+from murdjohe.plans import Plan
+
+# Two clocks at A and B, and C with a reserve: nothing to be found.
+GOOD = """version = 2
+[[element]]
+name = "A"
+floor = "QL-SSU-B"
+[[element]]
+name = "B"
+floor = "QL-SSU-B"
+[[element]]
+name = "C"
+[[link]]
+name = "L1"
+a = "A"
+b = "B"
+priority_a = 2
+priority_b = 2
+[[link]]
+name = "L2"
+a = "A"
+b = "C"
+priority_b = 1
+[[link]]
+name = "L3"
+a = "B"
+b = "C"
+priority_b = 2
+[[source]]
+name = "prc-1"
+at = "A"
+level = "QL-PRC"
+[[source]]
+name = "prtc-2"
+at = "B"
+level = "QL-PRTC"
+priority = 1
+"""
+SOURCES = GOOD[GOOD.index("[[source]]") :]
+
+
+def test_nothing_is_found_in_a_good_plan() -> None:
+    ran = murdjohe("lint", "-", stdin=GOOD.encode())
+    assert (ran.status, ran.out) == (0, b"")
+    assert ran.err == "murdjohe: 0 errors, 0 warnings, 0 notes; checked: accepted\n"
+
+
+@pytest.mark.parametrize(
+    ("old", "new", "said"),
+    [
+        (SOURCES, "", [(1, "error", "there is no source"), (2, "error", 'element "A" has inputs, and none'), (5, "error", ""), (8, "error", "")]),
+        ("priority = 1\n", "priority = 0\n", [(5, "warning", 'element "B" has one way in, L1>B'), (34, "warning", 'source "prtc-2" isn\'t nominated')]),
+        ('level = "QL-PRC"', 'level = "QL-DNU"', [(29, "warning", 'source "prc-1" has QL-DNU, so nobody'), (29, "note", "by its name it would give QL-PRC")]),
+        ('level = "QL-PRC"', 'level = "QL-SSU-A"', [(29, "note", 'source "prc-1" has QL-SSU-A, and by its name')]),
+        ('b = "C"\npriority_b = 1\n', 'b = "C"\n', [(8, "warning", 'element "C" has one way in, L3>C')]),
+        ("priority_b = 1\n[[link]]", "[[link]]", [(8, "warning", 'element "C" has one way in')]),
+        ('b = "C"\npriority_b = 2', 'b = "C"\npriority_b = 1', [(25, "warning", 'element "C" gives L2>C and L3>C the same priority, 1')]),
+        ("priority = 1\n", "priority = 2\n", [(15, "warning", 'element "B" gives prtc-2 and L1>B the same priority, 2')]),
+        ('name = "A"\nfloor = "QL-SSU-B"\n', 'name = "A"\n', [(13, "warning", 'link "L1" is nominated at both ends, and A would follow')]),
+        ('name = "A"\nfloor = "QL-SSU-B"\n', 'name = "A"\nfloor = "QL-SEC"\n', [(14, "warning", "and A would follow")]),
+        ("[[source]]", '[[element]]\nname = "D"\n[[source]]', [(26, "error", 'element "D" has no nominated input')]),
+    ],
+)  # fmt: skip
+def test_each_finding_is_told_with_its_line(old: str, new: str, said: list[tuple[int, str, str]]) -> None:
+    assert old in GOOD
+    ran = murdjohe("lint", "-", "--json", stdin=GOOD.replace(old, new, 1).encode())
+    found = json.loads(ran.out)
+    assert [(one["line"], one["kind"]) for one in found] == [(line, kind) for line, kind, _ in said]
+    assert all(what in one["what"] and one["remedy"] for one, (_, _, what) in zip(found, said))
+    assert ran.status == (1 if any(kind == "error" for _, kind, _ in said) else 0)
+
+
+def test_one_bundle_is_one_way() -> None:
+    plan = GOOD.replace('b = "C"', 'b = "C"\nbundle = "G"', 1).replace(
+        'a = "B"\nb = "C"', 'a = "A"\nb = "C"\nbundle = "G"'
+    )
+    ran = murdjohe("lint", "-", stdin=plan.encode())
+    assert ran.out.decode() == (
+        'standard input:8: warning: element "C" has one way in, all its inputs are of bundle G; nominate another way as a reserve\n'
+    )
+
+
+def test_a_ring_is_an_error_by_the_word_of_the_program(folder: Path) -> None:
+    path = EXAMPLES / "mesh" / "looping.toml"
+    ran = murdjohe("lint", str(path))
+    (line,) = [line for line in ran.out.decode().splitlines() if "timing may go round" in line]
+    ring = murdjohe("rank", str(path)).out.decode().split()[1:]
+    assert ran.status == 1 and f"over {' -> '.join([*ring, ring[0]])}; `murdjohe repair`" in line
+    assert "; checked: cycle " in ran.err and ": error: " in line
+
+
+def test_an_empty_plan_is_an_error() -> None:
+    ran = murdjohe("lint", "-", stdin=b"")
+    assert ran.status == 1 and "error: there is no element in the plan" in ran.out.decode()
+    ran = murdjohe("lint", "-", stdin=b"x")
+    assert ran.status == 3 and "it is no TOML document" in ran.err
+
+
+@pytest.mark.parametrize("path", sorted(EXAMPLES.glob("*/*.toml")), ids=lambda path: f"{path.parent.name}/{path.name}")
+def test_each_example_is_looked_at(path: Path) -> None:
+    ran = murdjohe("lint", str(path))
+    count = len(path.read_text().splitlines())
+    for line in ran.out.decode().splitlines():
+        place, kind, *rest = line.removeprefix(f"{path}:").split(": ", 2)
+        assert 1 <= int(place) <= count and kind in KINDS and "; " in rest[0]
+    assert ran.status == (1 if ": error: " in ran.out.decode() else 0)
+
+
+@settings(max_examples=max(20, CASES))
+@given(st.integers(0, 2**32))
+def test_findings_stand_in_the_order_of_the_file(seed: int) -> None:
+    text, _ = random_plan(random.Random(seed)).text()
+    found = findings.findings_of(Plan(Document("plan.toml", text.encode())), None)
+    assert [one.line for one in found] == sorted(one.line for one in found)
+    assert len(set(found)) == len(found)
+
+
+@pytest.mark.parametrize(
+    ("name", "option", "level"),
+    [
+        ("prc-east", "I", "QL-PRC"),
+        ("PRTC_1", "I", "QL-PRTC"),
+        ("bern-ssu-a", "I", "QL-SSU-A"),
+        ("prs-west", "II", "QL-PRS"),
+        ("prs-west", "I", None),
+        ("gnss-a", "I", None),
+        ("prc-prtc", "I", None),
+        ("eprtc", "I", "QL-ePRTC"),
+        ("sprc", "I", None),
+    ],
+)
+def test_levels_in_names(name: str, option: str, level: str | None) -> None:
+    assert findings.named_level(name, option) == level
+
+
+def test_all_mistakes_of_a_refused_plan_are_told(folder: Path) -> None:
+    changes = (
+        ('name = "A"\n', 'name = "A.1"\n'),
+        ('name = "L2"', 'name = "L1"'),
+        ('b = "C"\npriority_b = 1', 'b = "c"\npriority_b = 1'),
+        ('level = "QL-PRC"', 'level = "PRC"'),
+        ("priority = 1", "priority = 256"),
+        ('floor = "QL-SSU-B"\n[[element]]\nname = "C"', 'floor = "QL-DNU"\n[[element]]\nname = "C"'),
+    )
+    plan = GOOD
+    for old, new in changes:
+        assert old in plan
+        plan = plan.replace(old, new, 1)
+    (folder / "plan.toml").write_text(plan)
+    for words in (["lint", "plan.toml"], ["repair", "plan.toml"], ["orders", "plan.toml"]):
+        ran = murdjohe(*words, folder=folder)
+        said = [line.removeprefix("murdjohe: plan.toml:") for line in ran.err.splitlines()]
+        assert (ran.status, ran.out) == (3, b"") and said[0].startswith('3: `name = "A.1"`: ')
+        assert [(line.split(":")[0], line.split(": ")[1].split(",")[0]) for line in said[1:]] == [
+            ("7", "floor is 'QL-DNU'"),
+            ("12", "a is 'A'"),
+            ("17", "name is 'L1'"),
+            ("18", "a is 'A'"),
+            ("19", "b is 'c'"),
+            ("28", "at is 'A'"),
+            ("29", "level is 'PRC'"),
+            ("34", "priority is '256'"),
+        ]
+
+
+def test_of_many_mistakes_of_a_plan_twenty_are_told() -> None:
+    plan = GOOD + "".join(f'[[element]]\nname = "x.{number}"\n' for number in range(30))
+    lines = murdjohe("lint", "-", stdin=plan.encode()).err.splitlines()
+    assert len(lines) == 21 and lines[-1] == "murdjohe: and 10 more mistakes"
+
+
+def test_a_file_whose_name_is_no_text_is_looked_at(folder: Path) -> None:
+    name = b"plan\xff.toml"
+    (Path(str(folder)) / name.decode("utf-8", "surrogateescape")).write_text(
+        GOOD.replace("priority = 1\n", "priority = 0\n")
+    )
+    ran = murdjohe("lint", name.decode("utf-8", "surrogateescape"), folder=folder)
+    assert ran.status == 0 and ran.out.startswith(name + b":5: warning: ")

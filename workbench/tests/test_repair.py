@@ -1,0 +1,262 @@
+"""`repair`: least sets by trying all, a known knot, large knots, patches that `git apply` takes, and the program's word on it."""
+
+from __future__ import annotations
+
+import os
+import random
+import re
+import subprocess
+from itertools import combinations
+from pathlib import Path
+from typing import Any
+
+import networkx as nx
+import pytest
+from conftest import CASES, EXAMPLES, murdjohe
+from hypothesis import given, settings
+from hypothesis import strategies as st
+
+import murdjohe as forms
+from murdjohe import edits, greedy_sets, knots, repairs, rings
+from murdjohe.documents import Document
+from murdjohe.knots import Cost, Inputs
+from murdjohe.plans import Plan
+
+TRIED = settings(max_examples=max(40, CASES))
+
+
+def planned(links: list[str], sources: list[str]) -> str:
+    """A plan of links `NAME A PRIORITY_A B PRIORITY_B [BUNDLE]` and sources `NAME AT`."""
+    rows = [link.split() for link in links]
+    elements = dict.fromkeys(end for row in rows for end in (row[1], row[3]))
+    lines = ["version = 2"] + [f'[[element]]\nname = "{name}"' for name in elements]
+    for name, a, priority_a, b, priority_b, *bundle in rows:
+        lines.append(f'[[link]]\nname = "{name}"\na = "{a}"\nb = "{b}"')
+        lines += [f"priority_a = {priority_a}", f"priority_b = {priority_b}", *(f'bundle = "{one}"' for one in bundle)]
+    lines += ['[[source]]\nname = "{}"\nat = "{}"\nlevel = "QL-PRTC"'.format(*source.split()) for source in sources]
+    return "\n".join(lines) + "\n"
+
+
+# Two clocks' elements at a ring of eight, each link both ways: a knot of 24 lines.
+METRO = planned(
+    [
+        *("SA SSU-A 0 CORE-A 1", "SB SSU-B 0 CORE-B 1"),
+        *("CA1 CORE-A 2 M1 1", "CA2 CORE-A 3 M2 1", "CB5 CORE-B 2 M5 1", "CB6 CORE-B 3 M6 1"),
+        *("R12 M1 2 M2 2", "R23 M2 3 M3 1", "R34 M3 2 M4 2", "R45 M4 1 M5 2"),
+        *("R56 M5 3 M6 2", "R67 M6 3 M7 1", "R78 M7 2 M8 2", "R81 M8 1 M1 3"),
+    ],
+    ["GNSS-A SSU-A", "GNSS-B SSU-B"],
+)
+
+
+def test_a_ring_of_eight_with_two_cores(folder: Path) -> None:
+    (folder / "naive.toml").write_text(METRO)
+    ran = murdjohe("repair", "naive.toml", folder=folder)
+    said = ran.out.decode().splitlines()
+    assert (ran.status, ran.err) == (0, "")
+    assert said[0] == "a knot of 24 lines with 36 rings"
+    assert said[1] == "take away 4 nominations (least): 0 elements lose the last input, 0 first choices go"
+    assert [line.rpartition(": ")[2] for line in said[2:6]] == [
+        "CA1>CORE-A goes",
+        "CB6>CORE-B goes",
+        "R12>M2 goes",
+        "R56>M5 goes",
+    ]
+    lines = METRO.splitlines()
+    for line in said[2:6]:
+        found = re.match(r"naive\.toml:(\d+): (priority_[ab]) = 0 of link (\w+), which was (\d): ", line)
+        assert found and lines[int(found[1]) - 1] == f"{found[2]} = {found[4]}"
+    assert said[6] == "checked: accepted"
+    assert said[7].startswith("or CA2>CORE-A CB5>CORE-B R12>M1 R56>M6: 0 elements") and len(said) == 9
+
+
+def in_knots(text: str) -> tuple[dict[str, Any], Inputs, nx.DiGraph]:
+    """The tables of a plan, its inputs, and the hops of its knots."""
+    tables = Plan(Document("plan.toml", text.encode())).tables
+    lines = knots.lines_of(tables)
+    parts = knots.knots_of(knots.graph_of(lines))
+    return tables, knots.inputs_of(tables, lines), nx.compose_all(parts) if parts else nx.DiGraph()
+
+
+def all_sets(graph: nx.DiGraph, inputs: Inputs) -> list[tuple[Cost, frozenset[str]]]:
+    """Every set of lines without which no ring is left, with its cost."""
+    found = []
+    for count in range(len(graph) + 1):
+        for removed in combinations(sorted(graph), count):
+            rest = graph.copy()
+            rest.remove_nodes_from(removed)
+            if nx.is_directed_acyclic_graph(rest):
+                found.append((inputs.cost(removed), frozenset(removed)))
+    return found
+
+
+def least_costs(sets: list[tuple[Cost, frozenset[str]]]) -> list[Cost]:
+    """The costs of up to three sets, each the least of those that hold no earlier one."""
+    best: list[Cost] = []
+    rest = sets
+    while rest and len(best) < repairs.SETS:
+        cost, removed = min(rest, key=lambda pair: pair[0])
+        # (which one of equal cost comes first decides what the next ones may be, so only clear firsts are compared)
+        if sum(other == cost for other, _ in rest) > 1:
+            return [*best, cost]
+        best.append(cost)
+        rest = [pair for pair in rest if not pair[1] >= removed]
+    return best
+
+
+def random_network(seed: int) -> str:
+    """A plan of 3 to 5 elements and up to six links, some in bundles, with priorities at both ends."""
+    chance = random.Random(seed)
+    names = [f"E{number}" for number in range(chance.randint(3, 5))]
+    links: list[str] = []
+    bundles: dict[frozenset[str], str] = {}
+    for number in range(chance.randint(3, 6)):
+        a, b = chance.sample(names, 2)
+        bundle = bundles.setdefault(frozenset((a, b)), f"B{number}") if chance.random() < 0.4 else ""
+        links.append(f"L{number} {a} {chance.choice([0, 1, 2, 3])} {b} {chance.choice([1, 2, 9, 255])} {bundle}")
+    missing = [f"X{number} {names[0]} 0 {name} 0" for number, name in enumerate(names[1:])]
+    return planned(links + missing, [f"S{number} {chance.choice(names)}" for number in range(chance.randint(0, 2))])
+
+
+@TRIED
+@given(st.integers(0, 2**32))
+def test_sets_are_least_of_all(seed: int) -> None:
+    text = random_network(seed)
+    tables, inputs, graph = in_knots(text)
+    repair = repairs.repair_of(tables)
+    assert repair.is_least
+    if not graph:
+        assert repair.sets == [] and repair.knots == []
+        return
+    assert len(graph) <= 12
+    assert [found.cost for found in repair.sets] == sorted(found.cost for found in repair.sets)
+    wanted = least_costs(all_sets(graph, inputs))
+    assert [found.cost for found in repair.sets][: len(wanted)] == wanted
+    assert sum(lines for lines, _, _ in repair.knots) == len(graph)
+    assert sum(count for _, count, _ in repair.knots) == sum(1 for _ in nx.simple_cycles(graph))
+
+
+@settings(max_examples=max(15, CASES))
+@given(st.integers(0, 2**32))
+def test_after_a_repair_the_program_gives_ranks(seed: int) -> None:
+    text = random_network(seed)
+    plan = Plan(Document("plan.toml", text.encode()))
+    repair = repairs.repair_of(plan.tables)
+    before = forms.rank(text.encode()).result
+    assert (before.ring is None) == (repair.sets == [])
+    for found in repair.sets:
+        data = repairs.mended(plan, found)
+        assert forms.rank(data).result.ranks is not None
+        for line in found.lines:  # (each is needed)
+            less = repairs.Found(tuple(one for one in found.lines if one != line), found.cost)
+            assert forms.rank(repairs.mended(plan, less)).result.ring is not None
+
+
+@TRIED
+@given(st.integers(0, 2**32))
+def test_greedy_sets_leave_no_ring_and_take_nothing_needless(seed: int) -> None:
+    _, inputs, graph = in_knots(random_network(seed))
+    if not graph:
+        return
+    removed = greedy_sets.greedy_set(graph, inputs, 5)
+    assert rings.rings_left(graph, removed) == []
+    assert all(rings.rings_left(graph, removed - {line}) for line in removed)
+
+
+def test_where_time_runs_out_the_set_is_found_alone() -> None:
+    tables, inputs, graph = in_knots(METRO)
+    repair = repairs.repair_of(tables, 0.0)
+    (found,) = repair.sets
+    assert not repair.is_least and rings.rings_left(graph, [line.name for line in found.lines]) == []
+    assert found.cost >= (0, 0, 1014)  # (256 - 2, 256 - 3, 256 - 2 and 256 - 3 for the least set)
+
+
+def test_knots_apart_are_repaired_together() -> None:
+    parts = [METRO.replace("version = 2\n", "")] * 2
+    other = re.sub(r'(name|a|b|at) = "', r'\1 = "x-', parts[1])
+    rows = [text.split("[[source]]", 1) for text in (parts[0], other)]
+    links = [text[0].split("[[link]]", 1) for text in rows]
+    text = "".join(
+        [links[0][0], links[1][0], *("[[link]]" + one[1] for one in links), *("[[source]]" + one[1] for one in rows)]
+    )
+    tables, _, graph = in_knots(text)
+    repair = repairs.repair_of(tables)
+    assert repair.knots == [(24, 36, True)] * 2 and len(graph) == 48 and repair.is_least
+    assert [found.cost for found in repair.sets] == [(0, 0, 2028), (0, 0, 2029), (0, 0, 2029)]
+
+
+def both_ways(elements: int) -> str:
+    """The ladder with each of its links nominated at both ends."""
+    plan = Plan(Document("ladder", forms.gen(elements).result.text.encode()))
+    wanted = {
+        ("link", number, f"priority_{end}"): 7
+        for number, link in enumerate(plan.rows("link"), start=1)
+        for end in "ab"
+        if not link.get(f"priority_{end}")
+    }
+    return edits.changed(plan, wanted).decode()
+
+
+@pytest.mark.parametrize(("elements", "kind"), [(30, "(least)"), (130, "(found, perhaps not least)")])
+def test_a_large_knot_is_said_to_be_found_alone(folder: Path, elements: int, kind: str) -> None:
+    (folder / "plan.toml").write_text(both_ways(elements))
+    ran = murdjohe("repair", "plan.toml", "-o", "mended.toml", folder=folder)
+    said = ran.out.decode()
+    assert ran.status == 0 and kind in said and "\nchecked: accepted\n" in said
+    assert int(re.findall(r"a knot of (\d+) lines", said)[0]) > (400 if elements == 130 else 60)
+    assert murdjohe("rank", "mended.toml", folder=folder).status == 0
+
+
+@pytest.mark.parametrize("is_repository", [False, True])
+@pytest.mark.parametrize("end", ["\n", "\r\n", ""])
+def test_git_applies_the_patch(folder: Path, is_repository: bool, end: str) -> None:
+    data = (METRO.rstrip("\n") if not end else METRO.replace("\n", end)).encode()
+    place = folder / "plans"
+    place.mkdir()
+    (place / "naive.toml").write_bytes(data)
+    environment = {**os.environ, "GIT_CEILING_DIRECTORIES": str(folder)}
+    if is_repository:
+        subprocess.run(["git", "init", "-q", str(place)], check=True, env=environment)
+    ran = murdjohe("repair", "--patch", "naive.toml", folder=place)
+    assert ran.status == 0 and "murdjohe: checked: accepted\n" in ran.err
+    run = subprocess.run(["git", "apply"], input=ran.out, cwd=place, env=environment, capture_output=True, check=False)
+    assert run.returncode == 0, run.stderr
+    after = (place / "naive.toml").read_bytes()
+    assert after.count(b"= 0") == data.count(b"= 0") + 4 and murdjohe("rank", str(place / "naive.toml")).status == 0
+
+
+@pytest.mark.parametrize(("number", "differ"), [(20, [3]), (20, [0, 19]), (20, [4, 11]), (20, [4, 10, 11]), (2, [1])])
+def test_a_patch_is_that_of_diff(folder: Path, number: int, differ: list[int]) -> None:
+    old = [f"key = {line}" for line in range(number)]
+    new = ["other = 0" if line in differ else text for line, text in enumerate(old)]
+    (folder / "old").write_text("\n".join(old))
+    (folder / "new").write_text("\n".join(new))
+    run = subprocess.run(["diff", "-U3", "old", "new"], capture_output=True, check=False)
+    made = repairs.patch("old", (folder / "old").read_bytes(), (folder / "new").read_bytes())
+    wanted = sorted(line for line in run.stdout.splitlines()[2:])
+    assert sorted(line for line in made.splitlines()[2:]) == wanted
+
+
+def test_a_plan_without_a_ring_is_left_alone() -> None:
+    ran = murdjohe("repair", str(EXAMPLES / "metro-ring" / "plan.toml"))
+    assert (ran.status, ran.out, ran.err) == (0, b"", "murdjohe: no ring is left; checked: accepted\n")
+
+
+@pytest.mark.parametrize("path", sorted(EXAMPLES.glob("*/*.toml")), ids=lambda path: f"{path.parent.name}/{path.name}")
+def test_each_example_is_repaired(folder: Path, path: Path) -> None:
+    ran = murdjohe("repair", str(path), "-o", "mended.toml", folder=folder)
+    is_ring = murdjohe("rank", str(path)).status == 1
+    assert ran.status == 0 and ("\nchecked: accepted\n" in ran.out.decode()) == is_ring
+    if is_ring:
+        assert murdjohe("rank", "mended.toml", folder=folder).status == 0
+
+
+def test_what_can_not_be_repaired_is_told(folder: Path) -> None:
+    ran = murdjohe("repair", "--patch", "-", stdin=METRO.encode())
+    assert ran.status == 2 and "standard input has no name that a patch could have" in ran.err
+    (folder / "bad.toml").write_text(METRO.replace('a = "M1"', 'a = "M99"', 1))
+    ran = murdjohe("repair", "bad.toml", folder=folder)
+    assert (ran.status, ran.out) == (3, b"") and 'link "R12" has end a "M99"' in ran.err
+    (folder / "there").write_text("")
+    ran = murdjohe("repair", "bad.toml", "-o", "there", folder=folder)
+    assert ran.status == 2 and "there is there already" in ran.err
