@@ -3,12 +3,13 @@
 
 usage: captures_by_tshark.py PROGRAM
 
-The captures are those of workbench/tests/captures_made.py, and those that editcap, text2pcap and mergecap make of the plain one
-among them. Time (to the nanosecond), source, event flag, both codes, clock and counts of each frame have to be the same. The
-codes of a level are those of the table below, and not the program's. Ends with status 1 where anything differs.
+The captures are those of workbench/tests/captures_made.py, those that editcap, text2pcap and mergecap make of the plain one
+among them, and those that scapy writes, with the tags and cooked headers that it puts on. Time (to the nanosecond), source,
+event flag, both codes, clock and counts of each frame have to be the same. The codes of a level are those of the table below,
+and not the program's. Ends with status 1 where anything differs.
 
-Wants tshark, editcap, text2pcap and mergecap, of Wireshark 4 (Debian: tshark), python3-dpkt, python3-pytest and
-python3-hypothesis.
+Wants tshark, editcap, text2pcap and mergecap, of Wireshark 4 (Debian: tshark), python3-scapy, python3-dpkt, python3-pytest
+and python3-hypothesis.
 """
 
 import os
@@ -20,6 +21,8 @@ import tempfile
 TOP = pathlib.Path(__file__).resolve().parent.parent
 sys.path[:0] = [str(TOP / "workbench" / "tests"), str(TOP / "workbench" / "src")]
 import captures_made as made  # noqa: E402
+from scapy.layers.l2 import CookedLinux, Dot1AD, Dot1Q, Ether  # noqa: E402
+from scapy.utils import EDecimal, PcapNgWriter, PcapWriter  # noqa: E402
 
 # The codes of the levels in the stored capture, of option I.
 CODES = {"QL-PRTC": (2, 0x20), "QL-eEEC": (11, 0x22), "QL-SEC": (11, None), "code-3": (3, None)}
@@ -83,6 +86,51 @@ def remade(folder, plain):
     return found
 
 
+def tagged(tags, frame):
+    """A frame behind these tags, as scapy puts them on."""
+    whole = Ether(frame)
+    tags.lastlayer().type = whole.type
+    return Ether(src=whole.src, dst=whole.dst) / tags / whole.payload
+
+
+def cooked(frame):
+    """A frame with a cooked header in place of its own, as scapy writes it."""
+    whole = Ether(frame)
+    header = CookedLinux(pkttype=2, lladdrlen=6, src=bytes.fromhex(whole.src.replace(":", "")), proto=whole.type)
+    return header / whole.payload
+
+
+def by_scapy(folder):
+    """The captures that scapy writes, by name."""
+    kinds = {
+        "plain": Ether,
+        "tagged": lambda frame: tagged(Dot1Q(vlan=100, prio=6), frame),
+        "tagged twice": lambda frame: tagged(Dot1AD(vlan=7) / Dot1Q(vlan=100), frame),
+        "cut at 60": lambda frame: Ether(frame[:60]),
+        "cooked": cooked,
+    }
+    writers = {
+        "pcap": lambda path: PcapWriter(path),
+        "pcap in nanoseconds": lambda path: PcapWriter(path, nano=True),
+        "pcap, big-endian": lambda path: PcapWriter(path, endianness=">"),
+        "pcap, packed": lambda path: PcapWriter(path, gz=True),
+        "pcapng": PcapNgWriter,
+    }
+    found = {}
+    for writer_name, writer in writers.items():
+        for kind, change in kinds.items():
+            path = str(folder / f"scapy{len(found)}")
+            with writer(path) as out:
+                if kind == "cooked":
+                    out.linktype = 113  # (scapy's writer of pcapng says Ethernet of whatever it writes)
+                for time, frame in made.RECORDS:
+                    packet = change(frame)
+                    packet.time = EDecimal(time) / 10**9
+                    out.write(packet)
+            found[f"scapy {writer_name}, {kind}"] = path
+    return found
+
+
 def main():
     if len(sys.argv) != 2:
         sys.exit(__doc__.strip())
@@ -93,7 +141,7 @@ def main():
         for index, (kind, data) in enumerate(made.KINDS.items()):
             paths[kind] = str(folder / str(index))
             pathlib.Path(paths[kind]).write_bytes(data)
-        paths |= remade(folder, paths["pcap"])
+        paths |= remade(folder, paths["pcap"]) | by_scapy(folder)
         differ, frames = [], 0
         for kind, path in paths.items():
             theirs, ours = by_tshark(path), by_us(path)
