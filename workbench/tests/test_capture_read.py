@@ -241,8 +241,9 @@ def test_a_cut_capture_gives_a_front_of_its_packets(tmp_path: Path, kind: str, d
     wanted, is_damaged = packets_of(path)
     assert len(wanted) == len(made.ROWS) and not is_damaged
     path.write_bytes(whole[: data.draw(st.integers(0, len(whole) - 1))])
-    found, _ = packets_of(path)
-    assert found == wanted[: len(found)] and len(found) < len(wanted)
+    found, is_damaged = packets_of(path)
+    # (where what ends a packed file was cut off, all packets are there, and it is told)
+    assert found == wanted[: len(found)] and (is_damaged or len(found) < len(wanted))
 
 
 @settings(suppress_health_check=ANY, max_examples=20 * CASES)

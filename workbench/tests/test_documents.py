@@ -48,10 +48,41 @@ def test_the_forms_are_those_of_the_formats() -> None:
     assert sorted(form.synopsis for form in forms.FORMS.values()) == sorted(written)
 
 
-def test_the_page_of_the_manual_has_each_command() -> None:
-    page = (TOP / "man" / "murdjohe.1").read_text(encoding="utf-8")
-    for name in [*forms.FORMS, *cli.OWN]:
-        assert re.search(rf"^\.(Cm|It Cm) (.*, )?{name}\b", page, re.M), name
+# The page of the manual of each group of commands.
+PAGES = {
+    forms.PLANNING: "murdjohe-planning",
+    forms.RUNNING: "murdjohe-running",
+    forms.PRIORITY: "murdjohe-priority",
+    forms.LAB: "murdjohe-lab",
+    forms.TRYING: "murdjohe-trying",
+    cli.FILES: "murdjohe-files",
+    cli.ABOUT: "murdjohe",
+}
+
+
+def page_of(name: str) -> str:
+    return (TOP / "man" / f"{name}.1").read_text(encoding="utf-8")
+
+
+def described(page: str) -> set[str]:
+    """The commands that a page describes."""
+    heads = re.findall(r"^\.It Cm (.*)", page, re.M)
+    return {head.split()[0] for line in heads for head in line.split(" , ")}
+
+
+def test_the_page_of_each_group_has_its_commands_and_no_others() -> None:
+    groups = {name: form.group for name, form in forms.FORMS.items()} | {name: own[1] for name, own in cli.OWN.items()}
+    assert set(PAGES) == set(cli.GROUPS) == set(groups.values())
+    for group, title in PAGES.items():
+        its = {name for name, own in groups.items() if own == group}
+        page = page_of(title)
+        if group == cli.ABOUT:
+            assert described(page) == set(groups)
+        else:
+            assert described(page) == its
+            assert {found.split()[0] for found in re.findall(r"^\.Nm murdjohe\n\.Cm (.*)", page, re.M)} == its
+        for other in set(PAGES.values()) - {title}:
+            assert f".Xr {other} 1" in page
 
 
 def imported(path: Path) -> set[str]:
