@@ -2,6 +2,7 @@
 
 from __future__ import annotations
 
+import json
 import os
 import random
 import re
@@ -68,6 +69,25 @@ def test_a_ring_of_eight_with_two_cores(folder: Path) -> None:
         assert found and lines[int(found[1]) - 1] == f"{found[2]} = {found[4]}"
     assert said[6] == "checked: accepted"
     assert said[7].startswith("or CA2>CORE-A CB5>CORE-B R12>M1 R56>M6: 0 elements") and len(said) == 9
+
+
+def test_a_repair_as_json(folder: Path) -> None:
+    (folder / "naive.toml").write_text(METRO)
+    found = json.loads(murdjohe("repair", "--json", "naive.toml", folder=folder).out)
+    assert found["knots"] == [{"lines": 24, "rings": 36, "all_rings": True}]
+    assert (found["least"], found["checked"], len(found["sets"])) == (True, "accepted", 3)
+    best = found["sets"][0]
+    assert (best["last_inputs"], best["first_choices"]) == (0, 0)
+    assert [edit["goes"] for edit in best["edits"]] == ["CA1>CORE-A", "CB6>CORE-B", "R12>M2", "R56>M5"]
+    lines = METRO.splitlines()
+    for edit in best["edits"]:
+        assert lines[edit["line"] - 1] == f"{edit['key']} = {edit['old']}"
+        assert edit["goes"].startswith(f"{edit['link']}>")
+    ran = murdjohe("repair", "--json", "-", stdin=murdjohe("gen", "3").out)
+    assert json.loads(ran.out) == {"knots": [], "least": True, "checked": "accepted", "sets": []}
+    assert (ran.status, ran.err) == (0, "")
+    ran = murdjohe("repair", "--json", "--patch", "naive.toml", folder=folder)
+    assert ran.status == 2 and "--patch and --json: standard output has one of them" in ran.err
 
 
 def in_knots(text: str) -> tuple[dict[str, Any], Inputs, nx.DiGraph]:

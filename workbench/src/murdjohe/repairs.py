@@ -5,7 +5,7 @@ from __future__ import annotations
 import os
 import re
 import time
-from dataclasses import dataclass
+from dataclasses import asdict, dataclass
 from itertools import product
 from typing import Any
 
@@ -84,16 +84,40 @@ def wanted(found: Found) -> Wanted:
     return {("link", line.number, line.key): 0 for line in found.lines}
 
 
-def edit_lines(plan: Plan, found: Found) -> list[str]:
-    """Each edit of a set, with file, line and key."""
-    said = []
-    for line in found.lines:
-        place = plan.line("link", line.number, line.key)
-        link = line.name.partition(">")[0]
-        said.append(
-            f"{plan.document.name}:{place}: {line.key} = 0 of link {link}, which was {line.priority}: {line.name} goes"
-        )
-    return said
+@dataclass(frozen=True)
+class Edit:
+    """A key of a link that becomes 0: the line of the plan's file (from 1 on), the priority that it had, and the line that goes."""
+
+    line: int | None
+    link: str
+    key: str
+    old: int
+    goes: str
+
+    def told(self, name: str) -> str:
+        return f"{name}:{self.line}: {self.key} = 0 of link {self.link}, which was {self.old}: {self.goes} goes"
+
+
+def edits_of(plan: Plan, found: Found) -> list[Edit]:
+    """Each edit of a set."""
+    return [
+        Edit(plan.line("link", line.number, line.key), line.name.partition(">")[0], line.key, line.priority, line.name)
+        for line in found.lines
+    ]
+
+
+def as_data(plan: Plan, repair: Repair, verdict: str) -> dict[str, Any]:
+    """A repair and what the program says of the plan without its first set, as JSON has it."""
+    knots_told = [{"lines": lines, "rings": rings, "all_rings": are_all} for lines, rings, are_all in repair.knots]
+    sets = [
+        {
+            "last_inputs": found.cost[0],
+            "first_choices": found.cost[1],
+            "edits": [asdict(edit) for edit in edits_of(plan, found)],
+        }
+        for found in repair.sets
+    ]
+    return {"knots": knots_told, "least": repair.is_least, "checked": verdict, "sets": sets}
 
 
 def hunks(changed: list[int], count: int) -> list[tuple[int, int]]:

@@ -4,12 +4,14 @@ from __future__ import annotations
 
 import click
 
-from murdjohe import core, files, plan_file, progress, repairs, streams
+from murdjohe import core, files, plain_json, plan_file, progress, repairs, streams
 from murdjohe.inputs import STDIN
 from murdjohe.plan_file import PlanFile
 from murdjohe.remarks import plural
 from murdjohe.repairs import Found, Repair
 from murdjohe.wrong import Wrong
+
+TEXT, PATCH, JSON = "text", "patch", "json"  # what standard output has
 
 
 def on_knots(repair: Repair) -> list[str]:
@@ -30,14 +32,25 @@ def on_cost(found: Found) -> str:
 
 def report(taken: PlanFile, repair: Repair, verdict: str) -> list[str]:
     """The knots, the edits of the best set and what the program says of it, and the next best sets."""
+    if not repair.sets:
+        return [f"no ring is left; checked: {verdict}"]
     best, *others = repair.sets
     kind = "least" if repair.is_least else "found, perhaps not least"
     said = on_knots(repair)
     said.append(f"take away {plural(len(best.lines), 'nomination')} ({kind}): {on_cost(best)}")
-    said += repairs.edit_lines(taken.plan, best)
+    said += [edit.told(taken.name) for edit in repairs.edits_of(taken.plan, best)]
     said.append(f"checked: {verdict}")
     said += [f"or {' '.join(line.name for line in found.lines)}: {on_cost(found)}" for found in others]
     return said
+
+
+def form_of(plan: str, patch: bool, as_json: bool) -> str:
+    """What standard output is to have. Raises Wrong."""
+    if patch and as_json:
+        raise Wrong("--patch and --json: standard output has one of them")
+    if patch and plan == STDIN:
+        raise Wrong("--patch: standard input has no name that a patch could have; name the file")
+    return PATCH if patch else JSON if as_json else TEXT
 
 
 @click.command("repair")
@@ -45,10 +58,11 @@ def report(taken: PlanFile, repair: Repair, verdict: str) -> list[str]:
 @click.option(
     "--patch", is_flag=True, help="prints the first set as a patch, which `git apply` takes; the rest is said beside it"
 )
+@click.option("--json", "as_json", is_flag=True, help="JSON: knots, sets with their edits, and what the program says")
 @click.option("-o", "--output", type=click.Path(), help="writes the repaired plan to this file")
 @click.option("--force", is_flag=True, help="writes over a file that is there already, PLAN too")
 @click.pass_context
-def repair_plan(context: click.Context, plan: str, patch: bool, output: str | None, force: bool) -> int:
+def repair_plan(context: click.Context, plan: str, patch: bool, as_json: bool, output: str | None, force: bool) -> int:
     """Finds the cheapest nominations to take away where `rank` says `cycle`.
 
     All knots of lines are looked at, and how many rings they have. A set costs first the elements that lose their last input,
@@ -63,26 +77,24 @@ def repair_plan(context: click.Context, plan: str, patch: bool, output: str | No
       $ printf '[[link]]\\nname = "L3"\\na = "C"\\nb = "A"\\npriority_b = 2\\n' >> plan.toml
       $ murdjohe repair plan.toml
     """
-    if patch and plan == STDIN:
-        raise Wrong("--patch: standard input has no name that a patch could have; name the file")
+    root = context.find_root().params
+    form = form_of(plan, patch, as_json or root["json"])
     files.free([output] if output else [], force)
     taken = plan_file.read(plan)
     with progress.watched("repair"):
         repair = repairs.repair_of(taken.tables)
-    is_quiet = context.find_root().params["quiet"]
-    if not repair.sets:
-        verdict = taken.verdict()
-        if not is_quiet:
-            streams.tell(f"no ring is left; checked: {verdict}", colour="green")
-        return core.DONE if verdict == plan_file.ACCEPTED else core.REFUTED
-    data = repairs.mended(taken.plan, repair.sets[0])
-    verdict = plan_file.taken("the repaired plan", data).verdict()
+    data = repairs.mended(taken.plan, repair.sets[0]) if repair.sets else taken.data
+    verdict = (plan_file.taken("the repaired plan", data) if repair.sets else taken).verdict()
     said = report(taken, repair, verdict)
-    if output:
+    if output and repair.sets:
         files.written(output, data)
-    text = "".join(f"{line}\n" for line in said).encode("utf-8", "surrogateescape")
-    context.obj.put(repairs.patch(plan, taken.data, data) if patch else text)
-    if patch and not is_quiet:
+    if form == JSON:
+        context.obj.put(plain_json.text(repairs.as_data(taken.plan, repair, verdict)))
+    elif form == PATCH and repair.sets:
+        context.obj.put(repairs.patch(plan, taken.data, data))
+    elif repair.sets:
+        context.obj.put("".join(f"{line}\n" for line in said).encode("utf-8", "surrogateescape"))
+    if not root["quiet"] and (form == PATCH or (form == TEXT and not repair.sets)):
         streams.tell(*said, colour="green")
     return core.DONE if verdict == plan_file.ACCEPTED else core.REFUTED
 
