@@ -189,6 +189,18 @@ def test_what_comes_from_outside_is_no_mistake(
     assert main.guarded([], streams.Output(False)) == status
 
 
+def all_shown(own: int) -> bytes:
+    """What is written to a terminal until nobody holds its other end."""
+    shown = b""
+    try:
+        while piece := os.read(own, 4096):
+            shown += piece
+    except OSError:
+        pass
+    os.close(own)
+    return shown
+
+
 def on_terminal(**settings: str) -> bytes:
     """What a terminal shows as standard error."""
     own, its = pty.openpty()
@@ -201,14 +213,7 @@ def on_terminal(**settings: str) -> bytes:
         env=environment,
     )
     os.close(its)
-    shown = b""
-    try:
-        while piece := os.read(own, 4096):
-            shown += piece
-    except OSError:
-        pass
-    os.close(own)
-    return shown
+    return all_shown(own)
 
 
 def test_colours_are_for_terminals_that_want_them() -> None:
@@ -235,14 +240,8 @@ def test_a_long_wait_is_shown_on_a_terminal_alone(tmp_path: Path) -> None:
     environment = {**os.environ, "TERM": "xterm", "MURDJOHE_CORE": str(slow)}
     with subprocess.Popen(words, stderr=its, stdout=subprocess.PIPE, env=environment) as run:
         os.close(its)
-        shown = b""
-        try:
-            while piece := os.read(own, 4096):
-                shown += piece
-        except OSError:
-            pass
+        shown = all_shown(own)
         out = run.stdout.read() if run.stdout else b""
-    os.close(own)
     assert out == b"accepted\n" and run.returncode == 0
     assert b"murdjohe check" in shown and b"0:00:0" in shown
     quiet = started(words, MURDJOHE_CORE=str(slow))
