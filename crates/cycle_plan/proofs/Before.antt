@@ -10,8 +10,9 @@ use Rattle.sync_topo.specs.Lines.{line_count, is_nominated, IsNominated, sender_
 use Rattle.sync_topo.proofs.LineLaws.{IsNominated-within, find_range-Some, find_range-None}
 use Rattle.rank_cert.specs.Ranks.{Ranks, rank_at}
 use Rattle.sync_topo.specs.declared.input.InputId.{InputId}
-use Rattle.cycle_plan.specs.declared.returns.Returns.{Returns}
-use Rattle.cycle_plan.specs.Returns.{HopsBy, hops_by, number_in, number_out}
+use Rattle.sync_topo.specs.declared.returns.Returns.{Returns}
+use Rattle.sync_topo.specs.Hops.{HopsBy, hops_by}
+use Rattle.cycle_plan.specs.Numbers.{number_in, number_out}
 use Rattle.cycle_plan.specs.Inputs.{line_at, IsOpenLine, AreFirstOpen}
 use Rattle.cycle_plan.specs.Peeling.{IsPeeled}
 use Rattle.cycle_plan.specs.Rings.{IsLeft, HasRound}

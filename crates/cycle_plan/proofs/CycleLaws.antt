@@ -6,8 +6,8 @@ use Rattle.std.proofs.lemmas.List.Elements.{All-cons, All-nil}
 use Rattle.sync_topo.specs.Topology.{Topology}
 use Rattle.sync_topo.specs.Lines.{line_count}
 use Rattle.sync_topo.proofs.LineLaws.{IsNominated-within}
-use Rattle.cycle_plan.specs.declared.returns.Returns.{Returns}
-use Rattle.cycle_plan.specs.Returns.{hops_by}
+use Rattle.sync_topo.specs.declared.returns.Returns.{Returns}
+use Rattle.sync_topo.specs.Hops.{hops_by}
 use Rattle.cycle_plan.proofs.HopFacts.{hop_parts}
 use Rattle.sync_topo.specs.Hops.{IsRising}
 use Rattle.rank_cert.specs.Ranks.{Ranks, rank_of, Judges}

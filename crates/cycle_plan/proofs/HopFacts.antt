@@ -13,8 +13,12 @@ use Rattle.sync_topo.specs.Lines.{line_count, is_nominated, IsNominated, receive
 use Rattle.sync_topo.proofs.LineLaws.{IsNominated-within}
 use Rattle.sync_topo.specs.declared.input.InputId.{InputId}
 use Rattle.sync_topo.specs.declared.input.InputId.TheVariants.{Source}
-use Rattle.cycle_plan.specs.declared.returns.Returns.{Returns}
-use Rattle.cycle_plan.specs.Returns.{HopsBy, number_in, number_out}
+use Rattle.sync_topo.specs.declared.returns.Returns.{Returns}
+use Rattle.sync_topo.specs.declared.returns.Returns.TheVariants.{Barred, Allowed}
+use Rattle.sync_topo.specs.Bundles.{line_bundle, are_bundled}
+use Rattle.sync_topo.specs.Hops.{HopsBy}
+use Rattle.sync_topo.proofs.HopLaws.{hop-meets}
+use Rattle.cycle_plan.specs.Numbers.{number_in, number_out}
 use Rattle.cycle_plan.specs.Inputs.{line_of, line_at, AreWithin}
 
 -- what a filter over a range keeps
@@ -120,18 +124,27 @@ line_at_within inputs place line here = elim (cases_lt place (length inputs)) [
 pub hop_parts : (returns : Returns) (plan : Topology) (line next : ℕ) → HopsBy returns plan line next
     → IsNominated plan line × IsNominated plan next × (receiver_of plan line ≡ sender_of plan next) × (number_in returns plan line ≢ number_out returns plan next)
 hop_parts returns plan line next hop =
-    let ends = and_parts (is_nominated plan line && is_nominated plan next && nat_eq (receiver_of plan line) (sender_of plan next)) (not (number_in returns plan line == number_out returns plan next)) hop in
-    let both = and_parts (is_nominated plan line && is_nominated plan next) (nat_eq (receiver_of plan line) (sender_of plan next)) ends.0 in
-    let each = and_parts (is_nominated plan line) (is_nominated plan next) both.0 in
-    (each.0, each.1, eqb-true _ _ both.1, eqb-false _ _ (not-true (number_in returns plan line == number_out returns plan next) ends.1))
+    let meets = hop-meets returns plan line next hop in (meets.from, meets.to, meets.joined, apart returns hop)
+  where
+    apart : (rule : Returns) → HopsBy rule plan line next → number_in rule plan line ≢ number_out rule plan next
+    apart Barred over =
+        let ends = and_parts (is_nominated plan line && is_nominated plan next && nat_eq (receiver_of plan line) (sender_of plan next)) (not (are_bundled plan line next)) over in
+        eqb-false _ _ (not-true (line_bundle plan line == line_bundle plan next) ends.1)
+    apart Allowed over = λ same. absurd (omega (arith, same))
 
 pub hop_from : (returns : Returns) (plan : Topology) (line next : ℕ) → IsNominated plan line → IsNominated plan next → receiver_of plan line ≡ sender_of plan next
     → number_in returns plan line ≢ number_out returns plan next → HopsBy returns plan line next
-hop_from returns plan line next nominated next_nominated meets apart =
-    both_true {s = is_nominated plan line && is_nominated plan next && nat_eq (receiver_of plan line) (sender_of plan next)} {t = not (number_in returns plan line == number_out returns plan next)}
-    (both_true {s = is_nominated plan line && is_nominated plan next} {t = nat_eq (receiver_of plan line) (sender_of plan next)}
-    (both_true {s = is_nominated plan line} {t = is_nominated plan next} nominated next_nominated) (eq-eqb _ _ meets))
-    (not_from_false (number_in returns plan line == number_out returns plan next) (ne_eqb _ _ apart))
+hop_from returns plan line next nominated next_nominated meets apart = by returns apart
+  where
+    meet : (is_nominated plan line && is_nominated plan next && nat_eq (receiver_of plan line) (sender_of plan next)) ≡ true
+    meet = both_true {s = is_nominated plan line && is_nominated plan next} {t = nat_eq (receiver_of plan line) (sender_of plan next)}
+        (both_true {s = is_nominated plan line} {t = is_nominated plan next} nominated next_nominated) (eq-eqb _ _ meets)
+
+    by : (rule : Returns) → number_in rule plan line ≢ number_out rule plan next → HopsBy rule plan line next
+    by Barred differ =
+        both_true {s = is_nominated plan line && is_nominated plan next && nat_eq (receiver_of plan line) (sender_of plan next)} {t = not (are_bundled plan line next)}
+        meet (not_from_false (line_bundle plan line == line_bundle plan next) (ne_eqb _ _ differ))
+    by Allowed differ = meet
 
 -- a line doesn't begin where it ends
 pub ends_apart : (plan : Topology) (line : ℕ) → IsWellFormed plan → line < line_count plan → sender_of plan line ≢ receiver_of plan line

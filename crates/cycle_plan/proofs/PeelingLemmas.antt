@@ -12,8 +12,8 @@ use Rattle.sync_topo.specs.Ranks.{HopTest}
 use Rattle.sync_topo.specs.Lines.{line_count, IsNominated, receiver_of, sender_of, inputs_of}
 use Rattle.rank_cert.specs.Ranks.{Ranks, rank_at}
 use Rattle.sync_topo.specs.declared.input.InputId.{InputId}
-use Rattle.cycle_plan.specs.declared.returns.Returns.{Returns}
-use Rattle.cycle_plan.specs.Returns.{HopsBy, hops_by}
+use Rattle.sync_topo.specs.declared.returns.Returns.{Returns}
+use Rattle.sync_topo.specs.Hops.{HopsBy, hops_by}
 use Rattle.cycle_plan.specs.Inputs.{line_at, is_open, IsOpenLine, IsWatch}
 use Rattle.cycle_plan.specs.Peeling.{IsOpenInto, IsNext, left_over, IsRanking, IsPeeling, IsMore}
 use Rattle.cycle_plan.specs.declared.inputs.Watch.{Watch}

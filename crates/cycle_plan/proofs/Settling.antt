@@ -4,8 +4,9 @@ use Rattle.std.specs.Prelude.{◌≢◌, slice_get, slice_set, if◌then◌else�
 use Rattle.std.specs.List.{All, Contains}
 use Rattle.std.proofs.lemmas.List.Elements.{Contains-append_cases, All-contains}
 use Rattle.sync_topo.specs.declared.input.LineId.{LineId}
-use Rattle.cycle_plan.specs.declared.returns.Returns.{Returns}
-use Rattle.cycle_plan.specs.Returns.{HopsBy, hops_by, number_in, number_out}
+use Rattle.sync_topo.specs.declared.returns.Returns.{Returns}
+use Rattle.sync_topo.specs.Hops.{HopsBy, hops_by}
+use Rattle.cycle_plan.specs.Numbers.{number_in, number_out}
 use Rattle.cycle_plan.specs.Outputs.{kept, AreOutputs}
 use Rattle.std.specs.declared.alloc.Global.{Global}
 use Rattle.std.proofs.lemmas.Bool.{cases_lt, cases_eq, eqb-true}

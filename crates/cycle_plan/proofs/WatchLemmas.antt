@@ -7,8 +7,8 @@ use Rattle.std.proofs.lemmas.Option.{none-some, same_Some}
 use Rattle.sync_topo.specs.Topology.{Topology}
 use Rattle.rank_cert.specs.Ranks.{Ranks, rank_at}
 use Rattle.sync_topo.specs.declared.input.InputId.{InputId}
-use Rattle.cycle_plan.specs.declared.returns.Returns.{Returns}
-use Rattle.cycle_plan.specs.Returns.{number_in}
+use Rattle.sync_topo.specs.declared.returns.Returns.{Returns}
+use Rattle.cycle_plan.specs.Numbers.{number_in}
 use Rattle.cycle_plan.specs.Inputs.{line_at, is_open, is_other, IsOpenLine, IsWatch, AreFirstOpen}
 use Rattle.cycle_plan.specs.declared.inputs.Watch.{Watch}
 use Rattle.cycle_plan.proofs.HopFacts.{line_at_within}

@@ -1,4 +1,4 @@
-pub mod Returns
+pub mod Numbers
 pub mod Ranked
 pub mod Repeats
 pub mod Inputs

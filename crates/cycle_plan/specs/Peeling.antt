@@ -5,8 +5,9 @@ use Rattle.sync_topo.specs.Topology.{Topology}
 use Rattle.sync_topo.specs.Lines.{line_count, IsNominated, sender_of, receiver_of, inputs_of}
 use Rattle.sync_topo.specs.Ranks.{HopTest}
 use Rattle.rank_cert.specs.Ranks.{Ranks, rank_at}
-use Rattle.cycle_plan.specs.declared.returns.Returns.{Returns}
-use Rattle.cycle_plan.specs.Returns.{HopsBy, hops_by, number_in, number_out}
+use Rattle.sync_topo.specs.declared.returns.Returns.{Returns}
+use Rattle.sync_topo.specs.Hops.{HopsBy, hops_by}
+use Rattle.cycle_plan.specs.Numbers.{number_in, number_out}
 use Rattle.cycle_plan.specs.Inputs.{IsWatch}
 use Rattle.cycle_plan.specs.Tops.{rank_after}
 use Rattle.cycle_plan.specs.declared.top.Top.{Top}

@@ -6,8 +6,8 @@ use Rattle.sync_topo.specs.Topology.{Topology}
 use Rattle.sync_topo.specs.Lines.{line_count, is_nominated, IsNominated}
 use Rattle.sync_topo.specs.Ranks.{HopTest, IsBefore, StepsBack, Leads}
 use Rattle.rank_cert.specs.Ranks.{Ranks, rank_at}
-use Rattle.cycle_plan.specs.declared.returns.Returns.{Returns}
-use Rattle.cycle_plan.specs.Returns.{hops_by}
+use Rattle.sync_topo.specs.declared.returns.Returns.{Returns}
+use Rattle.sync_topo.specs.Hops.{hops_by}
 use Rattle.cycle_plan.specs.Peeling.{IsPeeling, IsPeeled}
 use Rattle.cycle_plan.specs.declared.ranking.Ranking.{Ranking}
 

@@ -4,8 +4,8 @@ use Rattle.std.specs.Option.{option_map_or}
 use Rattle.sync_topo.specs.declared.input.InputId.{InputId}
 use Rattle.sync_topo.specs.Topology.{Topology}
 use Rattle.rank_cert.specs.Ranks.{Ranks, rank_at}
-use Rattle.cycle_plan.specs.declared.returns.Returns.{Returns}
-use Rattle.cycle_plan.specs.Returns.{number_in}
+use Rattle.sync_topo.specs.declared.returns.Returns.{Returns}
+use Rattle.cycle_plan.specs.Numbers.{number_in}
 use Rattle.cycle_plan.specs.Inputs.{line_at}
 use Rattle.cycle_plan.specs.declared.top.Top.{Top}
 

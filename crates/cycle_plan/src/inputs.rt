@@ -4,9 +4,9 @@ ghost use Rattle.sync_topo.specs.Lines.{line_count, inputs_of};
 ghost use Rattle.sync_topo.specs.WellFormed.{IsWellFormed};
 ghost use Rattle.cycle_plan.specs.Inputs.{line_at, AreWithin, is_open, is_other, IsWatch, AreFirstOpen};
 
-use crate::returns::Returns;
 use rank_cert::Cert;
-use sync_topo::{InputId, LineId, Plan};
+use crate::numbers::number_in;
+use sync_topo::{InputId, LineId, Plan, Returns};
 
 /// How far an element's inputs are known to have ranks.
 #[derive(Clone, Copy, Debug, Drop)]
@@ -85,7 +85,7 @@ fn is_other(
     ensures { result ≡ is_other returns plan.now cert.now inputs.now bundle place }
 {
     match line_at(inputs, place) {
-        Some(line) => cert.rank(line).is_none() && returns.number_in(plan, line) != bundle,
+        Some(line) => cert.rank(line).is_none() && number_in(returns, plan, line) != bundle,
         None => false,
     }
 }
@@ -142,7 +142,7 @@ pub(crate) fn first_open(
             done: watch.done,
         };
     };
-    let bundle = returns.number_in(plan, line);
+    let bundle = number_in(returns, plan, line);
     let second = next_other(
         returns,
         plan,

@@ -1,6 +1,6 @@
 //! Least ranks of a plan as a certificate or, where no ranks rise, the first cycle of lines.
 //!
-//! [`rank_plan`] is the planner, and [`rank_with`] the same where returns may be allowed ([`Returns`]);
+//! [`rank_plan`] is the planner, and [`rank_with`] the same where returns may be allowed ([`Returns`](sync_topo::Returns));
 //! [`settling_bound`] says from when on a network of the plan is settled. What a least rank and the first
 //! cycle are stands in sync_topo, `AreLeastRanks` and `IsFirstCycle`; [`first_cycle_law`] and [`least_rank_law`] say that there is
 //! one first cycle, which lines it has, and why the ranks are the least.
@@ -15,14 +15,13 @@
 mod bound;
 mod inputs;
 mod laws;
+mod numbers;
 mod outputs;
 mod ranked;
 mod ranking;
-mod returns;
 mod ring;
 mod top;
 
 pub use bound::settling_bound;
 pub use laws::{first_cycle_law, least_rank_law};
 pub use ranked::{Ranked, rank_plan, rank_with};
-pub use returns::Returns;

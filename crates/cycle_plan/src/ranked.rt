@@ -5,15 +5,14 @@ ghost use Rattle.sync_topo.specs.Hops.{hops, IsRising, IsCycle};
 ghost use Rattle.sync_topo.specs.Ranks.{AreLeastRanks, IsFirstCycle, Rises, Circles};
 ghost use Rattle.rank_cert.specs.Ranks.{rank_at, rank_of, IsRanked, RanksNoOther, Judges};
 ghost use Rattle.rank_cert.specs.declared.rising.Verdict.{Verdict};
-ghost use Rattle.cycle_plan.specs.Returns.{hops_by};
+ghost use Rattle.sync_topo.specs.Hops.{hops_by};
 ghost use Rattle.cycle_plan.specs.Ranked.{IfRanks, IfCycle};
 
 use crate::ranking::Ranking;
-use crate::returns::Returns;
 use rank_cert::Cert;
 use std::alloc::Global;
 use sync_edge::{NoMemory, Rows};
-use sync_topo::{LineId, Plan};
+use sync_topo::{LineId, Plan, Returns};
 
 /// What the planner finds.
 #[derive(Debug, Drop)]

@@ -2,21 +2,22 @@ ghost use Rattle.std.specs.Prelude.{◌≡◌, ◌≢◌, ◌<◌, ◌&&◌, ℕ
 ghost use Rattle.std.specs.List.{All, Contains};
 ghost use Rattle.sync_topo.specs.Lines.{line_count, is_nominated, IsNominated, sender_of, inputs_of};
 ghost use Rattle.rank_cert.specs.Ranks.{rank_at};
-ghost use Rattle.cycle_plan.specs.Returns.{hops_by, number_out};
+ghost use Rattle.sync_topo.specs.Hops.{hops_by};
+ghost use Rattle.cycle_plan.specs.Numbers.{number_out};
 ghost use Rattle.cycle_plan.specs.Inputs.{AreFirstOpen};
 ghost use Rattle.cycle_plan.specs.Outputs.{AreOutputs, IsOutput};
 ghost use Rattle.cycle_plan.specs.Tops.{rank_after};
 ghost use Rattle.cycle_plan.specs.Rings.{IsDone};
 ghost use Rattle.cycle_plan.specs.Peeling.{IsRanking, IsPeeling, IsPeeled, IsMore, IsNext, IsSettled, AreKept, IsWatched, is_among, IsAmong, AreFree, IsTopOf};
 
+use crate::numbers::{number_in, number_out};
 use crate::inputs::{Watch, first_open, inputs_of, line_at};
 use crate::outputs::outputs;
-use crate::returns::Returns;
 use crate::top::{Top, top_of};
 use rank_cert::Cert;
 use std::alloc::Global;
 use sync_edge::NoMemory;
-use sync_topo::{InputId, LineId, Plan};
+use sync_topo::{InputId, LineId, Plan, Returns};
 
 /// The ranks that are given so far.
 #[derive(Drop)]
@@ -129,7 +130,7 @@ impl Ranking {
             returns,
             plan,
             line,
-            top.rank_of(returns.number_out(plan, line)),
+            top.rank_of(number_out(returns, plan, line)),
         )?;
         Ok(())
     }
@@ -224,7 +225,7 @@ impl Ranking {
             plan,
             own,
             element,
-            Some(returns.number_in(plan, last)),
+            Some(number_in(returns, plan, last)),
         )?;
         self.watches[element as usize].back = true;
         Ok(())
@@ -257,7 +258,7 @@ fn is_among(returns: Returns, plan: &Plan, only: Option<u32>, line: LineId) -> b
     ensures { result ≡ is_among returns plan.now only line.0 }
 {
     match only {
-        Some(bundle) => returns.number_out(plan, line) == bundle,
+        Some(bundle) => number_out(returns, plan, line) == bundle,
         None => true,
     }
 }

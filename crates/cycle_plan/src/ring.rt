@@ -2,15 +2,15 @@ ghost use Rattle.std.specs.Prelude.{◌≡◌, ◌≢◌, ◌<◌, ◌≤◌, �
 ghost use Rattle.sync_topo.specs.Lines.{line_count, IsNominated};
 ghost use Rattle.sync_topo.specs.Ranks.{IsBefore, StepsBack, IsFirstCycle, IsLowestResidue};
 ghost use Rattle.rank_cert.specs.Ranks.{rank_at};
-ghost use Rattle.cycle_plan.specs.Returns.{hops_by};
+ghost use Rattle.sync_topo.specs.Hops.{hops_by};
 ghost use Rattle.cycle_plan.specs.Rings.{IsLeft, IsDone, IsLowOn, HasRound, IsLowest, IsWalked, numbers};
 
+use crate::numbers::{number_in, number_out};
 use crate::inputs::{first_open, inputs_of, line_at};
 use crate::ranking::Ranking;
-use crate::returns::Returns;
 use std::alloc::Global;
 use sync_edge::{NoMemory, Rows};
-use sync_topo::{LineId, Plan};
+use sync_topo::{LineId, Plan, Returns};
 
 impl Ranking {
     /// The lowest-numbered nominated line without a rank.
@@ -49,7 +49,7 @@ impl Ranking {
         let Some(first) = line_at(inputs, watch.first) else {
             unreachable!();
         };
-        if returns.number_in(plan, first) != returns.number_out(plan, line) {
+        if number_in(returns, plan, first) != number_out(returns, plan, line) {
             return first;
         }
         let Some(second) = line_at(inputs, watch.second) else {

@@ -3,10 +3,10 @@ ghost use Rattle.sync_topo.specs.Lines.{line_count};
 ghost use Rattle.cycle_plan.specs.Inputs.{AreWithin};
 ghost use Rattle.cycle_plan.specs.Tops.{AreSmall, IsTop, raised, rank_after};
 
+use crate::numbers::number_in;
 use crate::inputs::line_at;
-use crate::returns::Returns;
 use rank_cert::Cert;
-use sync_topo::{InputId, Plan};
+use sync_topo::{InputId, Plan, Returns};
 
 /// The greatest rank among an element's inputs, and the greatest among those of other numbers, as ways
 /// in.
@@ -57,7 +57,7 @@ fn raised_by(
         return top;
     };
     match cert.rank(line) {
-        Some(rank) => raised(top, returns.number_in(plan, line), rank),
+        Some(rank) => raised(top, number_in(returns, plan, line), rank),
         None => top,
     }
 }

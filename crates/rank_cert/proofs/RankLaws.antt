@@ -8,34 +8,29 @@ use Rattle.sync_topo.specs.Topology.{Topology}
 use Rattle.sync_topo.specs.declared.input.LineId.{LineId}
 use Rattle.sync_topo.specs.Lines.{line_count, is_nominated, receiver_of, sender_of}
 use Rattle.sync_topo.specs.Bundles.{are_bundled}
-use Rattle.sync_topo.specs.Hops.{hops, Hops, IsRising, IsWalk, IsCycle}
+use Rattle.sync_topo.specs.Hops.{hops_by, HopsBy, IsRising, IsWalk, IsCycle}
+use Rattle.sync_topo.specs.Ranks.{Rises}
+use Rattle.sync_topo.specs.declared.returns.Returns.{Returns}
+use Rattle.sync_topo.proofs.HopLaws.{lines-of-hop}
 use Rattle.sync_topo.proofs.LineLaws.{IsNominated-within, find_range-Some, find_range-None}
-use Rattle.rank_cert.specs.Ranks.{Ranks, rank_of, IsFirstFall}
+use Rattle.rank_cert.specs.Ranks.{Ranks, rank_of, IsFirstFallOver}
 use Rattle.rank_cert.specs.FirstFall.{falls, first_to, earlier, IsFirstBelow}
 
--- the lines of a hop are lines of the plan
-pub lines_of_hop : (plan : Topology) (line next : ℕ) → Hops plan line next → (line < line_count plan) × (next < line_count plan)
-lines_of_hop plan line next hop =
-    let ends = (and_parts (is_nominated plan line && is_nominated plan next && nat_eq (receiver_of plan line) (sender_of plan next)) (not (are_bundled plan line next)) hop).0 in
-    let both = (and_parts (is_nominated plan line && is_nominated plan next) (nat_eq (receiver_of plan line) (sender_of plan next)) ends).0 in
-    let each = and_parts (is_nominated plan line) (is_nominated plan next) both in
-    (IsNominated-within plan line each.0, IsNominated-within plan next each.1)
-
 -- a fall is a hop over which the rank doesn't rise
-pub fall_parts : (plan : Topology) (ranks : Ranks) (line next : ℕ) → falls plan ranks line next ≡ true → Hops plan line next × (rank_of ranks next ≤ rank_of ranks line)
-fall_parts plan ranks line next fall =
-    let parts = and_parts (hops plan line next) (nat_le (rank_of ranks next) (rank_of ranks line)) fall in
+pub fall_parts : (returns : Returns) (plan : Topology) (ranks : Ranks) (line next : ℕ) → falls returns plan ranks line next ≡ true → HopsBy returns plan line next × (rank_of ranks next ≤ rank_of ranks line)
+fall_parts returns plan ranks line next fall =
+    let parts = and_parts (hops_by returns plan line next) (nat_le (rank_of ranks next) (rank_of ranks line)) fall in
     (parts.0, leb-true _ _ parts.1)
 
-pub fall_from : (plan : Topology) (ranks : Ranks) (line next : ℕ) → Hops plan line next → rank_of ranks next ≤ rank_of ranks line → falls plan ranks line next ≡ true
-fall_from plan ranks line next hop low =
-    both_true {s = hops plan line next} {t = nat_le (rank_of ranks next) (rank_of ranks line)} hop (le-leb _ _ low)
+pub fall_from : (returns : Returns) (plan : Topology) (ranks : Ranks) (line next : ℕ) → HopsBy returns plan line next → rank_of ranks next ≤ rank_of ranks line → falls returns plan ranks line next ≡ true
+fall_from returns plan ranks line next hop low =
+    both_true {s = hops_by returns plan line next} {t = nat_le (rank_of ranks next) (rank_of ranks line)} hop (le-leb _ _ low)
 
 -- the first line whose hop falls comes before every other
-pub first_to-Some : (plan : Topology) (ranks : Ranks) (next line : ℕ) → first_to plan ranks next ≡ Some line
-    → (falls plan ranks line next ≡ true) × ((other : ℕ) → falls plan ranks other next ≡ true → line ≤ other)
-first_to-Some plan ranks next line found =
-    let facts = find_range-Some (λ l. falls plan ranks l next) 0 (line_count plan) line found in (
+pub first_to-Some : (returns : Returns) (plan : Topology) (ranks : Ranks) (next line : ℕ) → first_to returns plan ranks next ≡ Some line
+    → (falls returns plan ranks line next ≡ true) × ((other : ℕ) → falls returns plan ranks other next ≡ true → line ≤ other)
+first_to-Some returns plan ranks next line found =
+    let facts = find_range-Some (λ l. falls returns plan ranks l next) 0 (line_count plan) line found in (
       facts.0,
       λ other fall. elim (cases_lt other line) [
         | inl before ↦ absurd (true≢false (sym fall ∙ facts.1 other (omega arith) before))
@@ -43,10 +38,10 @@ first_to-Some plan ranks next line found =
       ],
     )
 
-pub first_to-None : (plan : Topology) (ranks : Ranks) (next other : ℕ) → first_to plan ranks next ≡ None → falls plan ranks other next ≡ true → ⊥
-first_to-None plan ranks next other found fall =
-    let inside = (lines_of_hop plan other next (fall_parts plan ranks other next fall).0).0 in
-    true≢false (sym fall ∙ find_range-None (λ l. falls plan ranks l next) 0 (line_count plan) found other (omega arith) (omega arith))
+pub first_to-None : (returns : Returns) (plan : Topology) (ranks : Ranks) (next other : ℕ) → first_to returns plan ranks next ≡ None → falls returns plan ranks other next ≡ true → ⊥
+first_to-None returns plan ranks next other found fall =
+    let inside = (lines-of-hop returns plan other next (fall_parts returns plan ranks other next fall).0).0 in
+    true≢false (sym fall ∙ find_range-None (λ l. falls returns plan ranks l next) 0 (line_count plan) found other (omega arith) (omega arith))
 
 -- a fall from a line no earlier, to a line no earlier, is not before
 not_before : (line other next after : ℕ) → line ≤ other → next ≤ after → (line < other) ⊎ ((line ≡ other) × (next ≤ after))
@@ -56,21 +51,21 @@ not_before line other next after from to = elim (cases_lt line other) [
 ]
 
 -- one line more
-pub IsFirstBelow-more : (plan : Topology) (ranks : Ranks) (first : Option (LineId × LineId)) (line : Option LineId) (next : LineId)
-    → IsFirstBelow plan ranks next.0 first → option_map (λ l. l.0) line ≡ first_to plan ranks next.0
-    → IsFirstBelow plan ranks (next.0 + 1) (earlier first line next)
-IsFirstBelow-more plan ranks None None next before found =
+pub IsFirstBelow-more : (returns : Returns) (plan : Topology) (ranks : Ranks) (first : Option (LineId × LineId)) (line : Option LineId) (next : LineId)
+    → IsFirstBelow returns plan ranks next.0 first → option_map (λ l. l.0) line ≡ first_to returns plan ranks next.0
+    → IsFirstBelow returns plan ranks (next.0 + 1) (earlier first line next)
+IsFirstBelow-more returns plan ranks None None next before found =
     λ other after fall. elim (cases_lt next.0 after) [
       | inl beyond ↦ omega arith
       | inr not_beyond ↦ elim (cases_lt after next.0) [
         | inl inside ↦ let low = before other after fall in absurd (omega arith)
         | inr not_inside ↦
             let same : after ≡ next.0 = omega arith in
-            absurd (first_to-None plan ranks next.0 other (sym found) (rw (← same) fall))
+            absurd (first_to-None returns plan ranks next.0 other (sym found) (rw (← same) fall))
       ]
     ]
-IsFirstBelow-more plan ranks None (Some line) next before found =
-    let here = first_to-Some plan ranks next.0 line.0 (sym found) in (
+IsFirstBelow-more returns plan ranks None (Some line) next before found =
+    let here = first_to-Some returns plan ranks next.0 line.0 (sym found) in (
       here.0,
       omega arith,
       λ other after fall inside. elim (cases_lt after next.0) [
@@ -81,23 +76,23 @@ IsFirstBelow-more plan ranks None (Some line) next before found =
             not_before line.0 other next.0 after least (omega arith)
       ],
     )
-IsFirstBelow-more plan ranks (Some fall) None next before found = (
+IsFirstBelow-more returns plan ranks (Some fall) None next before found = (
   before.0,
   omega arith,
   λ other after next_fall inside. elim (cases_lt after next.0) [
     | inl below ↦ before.2 other after next_fall below
     | inr not_below ↦
         let same : after ≡ next.0 = omega arith in
-        absurd (first_to-None plan ranks next.0 other (sym found) (rw (← same) next_fall))
+        absurd (first_to-None returns plan ranks next.0 other (sym found) (rw (← same) next_fall))
   ],
 )
-IsFirstBelow-more plan ranks (Some fall) (Some line) next before found =
+IsFirstBelow-more returns plan ranks (Some fall) (Some line) next before found =
     cases (nat_lt line.0 fall.0.0) refl
   where
-    here : (falls plan ranks line.0 next.0 ≡ true) × ((other : ℕ) → falls plan ranks other next.0 ≡ true → line.0 ≤ other)
-    here = first_to-Some plan ranks next.0 line.0 (sym found)
+    here : (falls returns plan ranks line.0 next.0 ≡ true) × ((other : ℕ) → falls returns plan ranks other next.0 ≡ true → line.0 ≤ other)
+    here = first_to-Some returns plan ranks next.0 line.0 (sym found)
 
-    cases : (b : Bool) → nat_lt line.0 fall.0.0 ≡ b → IsFirstBelow plan ranks (next.0 + 1) (if b then Some (line, next) else Some fall)
+    cases : (b : Bool) → nat_lt line.0 fall.0.0 ≡ b → IsFirstBelow returns plan ranks (next.0 + 1) (if b then Some (line, next) else Some fall)
     cases true less = (
       here.0,
       omega arith,
@@ -126,27 +121,27 @@ IsFirstBelow-more plan ranks (Some fall) (Some line) next before found =
     )
 
 -- with no fall to any line, ranks rise over every hop
-pub IsRising-from : (plan : Topology) (ranks : Ranks) (bound : ℕ) → line_count plan ≤ bound → IsFirstBelow plan ranks bound None → IsRising plan (rank_of ranks)
-IsRising-from plan ranks bound all none line next hop =
+pub IsRising-from : (returns : Returns) (plan : Topology) (ranks : Ranks) (bound : ℕ) → line_count plan ≤ bound → IsFirstBelow returns plan ranks bound None → Rises (hops_by returns plan) (rank_of ranks)
+IsRising-from returns plan ranks bound all none line next hop =
     elim (cases_lt (rank_of ranks line) (rank_of ranks next)) [
       | inl rises ↦ rises
       | inr falls_back ↦
-          let inside = (lines_of_hop plan line next hop).1 in
-          let low = none line next (fall_from plan ranks line next hop falls_back) in
+          let inside = (lines-of-hop returns plan line next hop).1 in
+          let low = none line next (fall_from returns plan ranks line next hop falls_back) in
           absurd (omega arith)
     ]
 
 -- the first fall to any line is the first of all
-pub IsFirstFall-from : (plan : Topology) (ranks : Ranks) (bound : ℕ) (line next : LineId) → line_count plan ≤ bound → IsFirstBelow plan ranks bound (Some (line, next))
-    → IsFirstFall plan ranks line.0 next.0
-IsFirstFall-from plan ranks bound line next all found =
-    let parts = fall_parts plan ranks line.0 next.0 found.0 in
+pub IsFirstFall-from : (returns : Returns) (plan : Topology) (ranks : Ranks) (bound : ℕ) (line next : LineId) → line_count plan ≤ bound → IsFirstBelow returns plan ranks bound (Some (line, next))
+    → IsFirstFallOver (hops_by returns plan) ranks line.0 next.0
+IsFirstFall-from returns plan ranks bound line next all found =
+    let parts = fall_parts returns plan ranks line.0 next.0 found.0 in
     record {
       hops_on = parts.0;
       falls = parts.1;
       first = λ other after hop low.
-          let inside = (lines_of_hop plan other after hop).1 in
-          found.2 other after (fall_from plan ranks other after hop low) (omega arith);
+          let inside = (lines-of-hop returns plan other after hop).1 in
+          found.2 other after (fall_from returns plan ranks other after hop low) (omega arith);
     }
 
 -- ranks rise along a walk, so none comes back to where it began

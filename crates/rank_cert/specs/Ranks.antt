@@ -1,9 +1,10 @@
 -- Ranks of lines, and the first hop over which they don't rise. This project's own.
-use Rattle.std.specs.Prelude.{◌≡◌, ℕ, ◌≤◌, ◌<◌, ◌⊎◌, List, length, Option, None, unwrap_or, slice_get, IsSome}
+use Rattle.std.specs.Prelude.{◌≡◌, ℕ, ◌≤◌, ◌<◌, ◌⊎◌, List, length, Option, None, unwrap_or, slice_get, IsSome, IsTrue}
 use Rattle.std.specs.Option.{option_flatten}
 use Rattle.sync_topo.specs.Topology.{Topology}
 use Rattle.sync_topo.specs.Lines.{line_count, IsNominated}
-use Rattle.sync_topo.specs.Hops.{Hops, IsRising}
+use Rattle.sync_topo.specs.Hops.{hops}
+use Rattle.sync_topo.specs.Ranks.{HopTest, Rises}
 use Rattle.rank_cert.specs.declared.rising.Verdict.{Verdict}
 use Rattle.rank_cert.specs.declared.rising.Verdict.TheVariants.{Rising, Falls}
 
@@ -28,14 +29,21 @@ pub record IsRanked (plan : Topology) (ranks : Ranks) : Type 0 where
 abbrev pub RanksNoOther : Topology → Ranks → Type 0
 RanksNoOther plan ranks = (line : ℕ) → ¬ IsNominated plan line → rank_at ranks line ≡ None
 
--- the first hop, by its first line and then by its second, over which the rank doesn't rise
-pub record IsFirstFall (plan : Topology) (ranks : Ranks) (line next : ℕ) : Type 0 where
-  pub hops_on : Hops plan line next
+-- the first hop by a test of hops, by its first line and then by its second, over which the rank doesn't rise
+pub record IsFirstFallOver (hop : HopTest) (ranks : Ranks) (line next : ℕ) : Type 0 where
+  pub hops_on : IsTrue (hop line next)
   pub falls : rank_of ranks next ≤ rank_of ranks line
-  pub first : (other after : ℕ) → Hops plan other after → rank_of ranks after ≤ rank_of ranks other
+  pub first : (other after : ℕ) → IsTrue (hop other after) → rank_of ranks after ≤ rank_of ranks other
       → (line < other) ⊎ ((line ≡ other) × (next ≤ after))
 
--- what the test of ranks finds
+-- what the test of ranks finds over such hops
+abbrev pub JudgesOver : HopTest → Ranks → Verdict → Type 0
+JudgesOver hop ranks Rising = Rises hop (rank_of ranks)
+JudgesOver hop ranks (Falls line next) = IsFirstFallOver hop ranks line.0 next.0
+
+-- both over the hops of networks with quality levels
+abbrev pub IsFirstFall : Topology → Ranks → ℕ → ℕ → Type 0
+IsFirstFall plan ranks line next = IsFirstFallOver (hops plan) ranks line next
+
 abbrev pub Judges : Topology → Ranks → Verdict → Type 0
-Judges plan ranks Rising = IsRising plan (rank_of ranks)
-Judges plan ranks (Falls line next) = IsFirstFall plan ranks line.0 next.0
+Judges plan ranks verdict = JudgesOver (hops plan) ranks verdict

@@ -18,5 +18,5 @@ mod writing;
 pub use cert::Cert;
 pub use error::CertErr;
 pub use reading::read_cert;
-pub use rising::{Verdict, check};
+pub use rising::{Verdict, check, check_with};
 pub use writing::write_cert;

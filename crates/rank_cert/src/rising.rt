@@ -2,13 +2,13 @@
 
 ghost use Rattle.std.specs.Prelude.{◌≡◌, ◌<◌, ℕ, List, option_map};
 ghost use Rattle.sync_topo.specs.Lines.{line_count, IsInput};
-ghost use Rattle.sync_topo.specs.Hops.{IsCycle};
+ghost use Rattle.sync_topo.specs.Hops.{hops_by, IsCycle};
 ghost use Rattle.net_rules.specs.Safety.{IsLoopFree};
-ghost use Rattle.rank_cert.specs.Ranks.{IsRanked, Judges};
+ghost use Rattle.rank_cert.specs.Ranks.{IsRanked, Judges, JudgesOver};
 ghost use Rattle.rank_cert.specs.FirstFall.{falls, fall_from, first_to, earlier};
 
 use crate::cert::Cert;
-use sync_topo::{InputId, LineId, Plan};
+use sync_topo::{InputId, LineId, Plan, Returns};
 
 /// What the test of ranks finds.
 ///
@@ -34,10 +34,23 @@ pub fn check(plan: &Plan, cert: &Cert) -> Verdict
     ensures no_cycle { result ≡ Verdict.Rising → (lines : List ℕ) → IsCycle plan.now lines → ⊥ }
     ensures loop_free { result ≡ Verdict.Rising → IsLoopFree plan.now }
 {
+    // Every plan keeps the rules.
+    let _lines = plan.lines();
+    check_with(Returns::Barred, plan, cert)
+}
+
+/// Tests that the rank is greater after every hop by a rule of returns.
+///
+/// It looks at each hop once, and takes no memory. What falls first is named by its first line and
+/// then by its second. This project's own.
+pub fn check_with(returns: Returns, plan: &Plan, cert: &Cert) -> Verdict
+    requires ranked { IsRanked plan.now cert.now }
+    ensures verdict { JudgesOver (hops_by returns plan.now) cert.now result }
+{
     let mut first: Option<(LineId, LineId)> = None;
     for number in 0..plan.lines() {
         let next = LineId(number);
-        first = earlier(first, first_to(plan, cert, next), next);
+        first = earlier(first, first_to(returns, plan, cert, next), next);
     }
     match first {
         Some((line, next)) => Verdict::Falls(line, next),
@@ -61,14 +74,14 @@ fn earlier(
 }
 
 /// The first line whose hop to this one doesn't rise.
-fn first_to(plan: &Plan, cert: &Cert, next: LineId) -> Option<LineId>
+fn first_to(returns: Returns, plan: &Plan, cert: &Cert, next: LineId) -> Option<LineId>
     requires ranked { IsRanked plan.now cert.now }
     requires within { next.0 < line_count plan.now }
-    ensures { option_map (λ line. line.0) result ≡ first_to plan.now cert.now next.0 }
+    ensures { option_map (λ line. line.0) result ≡ first_to returns plan.now cert.now next.0 }
 {
     let inputs = plan.inputs(plan.from(next));
     for input in inputs {
-        if let Some(line) = fall_from(plan, cert, *input, next) {
+        if let Some(line) = fall_from(returns, plan, cert, *input, next) {
             return Some(line);
         }
     }
@@ -76,25 +89,31 @@ fn first_to(plan: &Plan, cert: &Cert, next: LineId) -> Option<LineId>
 }
 
 /// The line of an input, where the rank doesn't rise over its hop to this one. A source is none.
-fn fall_from(plan: &Plan, cert: &Cert, input: InputId, next: LineId) -> Option<LineId>
+fn fall_from(
+    returns: Returns,
+    plan: &Plan,
+    cert: &Cert,
+    input: InputId,
+    next: LineId,
+) -> Option<LineId>
     requires ranked { IsRanked plan.now cert.now }
     requires from { IsInput plan.now input }
     requires to { next.0 < line_count plan.now }
-    ensures { option_map (λ line. line.0) result ≡ fall_from plan.now cert.now next.0 input }
+    ensures { option_map (λ line. line.0) result ≡ fall_from returns plan.now cert.now next.0 input }
 {
     match input {
-        InputId::Line(line) if falls(plan, cert, line, next) => Some(line),
+        InputId::Line(line) if falls(returns, plan, cert, line, next) => Some(line),
         _ => None,
     }
 }
 
 /// The first line hops to the second, and the rank doesn't rise.
-fn falls(plan: &Plan, cert: &Cert, line: LineId, next: LineId) -> bool
+fn falls(returns: Returns, plan: &Plan, cert: &Cert, line: LineId, next: LineId) -> bool
     requires ranked { IsRanked plan.now cert.now }
     requires from { line.0 < line_count plan.now }
     requires to { next.0 < line_count plan.now }
-    ensures { result ≡ falls plan.now cert.now line.0 next.0 }
+    ensures { result ≡ falls returns plan.now cert.now line.0 next.0 }
 {
     // The lines of a hop are nominated, so both have a rank.
-    plan.hop(line, next) && cert.rank(next) <= cert.rank(line)
+    plan.hop_by(returns, line, next) && cert.rank(next) <= cert.rank(line)
 }

@@ -6,12 +6,11 @@ use Rattle.std.specs.declared.alloc.Global.{Global}
 use Rattle.std.proofs.lemmas.Bool.Decides.{eqb_tells}
 use Rattle.std.proofs.lemmas.List.{append-nil}
 use Rattle.std.proofs.lemmas.Option.{slice_get_past, slice_get_read}
-use Rattle.sync_topo.specs.declared.input.InputId.{InputId}
 use Rattle.sync_topo.specs.Held.{held, taken}
 use Rattle.sync_topo.proofs.Lists.{slice_get-set_same, slice_get-set_other, slice_get-push_before, slice_get-push_last}
 
 -- an input with a priority is kept for its element, and for no other
-pub held-take : (inputs : List (Vec InputId Global)) (own taken_too : Vec InputId Global) (receiver priority : ℕ) (input : InputId) (element : ℕ)
+pub held-take : {A : Type 0} (inputs : List (Vec A Global)) (own taken_too : Vec A Global) (receiver priority : ℕ) (input : A) (element : ℕ)
     → receiver < length inputs → 0 < priority
     → own ≡ get_or inputs receiver own
     → taken_too.items ≡ own.items ++ input ∷ []
@@ -30,7 +29,7 @@ held-take inputs own taken_too receiver priority input element inside nominated 
     ]
 
 -- a new element has no inputs yet
-pub held-new : (inputs : List (Vec InputId Global)) (none : Vec InputId Global) (element : ℕ) → none.items ≡ []
+pub held-new : {A : Type 0} (inputs : List (Vec A Global)) (none : Vec A Global) (element : ℕ) → none.items ≡ []
     → held (inputs ++ none ∷ []) element ≡ held inputs element
 held-new inputs none element empty =
     elim (cases_lt element (length inputs)) [

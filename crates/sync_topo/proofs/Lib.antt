@@ -3,10 +3,13 @@ pub mod RowLoops
 pub mod RowRules
 pub mod FirstBroken
 pub mod Inputs
+pub mod InputPlaces
 pub mod HeldLemmas
+pub mod WiringLaws
 pub mod WellFormedLemmas
 pub mod LineNames
 pub mod LineLaws
+pub mod HopLaws
 pub mod RuleLemmas
 pub mod KeptRules
 pub mod RowsOfPlan

@@ -19,7 +19,8 @@ use Rattle.sync_topo.specs.Held.{taken}
 use Rattle.sync_topo.specs.WellFormed.{AreDistinct, JoinsTwo, IsSourceOf, IsWellFormed}
 use Rattle.sync_topo.specs.declared.parts.Parts.{Parts}
 use Rattle.sync_topo.specs.Kept.{AreBundlesOf}
-use Rattle.sync_topo.specs.Indexed.{IsIndexed, MayJoin, MayLink, MayFeed}
+use Rattle.sync_topo.specs.Wired.{IsWired}
+use Rattle.sync_topo.specs.Indexed.{topology, IsIndexed, MayJoin, MayLink, MayFeed}
 use Rattle.sync_topo.proofs.Lists.{slice_get-push_before, slice_get-push_last, is_named-at}
 use Rattle.sync_topo.proofs.BundleRules.{good-name, BundlesJoin-push}
 use Rattle.sync_topo.proofs.Inputs.{with_link, with_source, inputs_of-link, inputs_of-source, taken-other}
@@ -95,16 +96,15 @@ IsWellFormed-empty option = record {
 }
 
 pub IsIndexed-empty : (parts : Parts) → parts.elements.items ≡ [] → parts.links.items ≡ [] → parts.sources.items ≡ [] → parts.element_names ≡ [] → parts.link_names ≡ []
-    → parts.source_names ≡ [] → parts.inputs.items ≡ [] → AreBundlesOf parts.bundles.names parts.bundles.firsts.items parts.bundles.numbers.items []
+    → parts.source_names ≡ [] → IsWired (topology parts) parts.wiring → AreBundlesOf parts.bundles.names parts.bundles.firsts.items parts.bundles.numbers.items []
     → IsIndexed parts
-IsIndexed-empty parts elements links sources element_names link_names source_names inputs bundles = record {
+IsIndexed-empty parts elements links sources element_names link_names source_names wired bundles = record {
   well_formed = rw (elements, links, sources) (IsWellFormed-empty parts.option);
   element_names_kept = rw (element_names, elements) refl;
   link_names_kept = rw (link_names, links) refl;
   source_names_kept = rw (source_names, sources) refl;
   bundles_kept = rw links bundles;
-  inputs_counted = rw (inputs, elements) refl;
-  inputs_kept = λ element. rw (inputs, links, sources) refl;
+  wired = wired;
 }
 
 pub IsWellFormed-element : (plan : Topology) (element : Element) → IsWellFormed plan → length plan.elements < element_limit → MayJoin plan element

@@ -1,13 +1,12 @@
--- The inputs that are kept for each element: what only private clauses cite.
+-- What is kept for each element: what only private clauses cite.
 use Rattle.std.specs.Prelude.{ℕ, ◌&&◌, ◌==◌, nat_lt, if◌then◌else◌, List, [], ◌∷◌, slice_get, Vec}
 use Rattle.std.specs.Option.{option_map_or}
 use Rattle.std.specs.declared.alloc.Global.{Global}
-use Rattle.sync_topo.specs.declared.input.InputId.{InputId}
 
--- the inputs that are kept for an element
-abbrev pub held : List (Vec InputId Global) → ℕ → List InputId
-held inputs element = option_map_or (λ own. own.items) (slice_get inputs element) []
+-- the items that are kept for an element
+abbrev pub held : {A : Type 0} → List (Vec A Global) → ℕ → List A
+held kept element = option_map_or (λ own. own.items) (slice_get kept element) []
 
--- the input where the element gives it a priority, and nothing where it doesn't
-abbrev pub taken : ℕ → ℕ → InputId → ℕ → List InputId
-taken receiver priority input element = if nat_lt 0 priority && receiver == element then input ∷ [] else []
+-- the item where a priority makes it one of the element's, and nothing where it doesn't
+abbrev pub taken : {A : Type 0} → ℕ → ℕ → A → ℕ → List A
+taken owner priority item element = if nat_lt 0 priority && owner == element then item ∷ [] else []

@@ -5,10 +5,9 @@ use Rattle.sync_topo.specs.declared.link.Link.{Link}
 use Rattle.sync_topo.specs.declared.source.Source.{Source}
 use Rattle.sync_topo.specs.declared.parts.Parts.{Parts}
 use Rattle.sync_topo.specs.Topology.{Topology}
-use Rattle.sync_topo.specs.Lines.{inputs_of}
 use Rattle.sync_topo.specs.Names.{is_name, is_named, element_names, link_names, source_names}
 use Rattle.sync_topo.specs.Rules.{has_room, is_bad_bundle}
-use Rattle.sync_topo.specs.Held.{held}
+use Rattle.sync_topo.specs.Wired.{IsWired}
 use Rattle.sync_topo.specs.Kept.{AreBundlesOf}
 use Rattle.sync_topo.specs.WellFormed.{IsWellFormed, IsElementOf, JoinsTwo, IsSourceOf}
 
@@ -27,8 +26,7 @@ pub record IsIndexed (parts : Parts) : Type 0 where
   pub link_names_kept : parts.link_names ≡ link_names parts.links.items
   pub source_names_kept : parts.source_names ≡ source_names parts.sources.items
   pub bundles_kept : AreBundlesOf parts.bundles.names parts.bundles.firsts.items parts.bundles.numbers.items parts.links.items
-  pub inputs_counted : length parts.inputs.items ≡ length parts.elements.items
-  pub inputs_kept : (element : ℕ) → held parts.inputs.items element ≡ inputs_of (topology parts) element
+  pub wired : IsWired (topology parts) parts.wiring
 
 -- the element may come next
 pub record MayJoin (plan : Topology) (element : Element) : Type 0 where

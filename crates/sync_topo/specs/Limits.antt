@@ -1,15 +1,16 @@
 -- How much a plan may hold. This project's own, but for the hold-off and wait-to-restore times, which are after G.781.
 use Rattle.std.specs.Prelude.{ℕ}
+use Rattle.sync_topo.specs.declared.parts.TheConstants.{MOST_ELEMENTS, MOST_LINKS, MOST_SOURCES}
 use Rattle.sync_ql.specs.declared.limits.TheConstants.{MOST_INPUTS, LEAST_HOLDOFF, GREATEST_HOLDOFF, GREATEST_WTR_MINUTES, LEAST_DELAY, GREATEST_DELAY}
 
 abbrev pub element_limit : ℕ
-element_limit = 2000
+element_limit = MOST_ELEMENTS
 
 abbrev pub link_limit : ℕ
-link_limit = 4000
+link_limit = MOST_LINKS
 
 abbrev pub source_limit : ℕ
-source_limit = 2000
+source_limit = MOST_SOURCES
 
 -- the most nominated inputs that an element may have
 abbrev pub input_limit : ℕ

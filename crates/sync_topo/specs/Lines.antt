@@ -1,9 +1,10 @@
 -- Lines and inputs: each link is two lines, one for each direction, and an element takes its timing from nominated lines and sources.
-use Rattle.std.specs.Prelude.{ℕ, ◌+◌, ◌-◌, ◌*◌, ◌/◌, ◌%◌, ◌<◌, Bool, ◌&&◌, ◌==◌, nat_lt, IsTrue, if◌then◌else◌, List, [], ◌++◌, length, map, filter, find, codes, Option, slice_get, option_map}
+use Rattle.std.specs.Prelude.{ℕ, ◌+◌, ◌-◌, ◌*◌, ◌/◌, ◌%◌, ◌<◌, Bool, ◌&&◌, ◌==◌, nat_eq, nat_lt, false, position, IsTrue, if◌then◌else◌, List, [], ◌++◌, length, map, filter, find, codes, Option, slice_get, option_map}
 use Rattle.std.specs.Option.{option_map_or, option_or}
 use Rattle.std.specs.List.{range_with_len}
 use Rattle.std.specs.Str.{bytes_eq}
 use Rattle.sync_topo.specs.declared.link.Link.{Link}
+use Rattle.sync_topo.specs.declared.input.LineId.{LineId}
 use Rattle.sync_topo.specs.declared.input.InputId.{InputId}
 use Rattle.sync_topo.specs.declared.input.InputId.TheVariants.{Line, Source}
 use Rattle.sync_topo.specs.Topology.{Topology}
@@ -94,6 +95,30 @@ line_input line = Line (record { 0 = line })
 -- the inputs of an element, in order of number: the nominated lines into it, and then the nominated sources at it
 abbrev pub inputs_of : Topology → ℕ → List InputId
 inputs_of plan element = map line_input (lines_into plan element) ++ map Source (sources_at plan element)
+
+-- the line of a number
+abbrev pub line_id : ℕ → LineId
+line_id line = record { 0 = line }
+
+-- the nominated lines out of an element, in order of number
+abbrev pub lines_out : Topology → ℕ → List LineId
+lines_out plan element =
+    map line_id (filter (λ line. is_nominated plan line && sender_of plan line == element) (range_with_len 0 (line_count plan)))
+
+-- the element of an input: a line's receiver, and a source's own
+abbrev pub element_of : Topology → InputId → ℕ
+element_of plan (Line line) = receiver_of plan line.0
+element_of plan (Source source) = element_of_source plan source
+
+-- two inputs are the same
+abbrev pub is_same_input : InputId → InputId → Bool
+is_same_input (Line a) (Line b) = nat_eq a.0 b.0
+is_same_input (Source a) (Source b) = nat_eq a b
+is_same_input a b = false
+
+-- the place of an input among those of an element; one that isn't nominated there has none
+abbrev pub place_at : Topology → ℕ → InputId → Option ℕ
+place_at plan element input = position (is_same_input input) (inputs_of plan element)
 
 -- an element's name; empty where there is no such element
 abbrev pub element_name : Topology → ℕ → List ℕ

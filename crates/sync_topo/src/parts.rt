@@ -1,7 +1,6 @@
 //! What a plan keeps, and how it is made.
 
 ghost use Rattle.std.specs.Prelude.{◌≡◌, [], ◌∷◌, ◌++◌, ◌<◌, ◌≤◌, ◌+◌, ◌^◌, ℕ, length, slice_get, Some, OnOk, IfOk, IfSome, is_some, nat_lt, nat_le, if◌then◌else◌};
-ghost use Rattle.sync_topo.specs.Held.{held, taken};
 ghost use Rattle.sync_topo.specs.Limits.{element_limit, link_limit, source_limit, input_limit};
 ghost use Rattle.sync_topo.specs.Lines.{inputs_of};
 ghost use Rattle.sync_topo.specs.Names.{is_named, element_names};
@@ -16,25 +15,25 @@ mod sources;
 use crate::bundles::Bundles;
 use crate::element::Element;
 use crate::error::PlanErr;
-use crate::input::InputId;
 use crate::link::Link;
 use crate::names::Names;
 use crate::place::{Place, Section};
 use crate::rows::PlanRows;
 use crate::source::Source;
+use crate::wiring::Wiring;
 use std::alloc::Global;
-use sync_edge::{NoMemory, Text};
+use sync_edge::Text;
 use sync_ql::NetOption;
 use sync_ql::limits::MOST_INPUTS;
 
-/// The most elements that a plan may have.
-const ELEMENT_LIMIT: usize = 2000;
+/// The most elements that a plan may have. This project's own.
+pub const MOST_ELEMENTS: usize = 2000;
 
-/// The most links that a plan may have.
-const LINK_LIMIT: usize = 4000;
+/// The most links that a plan may have. This project's own.
+pub const MOST_LINKS: usize = 4000;
 
-/// The most sources that a plan may have.
-const SOURCE_LIMIT: usize = 2000;
+/// The most sources that a plan may have. This project's own.
+pub const MOST_SOURCES: usize = 2000;
 
 /// What a plan keeps: what it holds, and indexes that are found from that.
 #[derive(Drop)]
@@ -47,8 +46,7 @@ pub(crate) struct Parts {
     pub(crate) link_names: Names,
     pub(crate) source_names: Names,
     pub(crate) bundles: Bundles,
-    /// For each element its inputs, in order of number.
-    pub(crate) inputs: Vec<Vec<InputId>>,
+    pub(crate) wiring: Wiring,
 }
 
 impl Parts {
@@ -71,7 +69,7 @@ impl Parts {
             link_names: Names::new(alloc),
             source_names: Names::new(alloc),
             bundles: Bundles::new(alloc),
-            inputs: Vec::new(alloc),
+            wiring: Wiring::new(alloc),
         }
     }
 
@@ -111,7 +109,7 @@ impl Parts {
         ensures { let more = if nat_lt 0 priority then 1 else 0 in
             result ≡ nat_le (length (inputs_of (topology self.now) element) + more) input_limit }
     {
-        priority == 0 || self.inputs[element as usize].len() < MOST_INPUTS
+        priority == 0 || self.wiring.inputs[element as usize].len() < MOST_INPUTS
     }
 }
 
@@ -122,36 +120,15 @@ fn check_limits(rows: &PlanRows) -> Result<(), PlanErr>
     ensures few_links { OnOk result (length rows.now.links ≤ link_limit) }
     ensures few_sources { OnOk result (length rows.now.sources ≤ source_limit) }
 {
-    if ELEMENT_LIMIT < rows.elements.as_slice().len() {
-        return Err(PlanErr::Limit(row_after(Section::Elements, ELEMENT_LIMIT)));
+    if MOST_ELEMENTS < rows.elements.as_slice().len() {
+        return Err(PlanErr::Limit(row_after(Section::Elements, MOST_ELEMENTS)));
     }
-    if LINK_LIMIT < rows.links.as_slice().len() {
-        return Err(PlanErr::Limit(row_after(Section::Links, LINK_LIMIT)));
+    if MOST_LINKS < rows.links.as_slice().len() {
+        return Err(PlanErr::Limit(row_after(Section::Links, MOST_LINKS)));
     }
-    if SOURCE_LIMIT < rows.sources.as_slice().len() {
-        return Err(PlanErr::Limit(row_after(Section::Sources, SOURCE_LIMIT)));
+    if MOST_SOURCES < rows.sources.as_slice().len() {
+        return Err(PlanErr::Limit(row_after(Section::Sources, MOST_SOURCES)));
     }
-    Ok(())
-}
-
-/// Keeps an input for the element, if the element gives it a priority.
-fn take_input(
-    inputs: &mut Vec<Vec<InputId>>,
-    element: u32,
-    priority: u8,
-    input: InputId,
-) -> Result<(), NoMemory>
-    requires { element < length inputs.old.items }
-    ensures counted { OnOk result (length inputs.new.items ≡ length inputs.old.items) }
-    ensures held { OnOk result ((e : ℕ) → held inputs.new.items e
-        ≡ held inputs.old.items e ++ taken element priority input e) }
-{
-    if priority == 0 {
-        return Ok(());
-    }
-    let Ok(()) = inputs[element as usize].push(input) else {
-        return Err(NoMemory);
-    };
     Ok(())
 }
 

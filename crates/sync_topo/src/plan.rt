@@ -1,8 +1,8 @@
-ghost use Rattle.std.specs.Prelude.{◌≡◌, ℕ, ◌+◌, ◌*◌, ◌<◌, ◌≤◌, ◌↔◌, IsTrue, IfOk, Ok, Err, length, slice_get, Some};
+ghost use Rattle.std.specs.Prelude.{◌≡◌, ℕ, ◌+◌, ◌*◌, ◌<◌, ◌≤◌, ◌↔◌, IsTrue, IfOk, Ok, Err, length, slice_get, Some, is_some};
 ghost use Rattle.std.specs.List.{All};
-ghost use Rattle.sync_topo.specs.Lines.{line_count, sender_of, receiver_of, reverse_of, delay_of, priority_of, is_nominated, inputs_of, input_number, input_priority, is_nominated_input, IsInput};
+ghost use Rattle.sync_topo.specs.Lines.{line_count, sender_of, receiver_of, reverse_of, delay_of, priority_of, is_nominated, inputs_of, lines_out, element_of, place_at, input_number, input_priority, is_nominated_input, IsInput};
 ghost use Rattle.sync_topo.specs.Bundles.{bundle_of};
-ghost use Rattle.sync_topo.specs.Hops.{hops, goes_back, Hops};
+ghost use Rattle.sync_topo.specs.Hops.{hops, hops_any, goes_back, Hops, HopsBy};
 ghost use Rattle.sync_topo.specs.Gives.{Gives};
 ghost use Rattle.sync_topo.specs.Limits.{input_limit, least_delay, greatest_delay};
 ghost use Rattle.sync_topo.specs.RowValues.{plan_from};
@@ -21,6 +21,7 @@ use crate::error::PlanErr;
 use crate::input::{InputId, LineId};
 use crate::link::Link;
 use crate::parts::Parts;
+use crate::returns::Returns;
 use crate::rows::PlanRows;
 use crate::source::Source;
 use std::alloc::Global;
@@ -283,7 +284,47 @@ impl Plan {
         ensures within { All (IsInput self.now) result.now }
         ensures few { length result.now ≤ input_limit }
     {
-        self.parts.inputs[e as usize].as_slice()
+        self.parts.wiring.inputs[e as usize].as_slice()
+    }
+
+    /// The nominated lines out of an element, in order of number: those from which their receivers may
+    /// take timing. After G.781, nominated inputs.
+    pub fn lines_out(&self, e: u32) -> &[LineId]
+        requires { e < length self.now.elements }
+        ensures well_formed { IsWellFormed self.now }
+        ensures lines { result.now ≡ lines_out self.now e }
+    {
+        self.parts.wiring.outs[e as usize].as_slice()
+    }
+
+    /// The element that an input brings timing to: a line's receiver, and a source's own.
+    pub fn element_of(&self, i: InputId) -> u32
+        requires { IsInput self.now i }
+        ensures well_formed { IsWellFormed self.now }
+        ensures element { result ≡ element_of self.now i }
+        ensures within { result < length self.now.elements }
+    {
+        match i {
+            InputId::Line(l) => self.to(l),
+            InputId::Source(j) => self.source(j).at,
+        }
+    }
+
+    /// The place of an input among those of its element, from 0; `None` for one that isn't nominated.
+    pub fn place_of(&self, i: InputId) -> Option<u32>
+        requires { IsInput self.now i }
+        ensures well_formed { IsWellFormed self.now }
+        ensures place { result ≡ place_at self.now (element_of self.now i) i }
+        ensures nominated { is_some result ≡ is_nominated_input self.now i }
+    {
+        if !self.nominated(i) {
+            return None;
+        }
+        let place = match i {
+            InputId::Line(l) => self.parts.wiring.line_places[l.0 as usize],
+            InputId::Source(j) => self.parts.wiring.source_places[j as usize],
+        };
+        Some(u32::from(place))
     }
 
     /// What line `l` brings to an element may go on over line `m`: both are nominated, `m` begins
@@ -295,7 +336,32 @@ impl Plan {
         ensures well_formed { IsWellFormed self.now }
         ensures hops { IsTrue result ↔ Hops self.now l.0 m.0 }
     {
+        self.meet(l, m) && self.bundle(l.0 / 2) != self.bundle(m.0 / 2)
+    }
+
+    /// What line `l` brings to an element may go on over line `m` by a rule of returns: where they are
+    /// barred it is a [`hop`](Plan::hop), and where they are allowed both are nominated, and `m`
+    /// begins where `l` ends, over `l`'s own link or bundle too. This project's own.
+    pub fn hop_by(&self, returns: Returns, l: LineId, m: LineId) -> bool
+        requires from { l.0 < line_count self.now }
+        requires to { m.0 < line_count self.now }
+        ensures well_formed { IsWellFormed self.now }
+        ensures hops { IsTrue result ↔ HopsBy returns self.now l.0 m.0 }
+    {
+        match returns {
+            Returns::Barred => self.hop(l, m),
+            Returns::Allowed => self.meet(l, m),
+        }
+    }
+
+    /// Both lines are nominated, and the second begins where the first ends.
+    pub(crate) fn meet(&self, l: LineId, m: LineId) -> bool
+        requires from { l.0 < line_count self.now }
+        requires to { m.0 < line_count self.now }
+        ensures well_formed { IsWellFormed self.now }
+        ensures meet { result ≡ hops_any self.now l.0 m.0 }
+    {
         let both = self.line_priority(l) > 0 && self.line_priority(m) > 0;
-        both && self.to(l) == self.from(m) && self.bundle(l.0 / 2) != self.bundle(m.0 / 2)
+        both && self.to(l) == self.from(m)
     }
 }

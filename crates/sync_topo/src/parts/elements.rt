@@ -96,10 +96,8 @@ impl Parts {
         ensures sources { OnOk result (self.new.sources.items ≡ self.old.sources.items) }
     {
         self.element_names.add(element.name.bytes())?;
+        self.wiring.add_element(alloc)?;
         let Ok(()) = self.elements.push(element) else {
-            return Err(NoMemory);
-        };
-        let Ok(()) = self.inputs.push(Vec::new(alloc)) else {
             return Err(NoMemory);
         };
         Ok(())

@@ -8,10 +8,10 @@ ghost use Rattle.sync_topo.specs.Rules.{is_outside, is_bad_bundle, has_room, lin
 ghost use Rattle.sync_topo.specs.Steps.{Follows, rows_from, link_rules_after};
 
 use crate::error::PlanErr;
-use crate::input::{InputId, LineId};
+use crate::input::LineId;
 use crate::link::Link;
 use crate::names::is_name;
-use crate::parts::{Parts, row_after, take_input};
+use crate::parts::{Parts, row_after};
 use crate::place::Section;
 use crate::rows::LinkRow;
 use crate::values::{number_within, priority_within};
@@ -140,12 +140,12 @@ impl Parts {
         ensures sources { OnOk result (self.new.sources.items ≡ []) }
     {
         let line = 2 * self.links.len() as u32;
-        let to_b = InputId::Line(LineId(line));
-        let to_a = InputId::Line(LineId(line + 1));
         self.link_names.add(link.name.bytes())?;
         self.bundles.add(&link.bundle)?;
-        take_input(&mut self.inputs, link.b, link.priority_b, to_b)?;
-        take_input(&mut self.inputs, link.a, link.priority_a, to_a)?;
+        self.wiring
+            .add_line(LineId(line), link.a, link.b, link.priority_b)?;
+        self.wiring
+            .add_line(LineId(line + 1), link.b, link.a, link.priority_a)?;
         let Ok(()) = self.links.push(link) else {
             return Err(NoMemory);
         };

@@ -7,9 +7,8 @@ ghost use Rattle.sync_topo.specs.Rules.{has_room, source_rules};
 ghost use Rattle.sync_topo.specs.Steps.{Follows, rows_from, source_rules_after};
 
 use crate::error::PlanErr;
-use crate::input::InputId;
 use crate::names::is_name;
-use crate::parts::{Parts, row_after, take_input};
+use crate::parts::{Parts, row_after};
 use crate::place::Section;
 use crate::rows::SourceRow;
 use crate::source::Source;
@@ -106,9 +105,9 @@ impl Parts {
         ensures sources { OnOk result
             (self.new.sources.items ≡ self.old.sources.items ++ source ∷ []) }
     {
-        let input = InputId::Source(self.sources.len() as u32);
+        let number = self.sources.len() as u32;
         self.source_names.add(source.name.bytes())?;
-        take_input(&mut self.inputs, source.at, source.priority, input)?;
+        self.wiring.add_source(number, source.at, source.priority)?;
         let Ok(()) = self.sources.push(source) else {
             return Err(NoMemory);
         };

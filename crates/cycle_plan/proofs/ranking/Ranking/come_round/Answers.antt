@@ -1,6 +1,6 @@
 use Rattle.std.proofs.Common.{arith}
 use Rattle.sync_topo.specs.Lines.{line_count}
-use Rattle.cycle_plan.specs.Returns.{hops_by}
+use Rattle.sync_topo.specs.Hops.{hops_by}
 use Rattle.cycle_plan.proofs.Back.{back_at}
 use Rattle.cycle_plan.proofs.Rounds.{back_more}
 use Rattle.cycle_plan.proofs.ranking.Ranking.come_round.Goals as goal

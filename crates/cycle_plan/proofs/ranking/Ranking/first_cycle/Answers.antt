@@ -1,7 +1,7 @@
 use Rattle.std.proofs.Common.{◌≡◌, ◌∷◌, reverse}
 use Rattle.std.proofs.lemmas.Result.{IfOk-weaker}
 use Rattle.sync_topo.specs.Ranks.{IsFirstCycle}
-use Rattle.cycle_plan.specs.Returns.{hops_by}
+use Rattle.sync_topo.specs.Hops.{hops_by}
 use Rattle.cycle_plan.specs.Rings.{numbers}
 use Rattle.sync_topo.specs.Lines.{line_count}
 use Rattle.cycle_plan.proofs.Before.{round_there}

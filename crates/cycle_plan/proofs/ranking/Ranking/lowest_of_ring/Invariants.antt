@@ -1,5 +1,5 @@
 use Rattle.sync_topo.specs.Ranks.{StepsBack}
-use Rattle.cycle_plan.specs.Returns.{hops_by}
+use Rattle.sync_topo.specs.Hops.{hops_by}
 use Rattle.cycle_plan.specs.Rings.{IsLeft, IsLowOn}
 use Rattle.cycle_plan.proofs.ranking.Ranking.lowest_of_ring.Given as goal
 

@@ -1,6 +1,6 @@
 use Rattle.std.proofs.Common.{sym}
 use Rattle.std.proofs.lemmas.Bool.{eqb-false, not-true}
-use Rattle.cycle_plan.specs.Returns.{hops_by}
+use Rattle.sync_topo.specs.Hops.{hops_by}
 use Rattle.cycle_plan.proofs.Rounds.{walked_first, walked_more}
 use Rattle.cycle_plan.proofs.ranking.Ranking.ring_behind.Goals as goal
 

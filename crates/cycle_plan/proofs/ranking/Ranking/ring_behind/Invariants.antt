@@ -1,6 +1,6 @@
 use Rattle.std.proofs.Common.{◌-◌, length}
 use Rattle.sync_topo.specs.Lines.{line_count}
-use Rattle.cycle_plan.specs.Returns.{hops_by}
+use Rattle.sync_topo.specs.Hops.{hops_by}
 use Rattle.cycle_plan.specs.Rings.{IsLeft, IsWalked}
 use Rattle.cycle_plan.proofs.ranking.Ranking.ring_behind.Given as goal
 

@@ -5,7 +5,7 @@ use Rattle.std.specs.List.{All}
 use Rattle.std.specs.Prelude.{◌≢◌, slice_get}
 use Rattle.sync_topo.specs.Lines.{inputs_of, IsNominated, sender_of}
 use Rattle.rank_cert.specs.Ranks.{rank_at}
-use Rattle.cycle_plan.specs.Returns.{number_in}
+use Rattle.cycle_plan.specs.Numbers.{number_in}
 use Rattle.cycle_plan.specs.Inputs.{line_at}
 use Rattle.cycle_plan.specs.Outputs.{IsOutput}
 use Rattle.cycle_plan.specs.Peeling.{AreFree, IsAmong}

@@ -1,7 +1,7 @@
 use Rattle.std.proofs.Common.{◌∙◌, arith}
 use Rattle.sync_topo.specs.declared.element.Element.{Element}
 use Rattle.sync_topo.specs.Indexed.{topology}
-use Rattle.sync_topo.proofs.HeldLemmas.{held-new}
+use Rattle.sync_topo.proofs.WiringLaws.{wired-element}
 use Rattle.sync_topo.proofs.WellFormedLemmas.{IsWellFormed-element, names-push}
 use Rattle.sync_topo.proofs.parts.Parts.add_element.Goals as goal
 
@@ -14,6 +14,5 @@ returns-clause-indexed c =
       link_names_kept = old.link_names_kept;
       source_names_kept = old.source_names_kept;
       bundles_kept = old.bundles_kept;
-      inputs_counted = omega (arith, c.in-Ok.ensures.len, c.in-Ok-push.ensures.len, old.inputs_counted);
-      inputs_kept = λ element. rw (c.in-Ok-push.ensures.items) (held-new parts.inputs.items c.new.result element c.new.ensures.items ∙ old.inputs_kept element);
+      wired = rw c.in-Ok.ensures.items (wired-element (topology parts) c.args.element parts.wiring _ old.wired c.in_ok-add_element.ensures);
     }

@@ -1,7 +1,7 @@
 use Rattle.std.proofs.Common.{◌≡◌, refl, sym, ◌∙◌, arith, length}
 use Rattle.sync_topo.specs.declared.link.Link.{Link}
 use Rattle.sync_topo.specs.Indexed.{topology}
-use Rattle.sync_topo.proofs.Inputs.{inputs_of-link}
+use Rattle.sync_topo.proofs.WiringLaws.{wired-link}
 use Rattle.sync_topo.proofs.WellFormedLemmas.{IsWellFormed-link, names-push}
 use Rattle.sync_topo.proofs.parts.Parts.add_link.Goals as goal
 
@@ -15,8 +15,7 @@ returns-clause-indexed c =
       link_names_kept = names-push (λ (l : Link). l.name) parts.links.items _ c.args.link _ _ _ old.link_names_kept c.in-Ok.ensures.items c.in_ok-add.ensures c.bytes.ensures;
       source_names_kept = old.source_names_kept;
       bundles_kept = rw c.in-Ok.ensures.items (c.in_ok-add-2.ensures parts.links.items c.args.link refl old.bundles_kept);
-      inputs_counted = c.in_ok-take_input-2.ensures.counted ∙ c.in_ok-take_input.ensures.counted ∙ old.inputs_counted;
-      inputs_kept = λ element.
-          rw (c.in_ok-take_input-2.ensures.held element, c.in_ok-take_input.ensures.held element, old.inputs_kept element, c.in-Ok.ensures.items, count)
-          (sym (inputs_of-link (topology parts) c.args.link element c.requires.no_sources));
+      wired = rw c.in-Ok.ensures.items
+      (wired-link (topology parts) c.args.link parts.wiring _ _ c.requires.no_sources c.requires.may_link.joins.apart old.wired
+      (rw count at c.in_ok-add_line.ensures) (rw count at c.in_ok-add_line-2.ensures));
     }

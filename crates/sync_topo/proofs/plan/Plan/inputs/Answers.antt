@@ -8,12 +8,12 @@ use Rattle.sync_topo.proofs.plan.Plan.inputs.Goals as goal
 -- what is kept for the element are its inputs
 own-inputs : (c : goal.After-as_slice) → c.index.result.now.items ≡ inputs_of c.args.self.now c.args.e
 own-inputs c =
-    let kept = c.self.inside.parts.inputs.items in
+    let kept = c.self.inside.parts.wiring.inputs.items in
     let count = ap (λ (plan : Topology). length plan.elements) c.self.view_is in
-    let there : c.args.e < length kept = omega (arith, c.self.invariant.inputs_counted, count) in
+    let there : c.args.e < length kept = omega (arith, c.self.invariant.wired.inputs_counted, count) in
     let read : slice_get kept c.args.e ≡ Some c.index.result.now
     = slice_get-get_or kept c.args.e c.index.result.now there ∙ ap Some (sym c.index.ensures) in
-    rw (← c.self.view_is) (rw read at (c.self.invariant.inputs_kept c.args.e))
+    rw (← c.self.view_is) (rw read at (c.self.invariant.wired.inputs_kept c.args.e))
 
 pub returns-clause-within : goal.returns-clause-within
 returns-clause-within c = rw (c.as_slice.ensures.value, own-inputs c) (inputs_of-within c.args.self.now c.args.e)

@@ -1,0 +1,17 @@
+-- Private: numbers of lines by which the hops of either rule of returns are told.
+use Rattle.std.specs.Prelude.{ℕ}
+use Rattle.sync_topo.specs.Topology.{Topology}
+use Rattle.sync_topo.specs.Bundles.{line_bundle}
+use Rattle.sync_topo.specs.declared.returns.Returns.{Returns}
+use Rattle.sync_topo.specs.declared.returns.Returns.TheVariants.{Barred, Allowed}
+
+-- the number that a line has as a way in, and the one that it has as a way out: what comes in goes on over
+-- every way out but those of its own number. Where returns are barred that is the number of the line's
+-- bundle; where they are allowed no way in has the number of a way out
+abbrev pub number_in : Returns → Topology → ℕ → ℕ
+number_in Barred plan line = line_bundle plan line
+number_in Allowed plan line = 0
+
+abbrev pub number_out : Returns → Topology → ℕ → ℕ
+number_out Barred plan line = line_bundle plan line
+number_out Allowed plan line = 1

@@ -1,5 +1,0 @@
-use Rattle.rank_cert.specs.FirstFall.{IsFirstBelow}
-use Rattle.rank_cert.proofs.rising.check.Given as goal
-
-abbrev pub invariant-loop-number : goal.invariant-loop-number
-invariant-loop-number l = IsFirstBelow l.plan l.cert l.number l.first

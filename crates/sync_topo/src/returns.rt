@@ -1,0 +1,10 @@
+/// Whether what a line brings to an element may go back over the line's own link or bundle.
+///
+/// This project's own.
+#[derive(Clone, Copy, Debug, PartialEq, Eq, Drop)]
+pub enum Returns {
+    /// It may not: do-not-use is sent there. After G.781, do not use in the reverse direction.
+    Barred,
+    /// It may, since nothing tells: in networks without quality levels.
+    Allowed,
+}
