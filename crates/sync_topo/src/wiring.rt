@@ -102,7 +102,8 @@ fn keep<T: Drop>(
     if priority == 0 {
         return Ok(());
     }
-    push(&mut kept[element as usize], item)
+    push(&mut kept[element as usize], item)?;
+    Ok(())
 }
 
 /// Puts an item at the end.
