@@ -11,7 +11,7 @@ ghost use Rattle.cycle_plan.specs.Ranked.{IfRanks, IfCycle};
 use crate::ranking::Ranking;
 use rank_cert::Cert;
 use std::alloc::Global;
-use sync_edge::{NoMemory, Rows};
+use sync_text::{NoMemory, Rows};
 use sync_topo::{LineId, Plan, Returns};
 
 /// What the planner finds.

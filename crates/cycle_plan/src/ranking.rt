@@ -16,7 +16,7 @@ use crate::outputs::outputs;
 use crate::top::{Top, top_of};
 use rank_cert::Cert;
 use std::alloc::Global;
-use sync_edge::NoMemory;
+use sync_text::NoMemory;
 use sync_topo::{InputId, LineId, Plan, Returns};
 
 /// The ranks that are given so far.

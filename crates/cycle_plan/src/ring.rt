@@ -9,7 +9,7 @@ use crate::numbers::{number_in, number_out};
 use crate::inputs::{first_open, inputs_of, line_at};
 use crate::ranking::Ranking;
 use std::alloc::Global;
-use sync_edge::{NoMemory, Rows};
+use sync_text::{NoMemory, Rows};
 use sync_topo::{LineId, Plan, Returns};
 
 impl Ranking {

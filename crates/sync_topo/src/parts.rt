@@ -22,9 +22,9 @@ use crate::rows::PlanRows;
 use crate::source::Source;
 use crate::wiring::Wiring;
 use std::alloc::Global;
-use sync_edge::Text;
 use sync_ql::NetOption;
 use sync_ql::limits::MOST_INPUTS;
+use sync_text::Text;
 
 /// The most elements that a plan may have. This project's own.
 pub const MOST_ELEMENTS: usize = 2000;

@@ -6,7 +6,7 @@ ghost use Rattle.sync_topo.specs.Limits.{input_limit};
 
 use crate::input::{InputId, LineId};
 use std::alloc::Global;
-use sync_edge::NoMemory;
+use sync_text::NoMemory;
 
 /// What a plan tells of its elements without a search.
 #[derive(Drop)]
