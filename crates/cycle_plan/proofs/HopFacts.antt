@@ -16,55 +16,11 @@ use Rattle.sync_topo.specs.declared.input.InputId.TheVariants.{Source}
 use Rattle.sync_topo.specs.declared.returns.Returns.{Returns}
 use Rattle.sync_topo.specs.declared.returns.Returns.TheVariants.{Barred, Allowed}
 use Rattle.sync_topo.specs.Bundles.{line_bundle, are_bundled}
-use Rattle.sync_topo.specs.Hops.{HopsBy}
-use Rattle.sync_topo.proofs.HopLaws.{hop-meets}
+use Rattle.sync_topo.specs.Hops.{hops_any, HopsBy}
+use Rattle.sync_topo.proofs.HopLaws.{hop-meets, hop-any-from}
+use Rattle.sync_topo.proofs.KeptNumbers.{kept_in_range, kept_passes, kept_rises}
 use Rattle.cycle_plan.specs.Numbers.{number_in, number_out}
 use Rattle.cycle_plan.specs.Inputs.{line_of, line_at, AreWithin}
-
--- what a filter over a range keeps
-kept_in_range : (p : ℕ → Bool) (a n k : ℕ) → p k ≡ true → a ≤ k → k < a + n → (place : ℕ) × (slice_get (filter p (range_with_len a n)) place ≡ Some k)
-kept_in_range p a zero k holds low high = absurd (omega arith)
-kept_in_range p a (suc n) k holds low high = cases (p a) refl (λ above. kept_in_range p (a + 1) n k holds above (omega arith))
-  where
-    cases : (b : Bool) → p a ≡ b → (a + 1 ≤ k → (place : ℕ) × (slice_get (filter p (range_with_len (a + 1) n)) place ≡ Some k))
-        → (place : ℕ) × (slice_get (if b then a ∷ filter p (range_with_len (a + 1) n) else filter p (range_with_len (a + 1) n)) place ≡ Some k)
-    cases true e rest = elim (cases_eq a k) [
-      | inl same ↦ (0, ap (λ m. Some m) same)
-      | inr differs ↦ let found = rest (omega (arith, differs)) in (suc found.0, found.1)
-    ]
-    cases false e rest = elim (cases_eq a k) [
-      | inl same ↦ absurd (true≢false (sym holds ∙ ap p (sym same) ∙ e))
-      | inr differs ↦ rest (omega (arith, differs))
-    ]
-
-kept_passes : (p : ℕ → Bool) (a n place k : ℕ) → slice_get (filter p (range_with_len a n)) place ≡ Some k → (p k ≡ true) × (a ≤ k)
-kept_passes p a zero place k here = absurd (none-some k here)
-kept_passes p a (suc n) place k here = cases (p a) refl place here (λ at found. kept_passes p (a + 1) n at k found)
-  where
-    cases : (b : Bool) → p a ≡ b → (at : ℕ)
-        → slice_get (if b then a ∷ filter p (range_with_len (a + 1) n) else filter p (range_with_len (a + 1) n)) at ≡ Some k
-        → ((at : ℕ) → slice_get (filter p (range_with_len (a + 1) n)) at ≡ Some k → (p k ≡ true) × (a + 1 ≤ k)) → (p k ≡ true) × (a ≤ k)
-    cases true e zero found rest = let same = same_Some a k found in (ap p (sym same) ∙ e, omega arith)
-    cases true e (suc at) found rest = let facts = rest at found in (facts.0, omega (arith, facts.1))
-    cases false e at found rest = let facts = rest at found in (facts.0, omega (arith, facts.1))
-
-kept_rises : (p : ℕ → Bool) (a n i j k l : ℕ) → i < j → slice_get (filter p (range_with_len a n)) i ≡ Some k
-    → slice_get (filter p (range_with_len a n)) j ≡ Some l → k < l
-kept_rises p a zero i j k l less here there = absurd (none-some k here)
-kept_rises p a (suc n) i j k l less here there = cases (p a) refl i j less here there (λ i j. kept_rises p (a + 1) n i j k l)
-  where
-    cases : (b : Bool) → p a ≡ b → (i j : ℕ) → i < j
-        → slice_get (if b then a ∷ filter p (range_with_len (a + 1) n) else filter p (range_with_len (a + 1) n)) i ≡ Some k
-        → slice_get (if b then a ∷ filter p (range_with_len (a + 1) n) else filter p (range_with_len (a + 1) n)) j ≡ Some l
-        → ((i j : ℕ) → i < j → slice_get (filter p (range_with_len (a + 1) n)) i ≡ Some k → slice_get (filter p (range_with_len (a + 1) n)) j ≡ Some l → k < l)
-        → k < l
-    cases true e i zero less here there rest = absurd (omega arith)
-    cases true e zero (suc j) less here there rest =
-        let same = same_Some a k here in
-        let above = kept_passes p (a + 1) n j l there in
-        omega (arith, same, above.1)
-    cases true e (suc i) (suc j) less here there rest = rest i j (omega arith) here there
-    cases false e i j less here there rest = rest i j less here there
 
 -- the lines among inputs are those in front
 lines_in_front : (lines sources : List ℕ) (place : ℕ) → line_at (map line_input lines ++ map Source sources) place ≡ slice_get lines place
@@ -136,13 +92,12 @@ pub hop_from : (returns : Returns) (plan : Topology) (line next : ℕ) → IsNom
     → number_in returns plan line ≢ number_out returns plan next → HopsBy returns plan line next
 hop_from returns plan line next nominated next_nominated meets apart = by returns apart
   where
-    meet : (is_nominated plan line && is_nominated plan next && nat_eq (receiver_of plan line) (sender_of plan next)) ≡ true
-    meet = both_true {s = is_nominated plan line && is_nominated plan next} {t = nat_eq (receiver_of plan line) (sender_of plan next)}
-        (both_true {s = is_nominated plan line} {t = is_nominated plan next} nominated next_nominated) (eq-eqb _ _ meets)
+    meet : hops_any plan line next ≡ true
+    meet = hop-any-from plan line next nominated next_nominated meets
 
     by : (rule : Returns) → number_in rule plan line ≢ number_out rule plan next → HopsBy rule plan line next
     by Barred differ =
-        both_true {s = is_nominated plan line && is_nominated plan next && nat_eq (receiver_of plan line) (sender_of plan next)} {t = not (are_bundled plan line next)}
+        both_true {s = hops_any plan line next} {t = not (are_bundled plan line next)}
         meet (not_from_false (line_bundle plan line == line_bundle plan next) (ne_eqb _ _ differ))
     by Allowed differ = meet
 

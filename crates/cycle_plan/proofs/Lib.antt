@@ -1,5 +1,4 @@
 pub mod TopLemmas
-pub mod OutputLemmas
 pub mod HopFacts
 pub mod PeelingLemmas
 pub mod Settling

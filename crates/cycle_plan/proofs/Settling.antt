@@ -7,7 +7,6 @@ use Rattle.sync_topo.specs.declared.input.LineId.{LineId}
 use Rattle.sync_topo.specs.declared.returns.Returns.{Returns}
 use Rattle.sync_topo.specs.Hops.{HopsBy, hops_by}
 use Rattle.cycle_plan.specs.Numbers.{number_in, number_out}
-use Rattle.cycle_plan.specs.Outputs.{kept, AreOutputs}
 use Rattle.std.specs.declared.alloc.Global.{Global}
 use Rattle.std.proofs.lemmas.Bool.{cases_lt, cases_eq, eqb-true}
 use Rattle.std.proofs.lemmas.List.{get_or-set_same, get_or-set_other, length-set}
@@ -283,17 +282,6 @@ peeled_at_end returns plan ranking peeling kept none = record {
     | inr waits ↦ let inside = waits.1 in absurd (omega (arith, inside, none))
   ];
 }
-
--- once the outputs that are kept for an element and are meant have ranks, all lines out of it that are meant have
-pub ranked_outputs : (returns : Returns) (plan : Topology) (ranks : Ranks) (outputs : List (Vec LineId Global)) (element : ℕ) (own : List LineId) (only : Option ℕ)
-    → AreOutputs plan (line_count plan) outputs → kept outputs element ≡ own
-    → All (λ (line : LineId). IsAmong returns plan only line.0 → rank_at ranks line.0 ≢ None) own
-    → (line : ℕ) → IsNominated plan line → sender_of plan line ≡ element → IsAmong returns plan only line → rank_at ranks line ≢ None
-ranked_outputs returns plan ranks outputs element own only are_outputs own_is ranked line nominated sent =
-    let stands : Contains (kept outputs (sender_of plan line)) (record { 0 = line }) =
-    are_outputs.each (record { 0 = line }) (IsNominated-within plan line nominated) nominated in
-    let here : Contains own (record { 0 = line }) = subst (λ lines. Contains lines (record { 0 = line })) (ap (λ e. kept outputs e) sent ∙ own_is) stands in
-    All-contains (λ (l : LineId). IsAmong returns plan only l.0 → rank_at ranks l.0 ≢ None) own (record { 0 = line }) ranked here
 
 -- the line at the first open place has no rank
 pub first_line : (returns : Returns) (plan : Topology) (ranks : Ranks) (element : ℕ) (watch : Watch) (line : ℕ) → AreFirstOpen returns plan ranks (inputs_of plan element) watch

@@ -16,7 +16,6 @@ mod bound;
 mod inputs;
 mod laws;
 mod numbers;
-mod outputs;
 mod ranked;
 mod ranking;
 mod ring;

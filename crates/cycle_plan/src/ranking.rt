@@ -5,14 +5,12 @@ ghost use Rattle.rank_cert.specs.Ranks.{rank_at};
 ghost use Rattle.sync_topo.specs.Hops.{hops_by};
 ghost use Rattle.cycle_plan.specs.Numbers.{number_out};
 ghost use Rattle.cycle_plan.specs.Inputs.{AreFirstOpen};
-ghost use Rattle.cycle_plan.specs.Outputs.{AreOutputs, IsOutput};
 ghost use Rattle.cycle_plan.specs.Tops.{rank_after};
 ghost use Rattle.cycle_plan.specs.Rings.{IsDone};
 ghost use Rattle.cycle_plan.specs.Peeling.{IsRanking, IsPeeling, IsPeeled, IsMore, IsNext, IsSettled, AreKept, IsWatched, is_among, IsAmong, AreFree, IsTopOf};
 
 use crate::numbers::{number_in, number_out};
 use crate::inputs::{Watch, first_open, inputs_of, line_at};
-use crate::outputs::outputs;
 use crate::top::{Top, top_of};
 use rank_cert::Cert;
 use std::alloc::Global;
@@ -35,9 +33,8 @@ impl Ranking {
     pub(crate) fn of(alloc: Global, returns: Returns, plan: &Plan) -> Result<Ranking, NoMemory>
         ensures { IfOk result (IsDone returns plan.now) }
     {
-        let outputs = outputs(alloc, plan)?;
         let mut ranking = Ranking::new(alloc, returns, plan)?;
-        ranking.peel(returns, plan, outputs.as_slice())?;
+        ranking.peel(returns, plan)?;
         Ok(ranking)
     }
 
@@ -150,22 +147,21 @@ impl Ranking {
         &mut self,
         returns: Returns,
         plan: &Plan,
-        outputs: &[LineId],
         element: u32,
         only: Option<u32>,
     ) -> Result<(), NoMemory>
         requires peeling { IsPeeling returns plan.now self.old }
         requires within { element < length plan.now.elements }
-        requires outputs { All (IsOutput plan.now element) outputs.now }
         requires free { AreFree returns plan.now self.old.ranks element only }
         ensures more { OnOk result (IsMore returns plan.now self.old self.new) }
-        ensures given { OnOk result (All (λ line. IsAmong returns plan.now only line.0
-            → rank_at self.new.ranks line.0 ≢ None) outputs.now) }
+        ensures given { OnOk result ((line : ℕ) → IsNominated plan.now line
+            → sender_of plan.now line ≡ element → IsAmong returns plan.now only line
+            → rank_at self.new.ranks line ≢ None) }
         ensures others { OnOk result ((other : ℕ) → sender_of plan.now other ≢ element
             → rank_at self.new.ranks other ≡ rank_at self.old.ranks other) }
     {
         let top = self.top(returns, plan, element);
-        for line in outputs {
+        for line in plan.lines_out(element) {
             self.give_next(returns, plan, only, *line, top)?;
         }
         Ok(())
@@ -197,23 +193,20 @@ impl Ranking {
         &mut self,
         returns: Returns,
         plan: &Plan,
-        outputs: &[Vec<LineId>],
         element: u32,
     ) -> Result<(), NoMemory>
         requires peeling { IsPeeling returns plan.now self.old }
-        requires outputs { AreOutputs plan.now (line_count plan.now) outputs.now }
         requires within { element < length plan.now.elements }
         ensures more { OnOk result (IsMore returns plan.now self.old self.new) }
         ensures settled { OnOk result (IsSettled returns plan.now self.new.ranks element) }
     {
         let inputs = inputs_of(plan, element);
-        let own = outputs[element as usize].as_slice();
         let watch = self.watch(returns, plan, element);
         if watch.done || watch.second < inputs.len() {
             return Ok(());
         }
         let Some(last) = line_at(inputs, watch.first) else {
-            self.give_all(returns, plan, own, element, None)?;
+            self.give_all(returns, plan, element, None)?;
             self.watches[element as usize].done = true;
             return Ok(());
         };
@@ -223,7 +216,6 @@ impl Ranking {
         self.give_all(
             returns,
             plan,
-            own,
             element,
             Some(number_in(returns, plan, last)),
         )?;
@@ -232,21 +224,15 @@ impl Ranking {
     }
 
     /// Ranks lines for as long as an element waits to be looked at.
-    fn peel(
-        &mut self,
-        returns: Returns,
-        plan: &Plan,
-        outputs: &[Vec<LineId>],
-    ) -> Result<(), NoMemory>
+    fn peel(&mut self, returns: Returns, plan: &Plan) -> Result<(), NoMemory>
         requires peeling { IsPeeling returns plan.now self.old }
-        requires outputs { AreOutputs plan.now (line_count plan.now) outputs.now }
         requires kept { AreKept returns plan.now self.old }
         ensures peeling { OnOk result (IsPeeling returns plan.now self.new) }
         ensures peeled { OnOk result
             (IsPeeled (hops_by returns plan.now) (is_nominated plan.now) (rank_at self.new.ranks)) }
     {
         while let Some(element) = self.waiting.pop() {
-            self.settle(returns, plan, outputs, element)?;
+            self.settle(returns, plan, element)?;
         }
         Ok(())
     }

@@ -13,7 +13,8 @@ use Rattle.sync_ql.specs.Output.{clock_level_at, mode_at, state_at}
 use Rattle.sync_topo.specs.declared.input.InputId.{InputId}
 use Rattle.sync_topo.specs.declared.event.Event.{Event}
 use Rattle.sync_topo.specs.Topology.{Topology}
-use Rattle.net_rules.specs.Signals.{signals_by, is_same_input}
+use Rattle.net_rules.specs.Signals.{signals_by}
+use Rattle.sync_topo.specs.Lines.{is_same_input}
 use Rattle.net_rules.specs.History.{settings_of, taken_by, element_past, out_at}
 use Rattle.event_sim.specs.declared.shown.Shown.{Shown}
 use Rattle.event_sim.specs.declared.change.Change.{Change}

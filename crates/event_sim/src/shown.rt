@@ -4,7 +4,7 @@ ghost use Rattle.std.specs.Prelude.{◌≡◌, ◌<◌, length, option_and_then,
 ghost use Rattle.event_sim.specs.Rows.{is_other, is_same_mode, is_same_state, is_same_taken};
 ghost use Rattle.event_sim.specs.Showing.{Shows};
 ghost use Rattle.sync_ql.specs.Messages.{is_same_level};
-ghost use Rattle.net_rules.specs.Signals.{is_same_input};
+ghost use Rattle.sync_topo.specs.Lines.{is_same_input};
 
 use sync_element::Element;
 use sync_ql::Level;

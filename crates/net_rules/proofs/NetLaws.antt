@@ -15,9 +15,9 @@ use Rattle.sync_ql.specs.Taken.{MayBeTaken}
 use Rattle.sync_ql.proofs.TakenInputs.{taken_may_be_taken}
 use Rattle.sync_topo.specs.declared.input.InputId.{InputId}
 use Rattle.sync_topo.specs.Topology.{Topology}
-use Rattle.sync_topo.specs.Lines.{line_input, sender_of, receiver_of, inputs_of, input_priority, IsNominated}
+use Rattle.sync_topo.specs.Lines.{line_input, sender_of, receiver_of, inputs_of, input_priority, IsNominated, element_of}
 use Rattle.net_rules.specs.Signals.{Signals}
-use Rattle.net_rules.specs.Inputs.{element_of, IsInputOf}
+use Rattle.net_rules.specs.Inputs.{IsInputOf}
 use Rattle.net_rules.specs.History.{Levels, settings_of, timers_of, heard, signal_at, input_level, moment_at, element_past, taken_by, taken_at, level_at, failed_by, is_way_back, sent_level}
 use Rattle.net_rules.specs.Walks.{Each, IsTaken}
 use Rattle.net_rules.specs.Safety.{taken_in}

@@ -12,11 +12,11 @@ use Rattle.sync_topo.specs.declared.input.InputId.TheVariants.{Line, Source}
 use Rattle.sync_topo.specs.declared.event.What.{What}
 use Rattle.sync_topo.specs.declared.event.Event.{Event}
 use Rattle.sync_topo.specs.Topology.{Topology}
-use Rattle.sync_topo.specs.Lines.{receiver_of, element_of_source, IsInput, is_nominated_input}
+use Rattle.sync_topo.specs.Lines.{receiver_of, element_of_source, IsInput, is_nominated_input, element_of}
 use Rattle.sync_topo.specs.WellFormed.{IsWellFormed}
 use Rattle.sync_topo.proofs.LineLaws.{IsNominated-within}
 use Rattle.net_rules.specs.Signals.{events_before, events_at, last_word, says_up, says_esmc, says_level, clears, command_to, up_at, esmc_at, said_at, source_level_before, source_level_at, signals_by}
-use Rattle.net_rules.specs.Inputs.{element_of, IsInputOf}
+use Rattle.net_rules.specs.Inputs.{IsInputOf}
 use Rattle.net_rules.specs.Sameness.{IsSameUntil}
 use Rattle.net_rules.specs.Activity.{touches, TouchAlike}
 use Rattle.net_rules.specs.Walks.{Each}

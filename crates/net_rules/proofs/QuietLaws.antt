@@ -17,10 +17,10 @@ use Rattle.sync_ql.proofs.Delivered.{heard-delivered}
 use Rattle.sync_topo.specs.declared.input.InputId.{InputId}
 use Rattle.sync_topo.specs.declared.input.InputId.TheVariants.{Line, Source}
 use Rattle.sync_topo.specs.Topology.{Topology}
-use Rattle.sync_topo.specs.Lines.{line_count, line_input, sender_of, delay_of, inputs_of, input_priority, IsNominated}
+use Rattle.sync_topo.specs.Lines.{line_count, line_input, sender_of, delay_of, inputs_of, input_priority, IsNominated, element_of}
 use Rattle.sync_topo.proofs.LineLaws.{IsNominated-within}
 use Rattle.net_rules.specs.Signals.{Signals, speaks_at}
-use Rattle.net_rules.specs.Inputs.{element_of, IsInputOf}
+use Rattle.net_rules.specs.Inputs.{IsInputOf}
 use Rattle.net_rules.specs.History.{Levels, settings_of, timers_of, line_moment_at, heard, signal_at, input_level, moment_at, element_past, taken_by, taken_at, failed_by, is_way_back, sent_level, Obeys}
 use Rattle.net_rules.specs.Settled.{is_sent_at, IsOnWay, IsSteady, IsSettled}
 use Rattle.net_rules.specs.Facing.{IsStill}

@@ -9,11 +9,11 @@ use Rattle.sync_ql.proofs.Delivered.{heard-delivered}
 use Rattle.sync_topo.specs.declared.input.InputId.{InputId}
 use Rattle.sync_topo.specs.declared.input.InputId.TheVariants.{Line, Source}
 use Rattle.sync_topo.specs.Topology.{Topology}
-use Rattle.sync_topo.specs.Lines.{line_input, sender_of, delay_of, IsNominated}
+use Rattle.sync_topo.specs.Lines.{line_input, sender_of, delay_of, IsNominated, element_of}
 use Rattle.sync_topo.specs.Hops.{Hops, IsRising}
 use Rattle.sync_topo.proofs.LineLaws.{IsNominated-within}
 use Rattle.net_rules.specs.Signals.{Signals, speaks_at}
-use Rattle.net_rules.specs.Inputs.{element_of, IsInputOf}
+use Rattle.net_rules.specs.Inputs.{IsInputOf}
 use Rattle.net_rules.specs.History.{Levels, timers_of, line_moment_at, heard, signal_at, failed_by, Obeys}
 use Rattle.net_rules.specs.Settled.{is_sent_at, IsOnWay, IsSteady, IsSettled}
 use Rattle.net_rules.specs.Staying.{IsQuietAfter}

@@ -18,11 +18,10 @@ use Rattle.sync_topo.specs.declared.element.Element.{Element}
 use Rattle.sync_topo.specs.declared.input.InputId.{InputId}
 use Rattle.sync_topo.specs.declared.input.InputId.TheVariants.{Line, Source}
 use Rattle.sync_topo.specs.Topology.{Topology}
-use Rattle.sync_topo.specs.Lines.{line_count, line_input, sender_of, delay_of, input_priority, inputs_of}
+use Rattle.sync_topo.specs.Lines.{line_count, line_input, sender_of, delay_of, input_priority, inputs_of, element_of}
 use Rattle.sync_topo.specs.Bundles.{line_bundle}
 use Rattle.sync_topo.specs.Hops.{goes_back}
 use Rattle.net_rules.specs.Signals.{Signals, planned_level}
-use Rattle.net_rules.specs.Inputs.{element_of}
 
 -- the levels sent on each line in each millisecond
 abbrev pub Levels : Type 0

@@ -2,7 +2,7 @@
 -- After G.781, signal fail, quality level of a source, and external commands; ESMC after G.8264. That an
 -- event is in force in its own millisecond, and that of several on one signal or level the last in the
 -- list counts, is this project's own.
-use Rattle.std.specs.Prelude.{ℕ, zero, suc, ◌/◌, Bool, true, false, ◌&&◌, nat_eq, nat_lt, if◌then◌else◌, List, [], ◌∷◌, filter, position, slice_get, Option, None, Some, option_map, unwrap_or}
+use Rattle.std.specs.Prelude.{ℕ, zero, suc, ◌/◌, Bool, true, false, ◌&&◌, nat_eq, nat_lt, if◌then◌else◌, List, [], ◌∷◌, filter, slice_get, Option, None, Some, option_map, unwrap_or}
 use Rattle.std.specs.List.{list_any, filter_map}
 use Rattle.std.specs.Option.{option_map_or, option_or}
 use Rattle.sync_ql.specs.declared.levels.Level.{Level}
@@ -17,7 +17,7 @@ use Rattle.sync_topo.specs.declared.event.What.{What}
 use Rattle.sync_topo.specs.declared.event.What.TheVariants.{Down, Up, EsmcOff, EsmcOn, SourceLevel, Lockout, Unlock, Forced, Manual, Clear, ClearWtr}
 use Rattle.sync_topo.specs.declared.event.Event.{Event}
 use Rattle.sync_topo.specs.Topology.{Topology}
-use Rattle.sync_topo.specs.Lines.{line_input, inputs_of}
+use Rattle.sync_topo.specs.Lines.{line_input, is_same_input, place_at}
 
 -- in each millisecond, from 0: whether an input is up; whether a line's ESMC is on; the level of a
 -- source; whether an input's wait-to-restore time is cleared; and the commands to an element, in their
@@ -40,12 +40,6 @@ events_at t events = filter (λ event. nat_eq event.at t) events
 abbrev pub last_word : {A : Type 0} → (What → Option A) → List Event → Option A
 last_word says [] = None
 last_word says (event ∷ events) = option_or (last_word says events) (says event.what)
-
--- two inputs are the same
-abbrev pub is_same_input : InputId → InputId → Bool
-is_same_input (Line a) (Line b) = nat_eq a.0 b.0
-is_same_input (Source a) (Source b) = nat_eq a b
-is_same_input a b = false
 
 -- what happens to a part happens to an input: to the line or source itself, or to the link of the line
 abbrev pub is_of_part : InputId → Part → Bool
@@ -74,10 +68,6 @@ says_level source what = None
 abbrev pub clears : InputId → What → Bool
 clears input (ClearWtr other) = is_same_input input other
 clears input what = false
-
--- the place of an input among those of an element; one that isn't nominated there has none
-abbrev pub place_at : Topology → ℕ → InputId → Option ℕ
-place_at plan element input = position (is_same_input input) (inputs_of plan element)
 
 -- the command to an element that it is; one on an input that isn't nominated is none
 abbrev pub command_to : Topology → ℕ → What → Option Cmd

@@ -20,8 +20,8 @@ use Rattle.sync_topo.specs.declared.event.What.{What}
 use Rattle.sync_topo.specs.declared.event.What.TheVariants.{Down, Up, EsmcOff, EsmcOn, SourceLevel, Lockout, Unlock, Forced, Manual, Clear, ClearWtr}
 use Rattle.sync_topo.specs.declared.event.Event.{Event}
 use Rattle.sync_topo.specs.Topology.{Topology}
-use Rattle.sync_topo.specs.Lines.{inputs_of}
-use Rattle.net_rules.specs.Signals.{events_at, last_word, says_up as says_input_up, clears as clears_input, command_to, place_at, is_same_input, up_at, source_level_at}
+use Rattle.sync_topo.specs.Lines.{inputs_of, place_at, is_same_input}
+use Rattle.net_rules.specs.Signals.{events_at, last_word, says_up as says_input_up, clears as clears_input, command_to, up_at, source_level_at}
 use Rattle.net_rules.specs.History.{settings_of, signal_at, input_level, moment_at}
 use Rattle.net_rules.specs.Walks.{Each}
 use Rattle.net_rules.proofs.NetLaws.{each-at, input-at, signals-at, told_input}

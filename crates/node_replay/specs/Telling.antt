@@ -7,7 +7,7 @@ use Rattle.sync_ql.specs.declared.rules.InputEvent.TheVariants as tell
 use Rattle.sync_topo.specs.declared.input.InputId.{InputId}
 use Rattle.sync_topo.specs.declared.event.What.{What}
 use Rattle.sync_topo.specs.declared.event.What.TheVariants.{Lockout, Unlock, Forced, Manual, Clear, ClearWtr}
-use Rattle.net_rules.specs.Signals.{is_same_input}
+use Rattle.sync_topo.specs.Lines.{is_same_input}
 use Rattle.node_file.specs.declared.row.NodeRow.{NodeRow}
 use Rattle.node_replay.specs.declared.inputs.InputKept.{InputKept}
 use Rattle.node_replay.specs.Keeping.{row_says}

@@ -2,7 +2,7 @@
 
 ghost use Rattle.std.specs.Prelude.{◌≡◌, ◌++◌, ◌∷◌, [], ◌≤◌, ◌<◌, length, OnOk, IfSome, MatchOption};
 ghost use Rattle.std.specs.List.{filter_map};
-ghost use Rattle.net_rules.specs.Signals.{is_same_input};
+ghost use Rattle.sync_topo.specs.Lines.{is_same_input};
 ghost use Rattle.node_replay.specs.Telling.{place_in, word_of, row_word, told_from, all_told};
 
 use crate::inputs::InputKept;

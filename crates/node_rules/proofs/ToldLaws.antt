@@ -14,8 +14,8 @@ use Rattle.sync_topo.specs.declared.event.Part.TheVariants as part
 use Rattle.sync_topo.specs.declared.event.What.{What}
 use Rattle.sync_topo.specs.declared.event.What.TheVariants.{Down, Up, EsmcOff, EsmcOn, SourceLevel, Lockout, Unlock, Forced, Manual, Clear, ClearWtr}
 use Rattle.sync_topo.specs.Topology.{Topology}
-use Rattle.sync_topo.specs.Lines.{line_input, ends_at_b, sender_of, receiver_of, is_nominated_input, inputs_of}
-use Rattle.net_rules.specs.Signals.{is_same_input, is_of_part, says_up, says_esmc, says_level, clears, place_at, command_to}
+use Rattle.sync_topo.specs.Lines.{line_input, ends_at_b, sender_of, receiver_of, is_nominated_input, inputs_of, is_same_input, place_at}
+use Rattle.net_rules.specs.Signals.{is_of_part, says_up, says_esmc, says_level, clears, command_to}
 use Rattle.net_rules.specs.Inputs.{IsInputOf}
 use Rattle.net_rules.specs.Activity.{is_at, is_part_at}
 use Rattle.net_rules.proofs.InputLaws.{inputs-are}

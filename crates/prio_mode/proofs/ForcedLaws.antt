@@ -22,20 +22,22 @@ use Rattle.sync_topo.specs.declared.event.Event.{Event}
 use Rattle.sync_topo.specs.declared.event.What.TheVariants.{Forced}
 use Rattle.sync_topo.specs.declared.input.InputId.{InputId}
 use Rattle.sync_topo.specs.Topology.{Topology}
-use Rattle.sync_topo.specs.Lines.{line_input, receiver_of, inputs_of, IsNominated, input_priority}
+use Rattle.sync_topo.specs.Lines.{line_input, receiver_of, inputs_of, IsNominated, input_priority, place_at}
 use Rattle.sync_topo.specs.Events.{IsEventList, Fits}
 use Rattle.sync_topo.specs.Ranks.{IsFirstCycle}
 use Rattle.sync_topo.proofs.LineLaws.{IsNominated-within}
-use Rattle.net_rules.specs.Signals.{Signals, signals_by, events_at, last_word, says_up, up_at, place_at, command_to}
+use Rattle.net_rules.specs.Signals.{Signals, signals_by, events_at, last_word, says_up, up_at, command_to}
 use Rattle.net_rules.specs.Walks.{Each, AreApart, IsOneOf, IsTaken}
 use Rattle.net_rules.proofs.Lists.{Each-map}
 use Rattle.net_rules.proofs.NetLaws.{map-at}
-use Rattle.prio_mode.specs.PriorityHops.{hops_any}
+use Rattle.sync_topo.specs.declared.returns.Returns.TheVariants.{Allowed}
+use Rattle.sync_topo.specs.Hops.{hops_any}
+use Rattle.sync_topo.proofs.HopLaws.{hop-meets}
 use Rattle.prio_mode.specs.PriorityAlone.{one_level, priority_settings, priority_input, priority_moment, priority_taken_at, priority_taken_in}
 use Rattle.prio_mode.specs.ForcedLoop.{forced_on, IsForcedLoop}
 use Rattle.sync_net.proofs.DistinctInputs.{place-at}
 use Rattle.sync_net.proofs.PlaceLemmas.{no-place-there, stands-there}
-use Rattle.prio_mode.proofs.RingLaws.{IsFollowed, each_followed, hop_any_parts, receivers_apart, ring_apart, ring_joins}
+use Rattle.prio_mode.proofs.RingLaws.{IsFollowed, each_followed, receivers_apart, ring_apart, ring_joins}
 
 -- up in its first millisecond, an input isn't failed
 either_false : (b : Bool) → (if b then false else false) ≡ false
@@ -192,7 +194,7 @@ each-taken : (plan : Topology) (lines some : List ℕ) → AreApart (map (receiv
     → Each (IsFollowed (hops_any plan)) some → Each (IsTaken plan (priority_taken_in plan (signals_by plan (forced_on lines)) 0)) some
 each-taken plan lines [] apart among followed = tt
 each-taken plan lines (line ∷ rest) apart among followed = (
-  line-taken plan lines line apart among.0 (hop_any_parts plan line followed.0.0 followed.0.1.hops).0,
+  line-taken plan lines line apart among.0 (hop-meets Allowed plan line followed.0.0 followed.0.1.hops).from,
   each-taken plan lines rest apart among.1 followed.1,
 )
 
@@ -205,7 +207,7 @@ all-fit : (plan : Topology) (lines : List ℕ) → Each (IsFollowed (hops_any pl
 all-fit plan [] followed = All-nil (Fits plan)
 all-fit plan (line ∷ rest) followed =
     All-cons (Fits plan) (forced_event line) (forced_on rest)
-    (IsNominated-within plan line (hop_any_parts plan line followed.0.0 followed.0.1.hops).0) (all-fit plan rest followed.1)
+    (IsNominated-within plan line (hop-meets Allowed plan line followed.0.0 followed.0.1.hops).from) (all-fit plan rest followed.1)
 
 all-0 : (lines : List ℕ) (k : ℕ) (d : Event) → k < length (forced_on lines) → (slice_index_or (forced_on lines) k d).at ≡ 0
 all-0 [] k d within = absurd (omega (arith, within))

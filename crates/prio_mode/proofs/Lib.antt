@@ -1,6 +1,3 @@
-pub mod AnyHops
-pub mod Finds
-pub mod FallLaws
 pub mod LoopLaws
 pub mod EventTimes
 pub mod ShownLemmas

@@ -1,8 +1,6 @@
 -- Where ranks rise over every hop, elements that choose by priority alone never go round in a loop.
 use Rattle.std.proofs.Common.{◌≡◌, ℕ, suc, List, [], ◌∷◌, Option, None, Some, slice_get}
-use Rattle.std.specs.Prelude.{IsTrue, ◌&&◌, ◌==◌, option_and_then}
-use Rattle.std.specs.Cmp.Derive.{both_true}
-use Rattle.std.proofs.lemmas.Bool.{eq-eqb}
+use Rattle.std.specs.Prelude.{IsTrue, option_and_then}
 use Rattle.std.proofs.lemmas.Option.{none-some}
 use Rattle.sync_ql.specs.Moment.{Moment, selection_at}
 use Rattle.sync_topo.specs.declared.input.InputId.{InputId}
@@ -15,7 +13,8 @@ use Rattle.net_rules.specs.Walks.{Taken, Each, IsTaken, Joins, IsClosedWalk}
 use Rattle.net_rules.proofs.InputLaws.{inputs-are}
 use Rattle.net_rules.proofs.NetLaws.{each-at}
 use Rattle.net_rules.proofs.WalkLaws.{AreNominated, walks-leads, no_cycle}
-use Rattle.prio_mode.specs.PriorityHops.{hops_any}
+use Rattle.sync_topo.specs.Hops.{hops_any}
+use Rattle.sync_topo.proofs.HopLaws.{hop-any-from}
 use Rattle.prio_mode.specs.PriorityAlone.{priority_settings, priority_past, priority_taken_by, priority_taken_at, priority_taken_in}
 use Rattle.prio_mode.specs.PriorityLoops.{NeverLoops}
 
@@ -34,17 +33,11 @@ taken-nominated plan signals t line taken =
     (taken-own plan (receiver_of plan line) (priority_past plan signals (receiver_of plan line) (suc t)) (line_input line) taken).nominated
 
 -- lines that are taken and join hop from one to the next
-step : (plan : Topology) (line next : ℕ) → IsNominated plan line → IsNominated plan next → Joins plan line next
-    → IsTrue (hops_any plan line next)
-step plan line next here there joins =
-    both_true {s = is_nominated plan line && is_nominated plan next} {t = receiver_of plan line == sender_of plan next}
-    (both_true {s = is_nominated plan line} {t = is_nominated plan next} here there) (eq-eqb (receiver_of plan line) (sender_of plan next) joins)
-
 hops_along : (plan : Topology) (line : ℕ) (rest : List ℕ) (end : ℕ) → Each (IsNominated plan) (line ∷ rest) → IsNominated plan end
     → Leads (Joins plan) line rest end → Leads (λ one next. IsTrue (hops_any plan one next)) line rest end
-hops_along plan line [] end each last joins = step plan line end each.0 last joins
+hops_along plan line [] end each last joins = hop-any-from plan line end each.0 last joins
 hops_along plan line (next ∷ rest) end each last joins =
-    (step plan line next each.0 each.1.0 joins.0, hops_along plan next rest end each.1 last joins.1)
+    (hop-any-from plan line next each.0 each.1.0 joins.0, hops_along plan next rest end each.1 last joins.1)
 
 each_nominated : (plan : Topology) (taken : Taken) → AreNominated plan taken → (lines : List ℕ) → Each (IsTaken plan taken) lines → Each (IsNominated plan) lines
 each_nominated plan taken nominated [] each = tt

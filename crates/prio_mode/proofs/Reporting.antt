@@ -13,9 +13,9 @@ use Rattle.sync_topo.specs.declared.input.InputId.{InputId}
 use Rattle.sync_topo.specs.declared.input.InputId.TheVariants.{Line, Source}
 use Rattle.sync_topo.specs.Topology.{Topology}
 use Rattle.sync_topo.specs.WellFormed.{IsWellFormed}
-use Rattle.sync_topo.specs.Lines.{IsInput}
+use Rattle.sync_topo.specs.Lines.{IsInput, element_of}
 use Rattle.net_rules.proofs.PlanLaws.{receiver-within}
-use Rattle.net_rules.specs.Inputs.{IsInputOf, element_of}
+use Rattle.net_rules.specs.Inputs.{IsInputOf}
 use Rattle.net_rules.specs.Signals.{signals_by}
 use Rattle.net_rules.specs.Walks.{Taken}
 use Rattle.prio_mode.specs.declared.shown.Shown.{Shown}

@@ -1,16 +1,14 @@
 -- The first cycle over hops that include returns: none of its lines stands twice, and no two have one receiver.
 use Rattle.std.proofs.Common.{◌≡◌, ◌≢◌, ◌≤◌, ◌<◌, ℕ, List, [], ◌∷◌, map, refl, sym, subst, ◌∙◌, inl, inr, arith}
-use Rattle.std.specs.Prelude.{IsTrue, ◌&&◌, ◌==◌}
-use Rattle.std.specs.Cmp.Derive.{both_true}
-use Rattle.std.proofs.lemmas.Bool.{and_parts, eqb-true, eq-eqb}
 use Rattle.sync_topo.specs.Topology.{Topology}
-use Rattle.sync_topo.specs.Lines.{sender_of, receiver_of, is_nominated, IsNominated}
-use Rattle.sync_topo.specs.Ranks.{HopTest, IsBefore, Leads, IsFirstCycleFrom, IsFirstCycle, Circles}
+use Rattle.sync_topo.specs.Lines.{receiver_of}
+use Rattle.sync_topo.specs.Ranks.{HopTest, IsBefore, Leads, IsFirstCycleFrom}
 use Rattle.net_rules.specs.Walks.{Each, AreApart, IsOneOf, Joins}
 use Rattle.net_rules.proofs.EventLaws.{each-all}
-use Rattle.net_rules.proofs.WalkLaws.{walks-leads}
 use Rattle.cycle_plan.proofs.Back.{before_same}
-use Rattle.prio_mode.specs.PriorityHops.{hops_any, HopsAny}
+use Rattle.sync_topo.specs.declared.returns.Returns.TheVariants.{Allowed}
+use Rattle.sync_topo.specs.Hops.{hops_any}
+use Rattle.sync_topo.proofs.HopLaws.{hop-meets, hop-any-from}
 
 -- what isn't one of a list differs from each
 others : (n : ℕ) (xs : List ℕ) → (IsOneOf n xs → ⊥) → Each (λ other. n ≢ other) xs
@@ -50,27 +48,13 @@ pub each_followed : (hop : HopTest) (first : ℕ) (rest : List ℕ) (end : ℕ) 
 each_followed hop first [] end leads = ((end, leads), tt)
 each_followed hop first (next ∷ rest) end leads = ((next, leads.0), each_followed hop next rest end leads.1)
 
--- what a hop says
-pub hop_any_parts : (plan : Topology) (line next : ℕ) → HopsAny plan line next
-    → IsNominated plan line × IsNominated plan next × (receiver_of plan line ≡ sender_of plan next)
-hop_any_parts plan line next hop =
-    let ends = and_parts (is_nominated plan line && is_nominated plan next) (receiver_of plan line == sender_of plan next) hop in
-    let both = and_parts (is_nominated plan line) (is_nominated plan next) ends.0 in
-    (both.0, both.1, eqb-true _ _ ends.1)
-
-pub hop_any_from : (plan : Topology) (line next : ℕ) → IsNominated plan line → IsNominated plan next → receiver_of plan line ≡ sender_of plan next
-    → HopsAny plan line next
-hop_any_from plan line next here there joins =
-    both_true {s = is_nominated plan line && is_nominated plan next} {t = receiver_of plan line == sender_of plan next}
-    (both_true {s = is_nominated plan line} {t = is_nominated plan next} here there) (eq-eqb (receiver_of plan line) (sender_of plan next) joins)
-
 -- of two followed lines with one receiver each may be taken for the other
 low_of : (plan : Topology) (line other : ℕ) → IsFollowed (hops_any plan) line → IsFollowed (hops_any plan) other
     → receiver_of plan line ≡ receiver_of plan other → line ≤ other
 low_of plan line other here there same =
-    let mine = hop_any_parts plan line here.0 here.1.hops in
-    let theirs = hop_any_parts plan other there.0 there.1.hops in
-    here.1.lowest other there.1.residue (hop_any_from plan other here.0 theirs.0 mine.1 (sym same ∙ mine.2))
+    let mine = hop-meets Allowed plan line here.0 here.1.hops in
+    let theirs = hop-meets Allowed plan other there.0 there.1.hops in
+    here.1.lowest other there.1.residue (hop-any-from plan other here.0 theirs.from mine.to (sym same ∙ mine.joined))
 
 one_receiver : (plan : Topology) (line other : ℕ) → IsFollowed (hops_any plan) line → IsFollowed (hops_any plan) other
     → receiver_of plan line ≡ receiver_of plan other → line ≡ other
@@ -96,14 +80,5 @@ ring_apart hop line rest cycle =
     (not_lower line rest (each-all (λ other. line < other) rest cycle.lowest))
 
 pub ring_joins : (plan : Topology) (first : ℕ) (rest : List ℕ) (end : ℕ) → Leads (IsBefore (hops_any plan)) first rest end → Leads (Joins plan) first rest end
-ring_joins plan first [] end leads = (hop_any_parts plan first end leads.hops).2
-ring_joins plan first (next ∷ rest) end leads = ((hop_any_parts plan first next leads.0.hops).2, ring_joins plan next rest end leads.1)
-
--- the first cycle goes round in hops, over any test
-leads-hops : (hop : HopTest) (first : ℕ) (rest : List ℕ) (end : ℕ) → Leads (IsBefore hop) first rest end → Leads (λ one next. IsTrue (hop one next)) first rest end
-leads-hops hop first [] end leads = leads.hops
-leads-hops hop first (next ∷ rest) end leads = (leads.0.hops, leads-hops hop next rest end leads.1)
-
-pub first-circles : (hop : HopTest) (lines : List ℕ) → IsFirstCycle hop lines → Circles hop lines
-first-circles hop [] cycle = cycle
-first-circles hop (line ∷ rest) cycle = walks-leads hop line rest line (leads-hops hop line rest line cycle.ring)
+ring_joins plan first [] end leads = (hop-meets Allowed plan first end leads.hops).joined
+ring_joins plan first (next ∷ rest) end leads = ((hop-meets Allowed plan first next leads.0.hops).joined, ring_joins plan next rest end leads.1)

@@ -7,7 +7,6 @@ pub mod ForcedText
 pub mod PriorityRows
 pub mod Loops
 pub mod PriorityReport
-pub mod FirstFall
 pub mod GoingBack
 pub mod Running
 pub mod Configured

@@ -13,8 +13,8 @@ use Rattle.sync_ql.specs.Output.{mode_at, state_at}
 use Rattle.sync_topo.specs.declared.input.InputId.{InputId}
 use Rattle.sync_topo.specs.declared.event.Event.{Event}
 use Rattle.sync_topo.specs.Topology.{Topology}
-use Rattle.sync_topo.specs.Lines.{element_name, input_name}
-use Rattle.net_rules.specs.Signals.{signals_by, is_same_input}
+use Rattle.sync_topo.specs.Lines.{element_name, input_name, is_same_input}
+use Rattle.net_rules.specs.Signals.{signals_by}
 use Rattle.prio_mode.specs.declared.shown.Shown.{Shown}
 use Rattle.prio_mode.specs.PriorityAlone.{priority_settings, priority_past, priority_taken_by}
 

@@ -6,15 +6,16 @@ ghost use Rattle.sync_topo.specs.Lines.{is_nominated, line_count};
 ghost use Rattle.sync_topo.specs.Ranks.{AreLeastRanks, IsFirstCycle, Rises};
 ghost use Rattle.rank_cert.specs.Ranks.{rank_at, rank_of, IsRanked, RanksNoOther};
 ghost use Rattle.rank_cert.specs.declared.rising.Verdict.{Verdict};
-ghost use Rattle.prio_mode.specs.PriorityHops.{hops_any, Judges};
+ghost use Rattle.prio_mode.specs.PriorityHops.{Judges};
+ghost use Rattle.sync_topo.specs.Hops.{hops_any};
 ghost use Rattle.prio_mode.specs.ForcedLoop.{IsForcedLoop};
 ghost use Rattle.prio_mode.specs.PriorityRanked.{IfRanks, IfLoop};
 
-use cycle_plan::{Ranked, Returns, rank_with};
+use cycle_plan::{Ranked, rank_with};
 use rank_cert::Cert;
 use std::alloc::Global;
 use sync_text::{NoMemory, Rows};
-use sync_topo::{LineId, Plan};
+use sync_topo::{LineId, Plan, Returns};
 
 /// What the planner finds where elements choose by priority alone.
 #[derive(Debug, Drop)]

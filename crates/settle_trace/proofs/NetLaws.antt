@@ -8,10 +8,10 @@ use Rattle.std.proofs.lemmas.Option.{slice_get_cases}
 use Rattle.sync_topo.specs.declared.input.InputId.{InputId}
 use Rattle.sync_topo.specs.declared.input.InputId.TheVariants.{Line, Source}
 use Rattle.sync_topo.specs.Topology.{Topology}
-use Rattle.sync_topo.specs.Lines.{IsInput, IsNominated, is_nominated_input, inputs_of}
+use Rattle.sync_topo.specs.Lines.{IsInput, IsNominated, is_nominated_input, inputs_of, element_of}
 use Rattle.sync_topo.specs.WellFormed.{IsWellFormed}
 use Rattle.net_rules.specs.Signals.{Signals}
-use Rattle.net_rules.specs.Inputs.{element_of, IsInputOf}
+use Rattle.net_rules.specs.Inputs.{IsInputOf}
 use Rattle.net_rules.proofs.Lists.{Each-map}
 use Rattle.net_rules.specs.History.{Levels}
 use Rattle.net_rules.specs.Settled.{IsSteady, IsSettledByNews}

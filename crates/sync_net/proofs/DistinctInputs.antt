@@ -7,8 +7,7 @@ use Rattle.std.proofs.lemmas.Option.{slice_get_within, same_Some, none-some}
 use Rattle.sync_topo.specs.declared.input.InputId.{InputId}
 use Rattle.sync_topo.specs.declared.input.InputId.TheVariants.{Line, Source}
 use Rattle.sync_topo.specs.Topology.{Topology}
-use Rattle.sync_topo.specs.Lines.{line_count, line_input, is_nominated, receiver_of, source_priority, element_of_source, lines_into, sources_at, inputs_of}
-use Rattle.net_rules.specs.Signals.{is_same_input, place_at}
+use Rattle.sync_topo.specs.Lines.{line_count, line_input, is_nominated, receiver_of, source_priority, element_of_source, lines_into, sources_at, inputs_of, is_same_input, place_at}
 use Rattle.net_rules.specs.Inputs.{IsInputOf}
 use Rattle.net_rules.specs.Walks.{Each}
 use Rattle.net_rules.proofs.Lists.{Each-map, Each-append, Each-made, Each-range, Each-filter}

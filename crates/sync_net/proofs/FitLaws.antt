@@ -18,12 +18,11 @@ use Rattle.sync_topo.specs.declared.event.What.{What}
 use Rattle.sync_topo.specs.declared.event.What.TheVariants.{Down, Up, EsmcOff, EsmcOn, SourceLevel, Lockout, Unlock, Forced, Manual, Clear, ClearWtr}
 use Rattle.sync_topo.specs.declared.event.Event.{Event}
 use Rattle.sync_topo.specs.Topology.{Topology}
-use Rattle.sync_topo.specs.Lines.{line_input, inputs_of, receiver_of}
+use Rattle.sync_topo.specs.Lines.{line_input, inputs_of, receiver_of, place_at}
 use Rattle.sync_topo.specs.WellFormed.{IsWellFormed}
 use Rattle.net_rules.specs.Activity.{is_at, is_part_at, touches}
 use Rattle.net_rules.specs.History.{settings_of}
 use Rattle.net_rules.specs.Inputs.{IsInputOf}
-use Rattle.net_rules.specs.Signals.{place_at}
 use Rattle.net_rules.proofs.TouchLaws.{input-is_at}
 use Rattle.sync_net.specs.declared.saying.Saying.{Saying}
 use Rattle.sync_net.specs.declared.saying.Saying.TheVariants.{IsUp, HasLevel, IsCleared, IsLocked, IsUnlocked, IsForced, IsManual}

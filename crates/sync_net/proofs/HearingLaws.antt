@@ -19,10 +19,9 @@ use Rattle.sync_ql.proofs.Delivered.{same-is as same_level-is}
 use Rattle.sync_topo.specs.declared.input.InputId.{InputId}
 use Rattle.sync_topo.specs.declared.input.InputId.TheVariants.{Source}
 use Rattle.sync_topo.specs.Topology.{Topology}
-use Rattle.sync_topo.specs.Lines.{line_count, line_input, receiver_of, inputs_of, IsNominated}
+use Rattle.sync_topo.specs.Lines.{line_count, line_input, receiver_of, inputs_of, IsNominated, place_at}
 use Rattle.sync_topo.specs.WellFormed.{IsWellFormed}
 use Rattle.sync_topo.proofs.LineLaws.{IsNominated-within}
-use Rattle.net_rules.specs.Signals.{place_at}
 use Rattle.net_rules.specs.Inputs.{IsInputOf}
 use Rattle.net_rules.specs.History.{settings_of}
 use Rattle.net_rules.proofs.WalkLaws.{line_input-same}

@@ -9,9 +9,8 @@ use Rattle.std.proofs.lemmas.Option.{slice_get-get_or}
 use Rattle.sync_topo.specs.declared.input.InputId.{InputId}
 use Rattle.sync_topo.specs.declared.input.InputId.TheVariants.{Line, Source}
 use Rattle.sync_topo.specs.Topology.{Topology}
-use Rattle.sync_topo.specs.Lines.{line_count, input_number, inputs_of, IsInput, is_nominated_input}
-use Rattle.net_rules.specs.Signals.{is_same_input, place_at}
-use Rattle.net_rules.specs.Inputs.{element_of, IsInputOf}
+use Rattle.sync_topo.specs.Lines.{line_count, input_number, inputs_of, IsInput, is_nominated_input, is_same_input, place_at, element_of}
+use Rattle.net_rules.specs.Inputs.{IsInputOf}
 use Rattle.net_rules.specs.Walks.{Each}
 use Rattle.net_rules.proofs.Lists.{Each-map}
 use Rattle.net_rules.proofs.InputLaws.{each-input}

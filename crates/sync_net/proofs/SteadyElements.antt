@@ -15,10 +15,9 @@ use Rattle.sync_element.specs.StandsFor as Element
 use Rattle.sync_topo.specs.declared.input.InputId.{InputId}
 use Rattle.sync_topo.specs.declared.input.InputId.TheVariants.{Line, Source}
 use Rattle.sync_topo.specs.Topology.{Topology}
-use Rattle.sync_topo.specs.Lines.{IsInput, is_nominated_input, inputs_of, input_priority}
+use Rattle.sync_topo.specs.Lines.{IsInput, is_nominated_input, inputs_of, input_priority, element_of}
 use Rattle.sync_topo.specs.WellFormed.{IsWellFormed}
 use Rattle.net_rules.specs.Signals.{Signals}
-use Rattle.net_rules.specs.Inputs.{element_of}
 use Rattle.net_rules.specs.History.{Levels, settings_of, heard, moment_at, element_past, failed_by}
 use Rattle.net_rules.specs.Settled.{IsSteady}
 use Rattle.net_rules.specs.Walks.{Each}

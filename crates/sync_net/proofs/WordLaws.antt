@@ -22,8 +22,8 @@ use Rattle.sync_topo.specs.declared.event.What.{What}
 use Rattle.sync_topo.specs.declared.event.What.TheVariants.{Down, Up, EsmcOff, EsmcOn, SourceLevel, Lockout, Unlock, Forced, Manual, Clear, ClearWtr}
 use Rattle.sync_topo.specs.declared.event.Event.{Event}
 use Rattle.sync_topo.specs.Topology.{Topology}
-use Rattle.sync_topo.specs.Lines.{line_input, inputs_of}
-use Rattle.net_rules.specs.Signals.{last_word, is_same_input, is_of_part, place_at, command_to, says_up as says_input_up, clears as clears_input}
+use Rattle.sync_topo.specs.Lines.{line_input, inputs_of, is_same_input, place_at}
+use Rattle.net_rules.specs.Signals.{last_word, is_of_part, command_to, says_up as says_input_up, clears as clears_input}
 use Rattle.sync_net.specs.declared.saying.Saying.{Saying}
 use Rattle.sync_net.specs.declared.saying.Saying.TheVariants.{IsUp, HasLevel, IsCleared, IsLocked, IsUnlocked, IsForced, IsManual}
 use Rattle.sync_net.specs.declared.signals.SourceSignal.{SourceSignal}

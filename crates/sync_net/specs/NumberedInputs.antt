@@ -3,9 +3,7 @@ use Rattle.std.specs.Prelude.{ℕ, ◌-◌, nat_lt, if◌then◌else◌, unwrap_
 use Rattle.sync_topo.specs.declared.input.InputId.{InputId}
 use Rattle.sync_topo.specs.declared.input.InputId.TheVariants.{Source}
 use Rattle.sync_topo.specs.Topology.{Topology}
-use Rattle.sync_topo.specs.Lines.{line_count, line_input}
-use Rattle.net_rules.specs.Signals.{place_at}
-use Rattle.net_rules.specs.Inputs.{element_of}
+use Rattle.sync_topo.specs.Lines.{line_count, line_input, place_at, element_of}
 
 -- the place of an input among those of its element; 0 where it isn't nominated
 abbrev pub first_place : Topology → InputId → ℕ

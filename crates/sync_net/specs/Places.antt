@@ -2,8 +2,7 @@
 use Rattle.std.specs.Prelude.{◌≡◌, ℕ, ◌+◌, List, length, slice_index, Some}
 use Rattle.sync_topo.specs.declared.input.InputId.{InputId}
 use Rattle.sync_topo.specs.Topology.{Topology}
-use Rattle.sync_topo.specs.Lines.{line_count, input_number}
-use Rattle.net_rules.specs.Signals.{place_at}
+use Rattle.sync_topo.specs.Lines.{line_count, input_number, place_at}
 use Rattle.net_rules.specs.Inputs.{IsInputOf}
 
 -- by the number of an input, its place among the inputs of its element, for each nominated input of

@@ -11,8 +11,7 @@ use Rattle.sync_topo.specs.declared.event.What.{What}
 use Rattle.sync_topo.specs.declared.event.What.TheVariants.{Down, Up, EsmcOff, EsmcOn, SourceLevel, Lockout, Unlock, Forced, Manual, Clear, ClearWtr}
 use Rattle.sync_topo.specs.declared.event.Event.{Event}
 use Rattle.sync_topo.specs.Topology.{Topology}
-use Rattle.sync_topo.specs.Lines.{line_input}
-use Rattle.net_rules.specs.Signals.{place_at}
+use Rattle.sync_topo.specs.Lines.{line_input, place_at}
 use Rattle.sync_net.specs.declared.saying.Saying.{Saying}
 use Rattle.sync_net.specs.declared.saying.Saying.TheVariants.{IsUp, HasLevel, IsCleared, IsLocked, IsUnlocked, IsForced, IsManual}
 

@@ -2,9 +2,7 @@
 
 ghost use Rattle.std.specs.Prelude.{◌≡◌, ◌+◌, ◌<◌, ℕ, [], ◌∷◌, ◌++◌, IfOk, IfSome, OnOk, length};
 ghost use Rattle.std.specs.List.{position};
-ghost use Rattle.sync_topo.specs.Lines.{IsInput, line_count};
-ghost use Rattle.net_rules.specs.Signals.{is_same_input, place_at};
-ghost use Rattle.net_rules.specs.Inputs.{element_of};
+ghost use Rattle.sync_topo.specs.Lines.{IsInput, line_count, is_same_input, place_at, element_of};
 ghost use Rattle.sync_net.specs.Places.{ArePlaces};
 ghost use Rattle.sync_net.specs.NumberedInputs.{first_place, numbered};
 ghost use Rattle.sync_net.specs.InputPlaces.{place_in};

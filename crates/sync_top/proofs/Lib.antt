@@ -1,5 +1,6 @@
 pub mod Cuts
 pub mod OneText
+pub mod Verdicts
 pub mod PriorityAnswers
 pub mod OneAnswer
 pub mod Accepted

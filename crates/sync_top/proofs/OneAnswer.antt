@@ -5,14 +5,13 @@ use Rattle.sync_edge.specs.Contents.{Contents}
 use Rattle.sync_topo.specs.declared.event.Event.{Event}
 use Rattle.sync_topo.specs.Topology.{Topology}
 use Rattle.sync_topo.specs.Lines.{line_name, is_nominated}
-use Rattle.sync_topo.specs.Hops.{hops, IsRising}
+use Rattle.sync_topo.specs.Hops.{hops, hops_any, IsRising}
 use Rattle.sync_topo.specs.Ranks.{AreLeastRanks, IsFirstCycle}
-use Rattle.rank_cert.specs.Ranks.{Ranks, rank_at, rank_of, IsFirstFall}
+use Rattle.rank_cert.specs.Ranks.{Ranks, rank_at, rank_of}
 use Rattle.rank_cert.specs.CertificateText.{certificate_text}
-use Rattle.rank_cert.proofs.RankLaws.{IsRising-no_cycle}
 use Rattle.cycle_plan.proofs.OneCycle.{one_cycle}
-use Rattle.cycle_plan.specs.declared.returns.Returns.TheVariants.{Barred}
-use Rattle.cycle_plan.proofs.CycleLaws.{IsCycle-first}
+use Rattle.sync_topo.specs.declared.returns.Returns.TheVariants.{Barred}
+use Rattle.sync_top.proofs.Verdicts.{Same, IsOne, one_verdict, no_first_cycle}
 use Rattle.event_sim.specs.declared.limits.TheConstants.{MOST_CHANGES}
 use Rattle.event_sim.specs.Rows.{rows_until}
 use Rattle.event_sim.specs.Answers.{IsLastFit}
@@ -38,7 +37,7 @@ use Rattle.sync_sweep.specs.SweepText.{table_text}
 use Rattle.sync_sweep.proofs.OneSweep.{one-sweep}
 use Rattle.sync_top.specs.Answer.{FormAnswer, IsAnswer}
 use Rattle.sync_top.proofs.OneText.{same_text}
-use Rattle.sync_top.proofs.PriorityAnswers.{one_priority_verdict, one_priority_planned, one_priority_run}
+use Rattle.sync_top.proofs.PriorityAnswers.{one_priority_planned, one_priority_run}
 use Rattle.sync_top.specs.Forms.Priority.{IsPriorityVerdict, IsPriorityPlanned, IsPriorityRun}
 use Rattle.sync_top.specs.Forms.Node.{node_rows, AreFramesSent}
 use Rattle.sync_top.proofs.NodeAnswers.{one_sent}
@@ -47,14 +46,6 @@ use Rattle.sync_top.specs.Forms.Trial.{TrialAnswer}
 use Rattle.sync_top.proofs.LastFits.{one_last}
 use Rattle.sync_top.proofs.OneTrial.{one_trial_text}
 
--- one status, and one text
-abbrev Same : Status → Status → List ℕ → List ℕ → Type 0
-Same status other text another = (status ≡ other) × (text ≡ another)
-
--- of any two answers of a kind the status and the text are one
-abbrev IsOne : (Status → List ℕ → Type 0) → Type 0
-IsOne Answers = (status other : Status) (text another : List ℕ) → Answers status text → Answers other another → Same status other text another
-
 -- where there is one answer to what was read, there is one with all that may end the reading
 one_answered : {A : Type 0} (Answers : A → Status → List ℕ → Type 0) → ((value : A) → IsOne (Answers value))
     → (read : Result A End) → IsOne (Answered Answers read)
@@ -62,68 +53,6 @@ one_answered Answers one (Ok value) status other text another first second = one
 one_answered Answers one (Err no_file) status other text another first second = absurd first
 one_answered Answers one (Err (answered known written)) status other text another first second =
     (first.0 ∙ sym second.0, first.1 ∙ sym second.1)
-
--- there is one first fall
-one_fall : (plan : Topology) (ranks : Ranks) (from to other after : ℕ) → IsFirstFall plan ranks from to → IsFirstFall plan ranks other after
-    → (from ≡ other) × (to ≡ after)
-one_fall plan ranks from to other after one two =
-    elim (one.first other after two.hops_on two.falls) [
-      | inl before ↦ elim (two.first from to one.hops_on one.falls) [
-        | inl behind ↦ absurd (omega (arith, before, behind))
-        | inr behind ↦ absurd (omega (arith, before, behind.0))
-      ]
-      | inr before ↦ elim (two.first from to one.hops_on one.falls) [
-        | inl behind ↦ absurd (omega (arith, before.0, behind))
-        | inr behind ↦ (before.0, omega (arith, before.1, behind.1))
-      ]
-    ]
-
--- the text of a fall
-abbrev fall_text : Topology → ℕ → ℕ → List ℕ
-fall_text plan from to = text_line (codes "falls " ++ line_name plan from ++ codes " " ++ line_name plan to)
-
--- what a verdict may be
-abbrev Rises : Topology → Ranks → Status → List ℕ → Type 0
-Rises plan ranks status text = (status ≡ Done) × IsRising plan (rank_of ranks) × (text ≡ text_line (codes "accepted"))
-
-abbrev Falls : Topology → Ranks → Status → List ℕ → Type 0
-Falls plan ranks status text = (status ≡ Refuted) × ((from to : ℕ) × IsFirstFall plan ranks from to × (text ≡ fall_text plan from to))
-
-either_verdict : (plan : Topology) (ranks : Ranks) (status : Status) (text : List ℕ) → IsVerdict plan ranks status text
-    → Rises plan ranks status text ⊎ Falls plan ranks status text
-either_verdict plan ranks Done text verdict = inl (refl, verdict.0, verdict.1)
-either_verdict plan ranks Refuted text verdict = inr (refl, verdict)
-either_verdict plan ranks Usage text verdict = absurd verdict
-either_verdict plan ranks BadPlan text verdict = absurd verdict
-either_verdict plan ranks BadCert text verdict = absurd verdict
-either_verdict plan ranks BadEvents text verdict = absurd verdict
-either_verdict plan ranks BadFrames text verdict = absurd verdict
-either_verdict plan ranks ReadFault text verdict = absurd verdict
-either_verdict plan ranks WriteFault text verdict = absurd verdict
-either_verdict plan ranks TooLong text verdict = absurd verdict
-either_verdict plan ranks NoMemory text verdict = absurd verdict
-either_verdict plan ranks Stopped text verdict = absurd verdict
-
--- ranks that rise fall nowhere
-no_fall : (plan : Topology) (ranks : Ranks) (from to : ℕ) → IsRising plan (rank_of ranks) → IsFirstFall plan ranks from to → ⊥
-no_fall plan ranks from to rising fall =
-    let less = rising from to fall.hops_on in omega (arith, less, fall.falls)
-
--- there is one verdict
-one_verdict : (plan : Topology) (ranks : Ranks) → IsOne (IsVerdict plan ranks)
-one_verdict plan ranks status other text another first second =
-    elim (either_verdict plan ranks status text first) [
-      | inl rises ↦ elim (either_verdict plan ranks other another second) [
-        | inl also ↦ (rises.0 ∙ sym also.0, rises.2 ∙ sym also.2)
-        | inr falls ↦ absurd (no_fall plan ranks _ _ rises.1 falls.1.2)
-      ]
-      | inr falls ↦ elim (either_verdict plan ranks other another second) [
-        | inl rises ↦ absurd (no_fall plan ranks _ _ rises.1 falls.1.2)
-        | inr also ↦
-            let same = one_fall plan ranks _ _ _ _ falls.1.2 also.1.2 in
-            (falls.0 ∙ sym also.0, falls.1.3 ∙ ap (λ l. fall_text plan l falls.1.1) same.0 ∙ ap (λ l. fall_text plan also.1.0 l) same.1 ∙ sym also.1.3)
-      ]
-    ]
 
 -- what the planner may find
 abbrev Ranked : Topology → Status → List ℕ → Type 0
@@ -148,11 +77,6 @@ either_planned plan TooLong text planned = absurd planned
 either_planned plan NoMemory text planned = absurd planned
 either_planned plan Stopped text planned = absurd planned
 
--- where ranks rise there is no first cycle
-no_first_cycle : (plan : Topology) (ranks : Ranks) (lines : List ℕ) → IsRising plan (rank_of ranks) → IsFirstCycle (hops plan) lines → ⊥
-no_first_cycle plan ranks lines rising cycle =
-    IsRising-no_cycle plan (rank_of ranks) rising lines (IsCycle-first Barred plan lines cycle)
-
 -- the planner finds one thing
 one_planned : (plan : Topology) → IsOne (IsPlanned plan)
 one_planned plan status other text another first second =
@@ -160,10 +84,10 @@ one_planned plan status other text another first second =
       | inl ranked ↦ elim (either_planned plan other another second) [
         | inl also ↦
             (ranked.0 ∙ sym also.0, ranked.1.3 ∙ same_text (hops plan) plan ranked.1.0 also.1.0 ranked.1.1 also.1.1 ∙ sym also.1.3)
-        | inr cycles ↦ absurd (no_first_cycle plan ranked.1.0 cycles.1.0 ranked.1.2 cycles.1.1)
+        | inr cycles ↦ absurd (no_first_cycle Barred plan ranked.1.0 cycles.1.0 ranked.1.2 cycles.1.1)
       ]
       | inr cycles ↦ elim (either_planned plan other another second) [
-        | inl ranked ↦ absurd (no_first_cycle plan ranked.1.0 cycles.1.0 ranked.1.2 cycles.1.1)
+        | inl ranked ↦ absurd (no_first_cycle Barred plan ranked.1.0 cycles.1.0 ranked.1.2 cycles.1.1)
         | inr also ↦
             (cycles.0 ∙ sym also.0, cycles.1.2 ∙ ap (cycle_text plan) (one_cycle (hops plan) cycles.1.0 also.1.0 cycles.1.1 also.1.1) ∙ sym also.1.2)
       ]
@@ -242,7 +166,7 @@ module _ (one_whole : (plan : Topology) (events : List Event) (until : ℕ) (tex
   one_form : (form : Option Form) (files : Contents) → IsOne (FormAnswer form files)
   one_form None files status other text another first second = (first.0 ∙ sym second.0, first.1 ∙ sym second.1)
   one_form (Some (check plan cert)) files status other text another first second =
-      one_answered (λ read. IsVerdict read.0 read.1) (λ read. one_verdict read.0 read.1) (documents plan cert files) status other text another first second
+      one_answered (λ read. IsVerdict read.0 read.1) (λ read. one_verdict (hops read.0) read.0 read.1) (documents plan cert files) status other text another first second
   one_form (Some (rank plan)) files status other text another first second =
       one_answered IsPlanned one_planned (plan_in plan files) status other text another first second
   one_form (Some (asked.hops plan)) files status other text another first second =
@@ -265,7 +189,7 @@ module _ (one_whole : (plan : Topology) (events : List Event) (until : ℕ) (tex
   one_form (Some (sweep plan at until)) files status other text another first second =
       one_answered (λ read. IsSweepTable read at until) (λ read. one_sweep_table read at until) (plan_in plan files) status other text another first second
   one_form (Some (prio_check plan cert)) files status other text another first second =
-      one_answered (λ read. IsPriorityVerdict read.0 read.1) (λ read. one_priority_verdict read.0 read.1) (documents plan cert files) status other text another first second
+      one_answered (λ read. IsPriorityVerdict read.0 read.1) (λ read. one_verdict (hops_any read.0) read.0 read.1) (documents plan cert files) status other text another first second
   one_form (Some (prio_rank plan)) files status other text another first second =
       one_answered IsPriorityPlanned one_priority_planned (plan_in plan files) status other text another first second
   one_form (Some (prio_sim plan events until)) files status other text another first second =

@@ -1,6 +1,7 @@
 -- Hops by either rule of returns.
 use Rattle.std.proofs.Common.{◌≡◌, ◌<◌, ℕ, true, ◌&&◌, ◌==◌, not, refl}
-use Rattle.std.proofs.lemmas.Bool.{and_parts, eqb-true}
+use Rattle.std.specs.Cmp.Derive.{both_true}
+use Rattle.std.proofs.lemmas.Bool.{and_parts, eqb-true, eq-eqb}
 use Rattle.sync_topo.specs.declared.returns.Returns.{Returns}
 use Rattle.sync_topo.specs.declared.returns.Returns.TheVariants.{Barred, Allowed}
 use Rattle.sync_topo.specs.Topology.{Topology}
@@ -31,3 +32,10 @@ hop-meets returns plan line next hop =
 pub lines-of-hop : (returns : Returns) (plan : Topology) (line next : ℕ) → HopsBy returns plan line next → (line < line_count plan) × (next < line_count plan)
 lines-of-hop returns plan line next hop =
     let meets = hop-meets returns plan line next hop in (IsNominated-within plan line meets.from, IsNominated-within plan next meets.to)
+
+-- nominated lines that join are a hop where returns are allowed
+pub hop-any-from : (plan : Topology) (line next : ℕ) → is_nominated plan line ≡ true → is_nominated plan next ≡ true → receiver_of plan line ≡ sender_of plan next
+    → hops_any plan line next ≡ true
+hop-any-from plan line next from to joined =
+    both_true {s = is_nominated plan line && is_nominated plan next} {t = receiver_of plan line == sender_of plan next}
+    (both_true {s = is_nominated plan line} {t = is_nominated plan next} from to) (eq-eqb (receiver_of plan line) (sender_of plan next) joined)

@@ -8,7 +8,9 @@ pub mod HeldLemmas
 pub mod WiringLaws
 pub mod WellFormedLemmas
 pub mod LineNames
+pub mod KeptNumbers
 pub mod LineLaws
+pub mod LinesOut
 pub mod HopLaws
 pub mod RuleLemmas
 pub mod KeptRules

@@ -3,7 +3,8 @@ use Rattle.std.specs.Prelude.{◌≡◌, ℕ, List, [], ◌++◌, codes, Result,
 use Rattle.sync_edge.specs.Contents.{Contents}
 use Rattle.sync_topo.specs.Topology.{Topology}
 use Rattle.sync_topo.specs.Lines.{line_name}
-use Rattle.sync_topo.specs.Hops.{IsRising}
+use Rattle.sync_topo.specs.Hops.{hops}
+use Rattle.sync_topo.specs.Ranks.{HopTest, Rises}
 use Rattle.plan_file.specs.Chain.{◌>>=◌}
 use Rattle.sync_top.specs.declared.status.Status.{Status}
 use Rattle.sync_top.specs.declared.status.Status.TheVariants.{Done, Refuted, BadCert}
@@ -11,7 +12,7 @@ use Rattle.std.specs.Fmt.{decimal}
 use Rattle.rank_cert.specs.Refusal.{refusal_number as certificate_number}
 use Rattle.rank_cert.specs.declared.error.CertErr.{CertErr}
 use Rattle.rank_cert.specs.declared.error.CertErr.TheVariants as broken
-use Rattle.rank_cert.specs.Ranks.{Ranks, rank_of, IsFirstFall}
+use Rattle.rank_cert.specs.Ranks.{Ranks, rank_of, IsFirstFallOver}
 use Rattle.rank_cert.specs.CertificateText.{certificate_of}
 use Rattle.sync_top.specs.Reading.{text_line, End, answered, Answered, file, refusal_line, plan_in}
 
@@ -47,13 +48,17 @@ documents plan_name certificate_name files = do
   ranks ← ranks_in plan certificate_name files
   Ok (plan, ranks)
 
--- accepted where ranks rise over every hop, and else the first hop over which they don't
-abbrev pub IsVerdict : Topology → Ranks → Status → List ℕ → Type 0
-IsVerdict plan ranks Done text = IsRising plan (rank_of ranks) × (text ≡ text_line (codes "accepted"))
-IsVerdict plan ranks Refuted text =
-    (from to : ℕ) × IsFirstFall plan ranks from to
+-- accepted where ranks rise over every hop by a test of hops, and else the first hop over which they don't
+abbrev pub IsVerdictOver : HopTest → Topology → Ranks → Status → List ℕ → Type 0
+IsVerdictOver hop plan ranks Done text = Rises hop (rank_of ranks) × (text ≡ text_line (codes "accepted"))
+IsVerdictOver hop plan ranks Refuted text =
+    (from to : ℕ) × IsFirstFallOver hop ranks from to
     × (text ≡ text_line (codes "falls " ++ line_name plan from ++ codes " " ++ line_name plan to))
-IsVerdict plan ranks status text = ⊥
+IsVerdictOver hop plan ranks status text = ⊥
+
+-- over the hops of networks with quality levels
+abbrev pub IsVerdict : Topology → Ranks → Status → List ℕ → Type 0
+IsVerdict plan ranks status text = IsVerdictOver (hops plan) plan ranks status text
 
 -- the answer to `check`: the verdict on both documents, or what ends their reading
 abbrev pub CheckAnswer : List ℕ → List ℕ → Contents → Status → List ℕ → Type 0

@@ -1,13 +1,13 @@
 -- The answers to `prio-check`, `prio-rank` and `prio-sim`: of networks whose elements choose by priority alone.
-use Rattle.std.specs.Prelude.{◌≡◌, ℕ, ◌≤◌, ⊤, List, ◌++◌, length, codes, Option, Some, Ok}
+use Rattle.std.specs.Prelude.{◌≡◌, ℕ, ◌≤◌, ⊤, List, length, Option, Some, Ok}
 use Rattle.sync_edge.specs.Contents.{Contents}
 use Rattle.sync_topo.specs.declared.event.Event.{Event}
 use Rattle.sync_topo.specs.Topology.{Topology}
-use Rattle.sync_topo.specs.Lines.{line_name, is_nominated}
+use Rattle.sync_topo.specs.Lines.{is_nominated}
 use Rattle.sync_topo.specs.Ranks.{Rises, AreLeastRanks, IsFirstCycle}
 use Rattle.rank_cert.specs.Ranks.{Ranks, rank_at, rank_of}
 use Rattle.rank_cert.specs.CertificateText.{certificate_of, certificate_text}
-use Rattle.prio_mode.specs.PriorityHops.{hops_any, IsFirstFall}
+use Rattle.sync_topo.specs.Hops.{hops_any}
 use Rattle.prio_mode.specs.PriorityLoops.{NeverLoops}
 use Rattle.prio_mode.specs.PriorityReport.{IsPriorityReport}
 use Rattle.prio_mode.specs.ForcedLoop.{forced_on, IsForcedLoop}
@@ -17,16 +17,12 @@ use Rattle.sync_top.specs.declared.status.Status.{Status}
 use Rattle.sync_top.specs.declared.status.Status.TheVariants.{Done, Refuted}
 use Rattle.sync_top.specs.Form.{Form, prio_check}
 use Rattle.sync_top.specs.Reading.{text_line, file_limit, Answered, plan_in}
-use Rattle.sync_top.specs.Forms.Check.{documents}
+use Rattle.sync_top.specs.Forms.Check.{IsVerdictOver, documents}
 use Rattle.sync_top.specs.Forms.Sim.{plan_and_events}
 
--- accepted where ranks rise over every hop, returns included, and else the first hop over which they don't
+-- the verdict over hops that include returns
 abbrev pub IsPriorityVerdict : Topology → Ranks → Status → List ℕ → Type 0
-IsPriorityVerdict plan ranks Done text = Rises (hops_any plan) (rank_of ranks) × (text ≡ text_line (codes "accepted"))
-IsPriorityVerdict plan ranks Refuted text =
-    (from to : ℕ) × IsFirstFall plan ranks from to
-    × (text ≡ text_line (codes "falls " ++ line_name plan from ++ codes " " ++ line_name plan to))
-IsPriorityVerdict plan ranks status text = ⊥
+IsPriorityVerdict plan ranks status text = IsVerdictOver (hops_any plan) plan ranks status text
 
 -- the answer to `prio-check`
 abbrev pub PrioCheckAnswer : List ℕ → List ℕ → Contents → Status → List ℕ → Type 0

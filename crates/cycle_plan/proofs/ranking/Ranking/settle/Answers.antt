@@ -7,10 +7,8 @@ use Rattle.sync_topo.specs.Lines.{inputs_of, IsNominated, sender_of}
 use Rattle.rank_cert.specs.Ranks.{rank_at}
 use Rattle.cycle_plan.specs.Numbers.{number_in}
 use Rattle.cycle_plan.specs.Inputs.{line_at}
-use Rattle.cycle_plan.specs.Outputs.{IsOutput}
 use Rattle.cycle_plan.specs.Peeling.{AreFree, IsAmong}
-use Rattle.cycle_plan.proofs.OutputLemmas.{kept-within}
-use Rattle.cycle_plan.proofs.Settling.{settled_by_two, settled_by_one, first_line, open_stays, back_done, ranked_outputs, settled_if_done, free_all, free_of_bundle, IsMore-trans, IsMore-watch}
+use Rattle.cycle_plan.proofs.Settling.{settled_by_two, settled_by_one, first_line, open_stays, back_done, settled_if_done, free_all, free_of_bundle, IsMore-trans, IsMore-watch}
 use Rattle.cycle_plan.proofs.ranking.Ranking.settle.Goals as goal
 
 pub returns-then-watch-clause-settled : goal.returns-then-watch-clause-settled
@@ -21,13 +19,6 @@ returns-then-watch-clause-settled c = elim c.then-watch.either [
       (rw (← c.inputs_of-inputs.ensures.inputs) two.1)
 ]
 
-pub give_all-requires-clause-outputs : goal.give_all-requires-clause-outputs
-give_all-requires-clause-outputs c =
-    subst (λ lines. All (IsOutput c.args.plan.now c.args.element) lines)
-    (kept-within c.args.outputs.now c.args.element c.index-outputs-element.result (rw c.requires.outputs.counted c.requires.within)
-    ∙ ap (λ own. own.items) (sym c.index-outputs-element.is) ∙ sym c.as_slice-own.ensures.value)
-    (c.requires.outputs.only c.args.element)
-
 pub give_all-requires-clause-free : goal.give_all-requires-clause-free
 give_all-requires-clause-free c =
     free_all c.args.returns c.args.plan.now c.watch-watch.new.self.ranks c.args.element c.watch-watch.result c.watch-watch.ensures.places
@@ -35,10 +26,7 @@ give_all-requires-clause-free c =
 
 pub returns-in_default-clause-settled : goal.returns-in_default-clause-settled
 returns-in_default-clause-settled c = λ line nominated sent left.
-    absurd (ranked_outputs c.args.returns c.args.plan.now c.give_all.new.self.ranks c.args.outputs.now c.args.element c.as_slice-own.result.now None c.requires.outputs
-    (kept-within c.args.outputs.now c.args.element c.index-outputs-element.result (rw c.requires.outputs.counted c.requires.within)
-    ∙ ap (λ own. own.items) (sym c.index-outputs-element.is) ∙ sym c.as_slice-own.ensures.value)
-    c.in_ok-give_all.ensures.given line nominated sent refl left)
+    absurd (c.in_ok-give_all.ensures.given line nominated sent refl left)
 
 pub returns-in_default-clause-more : goal.returns-in_default-clause-more
 returns-in_default-clause-more c =
@@ -51,11 +39,7 @@ returns-in_default-clause-more c =
     (record {
       watched = record { first_within = was.watched.first_within; second_within = was.watched.second_within; before = was.watched.before; between = was.watched.between };
       back = was.back;
-      done = λ done line nominated sent.
-          ranked_outputs c.args.returns c.args.plan.now c.give_all.new.self.ranks c.args.outputs.now c.args.element c.as_slice-own.result.now None c.requires.outputs
-          (kept-within c.args.outputs.now c.args.element c.index-outputs-element.result (rw c.requires.outputs.counted c.requires.within)
-          ∙ ap (λ own. own.items) (sym c.index-outputs-element.is) ∙ sym c.as_slice-own.ensures.value)
-          c.in_ok-give_all.ensures.given line nominated sent refl;
+      done = λ done line nominated sent. c.in_ok-give_all.ensures.given line nominated sent refl;
     }) refl refl refl)
 
 pub returns-then-watch-2-clause-settled : goal.returns-then-watch-2-clause-settled
@@ -64,13 +48,6 @@ returns-then-watch-2-clause-settled c =
     let last = first_line c.args.returns c.args.plan.now c.watch-watch.new.self.ranks c.args.element c.watch-watch.result c.in-Some.last.0 c.watch-watch.ensures.places here in
     settled_by_one c.args.returns c.args.plan.now c.watch-watch.new.self.ranks c.args.element c.in-Some.last.0 last
     (λ line nominated sent bundles. c.watch-watch.ensures.watched.back c.if-watch-2.true line c.in-Some.last.0 nominated sent last bundles)
-
-pub give_all-requires-2-clause-outputs : goal.give_all-requires-2-clause-outputs
-give_all-requires-2-clause-outputs c =
-    subst (λ lines. All (IsOutput c.args.plan.now c.args.element) lines)
-    (kept-within c.args.outputs.now c.args.element c.index-outputs-element.result (rw c.requires.outputs.counted c.requires.within)
-    ∙ ap (λ own. own.items) (sym c.index-outputs-element.is) ∙ sym c.as_slice-own.ensures.value)
-    (c.requires.outputs.only c.args.element)
 
 pub give_all-requires-2-clause-free : goal.give_all-requires-2-clause-free
 give_all-requires-2-clause-free c =
@@ -82,9 +59,6 @@ give_all-requires-2-clause-free c =
 given : (c : goal.After-self-2-1) → (line : ℕ) → IsNominated c.args.plan.now line → sender_of c.args.plan.now line ≡ c.args.element
     → IsAmong c.args.returns c.args.plan.now (Some (number_in c.args.returns c.args.plan.now c.in-Some.last.0)) line → rank_at c.give_all-2.new.self.ranks line ≢ None
 given c line nominated sent among =
-    ranked_outputs c.args.returns c.args.plan.now c.give_all-2.new.self.ranks c.args.outputs.now c.args.element c.as_slice-own.result.now (Some c.number_in.result) c.requires.outputs
-    (kept-within c.args.outputs.now c.args.element c.index-outputs-element.result (rw c.requires.outputs.counted c.requires.within)
-    ∙ ap (λ own. own.items) (sym c.index-outputs-element.is) ∙ sym c.as_slice-own.ensures.value)
     c.in_ok-give_all-2.ensures.given line nominated sent
     (subst (λ bundle. IsAmong c.args.returns c.args.plan.now (Some bundle) line) (sym c.number_in.ensures) among)
 

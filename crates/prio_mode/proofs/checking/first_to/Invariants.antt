@@ -1,7 +1,0 @@
-use Rattle.std.proofs.Common.{◌≡◌, drop}
-use Rattle.prio_mode.specs.FirstFall.{first_among}
-use Rattle.prio_mode.proofs.checking.first_to.Given as goal
-
-abbrev pub invariant-loop-input : goal.invariant-loop-input
-invariant-loop-input l =
-    first_among l.plan l.cert l.next.0 (drop l.input-index l.inputs) ≡ first_among l.plan l.cert l.next.0 l.inputs
