@@ -229,7 +229,7 @@ def make_repository(folder):
     top = os.path.dirname(os.path.dirname(os.path.abspath(__file__)))
     with open(os.path.join(top, "crates.txt"), encoding="ascii") as file:
         lines = dict(re.findall(r"^(\w+):(.*)$", file.read(), re.MULTILINE))
-    kept = ["sync_edge", "sync_ql", "link_model"]
+    kept = ["sync_text", "sync_ql", "link_model"]
     for crate in kept:
         source, there = (os.path.join(at, "crates", crate) for at in (top, folder))
         shutil.copytree(source, there, ignore=shutil.ignore_patterns("out"))

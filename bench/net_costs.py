@@ -36,9 +36,9 @@ use std::alloc::Global;
 use std::process::Abort;
 use std::sync::ledger::{Blank, Ledger};
 use std::test::Fail;
-use sync_edge::{NoMemory, Rows, Steps};
 use sync_ql::NetOption;
 use sync_ql::limits::LAST_MILLISECOND;
+use sync_text::{NoMemory, Rows, Steps};
 use sync_topo::{ElementRow, LinkRow, Plan, PlanRows, SourceRow};
 
 fn elements_of(alloc: Global, count: u64) -> Result<Rows<ElementRow>, NoMemory> {

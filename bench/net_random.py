@@ -32,7 +32,7 @@ MODES = {"auto": 0, "forced": 1, "manual": 2}
 STATES = {"freerun": 0, "locked": 1, "holdover": 2}
 NONE = 99
 MOST_TEXT = 900_000  # a run is cut off where it would print more
-USES = ["sync_net", "plan_file", "event_file", "sync_element", "sync_topo", "link_model", "sync_ql", "sync_edge"]
+USES = ["sync_net", "plan_file", "event_file", "sync_element", "sync_topo", "link_model", "sync_ql", "sync_text"]
 
 PROGRAM = r"""//! Steps networks through random events, and prints what they give.
 #![tactic(auto)]
@@ -43,10 +43,10 @@ use std::alloc::{AllocError, Global};
 use std::io;
 use std::marker::Brand;
 use std::sync::ledger::{Blank, Ledger};
-use sync_edge::Steps;
 use sync_element::{ClockState, Cond, Element, Mode};
 use sync_net::Net;
 use sync_ql::Level;
+use sync_text::Steps;
 use sync_topo::{Event, InputId, LineId, Plan};
 
 fn number(word: Option<&str>) -> u64 {

@@ -174,5 +174,5 @@ def compare(chance, random_case, count, folder):
     os.makedirs(os.path.join(folder, "cases"), exist_ok=True)
     refused, rows = write_cases(chance, random_case, count, os.path.join(folder, "cases"))
     print(f"{count} files, each cut in three ways: {rows} rows, {refused} refused", flush=True)
-    uses = ["node_replay", "node_file", "plan_file", "capture_text", "esmc_frame", "sync_topo", "sync_edge"]
+    uses = ["node_replay", "node_file", "plan_file", "capture_text", "esmc_frame", "sync_topo", "sync_text"]
     return try_cases(folder, "node_cases", uses, PROGRAM)

@@ -109,9 +109,9 @@ use std::io;
 use std::marker::Brand;
 use std::str::SplitAsciiWhitespace;
 use std::sync::ledger::{Blank, Ledger};
-use sync_edge::{Rows, Steps};
 use sync_element::{ClockState, Cmd, Cond, Config, Element, InputConfig, InputEvent, Mode};
 use sync_ql::{Level, NetOption, do_not_use, level_of_name, name_of};
+use sync_text::{Rows, Steps};
 
 fn word<'a>(words: &mut SplitAsciiWhitespace<'a>) -> &'a str {
     words.next().unwrap_or("")
@@ -246,7 +246,7 @@ def make_repository(folder):
             match = re.match(r"(\w+):(.*)", line)
             if match:
                 lines[match[1]] = match[2].split()
-    lines["element_cases"] = ["sync_element", "sync_ql", "sync_edge"]
+    lines["element_cases"] = ["sync_element", "sync_ql", "sync_text"]
     kept = []
     while wanted:
         crate = wanted.pop()

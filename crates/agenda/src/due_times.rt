@@ -9,7 +9,7 @@ ghost use Rattle.agenda.specs.declared.due_times.Due.{Due};
 use crate::limits::MOST_PLACES;
 use std::alloc::Global;
 use std::marker::Model;
-use sync_edge::NoMemory;
+use sync_text::NoMemory;
 
 /// When an object is due, and the place of that object.
 #[derive(Clone, Copy, Debug, PartialEq, Eq)]

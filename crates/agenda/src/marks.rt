@@ -6,7 +6,7 @@ ghost use Rattle.agenda.specs.Marked.{none_marked, AreListed};
 
 use std::alloc::Global;
 use std::marker::Model;
-use sync_edge::NoMemory;
+use sync_text::NoMemory;
 
 /// Places that are marked for work, in the order of marking.
 ///

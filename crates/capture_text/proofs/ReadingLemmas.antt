@@ -12,8 +12,8 @@ use Rattle.std.proofs.lemmas.List.Splits.{length-slice_split}
 use Rattle.std.proofs.lemmas.Slice.Eq.{bytes_eq-Decides}
 use Rattle.hex.specs.Hex.{IsBytes, decode_sized, encode_lower, is_hex_digit}
 use Rattle.hex.proofs.HexLemmas.{decode_sized-encode_lower, decode_of-encode_lower, decode_of-ok, decode_sized-ok, decode_sized-twice}
-use Rattle.sync_edge.specs.Number.{number_of}
-use Rattle.sync_edge.proofs.Decimals.{number_of_decimal, decimal_number_of}
+use Rattle.sync_text.specs.Number.{number_of}
+use Rattle.sync_text.proofs.Decimals.{number_of_decimal, decimal_number_of}
 use Rattle.sync_ql.specs.declared.levels.NetOption.{NetOption}
 use Rattle.sync_ql.specs.declared.levels.Level.{Level}
 use Rattle.sync_ql.specs.Table.{not_enhanced}

@@ -3,7 +3,7 @@ use Rattle.std.specs.Prelude.{◌≡◌, ℕ, false, [], ◌∷◌, codes, None,
 use Rattle.std.specs.Fmt.{digits}
 use Rattle.hex.specs.Hex.{decode_pairs, encode_with}
 use native.Mathlib.Decide.{dec_lt}
-use Rattle.sync_edge.specs.Number.{number_of}
+use Rattle.sync_text.specs.Number.{number_of}
 use Rattle.sync_ql.specs.declared.levels.NetOption.TheVariants.{I, II}
 use Rattle.esmc_frame.specs.declared.frame.Pdu.{Pdu}
 use Rattle.capture_text.specs.Lines.{lines_of}

@@ -6,7 +6,7 @@ use Rattle.std.specs.Option.{option_or}
 use Rattle.std.specs.Result.{result_ok}
 use Rattle.std.specs.Str.{bytes_eq}
 use Rattle.hex.specs.Hex.{decode_sized}
-use Rattle.sync_edge.specs.Number.{number_of}
+use Rattle.sync_text.specs.Number.{number_of}
 use Rattle.sync_ql.specs.declared.levels.NetOption.{NetOption}
 use Rattle.sync_ql.specs.declared.levels.Level.{Level}
 use Rattle.sync_ql.specs.Table.{not_enhanced}

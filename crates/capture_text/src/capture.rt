@@ -14,8 +14,8 @@ use crate::reading::read_row;
 use crate::row::row_for;
 use esmc_frame::{FrameErr, Pdu, decode, encode};
 use std::alloc::Global;
-use sync_edge::{NoMemory, Text};
 use sync_ql::NetOption;
+use sync_text::{NoMemory, Text};
 
 /// The most octets of a frame.
 const LONGEST_FRAME: usize = 1514;

@@ -4,7 +4,7 @@ ghost use Rattle.std.specs.Prelude.{◌≡◌};
 ghost use Rattle.capture_text.specs.Numbers.{number_of};
 
 use esmc_frame::FrameErr;
-use sync_edge::NoMemory;
+use sync_text::NoMemory;
 use thiserror::Error;
 
 /// The first line that is wrong, counted from 1 with the empty ones, and how.

@@ -11,8 +11,8 @@ ghost use Rattle.capture_text.specs.Reading.{IsRow, pdu_of, codes_of_text, code_
 use crate::cutting::cut_at;
 use esmc_frame::{Extended, Pdu};
 use hex::FromHex;
-use sync_edge::read_number;
 use sync_ql::{NetOption, code_of, enhanced_of, level_of_code, level_of_name};
+use sync_text::read_number;
 
 /// How many digits a source has.
 const SOURCE_DIGITS: usize = 12;

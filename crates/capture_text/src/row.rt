@@ -9,8 +9,8 @@ ghost use Rattle.capture_text.specs.Steps.{AreOctets, behind_text};
 
 use esmc_frame::{Extended, Pdu};
 use std::marker::Model;
-use sync_edge::{NoMemory, Text};
 use sync_ql::{NetOption, level_of_codes, name_of};
+use sync_text::{NoMemory, Text};
 
 /// The most octets that a row has, with its line feed: twelve digits, `,event,`, a name of eight
 /// letters, and behind it four commas with sixteen and two digits and two counts of three digits.

@@ -7,7 +7,7 @@ ghost use Rattle.csv_records.specs.Records.{records_of};
 use crate::record::Record;
 use csv::{Error, ReaderBuilder};
 use std::alloc::Global;
-use sync_edge::{NoMemory, Rows};
+use sync_text::{NoMemory, Rows};
 
 /// All records of some bytes, in order.
 ///

@@ -8,7 +8,7 @@ use crate::record::Record;
 use csv::{Reader, ReaderBuilder};
 use std::alloc::Global;
 use std::marker::Model;
-use sync_edge::NoMemory;
+use sync_text::NoMemory;
 
 /// The records of some bytes, taken one after another. Contracts see the record that was taken last,
 /// and those that are left.

@@ -1,6 +1,6 @@
 -- What the planner gives.
 use Rattle.std.specs.Prelude.{ℕ, ⊤, List, map, Result, Ok, Err}
-use Rattle.sync_edge.specs.declared.errors.NoMemory.{NoMemory}
+use Rattle.sync_text.specs.declared.errors.NoMemory.{NoMemory}
 use Rattle.rank_cert.specs.Ranks.{Ranks}
 use Rattle.cycle_plan.specs.declared.ranked.Ranked.{Ranked}
 use Rattle.cycle_plan.specs.declared.ranked.Ranked.TheVariants as ranked

@@ -11,8 +11,8 @@ ghost use Rattle.cycle_plan.specs.BoundParts.{AreDirections, receiver_in};
 use crate::ranked::{Ranked, rank_plan};
 use rank_cert::Cert;
 use std::alloc::Global;
-use sync_edge::NoMemory;
 use sync_ql::limits::{GREATEST_DELAY, GREATEST_WTR, HEARING_TIME, LAST_MILLISECOND};
+use sync_text::NoMemory;
 use sync_topo::{Element, InputId, LineId, Plan, bundle_law};
 
 /// From when on a network of the plan is settled after its last event, at 0 to 86,400,000

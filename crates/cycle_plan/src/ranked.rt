@@ -12,7 +12,7 @@ use crate::ranking::Ranking;
 use crate::returns::Returns;
 use rank_cert::Cert;
 use std::alloc::Global;
-use sync_edge::{NoMemory, Rows};
+use sync_text::{NoMemory, Rows};
 use sync_topo::{LineId, Plan};
 
 /// What the planner finds.

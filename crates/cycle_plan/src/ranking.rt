@@ -15,7 +15,7 @@ use crate::returns::Returns;
 use crate::top::{Top, top_of};
 use rank_cert::Cert;
 use std::alloc::Global;
-use sync_edge::NoMemory;
+use sync_text::NoMemory;
 use sync_topo::{InputId, LineId, Plan};
 
 /// The ranks that are given so far.

@@ -9,7 +9,7 @@ use crate::inputs::{first_open, inputs_of, line_at};
 use crate::ranking::Ranking;
 use crate::returns::Returns;
 use std::alloc::Global;
-use sync_edge::{NoMemory, Rows};
+use sync_text::{NoMemory, Rows};
 use sync_topo::{LineId, Plan};
 
 impl Ranking {

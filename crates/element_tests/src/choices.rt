@@ -6,9 +6,9 @@ use selector::{Candidate, Choice, Table, choose};
 use std::alloc::{AllocError, Global};
 use std::process::Abort;
 use std::test::Fail;
-use sync_edge::NoMemory;
 use sync_ql::limits::MOST_INPUTS;
 use sync_ql::{NetOption, level_of_name};
+use sync_text::NoMemory;
 
 // The level's name, the priority number, and whether the input is usable.
 type Input = (&'static str, u8, bool);

@@ -8,12 +8,12 @@ use std::marker::Brand;
 use std::process::Abort;
 use std::sync::ledger::{Blank, Ledger};
 use std::test::Fail;
-use sync_edge::{Rows, Steps};
 use sync_element::ClockState::{FreeRun, Holdover, Locked};
 use sync_element::Cond::{Failed, Good, HoldOff, Restoring};
 use sync_element::Mode::Auto;
 use sync_element::{ClockState, Cond, Config, Element, InputConfig, InputEvent, Mode};
 use sync_ql::{Level, NetOption, level_of_name};
+use sync_text::{Rows, Steps};
 
 /// What is told, with levels by their names, and "" for none.
 #[derive(Clone, Copy)]

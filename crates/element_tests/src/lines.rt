@@ -5,8 +5,8 @@ use link_model::{Line, Word};
 use std::alloc::Global;
 use std::process::Abort;
 use std::test::Fail;
-use sync_edge::NoMemory;
 use sync_ql::{Level, NetOption, level_of_name};
+use sync_text::NoMemory;
 
 /// What is told in a millisecond, with levels by their names; where the line is up or its ESMC is
 /// on again, its level is said again.

@@ -2,7 +2,7 @@
 use Rattle.std.specs.Prelude.{◌≡◌, ◌∷◌, [], codes, Option, Some, None, refl}
 use Rattle.sync_topo.specs.declared.event.Part.TheVariants as part
 use Rattle.sync_topo.specs.declared.event.What.TheVariants as what
-use Rattle.sync_edge.specs.Number.{number_of}
+use Rattle.sync_text.specs.Number.{number_of}
 use Rattle.sync_topo.specs.Examples.{twin}
 use Rattle.event_file.specs.declared.error.EventErr.TheVariants as refusal
 use Rattle.event_file.specs.Rows.{event_in, row_refusal}

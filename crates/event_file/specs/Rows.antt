@@ -3,7 +3,7 @@ use Rattle.std.specs.Prelude.{ℕ, ◌+◌, zero, suc, Bool, ◌&&◌, nat_le, n
 use Rattle.std.specs.Str.{bytes_eq}
 use Rattle.csv_records.specs.Fields.{four_of}
 use Rattle.sync_ql.specs.declared.limits.TheConstants.{LAST_MILLISECOND}
-use Rattle.sync_edge.specs.Number.{number_of}
+use Rattle.sync_text.specs.Number.{number_of}
 use Rattle.sync_topo.specs.declared.event.Event.{Event}
 use Rattle.sync_topo.specs.declared.event.What.{What}
 use Rattle.sync_topo.specs.Topology.{Topology}

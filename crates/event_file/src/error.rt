@@ -3,7 +3,7 @@
 ghost use Rattle.std.specs.Prelude.{◌≡◌};
 ghost use Rattle.event_file.specs.Refusal.{number_of};
 
-use sync_edge::NoMemory;
+use sync_text::NoMemory;
 use thiserror::Error;
 
 /// The first rule for event files that a text breaks. Rows count from 1 after the header.

@@ -11,7 +11,7 @@ use crate::error::EventErr;
 use crate::row::event_of;
 use csv_records::{Record, Records};
 use std::alloc::Global;
-use sync_edge::Rows;
+use sync_text::Rows;
 use sync_topo::{Event, Plan};
 
 /// The events of a text over a plan, in order of time.

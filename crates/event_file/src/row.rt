@@ -1,15 +1,15 @@
 // One row: its event, or the rule that it breaks.
 
 ghost use Rattle.std.specs.Prelude.{◌≡◌, ◌≤◌, IfOk, IfErr, IfSome, Some, None, option_and_then};
-ghost use Rattle.sync_edge.specs.Number.{number_of};
+ghost use Rattle.sync_text.specs.Number.{number_of};
 ghost use Rattle.sync_topo.specs.Events.{Fits};
 ghost use Rattle.event_file.specs.Rows.{event_in, time_in, in_time, row_refusal, event_limit, last_time};
 
 use crate::error::EventErr;
 use crate::word::Word;
 use csv_records::Record;
-use sync_edge::read_number;
 use sync_ql::limits::LAST_MILLISECOND;
+use sync_text::read_number;
 use sync_topo::{Event, Plan};
 
 /// How many events there may be.

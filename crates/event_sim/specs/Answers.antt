@@ -1,6 +1,6 @@
 -- What an advance answers.
 use Rattle.std.specs.Prelude.{◌≤◌, ◌<◌, ℕ, suc, Bool, true, false, List, length, Result, Ok, Err, ⊤}
-use Rattle.sync_edge.specs.declared.errors.NoMemory.{NoMemory}
+use Rattle.sync_text.specs.declared.errors.NoMemory.{NoMemory}
 use Rattle.sync_topo.specs.declared.event.Event.{Event}
 use Rattle.sync_topo.specs.Topology.{Topology}
 use Rattle.event_sim.specs.declared.limits.TheConstants.{MOST_CHANGES}

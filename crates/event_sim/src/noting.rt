@@ -10,8 +10,8 @@ use crate::change::Change;
 use crate::limits::MOST_CHANGES;
 use crate::shown::{Shown, is_other, shown_of};
 use std::alloc::Global;
-use sync_edge::NoMemory;
 use sync_net::Net;
+use sync_text::NoMemory;
 
 // What each element of a network shows.
 pub fn first_shown(alloc: Global, net: &Net<'_>) -> Result<Vec<Shown>, NoMemory>

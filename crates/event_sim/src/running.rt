@@ -17,9 +17,9 @@ use crate::noting::note_changes;
 use crate::shown::Shown;
 use std::alloc::Global;
 use std::sync::ledger::Ledger;
-use sync_edge::{NoMemory, Steps};
 use sync_net::{Net, elements_law};
 use sync_ql::limits::LAST_MILLISECOND;
+use sync_text::{NoMemory, Steps};
 use sync_topo::Event;
 
 // A network that is run, and what is noted of it.

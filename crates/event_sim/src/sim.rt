@@ -16,9 +16,9 @@ use crate::running::Run;
 use std::alloc::Global;
 use std::marker::Model;
 use std::sync::ledger::Ledger;
-use sync_edge::{NoMemory, Steps};
 use sync_net::Net;
 use sync_ql::limits::LAST_MILLISECOND;
+use sync_text::{NoMemory, Steps};
 use sync_topo::{Event, Plan};
 
 /// A simulator: the network of a plan, run through its events from 0 on, and the changes on the

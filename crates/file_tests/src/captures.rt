@@ -2,7 +2,7 @@
 
 use pcap_file::{Packet, put_head, put_packet, read_pcap};
 use std::test::Fail;
-use sync_edge::Text;
+use sync_text::Text;
 
 #[test]
 fn packets_of_any_length_come_back(rt: HostRuntime) -> Result<(), Fail> {

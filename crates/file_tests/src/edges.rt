@@ -4,9 +4,10 @@ use std::process::Abort;
 use std::test::Fail;
 use std::{fs, io};
 use sync_edge::{
-    Failed, Folder, MemFile, MemFolder, MemSink, NoMemory, ReadErr, RealFolder, RealSink, Rows,
-    Sink, Text, WriteFailed, read_all, write_all,
+    Failed, Folder, MemFile, MemFolder, MemSink, ReadErr, RealFolder, RealSink, Sink, WriteFailed,
+    read_all, write_all,
 };
+use sync_text::{NoMemory, Rows, Text};
 
 fn text(alloc: Global, bytes: &[u8]) -> Result<Text, NoMemory> {
     let mut text = Text::new(alloc);

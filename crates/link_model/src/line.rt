@@ -12,9 +12,9 @@ use crate::word::Word;
 use crate::words::{Words, is_other};
 use std::alloc::Global;
 use std::marker::Model;
-use sync_edge::NoMemory;
 use sync_ql::Level;
 use sync_ql::limits::{GREATEST_DELAY, HEARING_TIME, LAST_MILLISECOND, LEAST_DELAY};
+use sync_text::NoMemory;
 
 /// One delayed line, from what its sender says to what is heard at its end.
 ///

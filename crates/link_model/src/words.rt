@@ -5,9 +5,9 @@ ghost use Rattle.link_model.specs.Kept.{words_kept, taken_in, lost, ended, ended
 
 use crate::word::Word;
 use std::alloc::Global;
-use sync_edge::NoMemory;
 use sync_ql::Level;
 use sync_ql::limits::HEARING_TIME;
+use sync_text::NoMemory;
 
 /// The words of a line: the one that arrived last, and those on their way, the oldest first.
 #[derive(Debug, Drop)]

@@ -6,7 +6,7 @@ use std::marker::Brand;
 use std::process::Abort;
 use std::sync::ledger::{Blank, Ledger};
 use std::test::Fail;
-use sync_edge::Steps;
+use sync_text::Steps;
 
 mod back;
 mod busy;

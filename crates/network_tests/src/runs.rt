@@ -9,11 +9,11 @@ use std::marker::Brand;
 use std::process::Abort;
 use std::sync::ledger::{Blank, Ledger};
 use std::test::Fail;
-use sync_edge::{NoMemory, Steps};
 use sync_ql::limits::LAST_MILLISECOND;
 use sync_ql::rules::ClockState::{self, Holdover, Locked};
 use sync_ql::rules::Mode;
 use sync_ql::{Level, NetOption, level_of_name};
+use sync_text::{NoMemory, Steps};
 use sync_topo::{Event, InputId, LineId, Part, Plan, What};
 
 const CHAIN: &[u8] = b"element = [{ name = 'A' }, { name = 'B' }, { name = 'C' }]\n\

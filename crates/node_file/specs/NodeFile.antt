@@ -6,7 +6,7 @@ use Rattle.hex.specs.Hex.{decode_of}
 use Rattle.hex.specs.declared.error.FromHexError.{FromHexError}
 use Rattle.csv_records.specs.Fields.{four_of}
 use Rattle.csv_records.specs.FirstRefusal.{first_refusal}
-use Rattle.sync_edge.specs.Number.{number_of}
+use Rattle.sync_text.specs.Number.{number_of}
 use Rattle.sync_ql.specs.declared.levels.NetOption.{NetOption}
 use Rattle.sync_ql.specs.declared.levels.Level.{Level}
 use Rattle.sync_ql.specs.Level.{level_of_codes}

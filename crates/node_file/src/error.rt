@@ -4,7 +4,7 @@ ghost use Rattle.std.specs.Prelude.{◌≡◌};
 ghost use Rattle.node_file.specs.Refusal.{number_of};
 
 use esmc_frame::FrameErr;
-use sync_edge::NoMemory;
+use sync_text::NoMemory;
 use thiserror::Error;
 
 /// The first rule for a file of one element that its bytes break. Lines count from 1.

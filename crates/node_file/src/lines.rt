@@ -13,7 +13,7 @@ use crate::row::NodeRow;
 use capture_text::cut_at;
 use std::alloc::Global;
 use std::marker::Model;
-use sync_edge::NoMemory;
+use sync_text::NoMemory;
 use sync_topo::Plan;
 
 /// The lines of a file of one element, whose bytes come in pieces.

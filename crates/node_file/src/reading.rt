@@ -2,7 +2,7 @@
 
 ghost use Rattle.std.specs.Prelude.{◌≡◌, ℕ, true, false, ◌≤◌, ◌<◌, ◌/◌, ◌*◌, ◌==◌, IfOk, IfErr, IfSome, length, option_map, option_and_then, None, Some};
 ghost use Rattle.std.specs.Str.Lines.{strip_carriage_return};
-ghost use Rattle.sync_edge.specs.Number.{number_of};
+ghost use Rattle.sync_text.specs.Number.{number_of};
 ghost use Rattle.hex.specs.Hex.{decode_of};
 ghost use Rattle.event_file.specs.Rows.{in_time, last_time};
 ghost use Rattle.event_file.specs.Words.{what_of};
@@ -20,9 +20,9 @@ use crate::topic::{Topic, says_frame};
 use capture_text::cut_at;
 use esmc_frame::{Pdu, decode};
 use event_file::{Said, Word};
-use sync_edge::read_number;
 use sync_ql::limits::LAST_MILLISECOND;
 use sync_ql::{Level, NetOption, level_of_codes};
+use sync_text::read_number;
 use sync_topo::{LineId, Plan};
 
 /// How many bytes a line may have before its line feed.

@@ -12,8 +12,8 @@ ghost use Rattle.node_replay.specs.Keeping.{frame_of, sent_row};
 use crate::outs::OutKept;
 use esmc_frame::{Extended, Pdu, encode};
 use std::alloc::Global;
-use sync_edge::{NoMemory, Rows, Text};
 use sync_ql::{Level, NetOption, code_of, enhanced_of};
+use sync_text::{NoMemory, Rows, Text};
 use sync_topo::{InputId, LineId, Plan};
 
 /// Frames without news go out in the milliseconds that this divides.

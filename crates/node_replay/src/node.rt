@@ -17,8 +17,8 @@ use crate::replaying::Replay;
 use node_file::{NodeErr, NodeLines, NodeRow};
 use std::alloc::Global;
 use std::marker::Model;
-use sync_edge::NoMemory;
 use sync_ql::limits::LAST_MILLISECOND;
+use sync_text::NoMemory;
 use sync_topo::Plan;
 
 /// How many bytes of a file are fed at once.

@@ -16,8 +16,8 @@ use crate::running::Run;
 use crate::starting::new_run;
 use node_file::NodeRow;
 use std::alloc::Global;
-use sync_edge::{NoMemory, Rows, Text};
 use sync_ql::limits::LAST_MILLISECOND;
+use sync_text::{NoMemory, Rows, Text};
 use sync_topo::Plan;
 
 /// The run of an element up to a millisecond, and the rows of the one that is being collected.

@@ -1,6 +1,6 @@
 //! What a replay gives.
 
-use sync_edge::Text;
+use sync_text::Text;
 
 /// Where the text of an element's frames ends.
 ///

@@ -12,8 +12,8 @@ use crate::replayed::Replayed;
 use node_file::NodeRow;
 use std::alloc::Global;
 use std::marker::Model;
-use sync_edge::NoMemory;
 use sync_ql::limits::LAST_MILLISECOND;
+use sync_text::NoMemory;
 use sync_topo::Plan;
 
 /// One element of a plan, which takes what it receives, a row after another, and gives the text of the

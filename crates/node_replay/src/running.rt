@@ -18,10 +18,10 @@ use crate::shown::{Shown, shown_of, step_told};
 use crate::telling::tell_all;
 use node_file::NodeRow;
 use std::alloc::Global;
-use sync_edge::{NoMemory, Text};
 use sync_element::Element;
 use sync_net::Told;
 use sync_ql::limits::LAST_MILLISECOND;
+use sync_text::{NoMemory, Text};
 use sync_topo::Plan;
 
 /// The greatest number of rows that are written.

@@ -11,10 +11,10 @@ ghost use Rattle.node_replay.specs.Running.{Shows};
 
 use std::marker::Brand;
 use std::sync::ledger::{Blank, Ledger};
-use sync_edge::Steps;
 use sync_element::{Element, InputEvent};
 use sync_ql::limits::LAST_MILLISECOND;
 use sync_ql::{Level, do_not_use};
+use sync_text::Steps;
 use sync_topo::{InputId, LineId, Plan};
 
 /// The input that an element takes, and its level.

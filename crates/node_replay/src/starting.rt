@@ -15,10 +15,10 @@ use crate::outs::OutKept;
 use crate::running::Run;
 use crate::shown::shown_of;
 use std::alloc::Global;
-use sync_edge::{NoMemory, Rows, Text};
 use sync_element::{Config, Element, InputConfig};
 use sync_net::Told;
 use sync_ql::Level;
+use sync_text::{NoMemory, Rows, Text};
 use sync_topo::{InputId, LineId, Plan};
 
 /// A run of an element of a plan, to which nothing happened.

@@ -7,10 +7,10 @@ ghost use Rattle.node_replay.specs.Telling.{place_in, word_of, row_word, told_fr
 
 use crate::inputs::InputKept;
 use node_file::{NodeRow, NodeWord};
-use sync_edge::NoMemory;
 use sync_net::Told;
 use sync_ql::limits::MOST_INPUTS;
 use sync_ql::rules::{Cmd, InputEvent};
+use sync_text::NoMemory;
 use sync_topo::{InputId, What};
 
 /// Tells the element the commands of a millisecond, whose wait-to-restore times are cleared, and of

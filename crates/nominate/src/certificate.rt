@@ -13,7 +13,7 @@ use crate::numbering::new_priorities;
 use crate::placing::places;
 use rank_cert::Cert;
 use std::alloc::Global;
-use sync_edge::NoMemory;
+use sync_text::NoMemory;
 use sync_topo::{LineId, Plan};
 
 /// The certificate of the nominated plan: the place of a line's sender in the order of elements by

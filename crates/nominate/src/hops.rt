@@ -5,7 +5,7 @@ use crate::outputs::outputs;
 use crate::search::Search;
 use std::alloc::Global;
 use std::marker::Model;
-use sync_edge::NoMemory;
+use sync_text::NoMemory;
 use sync_topo::Plan;
 
 /// How many hops each element of a plan is from a clock.

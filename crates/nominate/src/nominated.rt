@@ -9,7 +9,7 @@ use crate::hops::least_hops;
 use crate::numbering::new_priorities;
 use crate::rows::rows_with;
 use std::alloc::Global;
-use sync_edge::NoMemory;
+use sync_text::NoMemory;
 use sync_topo::{Plan, PlanErr};
 
 /// The plan with priorities by fewest hops: all else is as it was.

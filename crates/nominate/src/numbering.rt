@@ -9,7 +9,7 @@ use crate::facts::is_one_less;
 use crate::hops::Hops;
 use crate::search::is_source;
 use std::alloc::Global;
-use sync_edge::NoMemory;
+use sync_text::NoMemory;
 use sync_topo::{InputId, LineId, Plan};
 
 /// The new priorities of lines that are given so far.

@@ -3,7 +3,7 @@ ghost use Rattle.sync_topo.specs.Lines.{line_count};
 ghost use Rattle.nominate.specs.Outputs.{AreOutputs};
 
 use std::alloc::Global;
-use sync_edge::NoMemory;
+use sync_text::NoMemory;
 use sync_topo::{LineId, Plan};
 
 /// For each element the lines out of it, in order of number.

@@ -5,9 +5,9 @@ ghost use Rattle.sync_topo.specs.RowsOfPlan.{row_of_element, row_of_link, row_of
 ghost use Rattle.nominate.specs.Nomination.{with_priorities};
 
 use std::alloc::Global;
-use sync_edge::{NoMemory, Rows, Text};
 use sync_ql::limits::MINUTE;
 use sync_ql::{Level, name_of};
+use sync_text::{NoMemory, Rows, Text};
 use sync_topo::{Element, ElementRow, Link, LinkRow, Plan, PlanRows, Source, SourceRow};
 
 /// The rows of the plan with these priorities of its lines.

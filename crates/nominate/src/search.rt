@@ -8,7 +8,7 @@ ghost use Rattle.nominate.specs.Searching.{IsSearching, AreKept, AreLed, IsMore,
 
 use std::alloc::Global;
 use std::mem;
-use sync_edge::NoMemory;
+use sync_text::NoMemory;
 use sync_topo::{InputId, LineId, Plan};
 
 /// The counts that are given so far.

@@ -1,6 +1,6 @@
 -- The definitions at captures written by hand. Only read: no clause cites it.
 use Rattle.std.specs.Prelude.{◌≡◌, ℕ, List, [], ◌∷◌, ◌++◌, codes, replicate, None, Ok, Err, refl}
-use Rattle.sync_edge.specs.Number.{number_of}
+use Rattle.sync_text.specs.Number.{number_of}
 use Rattle.sync_ql.specs.declared.levels.NetOption.TheVariants.{I}
 use Rattle.capture_text.specs.Reading.{said_by}
 use Rattle.pcap_file.specs.declared.error.PcapErr.TheVariants.{Header, Link, Record}

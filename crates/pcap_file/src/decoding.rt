@@ -12,8 +12,8 @@ use crate::reading::{Packet, read_pcap};
 use capture_text::put_row;
 use esmc_frame::{Pdu, decode};
 use std::alloc::Global;
-use sync_edge::{NoMemory, Text};
 use sync_ql::NetOption;
+use sync_text::{NoMemory, Text};
 
 /// The rows of the ESMC frames in a capture, in their order: `SEC,USEC,` and the row of the frame.
 ///

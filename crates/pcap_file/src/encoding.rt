@@ -13,8 +13,8 @@ use crate::writing::{put_head, put_packet};
 use capture_text::{CaptureErr, Lines, cut_at, read_row};
 use esmc_frame::{Pdu, encode};
 use std::alloc::Global;
-use sync_edge::{Text, read_number};
 use sync_ql::NetOption;
+use sync_text::{Text, read_number};
 
 /// What a row with a time says.
 #[derive(Clone, Copy)]

@@ -3,7 +3,7 @@
 ghost use Rattle.std.specs.Prelude.{◌≡◌};
 ghost use Rattle.pcap_file.specs.Refusal.{number_of};
 
-use sync_edge::NoMemory;
+use sync_text::NoMemory;
 use thiserror::Error;
 
 /// The first thing that is wrong with the bytes of a capture.

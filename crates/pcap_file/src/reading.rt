@@ -8,7 +8,7 @@ ghost use Rattle.pcap_file.specs.Refusal.{Gives};
 
 use crate::error::PcapErr;
 use std::alloc::Global;
-use sync_edge::Rows;
+use sync_text::Rows;
 
 /// The octets of a file header.
 const HEAD: usize = 24;

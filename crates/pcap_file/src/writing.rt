@@ -6,7 +6,7 @@ ghost use Rattle.pcap_file.specs.declared.reading.Packet.{Packet};
 ghost use Rattle.pcap_file.specs.Pcap.{packets_of, octets_of};
 ghost use Rattle.pcap_file.specs.Written.{written_head, record_head, written_record, written_packet, IsLittleCapture};
 
-use sync_edge::{NoMemory, Text};
+use sync_text::{NoMemory, Text};
 
 /// The most octets of a frame in a capture that is written.
 const LONGEST: usize = 65_535;

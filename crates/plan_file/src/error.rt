@@ -1,7 +1,7 @@
 ghost use Rattle.std.specs.Prelude.{◌≡◌};
 ghost use Rattle.plan_file.specs.Refusal.{number_of};
 
-use sync_edge::NoMemory;
+use sync_text::NoMemory;
 use sync_topo::{Place, PlanErr};
 use thiserror::Error;
 

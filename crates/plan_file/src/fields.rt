@@ -13,8 +13,8 @@ ghost use Rattle.plan_file.specs.Gives.{Gives, GivesBy};
 
 use crate::error::PlanFileErr;
 use std::alloc::Global;
-use sync_edge::{NoMemory, Text};
 use sync_ql::NetOption;
+use sync_text::{NoMemory, Text};
 use sync_topo::Place;
 use toml::{Table, Value};
 

@@ -13,7 +13,7 @@ use crate::fields::{integer_at, name_at, table_with, text_at};
 use crate::head::head_of;
 use crate::version::Version;
 use std::alloc::Global;
-use sync_edge::{Rows, Text};
+use sync_text::{Rows, Text};
 use sync_topo::{ElementRow, LinkRow, Place, PlanRows, Section, SourceRow};
 use toml::{Table, Value};
 

@@ -10,9 +10,9 @@ ghost use Rattle.plan_file.specs.Writing.{option_name, with_floor, element_table
 ghost use Rattle.plan_file.specs.Spelling.{field_text, fields_text, row_text, rows_text, head_fields, plan_text, plan_size};
 
 use std::alloc::Global;
-use sync_edge::{NoMemory, Text};
 use sync_ql::limits::MINUTE;
 use sync_ql::{Level, NetOption, name_of};
+use sync_text::{NoMemory, Text};
 use sync_topo::{Element, Link, Plan, Source};
 
 /// The text of the plan: reading it gives this plan.

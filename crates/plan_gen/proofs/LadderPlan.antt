@@ -12,7 +12,7 @@ use Rattle.std.proofs.lemmas.Slice.Eq.{bytes_eq-Decides}
 use Rattle.std.proofs.lemmas.List.FromFn.{length-map-range_with_len}
 use Rattle.std.proofs.lemmas.Option.{none-some, same_Some}
 use Rattle.std.proofs.lemmas.Fmt.{decimal_injective, length-decimal-le, digits_decimal}
-use Rattle.sync_edge.proofs.Decimals.{own}
+use Rattle.sync_text.proofs.Decimals.{own}
 use Rattle.sync_ql.specs.declared.levels.NetOption.TheVariants.{I}
 use Rattle.sync_topo.specs.declared.element.Element.{Element}
 use Rattle.sync_topo.specs.declared.link.Link.{Link}

@@ -4,7 +4,7 @@ ghost use Rattle.plan_gen.specs.Ladder.{ladder};
 
 use crate::rows::ladder_rows;
 use std::alloc::Global;
-use sync_edge::NoMemory;
+use sync_text::NoMemory;
 use sync_topo::{Plan, PlanErr};
 
 /// The ladder of `n` elements, E0 at its foot.

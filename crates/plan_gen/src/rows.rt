@@ -6,8 +6,8 @@ ghost use Rattle.plan_gen.specs.Ladder.{numbered};
 ghost use Rattle.plan_gen.specs.LadderRows.{element_row, link_row, step_row, rail_row, link_rows_up_to, source_row, ladder_rows};
 
 use std::alloc::Global;
-use sync_edge::{NoMemory, Rows, Text};
 use sync_ql::NetOption;
+use sync_text::{NoMemory, Rows, Text};
 use sync_topo::{ElementRow, LinkRow, PlanRows, SourceRow};
 
 /// How many milliseconds a message takes on each line.

@@ -6,7 +6,7 @@ use rank_cert::write_cert;
 use std::alloc::Global;
 use std::process::Abort;
 use std::test::Fail;
-use sync_edge::{NoMemory, Text};
+use sync_text::{NoMemory, Text};
 use sync_topo::Plan;
 
 const CHAIN: &[u8] = b"element = [{ name = 'A' }, { name = 'B' }, { name = 'C' }]\n\

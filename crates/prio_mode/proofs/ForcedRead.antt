@@ -14,7 +14,7 @@ use Rattle.csv_records.specs.Records.{records_of}
 use Rattle.csv_records.specs.Written.{IsPlain}
 use Rattle.csv_records.proofs.FirstRefusals.{first_refusal-none}
 use Rattle.csv_records.proofs.WrittenRecords.{plain_field, records-of-text}
-use Rattle.sync_edge.specs.Number.{number_of}
+use Rattle.sync_text.specs.Number.{number_of}
 use Rattle.sync_topo.specs.declared.event.What.TheVariants.{Forced}
 use Rattle.sync_topo.specs.Topology.{Topology}
 use Rattle.sync_topo.specs.Lines.{line_count, line_name, line_input, receiver_of}

@@ -1,6 +1,6 @@
 -- What the planner gives where elements choose by priority alone.
 use Rattle.std.specs.Prelude.{ℕ, ⊤, List, map, Result, Ok, Err}
-use Rattle.sync_edge.specs.declared.errors.NoMemory.{NoMemory}
+use Rattle.sync_text.specs.declared.errors.NoMemory.{NoMemory}
 use Rattle.rank_cert.specs.Ranks.{Ranks}
 use Rattle.prio_mode.specs.declared.planning.PrioRanked.{PrioRanked}
 use Rattle.prio_mode.specs.declared.planning.PrioRanked.TheVariants as ranked

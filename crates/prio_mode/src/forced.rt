@@ -9,7 +9,7 @@ ghost use Rattle.prio_mode.specs.ForcedLoop.{forced_on};
 ghost use Rattle.prio_mode.specs.ForcedText.{forced_row, forced_text, forced_size};
 
 use std::alloc::Global;
-use sync_edge::{NoMemory, Text};
+use sync_text::{NoMemory, Text};
 use sync_topo::{InputId, LineId, Plan};
 
 /// The event file of forced switches to some lines at 0, in their order: those of a loop that

@@ -8,7 +8,7 @@ ghost use Rattle.prio_mode.specs.GoingBack.{taken_by, TakeOwn, line_in, numbers,
 
 use crate::shown::Shown;
 use std::alloc::Global;
-use sync_edge::{NoMemory, Text};
+use sync_text::{NoMemory, Text};
 use sync_topo::{InputId, LineId, Plan};
 
 /// Puts each closed walk once, from its lowest-numbered line, in the order of these lines.

@@ -13,7 +13,7 @@ ghost use Rattle.prio_mode.specs.PriorityRanked.{IfRanks, IfLoop};
 use cycle_plan::{Ranked, Returns, rank_with};
 use rank_cert::Cert;
 use std::alloc::Global;
-use sync_edge::{NoMemory, Rows};
+use sync_text::{NoMemory, Rows};
 use sync_topo::{LineId, Plan};
 
 /// What the planner finds where elements choose by priority alone.

@@ -6,8 +6,8 @@ ghost use Rattle.prio_mode.specs.PriorityRows.{mode_word, state_word, taken_name
 
 use crate::shown::{Shown, is_other};
 use std::alloc::Global;
-use sync_edge::{NoMemory, Text};
 use sync_ql::rules::{ClockState, Mode};
+use sync_text::{NoMemory, Text};
 use sync_topo::{InputId, Plan};
 
 /// Puts the row of an element that shows something else now than it did, and nothing otherwise.

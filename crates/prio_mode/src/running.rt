@@ -17,10 +17,10 @@ use crate::rows::put_if_other;
 use crate::shown::Shown;
 use crate::stepping::step_told;
 use std::alloc::Global;
-use sync_edge::{NoMemory, Text};
 use sync_element::Element;
 use sync_net::{Tellings, tell_events};
 use sync_ql::limits::LAST_MILLISECOND;
+use sync_text::{NoMemory, Text};
 use sync_topo::{Event, Plan};
 
 /// The elements, what each shows, and what each is told.

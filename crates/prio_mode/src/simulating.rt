@@ -7,8 +7,8 @@ ghost use Rattle.prio_mode.specs.PriorityReport.{IsPriorityReport};
 use crate::loops::put_loops;
 use crate::starting::new_run;
 use std::alloc::Global;
-use sync_edge::{NoMemory, Text};
 use sync_ql::limits::LAST_MILLISECOND;
+use sync_text::{NoMemory, Text};
 use sync_topo::{Event, Plan};
 
 /// The report of a run of a plan, whose elements choose by priority alone, up to and with `until`.

@@ -11,10 +11,10 @@ ghost use Rattle.prio_mode.specs.Running.{IsRun, RunStands};
 use crate::running::Run;
 use crate::shown::{Shown, shown_of};
 use std::alloc::Global;
-use sync_edge::{NoMemory, Rows};
 use sync_element::{Config, Element, InputConfig};
 use sync_net::{new_tellings, places_of};
 use sync_ql::{Level, NetOption};
+use sync_text::{NoMemory, Rows};
 use sync_topo::{InputId, Plan};
 
 /// A run of a plan, in which nothing was told.

@@ -10,10 +10,10 @@ ghost use Rattle.prio_mode.specs.Running.{Shows};
 use crate::shown::{Shown, shown_of};
 use std::marker::Brand;
 use std::sync::ledger::{Blank, Ledger};
-use sync_edge::Steps;
 use sync_element::{Element, InputEvent};
 use sync_net::Told;
 use sync_ql::limits::LAST_MILLISECOND;
+use sync_text::Steps;
 use sync_topo::Plan;
 
 /// Tells an element its words, lets it make its step, and answers what it shows then.

@@ -14,7 +14,7 @@ use Rattle.std.proofs.lemmas.Option.{none-some, same_Some, slice_get-map}
 use Rattle.csv_records.specs.Records.{records_of}
 use Rattle.csv_records.specs.Written.{is_plain_byte, IsPlain, ArePlain, pair_line, pair_lines, pair_records}
 use Rattle.csv_records.proofs.WrittenRecords.{records-of-lines}
-use Rattle.sync_edge.proofs.Decimals.{number_of_decimal, number_of_some}
+use Rattle.sync_text.proofs.Decimals.{number_of_decimal, number_of_some}
 use Rattle.sync_topo.specs.Topology.{Topology}
 use Rattle.sync_topo.specs.Lines.{line_count, is_nominated, line_name}
 use Rattle.sync_topo.specs.Names.{is_name_byte}

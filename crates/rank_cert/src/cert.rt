@@ -6,7 +6,7 @@ ghost use Rattle.rank_cert.specs.Ranks.{rank_at};
 
 use std::alloc::Global;
 use std::marker::Model;
-use sync_edge::NoMemory;
+use sync_text::NoMemory;
 use sync_topo::{LineId, Plan};
 
 /// A rank for each line that has one.

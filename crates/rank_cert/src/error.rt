@@ -3,7 +3,7 @@
 ghost use Rattle.std.specs.Prelude.{◌≡◌};
 ghost use Rattle.rank_cert.specs.Refusal.{refusal_number};
 
-use sync_edge::NoMemory;
+use sync_text::NoMemory;
 use sync_topo::LineId;
 use thiserror::Error;
 

@@ -14,7 +14,7 @@ use crate::cert::Cert;
 use crate::error::CertErr;
 use csv_records::{Record, read_records};
 use std::alloc::Global;
-use sync_edge::read_number;
+use sync_text::read_number;
 use sync_topo::{InputId, LineId, Plan};
 
 /// The certificate of a text: a rank for each nominated line of the plan, and for no other line.

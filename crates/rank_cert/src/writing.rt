@@ -8,7 +8,7 @@ ghost use Rattle.rank_cert.specs.Written.{line_text};
 
 use crate::cert::Cert;
 use std::alloc::Global;
-use sync_edge::{NoMemory, Text};
+use sync_text::{NoMemory, Text};
 use sync_topo::{InputId, LineId, Plan};
 
 /// The text of a certificate: the header `line,rank`, and a row for each nominated line, in order

@@ -4,8 +4,9 @@ use std::alloc::{AllocError, Global};
 use std::process::Abort;
 use std::test::Fail;
 use std::thread::Threads;
-use sync_edge::{MemFile, MemFolder, MemSink, NoMemory, Rows, Text};
+use sync_edge::{MemFile, MemFolder, MemSink};
 use sync_sweep::FreeGate;
+use sync_text::{NoMemory, Rows, Text};
 use sync_top::{Status, run};
 
 const CHAIN: &[u8] =

@@ -7,9 +7,9 @@ use crate::choice::{Choice, choose_by, stay_or_take};
 use crate::standing::{Standing, renew, standing_of};
 use std::alloc::Global;
 use std::marker::Model;
-use sync_edge::NoMemory;
 use sync_ql::limits::MOST_INPUTS;
 use sync_ql::rules::Candidate;
+use sync_text::NoMemory;
 
 /// The candidates of an element's inputs, by place, of which the best is at hand.
 ///

@@ -4,7 +4,7 @@ use Rattle.std.specs.Prelude.{slice_get}
 use Rattle.std.specs.List.{All}
 use Rattle.std.proofs.lemmas.Option.{slice_get-get_or}
 use Rattle.sync_topo.specs.declared.input.InputId.{InputId}
-use Rattle.sync_edge.specs.declared.errors.NoMemory.{NoMemory}
+use Rattle.sync_text.specs.declared.errors.NoMemory.{NoMemory}
 use Rattle.sync_topo.specs.declared.input.LineId.{LineId}
 use Rattle.sync_topo.specs.Topology.{Topology}
 use Rattle.sync_topo.specs.Lines.{line_input, line_count, sender_of, receiver_of}

@@ -14,7 +14,7 @@ ghost use Rattle.settle_trace.specs.Known.{known_at, IsKnown, AreKnown, IsEndAt,
 use crate::following::{Next, follow, next_of, no_marks};
 use crate::traced::{End, Ending};
 use std::alloc::Global;
-use sync_edge::{NoMemory, Rows};
+use sync_text::{NoMemory, Rows};
 use sync_topo::{InputId, LineId, Plan};
 
 // The element that an element takes its timing from over a line; the element itself where it takes

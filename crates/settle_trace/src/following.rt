@@ -8,7 +8,7 @@ ghost use Rattle.settle_trace.specs.Following.{next_of, Follows, IsPassed, is_me
 
 use crate::traced::End;
 use std::alloc::Global;
-use sync_edge::{NoMemory, Rows};
+use sync_text::{NoMemory, Rows};
 use sync_topo::{InputId, LineId, Plan};
 
 // The lines that were followed, the element that they lead to, and the end there.

@@ -16,7 +16,7 @@ use crate::endings::endings_of;
 use crate::following::{Next, next_of, no_marks};
 use crate::traced::{End, Ending, Walk};
 use std::alloc::Global;
-use sync_edge::{NoMemory, Rows};
+use sync_text::{NoMemory, Rows};
 use sync_topo::{InputId, LineId, Plan};
 
 // The lines in the other order.

@@ -15,8 +15,8 @@ use crate::listing::walks_of;
 use crate::taking::taken_inputs;
 use crate::traced::Walk;
 use std::alloc::Global;
-use sync_edge::{NoMemory, Rows};
 use sync_net::Net;
+use sync_text::{NoMemory, Rows};
 
 /// The closed walks in the millisecond of the network's last step: each once, from its lowest line,
 /// in the order of these.

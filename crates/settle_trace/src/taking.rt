@@ -9,8 +9,8 @@ ghost use Rattle.settle_trace.specs.Now.{taken_now};
 ghost use Rattle.settle_trace.specs.Taking.{taken_in_list, AreTaken};
 
 use std::alloc::Global;
-use sync_edge::NoMemory;
 use sync_net::Net;
+use sync_text::NoMemory;
 use sync_topo::InputId;
 
 // The input that each element takes, by the element's number.

@@ -1,6 +1,6 @@
 //! Whence an element has its timing.
 
-use sync_edge::Rows;
+use sync_text::Rows;
 use sync_topo::LineId;
 
 /// Where a trace ends: at a source; at an element that takes nothing, which has its own clock; or,

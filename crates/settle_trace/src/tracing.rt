@@ -16,8 +16,8 @@ use crate::following::{follow, no_marks};
 use crate::taking::taken_inputs;
 use crate::traced::Traced;
 use std::alloc::Global;
-use sync_edge::NoMemory;
 use sync_net::Net;
+use sync_text::NoMemory;
 use sync_topo::{InputId, Plan};
 
 /// The trace of an element in the millisecond of the network's last step: what is taken, followed

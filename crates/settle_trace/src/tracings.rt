@@ -13,8 +13,8 @@ use crate::endings::endings_of;
 use crate::taking::taken_inputs;
 use crate::traced::Ending;
 use std::alloc::Global;
-use sync_edge::{NoMemory, Rows};
 use sync_net::Net;
+use sync_text::{NoMemory, Rows};
 
 /// How the trace of each element ends in the millisecond of the network's last step, in the order of
 /// the elements: of how many lines it is, and where it ends.

@@ -1,26 +1,11 @@
 //! What may be sent to another thread, and what may be shared between threads.
 
-use crate::errors::{Failed, NoMemory, ReadErr, WriteFailed};
-use crate::lists::{Rows, Text};
+use crate::errors::{Failed, ReadErr, WriteFailed};
 
 fn crosses<T: Send + Sync>() {}
 
-fn sends<T: Send>() {}
-
-fn shares<T: Sync>() {}
-
 fn all_cross() {
-    crosses::<NoMemory>();
     crosses::<Failed>();
     crosses::<ReadErr>();
     crosses::<WriteFailed>();
-    crosses::<Text>();
-}
-
-fn rows_are_sent<T: Send>() {
-    sends::<Rows<T>>();
-}
-
-fn rows_are_shared<T: Sync>() {
-    shares::<Rows<T>>();
 }

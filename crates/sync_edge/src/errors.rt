@@ -1,12 +1,5 @@
 use thiserror::Error;
 
-/// Memory ran out.
-///
-/// It is the one answer that comes freely: no clause ties it to a refused allocation.
-#[derive(Clone, Copy, Debug, PartialEq, Eq, Error)]
-#[error("out of memory")]
-pub struct NoMemory;
-
 /// A call of a folder or of a sink failed; its count of faults rose in that call.
 #[derive(Clone, Copy, Debug, PartialEq, Eq, Error)]
 #[error("the outside failed")]

@@ -1,10 +1,8 @@
-//! The edge of the program: texts and lists, numbers, files, and output.
+//! The edge of the program: files and output.
 //!
-//! All that reads or writes stands on this crate, and it alone touches the outside.
+//! All that reads or writes stands on this crate, and it alone touches the outside. Its texts and
+//! lists are those of sync_text, which it hands on.
 //!
-//! - [`Text`] and [`Rows`] grow at their end; contracts see each as a list.
-//! - [`read_number`] reads the one form of number that all texts of the program have (`number_of`).
-//! - [`Steps`] counts the steps of a work for contracts alone, at no cost.
 //! - [`Folder`] and [`Sink`] are where the program reads and writes. Their contracts speak of what a
 //!   folder holds (`Contents`), of what a sink was given, and of counts of faults (`Rose`, `HasCause`).
 //! - [`read_all`] reads a whole file and [`write_all`] writes all bytes. Each answers a fault only where
@@ -16,21 +14,16 @@
 
 mod crossing;
 mod errors;
-mod lists;
 mod memory_folder;
 mod memory_sink;
-mod numbers;
 mod outside;
 mod real;
-mod steps;
 mod transfers;
 
-pub use errors::{Failed, NoMemory, ReadErr, WriteFailed};
-pub use lists::{Rows, Text};
+pub use errors::{Failed, ReadErr, WriteFailed};
 pub use memory_folder::{MemFile, MemFolder};
 pub use memory_sink::MemSink;
-pub use numbers::read_number;
 pub use outside::{Folder, Sink};
 pub use real::{RealFolder, RealSink};
-pub use steps::Steps;
+pub use sync_text::{NoMemory, Rows, Steps, Text, read_number};
 pub use transfers::{read_all, write_all};

@@ -8,9 +8,9 @@ ghost use Rattle.sync_edge.specs.Memory.{bytes_of, contents_of, fails_at};
 ghost use Rattle.sync_edge.specs.Faults.{HasCause, one_more};
 
 use crate::errors::Failed;
-use crate::lists::{Rows, Text};
 use crate::outside::Folder;
 use std::marker::Model;
+use sync_text::{Rows, Text};
 
 /// A file of a folder in memory.
 #[derive(Debug, Drop)]

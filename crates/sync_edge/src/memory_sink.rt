@@ -4,12 +4,12 @@ ghost use Rattle.std.specs.Io.KnownBytes.{WriteAppends};
 ghost use Rattle.sync_edge.specs.Memory.{fails_at};
 ghost use Rattle.sync_edge.specs.Faults.{HasCause, one_more};
 
-use crate::errors::{Failed, NoMemory};
-use crate::lists::Rows;
+use crate::errors::Failed;
 use crate::memory_folder::is_listed;
 use crate::outside::Sink;
 use std::alloc::Global;
 use std::marker::Model;
+use sync_text::{NoMemory, Rows};
 
 /// A sink in memory, whose writes fail where the caller says.
 ///

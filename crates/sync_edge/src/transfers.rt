@@ -5,9 +5,9 @@ ghost use Rattle.sync_edge.specs.Faults.{HasCause};
 ghost use Rattle.sync_edge.specs.Transfers.{AppendsFront, AreRead, AreTaken, IsLeft, IsMoreLeftThan, IsTriedOnce, ReadHasCause, piece_size};
 
 use crate::errors::{ReadErr, WriteFailed};
-use crate::lists::Text;
 use crate::outside::{Folder, Sink};
 use std::alloc::Global;
+use sync_text::Text;
 
 /// How many bytes one read asks for.
 const PIECE: usize = 65_536;

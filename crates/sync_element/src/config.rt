@@ -2,8 +2,8 @@ ghost use Rattle.std.specs.Prelude.{◌≡◌, IfOk};
 ghost use Rattle.sync_element.specs.Configured.{settings_of};
 
 use std::alloc::Global;
-use sync_edge::{NoMemory, Rows};
 use sync_ql::Level;
+use sync_text::{NoMemory, Rows};
 
 /// What one input of an element is set to.
 ///

@@ -23,12 +23,12 @@ use operator_cmds::Cmds;
 use std::alloc::Global;
 use std::marker::Model;
 use std::sync::ledger::Ledger;
-use sync_edge::{NoMemory, Steps};
 use sync_ql::Level;
 use sync_ql::limits::{
     GREATEST_HOLDOFF, GREATEST_WTR, LAST_MILLISECOND, LEAST_HOLDOFF, MOST_INPUTS,
 };
 use sync_ql::rules::{ClockState, Cond, InputEvent, Mode};
+use sync_text::{NoMemory, Steps};
 
 /// One network element: it takes one of its inputs, or none, and has a level by it.
 ///

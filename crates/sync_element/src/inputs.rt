@@ -14,10 +14,10 @@ use agenda::DueTimes;
 use operator_cmds::Cmds;
 use selector::Table;
 use std::alloc::Global;
-use sync_edge::NoMemory;
 use sync_ql::limits::LAST_MILLISECOND;
 use sync_ql::rules::{Candidate, InputEvent};
 use sync_ql::{Level, better};
+use sync_text::NoMemory;
 
 // The inputs, by place.
 #[derive(Debug, Drop)]

@@ -14,10 +14,10 @@ use agenda::DueTimes;
 use input_monitor::Monitor;
 use selector::Table;
 use std::alloc::Global;
-use sync_edge::NoMemory;
 use sync_ql::Level;
 use sync_ql::limits::{GREATEST_HOLDOFF, GREATEST_WTR, LEAST_HOLDOFF, MOST_INPUTS};
 use sync_ql::rules::Candidate;
+use sync_text::NoMemory;
 
 // The inputs of a new element: all are up, and have their first levels.
 pub fn new_inputs(alloc: Global, config: &Config) -> Result<Inputs, NoMemory>

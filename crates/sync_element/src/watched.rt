@@ -6,9 +6,9 @@ ghost use Rattle.sync_element.specs.Renewing.{must_step, IsReady, IsStepped};
 
 use input_monitor::Monitor;
 use std::alloc::Global;
-use sync_edge::{NoMemory, Rows};
 use sync_ql::Level;
 use sync_ql::limits::LAST_MILLISECOND;
+use sync_text::{NoMemory, Rows};
 
 // What an element keeps of an input, besides what the choice looks at.
 #[derive(Debug, Drop)]

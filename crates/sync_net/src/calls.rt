@@ -9,10 +9,10 @@ ghost use Rattle.sync_net.specs.Steps.{IsSteady, IsLineTold, IsLineSaid};
 use crate::signals::LineSignal;
 use link_model::Line;
 use std::sync::ledger::Ledger;
-use sync_edge::{NoMemory, Steps};
 use sync_element::{Element, InputEvent};
 use sync_ql::Level;
 use sync_ql::limits::LAST_MILLISECOND;
+use sync_text::{NoMemory, Steps};
 
 // Tells a line whether it is up and its ESMC is on, takes what arrives, and answers the level that
 // is heard then.

@@ -9,9 +9,9 @@ use crate::tellings::Tellings;
 use crate::told::Told;
 use link_model::Line;
 use std::alloc::Global;
-use sync_edge::{NoMemory, Rows};
 use sync_element::Element;
 use sync_ql::Level;
+use sync_text::{NoMemory, Rows};
 
 // The same parts once more.
 pub fn try_clone_parts(alloc: Global, parts: &Parts) -> Result<Parts, NoMemory>

@@ -11,9 +11,9 @@ use crate::marking::mark_all;
 use crate::told::Told;
 use agenda::{DueTimes, Marks};
 use std::sync::ledger::Ledger;
-use sync_edge::{Rows, Steps};
 use sync_element::Element;
 use sync_ql::limits::LAST_MILLISECOND;
+use sync_text::{Rows, Steps};
 
 // Lets each marked element make its step, and marks the lines out of those that give something
 // else.

@@ -18,10 +18,10 @@ use crate::signals::LineSignal;
 use crate::tellings::Tellings;
 use agenda::Marks;
 use link_model::Line;
-use sync_edge::NoMemory;
 use sync_element::InputEvent;
 use sync_ql::limits::LAST_MILLISECOND;
 use sync_ql::{Level, NetOption};
+use sync_text::NoMemory;
 use sync_topo::{InputId, LineId, Plan};
 
 // Keeps the level that is heard on a line, and tells it to the line's element, if it is another.

@@ -25,9 +25,9 @@ use link_model::Line;
 use std::alloc::Global;
 use std::marker::Model;
 use std::sync::ledger::Ledger;
-use sync_edge::{NoMemory, Steps};
 use sync_element::Element;
 use sync_ql::limits::LAST_MILLISECOND;
+use sync_text::{NoMemory, Steps};
 use sync_topo::{Event, LineId, Plan};
 
 /// A network: the elements and nominated lines of a plan, as they are after its last step.

@@ -4,9 +4,9 @@ use crate::signals::{LineSignal, SourceSignal};
 use crate::tellings::Tellings;
 use agenda::{DueTimes, Marks};
 use link_model::Line;
-use sync_edge::Rows;
 use sync_element::Element;
 use sync_ql::Level;
+use sync_text::Rows;
 
 // All that a network keeps, each list by number: of elements, lines or sources.
 #[derive(Debug, Drop)]

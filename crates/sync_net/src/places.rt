@@ -10,7 +10,7 @@ ghost use Rattle.sync_net.specs.NumberedInputs.{first_place, numbered};
 ghost use Rattle.sync_net.specs.InputPlaces.{place_in};
 
 use std::alloc::Global;
-use sync_edge::NoMemory;
+use sync_text::NoMemory;
 use sync_topo::{InputId, LineId, Plan};
 
 // Where an input stands: its element, and its place among the inputs of that element.

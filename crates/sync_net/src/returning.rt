@@ -10,8 +10,8 @@ use crate::parts::Parts;
 use agenda::DueTimes;
 use link_model::Line;
 use std::alloc::Global;
-use sync_edge::NoMemory;
 use sync_element::Element;
+use sync_text::NoMemory;
 use sync_topo::Plan;
 
 // The parts become those of another network over the same plan, from which they differ in some

@@ -14,10 +14,10 @@ ghost use Rattle.sync_net.specs.Stages.{IsLevelSent, AreSent, CanSay, IsOnlyGive
 use crate::calls::say_on_line;
 use agenda::{DueTimes, Marks};
 use link_model::Line;
-use sync_edge::NoMemory;
 use sync_element::Element;
 use sync_ql::limits::LAST_MILLISECOND;
 use sync_ql::{Level, do_not_use};
+use sync_text::NoMemory;
 use sync_topo::{InputId, LineId, Plan};
 
 // The input at a place among those of an element.

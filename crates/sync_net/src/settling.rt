@@ -12,8 +12,8 @@ use crate::saying::Saying;
 use crate::signals::SourceSignal;
 use crate::tellings::Tellings;
 use crate::wording::tell_input;
-use sync_edge::NoMemory;
 use sync_ql::Level;
+use sync_text::NoMemory;
 use sync_topo::{Event, InputId, Part, Plan, What};
 
 // Settles the level of each source that an event names, and tells it.

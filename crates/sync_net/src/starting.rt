@@ -16,9 +16,9 @@ use crate::told::Told;
 use agenda::{DueTimes, Marks};
 use link_model::Line;
 use std::alloc::Global;
-use sync_edge::{NoMemory, Rows};
 use sync_element::{Config, Element, InputConfig};
 use sync_ql::Level;
+use sync_text::{NoMemory, Rows};
 use sync_topo::{InputId, LineId, Plan};
 
 // The parts of a network that was told nothing.

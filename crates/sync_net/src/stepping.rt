@@ -25,8 +25,8 @@ use crate::parts::Parts;
 use crate::sending::send_lines;
 use crate::taking::take_events;
 use std::sync::ledger::Ledger;
-use sync_edge::{NoMemory, Steps};
 use sync_ql::limits::LAST_MILLISECOND;
+use sync_text::{NoMemory, Steps};
 use sync_topo::{Event, Plan};
 
 // A step of the network: events come in, messages arrive, elements evaluate, and lines send.

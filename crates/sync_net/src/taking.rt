@@ -14,7 +14,7 @@ use crate::signals::{LineSignal, SourceSignal};
 use crate::tellings::Tellings;
 use crate::wording::tell_events;
 use agenda::Marks;
-use sync_edge::NoMemory;
+use sync_text::NoMemory;
 use sync_topo::{Event, Plan};
 
 // Takes in the events of a millisecond: what they make of lines and sources, and what elements

@@ -6,8 +6,8 @@ ghost use Rattle.sync_net.specs.Tellings.{AreTold};
 
 use crate::told::Told;
 use agenda::Marks;
-use sync_edge::NoMemory;
 use sync_ql::rules::InputEvent;
+use sync_text::NoMemory;
 
 /// What each element is told, by its number, and the elements that are told something.
 ///

@@ -4,8 +4,8 @@ ghost use Rattle.std.specs.Prelude.{◌≡◌, [], ◌∷◌, ◌++◌, IfOk, On
 
 use std::alloc::Global;
 use std::marker::Model;
-use sync_edge::NoMemory;
 use sync_ql::rules::InputEvent;
+use sync_text::NoMemory;
 
 /// What an element is told, in order. It keeps its room when it is cleared.
 ///

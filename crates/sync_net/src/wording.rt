@@ -11,8 +11,8 @@ ghost use Rattle.sync_net.specs.Tellings.{AreTold};
 use crate::places::input_place;
 use crate::saying::{Saying, said_as};
 use crate::tellings::Tellings;
-use sync_edge::NoMemory;
 use sync_ql::rules::{Cmd, InputEvent};
+use sync_text::NoMemory;
 use sync_topo::{Event, InputId, LineId, Part, Plan, What};
 
 /// Tells elements of events in their order: of all but levels.

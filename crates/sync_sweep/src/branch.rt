@@ -18,9 +18,9 @@ use crate::shown::{Shown, all_shown, note_shown};
 use agenda::Marks;
 use std::alloc::Global;
 use std::sync::ledger::Ledger;
-use sync_edge::{NoMemory, Steps};
 use sync_net::Net;
 use sync_ql::limits::LAST_MILLISECOND;
+use sync_text::{NoMemory, Steps};
 use sync_topo::{Event, Part, What};
 
 /// A network that runs on from another, which of its elements and lines a step since then touched, and

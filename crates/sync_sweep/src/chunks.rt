@@ -11,8 +11,8 @@ use crate::branch::new_branch;
 use crate::row::{SweepRow, failed_row};
 use event_sim::Sim;
 use std::alloc::Global;
-use sync_edge::{NoMemory, Rows};
 use sync_ql::limits::LAST_MILLISECOND;
+use sync_text::{NoMemory, Rows};
 
 // The rows of some links.
 pub fn rows_of(

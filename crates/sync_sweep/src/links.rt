@@ -4,7 +4,7 @@ ghost use Rattle.std.specs.Prelude.{◌≡◌, IfOk, length};
 ghost use Rattle.std.specs.List.{range_with_len};
 
 use std::alloc::Global;
-use sync_edge::{NoMemory, Rows};
+use sync_text::{NoMemory, Rows};
 
 // The numbers from 0 up to but not at a count.
 #[tactic(auto, using(crate::proofs::Numbers::range_more, crate::proofs::Numbers::length_range))]

@@ -19,10 +19,10 @@ use settle_trace::{Walk, loops, settled};
 use std::alloc::Global;
 use std::marker::Brand;
 use std::sync::ledger::{Blank, Ledger};
-use sync_edge::{NoMemory, Steps};
 use sync_net::Net;
 use sync_ql::Level;
 use sync_ql::limits::LAST_MILLISECOND;
+use sync_text::{NoMemory, Steps};
 
 /// What becomes of a network where one link alone fails.
 ///

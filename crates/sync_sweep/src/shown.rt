@@ -6,11 +6,11 @@ ghost use Rattle.sync_net.specs.NetState.{NetState};
 ghost use Rattle.sync_sweep.specs.ShownNow.{ShowsState, ShowsLevel, AreStates, AreLevels, AreShown, AreAlikeBut};
 
 use std::alloc::Global;
-use sync_edge::NoMemory;
 use sync_element::Element;
 use sync_net::Net;
 use sync_ql::Level;
 use sync_ql::rules::ClockState;
+use sync_text::NoMemory;
 
 /// The state and the level of each element, by its number; apart, so that each list is gone through
 /// in one go.

@@ -17,8 +17,8 @@ use std::marker::Brand;
 use std::sync::ledger::{Blank, Ledger};
 use std::thread;
 use std::thread::Threads;
-use sync_edge::{NoMemory, Rows, Steps};
 use sync_ql::limits::LAST_MILLISECOND;
+use sync_text::{NoMemory, Rows, Steps};
 use sync_topo::Plan;
 
 /// Into so many chunks the links are cut at most.

@@ -7,8 +7,8 @@ ghost use Rattle.sync_sweep.specs.SweepText.{bound_word, counts_text, link_name,
 
 use crate::row::SweepRow;
 use std::alloc::Global;
-use sync_edge::{NoMemory, Rows, Text};
 use sync_ql::{Level, name_of};
+use sync_text::{NoMemory, Rows, Text};
 use sync_topo::Plan;
 
 /// The rows of a sweep over a plan, as text: a head, and then a row for each link with its name,

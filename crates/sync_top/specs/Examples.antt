@@ -2,7 +2,7 @@
 use Rattle.std.specs.Prelude.{◌≡◌, ◌∷◌, [], ℕ, suc, codes, Some, None, slice_get, refl}
 use Rattle.std.specs.Fmt.{digits}
 use Rattle.std.proofs.Math.Decide.{dec_lt}
-use Rattle.sync_edge.specs.Number.{number_of}
+use Rattle.sync_text.specs.Number.{number_of}
 use Rattle.sync_topo.specs.Names.{link_names}
 use Rattle.plan_gen.specs.Ladder.{ladder}
 use Rattle.sync_top.specs.Form.{check, trial, form_of}

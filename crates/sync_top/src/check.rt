@@ -15,7 +15,8 @@ use crate::reply::{Reply, Stop, line_text, put_number, refusal};
 use crate::status::Status;
 use rank_cert::{Cert, CertErr, Verdict, read_cert};
 use std::alloc::Global;
-use sync_edge::{Folder, NoMemory, Text};
+use sync_edge::Folder;
+use sync_text::{NoMemory, Text};
 use sync_topo::{InputId, LineId, Plan};
 
 /// The line on a certificate that is refused.

@@ -4,9 +4,9 @@ ghost use Rattle.std.specs.String.{string_bytes};
 ghost use Rattle.sync_top.specs.Form.{form_of, check_form, ladder_size, sim_form, sweep_form, node_form, option_of, is_file_word, check, sim, prio_check, prio_sim};
 ghost use Rattle.sync_top.specs.FormSeen.{seen, IsSized};
 
-use sync_edge::read_number;
 use sync_ql::NetOption;
 use sync_ql::limits::LAST_MILLISECOND;
+use sync_text::read_number;
 
 /// What the program is asked for.
 #[derive(Clone, Copy, Debug, Drop)]

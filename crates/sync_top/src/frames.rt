@@ -12,8 +12,9 @@ use crate::reply::{Reply, Stop, put_number, refusal};
 use crate::status::Status;
 use capture_text::{CaptureErr, decode_lines, encode_rows};
 use std::alloc::Global;
-use sync_edge::{Folder, NoMemory, Text};
+use sync_edge::Folder;
 use sync_ql::NetOption;
+use sync_text::{NoMemory, Text};
 
 /// The line on the first frame or row that is refused.
 pub(crate) fn refusal_text(alloc: Global, refused: CaptureErr) -> Result<Text, NoMemory>

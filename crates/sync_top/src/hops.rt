@@ -16,7 +16,8 @@ use crate::reply::{Reply, Stop};
 use crate::status::Status;
 use nominate::{Hops, least_hops};
 use std::alloc::Global;
-use sync_edge::{Folder, NoMemory, Text};
+use sync_edge::Folder;
+use sync_text::{NoMemory, Text};
 use sync_topo::{InputId, LineId, Plan};
 
 /// For each element with a count above 0 the lowest-numbered line from one with one less.

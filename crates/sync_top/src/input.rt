@@ -7,7 +7,8 @@ ghost use Rattle.sync_top.specs.Work.{Reads, NeverUsage, stopped_in};
 use crate::reply::{Reply, Stop, line_text};
 use crate::status::Status;
 use std::alloc::Global;
-use sync_edge::{Folder, ReadErr, Text, read_all};
+use sync_edge::{Folder, ReadErr, read_all};
+use sync_text::Text;
 
 /// The most bytes that a file may have.
 const FILE_LIMIT: usize = 8_388_608;

@@ -7,7 +7,7 @@ ghost use Rattle.sync_top.specs.Reading.{file_limit};
 use plan_file::write_plan;
 use plan_gen::generate;
 use std::alloc::Global;
-use sync_edge::{NoMemory, Text};
+use sync_text::{NoMemory, Text};
 
 /// The text of the ladder of `n` elements. It reads no file.
 pub(crate) fn ladder_text(alloc: Global, n: u32) -> Result<Text, NoMemory>

@@ -15,8 +15,9 @@ use crate::status::Status;
 use node_file::NodeErr;
 use node_replay::{NodeEnd, Replayed, replay};
 use std::alloc::Global;
-use sync_edge::{Folder, NoMemory, Text};
+use sync_edge::Folder;
 use sync_ql::limits::LAST_MILLISECOND;
+use sync_text::{NoMemory, Text};
 use sync_topo::Plan;
 
 /// The line on a file of an element that is refused.

@@ -10,7 +10,8 @@ use crate::reply::{Reply, Stop};
 use crate::status::Status;
 use plan_file::write_plan;
 use std::alloc::Global;
-use sync_edge::{Folder, NoMemory};
+use sync_edge::Folder;
+use sync_text::NoMemory;
 use sync_topo::Plan;
 
 /// The reply to a plan: the text of the plan with priorities by fewest hops.

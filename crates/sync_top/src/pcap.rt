@@ -14,8 +14,9 @@ use crate::status::Status;
 use capture_text::CaptureErr;
 use pcap_file::{PcapErr, decode_pcap, encode_pcap};
 use std::alloc::Global;
-use sync_edge::{Folder, NoMemory, Text};
+use sync_edge::Folder;
 use sync_ql::NetOption;
+use sync_text::{NoMemory, Text};
 
 /// The line on the first thing that is wrong with a capture.
 fn capture_refusal_text(alloc: Global, refused: PcapErr) -> Result<Text, NoMemory>

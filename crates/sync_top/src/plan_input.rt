@@ -9,7 +9,8 @@ use crate::reply::{Reply, Stop, put_number, refusal};
 use crate::status::Status;
 use plan_file::{PlanFileErr, read_plan};
 use std::alloc::Global;
-use sync_edge::{Folder, NoMemory, Text};
+use sync_edge::Folder;
+use sync_text::{NoMemory, Text};
 use sync_topo::{Place, Plan, PlanErr, Section};
 
 /// The plan of a file.

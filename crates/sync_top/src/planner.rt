@@ -13,7 +13,8 @@ use crate::status::Status;
 use cycle_plan::{Ranked, rank_plan};
 use rank_cert::write_cert;
 use std::alloc::Global;
-use sync_edge::{Folder, NoMemory, Text};
+use sync_edge::Folder;
+use sync_text::{NoMemory, Text};
 use sync_topo::{InputId, LineId, Plan};
 
 /// Puts the name of a line, after a space.

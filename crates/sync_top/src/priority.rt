@@ -16,8 +16,9 @@ use crate::status::Status;
 use prio_mode::{PrioRanked, prio_plan, write_forced};
 use rank_cert::{Cert, Verdict, write_cert};
 use std::alloc::Global;
-use sync_edge::{Folder, NoMemory};
+use sync_edge::Folder;
 use sync_ql::limits::LAST_MILLISECOND;
+use sync_text::NoMemory;
 use sync_topo::{Event, Plan};
 
 /// The reply to the ranks of a certificate, where elements choose by priority alone.

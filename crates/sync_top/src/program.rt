@@ -27,8 +27,9 @@ use crate::sweep::sweep;
 use crate::trial::trial_text;
 use std::alloc::Global;
 use std::thread::Threads;
-use sync_edge::{Folder, NoMemory, Sink, Text, write_all};
+use sync_edge::{Folder, Sink, write_all};
 use sync_sweep::Gate;
+use sync_text::{NoMemory, Text};
 
 /// The reply where all is done.
 fn done(text: Text) -> Reply

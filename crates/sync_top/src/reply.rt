@@ -4,7 +4,7 @@ ghost use Rattle.sync_top.specs.Reading.{text_line};
 
 use crate::status::Status;
 use std::alloc::Global;
-use sync_edge::{NoMemory, Text};
+use sync_text::{NoMemory, Text};
 
 /// What the program writes, and the status that it ends with.
 #[derive(Debug, Drop)]

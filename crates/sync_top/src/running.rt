@@ -9,8 +9,8 @@ use event_sim::{Reach, Sim, Watch, events_until};
 use std::alloc::Global;
 use std::marker::Brand;
 use std::sync::ledger::{Blank, Ledger};
-use sync_edge::{NoMemory, Steps};
 use sync_ql::limits::LAST_MILLISECOND;
+use sync_text::{NoMemory, Steps};
 use sync_topo::{Event, Plan};
 
 /// A simulator of a plan that was told the events up to a millisecond, and how far it came. Its steps

@@ -17,8 +17,9 @@ use crate::status::Status;
 use event_file::{EventErr, read_events};
 use event_sim::{Reach, Watch};
 use std::alloc::Global;
-use sync_edge::{Folder, NoMemory, Rows, Text};
+use sync_edge::Folder;
 use sync_ql::limits::LAST_MILLISECOND;
+use sync_text::{NoMemory, Rows, Text};
 use sync_topo::{Event, Plan};
 use trace_report::report;
 

@@ -10,9 +10,10 @@ use crate::reply::{Reply, Stop};
 use crate::status::Status;
 use std::alloc::Global;
 use std::thread::Threads;
-use sync_edge::{Folder, NoMemory};
+use sync_edge::Folder;
 use sync_ql::limits::LAST_MILLISECOND;
 use sync_sweep::{Gate, sweep_text};
+use sync_text::NoMemory;
 use sync_topo::Plan;
 
 /// The reply to a plan: the table of its link failures.

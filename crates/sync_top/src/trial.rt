@@ -22,7 +22,7 @@ use plan_gen::generate;
 use rank_cert::{Cert, Verdict};
 use settle_trace::settled;
 use std::alloc::Global;
-use sync_edge::{NoMemory, Text};
+use sync_text::{NoMemory, Text};
 use sync_topo::{Event, LineId, Part, Plan, What};
 use trace_report::{put_change, put_settled};
 

@@ -5,7 +5,7 @@ ghost use Rattle.sync_topo.specs.Kept.{first_beside, AreBundlesOf};
 
 use crate::names::Names;
 use std::alloc::Global;
-use sync_edge::{NoMemory, Text};
+use sync_text::{NoMemory, Text};
 
 /// The bundles of some links: each bundle by its name, with its first link, and each link with the
 /// number of its bundle.

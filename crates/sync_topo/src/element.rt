@@ -1,5 +1,5 @@
-use sync_edge::Text;
 use sync_ql::Level;
+use sync_text::Text;
 
 /// A network element of a plan.
 #[derive(Debug, Drop)]

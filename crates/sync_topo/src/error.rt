@@ -4,7 +4,7 @@ ghost use Rattle.std.specs.Prelude.{◌≡◌};
 ghost use Rattle.sync_topo.specs.Refusal.{refusal_number, refused_place};
 
 use crate::place::Place;
-use sync_edge::NoMemory;
+use sync_text::NoMemory;
 use thiserror::Error;
 
 /// The first rule for plans that rows break, and the row that breaks it.

@@ -1,4 +1,4 @@
-use sync_edge::Text;
+use sync_text::Text;
 
 /// A link between two elements of a plan.
 ///

@@ -5,7 +5,7 @@ ghost use Rattle.sync_topo.specs.Names.{is_name, is_name_byte, is_named, place_o
 use indexmap::IndexSet;
 use std::alloc::Global;
 use std::marker::Model;
-use sync_edge::NoMemory;
+use sync_text::NoMemory;
 
 /// Names, each at its place in the order in which they came. Contracts see their list.
 #[derive(Drop)]

@@ -23,9 +23,9 @@ use crate::place::{Place, Section};
 use crate::rows::PlanRows;
 use crate::source::Source;
 use std::alloc::Global;
-use sync_edge::{NoMemory, Text};
 use sync_ql::NetOption;
 use sync_ql::limits::MOST_INPUTS;
+use sync_text::{NoMemory, Text};
 
 /// The most elements that a plan may have.
 const ELEMENT_LIMIT: usize = 2000;

@@ -1,7 +1,7 @@
 //! What a plan file says. No rule has been looked at here.
 
-use sync_edge::{Rows, Text};
 use sync_ql::NetOption;
+use sync_text::{Rows, Text};
 
 /// What a plan file says of one element.
 #[derive(Debug, Drop)]

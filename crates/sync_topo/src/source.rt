@@ -1,5 +1,5 @@
-use sync_edge::Text;
 use sync_ql::Level;
+use sync_text::Text;
 
 /// A timing source at an element of a plan, as a station clock.
 ///

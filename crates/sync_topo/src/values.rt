@@ -5,8 +5,8 @@ ghost use Rattle.sync_topo.specs.RowValues.{number_or, clock_level, default_own}
 ghost use Rattle.sync_topo.specs.Rules.{is_outside};
 ghost use Rattle.sync_topo.specs.WellFormed.{IsClockLevel};
 
-use sync_edge::Text;
 use sync_ql::{Level, NetOption, better, do_not_use, level_of_name};
+use sync_text::Text;
 
 /// The number that a row gives, or the default where it gives none.
 ///

@@ -10,8 +10,8 @@ ghost use Rattle.trace_report.specs.Report.{changes_part};
 use crate::words::{mode_word, state_word};
 use event_sim::Change;
 use std::alloc::Global;
-use sync_edge::{NoMemory, Text};
 use sync_ql::name_of;
+use sync_text::{NoMemory, Text};
 use sync_topo::{InputId, Plan};
 
 // Puts all changes.

@@ -12,10 +12,10 @@ ghost use Rattle.trace_report.specs.Report.{element_rows, inputs_part, condition
 use crate::conditions::{later, passed_until};
 use crate::words::{condition_word, left_of};
 use std::alloc::Global;
-use sync_edge::{NoMemory, Text};
 use sync_element::Element;
 use sync_net::Net;
 use sync_ql::rules::Cond;
+use sync_text::{NoMemory, Text};
 use sync_topo::{InputId, Plan};
 
 // Puts the inputs of all elements, as they are in the millisecond of the last step.

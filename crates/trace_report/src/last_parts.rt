@@ -14,8 +14,8 @@ ghost use Rattle.trace_report.specs.LastParts.{AreLastParts, end_name, end_word,
 use crate::inputs::put_inputs;
 use settle_trace::{End, Ending, Walk, loops, settled, traces};
 use std::alloc::Global;
-use sync_edge::{NoMemory, Text};
 use sync_net::Net;
+use sync_text::{NoMemory, Text};
 use sync_topo::{InputId, LineId, Plan};
 
 // Puts how the network stands in the millisecond of its last step.

@@ -9,7 +9,7 @@ use crate::changes::put_changes;
 use crate::last_parts::put_end;
 use event_sim::{Reach, Sim, Watch};
 use std::alloc::Global;
-use sync_edge::{NoMemory, Text};
+use sync_text::{NoMemory, Text};
 
 /// The report of a run, as text: the line `changes` and a row for each change; then of the last
 /// millisecond the line `inputs` and a row for each input of each element, the line `traces` and a

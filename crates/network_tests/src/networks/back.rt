@@ -9,9 +9,9 @@ use plan_file::read_plan;
 use std::process::Abort;
 use std::sync::ledger::Ledger;
 use std::test::Fail;
-use sync_edge::Steps;
 use sync_net::Net;
 use sync_ql::limits::LAST_MILLISECOND;
+use sync_text::Steps;
 use sync_topo::Event;
 
 fn step_at<L: Ledger>(

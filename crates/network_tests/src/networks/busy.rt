@@ -8,9 +8,9 @@ use plan_file::read_plan;
 use std::process::Abort;
 use std::sync::ledger::{Blank, Ledger};
 use std::test::Fail;
-use sync_edge::Steps;
 use sync_net::Net;
 use sync_ql::limits::LAST_MILLISECOND;
+use sync_text::Steps;
 
 /// A source fails and comes back, levels change, and a pair swings.
 const BUSY: &[u8] =

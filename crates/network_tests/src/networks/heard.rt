@@ -6,10 +6,10 @@ use plan_file::read_plan;
 use std::process::Abort;
 use std::sync::ledger::Ledger;
 use std::test::Fail;
-use sync_edge::Steps;
 use sync_net::Net;
 use sync_ql::limits::LAST_MILLISECOND;
 use sync_ql::{NetOption, level_of_name};
+use sync_text::Steps;
 use sync_topo::{InputId, LineId};
 
 /// A millisecond, the level heard in it, when a step is due then, and the number of later steps.

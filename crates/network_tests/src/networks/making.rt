@@ -6,7 +6,7 @@ ghost use Rattle.sync_topo.specs.Events.{Fits};
 use event_file::read_events;
 use std::alloc::Global;
 use std::test::Fail;
-use sync_edge::{Rows, Text};
+use sync_text::{Rows, Text};
 use sync_topo::{Event, Plan};
 
 /// Two elements that are each other's only input, with delays of 10.

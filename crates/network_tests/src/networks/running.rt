@@ -7,9 +7,9 @@ use super::making::{Told, all_at, all_fit, events_of};
 use std::process::Abort;
 use std::sync::ledger::Ledger;
 use std::test::Fail;
-use sync_edge::Steps;
 use sync_net::Net;
 use sync_ql::limits::LAST_MILLISECOND;
+use sync_text::Steps;
 use sync_topo::Event;
 
 /// The first step is at 0, and a later one after the last and not past what is due.

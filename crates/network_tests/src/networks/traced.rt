@@ -7,8 +7,8 @@ use settle_trace::{End, trace};
 use std::process::Abort;
 use std::sync::ledger::Ledger;
 use std::test::Fail;
-use sync_edge::{NoMemory, Steps};
 use sync_net::Net;
+use sync_text::{NoMemory, Steps};
 use sync_topo::LineId;
 
 const CHAIN: &[u8] = b"element = [{ name = 'A' }, { name = 'B' }, { name = 'C' }]\n\

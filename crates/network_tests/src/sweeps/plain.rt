@@ -10,10 +10,10 @@ use std::process::Abort;
 use std::sync::ledger::{Blank, Ledger};
 use std::test::Fail;
 use std::thread::Threads;
-use sync_edge::Steps;
 use sync_net::Net;
 use sync_ql::rules::ClockState::{self, FreeRun, Holdover, Locked};
 use sync_sweep::{FreeGate, SweepRow, sweep};
+use sync_text::Steps;
 use sync_topo::{Event, Part, Plan, What};
 
 // The row says what the network shows.

@@ -5,8 +5,8 @@ use node_replay::NodeEnd;
 use plan_file::read_plan;
 use std::process::Abort;
 use std::test::Fail;
-use sync_edge::{NoMemory, Text};
 use sync_ql::limits::LAST_MILLISECOND;
+use sync_text::{NoMemory, Text};
 use sync_topo::Plan;
 
 /// A line of a file: what stands before its frame, and the octet of the frame's code; "" where it has no

@@ -7,7 +7,7 @@ use plan_file::read_plan;
 use std::alloc::Global;
 use std::process::Abort;
 use std::test::Fail;
-use sync_edge::{NoMemory, Text};
+use sync_text::{NoMemory, Text};
 use sync_topo::Plan;
 
 /// A file, the size of its last piece, which brings the end of a line that breaks a rule, and the refusal.

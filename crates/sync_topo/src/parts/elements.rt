@@ -15,9 +15,9 @@ use crate::place::Section;
 use crate::rows::ElementRow;
 use crate::values::{default_own, level_given, number_within};
 use std::alloc::Global;
-use sync_edge::{NoMemory, Rows};
 use sync_ql::limits::{GREATEST_HOLDOFF, GREATEST_WTR_MINUTES, LEAST_HOLDOFF, MINUTE};
 use sync_ql::{Level, NetOption};
+use sync_text::{NoMemory, Rows};
 
 /// The hold-off time of an element that names none, in milliseconds.
 const DEFAULT_HOLDOFF: u32 = 300;

@@ -15,8 +15,8 @@ use crate::parts::{Parts, row_after, take_input};
 use crate::place::Section;
 use crate::rows::LinkRow;
 use crate::values::{number_within, priority_within};
-use sync_edge::{NoMemory, Rows};
 use sync_ql::limits::{GREATEST_DELAY, LEAST_DELAY};
+use sync_text::{NoMemory, Rows};
 
 /// The delay of a line that names none, in milliseconds.
 const DEFAULT_DELAY: u32 = 1;

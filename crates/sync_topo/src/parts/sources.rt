@@ -14,8 +14,8 @@ use crate::place::Section;
 use crate::rows::SourceRow;
 use crate::source::Source;
 use crate::values::priority_within;
-use sync_edge::{NoMemory, Rows};
 use sync_ql::level_of_name;
+use sync_text::{NoMemory, Rows};
 
 impl Parts {
     ghost use Rattle.sync_topo.specs.Indexed.{topology, IsIndexed, MayFeed};

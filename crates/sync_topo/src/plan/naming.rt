@@ -10,7 +10,7 @@ ghost use Rattle.sync_topo.specs.Naming.{has_sign, IsCut, line_into};
 use crate::input::{InputId, LineId};
 use crate::plan::Plan;
 use std::alloc::Global;
-use sync_edge::{NoMemory, Text};
+use sync_text::{NoMemory, Text};
 
 impl Plan {
     /// The element of a name.

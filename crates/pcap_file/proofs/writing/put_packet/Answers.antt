@@ -1,6 +1,6 @@
 -- What a record adds to a capture.
 use Rattle.std.proofs.Common.{◌≡◌, ◌++◌, ℕ, List, [], ◌∷◌, Result, Ok, Err, sym, subst, arith, OnOk}
-use Rattle.sync_edge.specs.declared.errors.NoMemory.{NoMemory}
+use Rattle.sync_text.specs.declared.errors.NoMemory.{NoMemory}
 use Rattle.pcap_file.specs.Pcap.{octets_of}
 use Rattle.pcap_file.specs.Written.{written_record, written_packet, IsLittleCapture}
 use Rattle.pcap_file.proofs.Captures.{little_written, frame_there}

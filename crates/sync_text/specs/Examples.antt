@@ -1,6 +1,6 @@
 -- The form of numbers at its corners.
 use Rattle.std.specs.Prelude.{◌≡◌, None, Some, codes, refl}
-use Rattle.sync_edge.specs.Number.{number_of}
+use Rattle.sync_text.specs.Number.{number_of}
 
 pub zero : number_of (codes "0") ≡ Some 0
 unfolding number_of

@@ -11,7 +11,7 @@ use Rattle.std.proofs.lemmas.Str.{IsUtf8-from_ascii}
 use Rattle.std.proofs.lemmas.Str.Ascii.{IsAscii-nil, IsAscii-cons}
 use Rattle.std.proofs.lemmas.Str.Parse.{IsNumeralModel, numerals_by_weight, tells_all_ascii_digits, parse_plain}
 use Rattle.std.proofs.lemmas.Fmt.{decimal-digits_value, digits_decimal, digits_value-decimal, decimal_nonempty, first_decimal, decimal_digit}
-use Rattle.sync_edge.specs.Number.{is_padded, is_decimal, value_of, number_of}
+use Rattle.sync_text.specs.Number.{is_padded, is_decimal, value_of, number_of}
 
 -- the words of std for decimal digits are those of this crate
 pub own : IsNumeralModel (λ ds. all_ascii_digits ds ≡ true) value_of

@@ -1,6 +1,6 @@
 ghost use Rattle.std.specs.Prelude.{◌≡◌, ℕ, ◌<◌, ◌^◌, ◌==◌, ◌||◌, IfSome, slice_index};
 ghost use Rattle.std.specs.Fmt.{decimal};
-ghost use Rattle.sync_edge.specs.Number.{is_padded, number_of};
+ghost use Rattle.sync_text.specs.Number.{is_padded, number_of};
 
 use std::str;
 

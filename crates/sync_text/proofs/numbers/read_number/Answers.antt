@@ -1,7 +1,7 @@
 -- Bytes that begin wrongly, or are no text, are no number.
 use Rattle.std.proofs.Common.{◌∙◌, sym}
-use Rattle.sync_edge.proofs.Decimals.{wrong_start, no_text, number_of_decimal}
-use Rattle.sync_edge.proofs.numbers.read_number.Goals as goal
+use Rattle.sync_text.proofs.Decimals.{wrong_start, no_text, number_of_decimal}
+use Rattle.sync_text.proofs.numbers.read_number.Goals as goal
 
 pub returns-then-begins_wrongly-clause-number : goal.returns-then-begins_wrongly-clause-number
 returns-then-begins_wrongly-clause-number c = sym (wrong_start _ (sym c.if-begins_wrongly.ensures))

@@ -39,10 +39,8 @@ impl Text {
         ensures ok { OnOk result (self.new ≡ self.old ++ bytes.now) }
         ensures err { OnErr result (self.new ≡ self.old) }
     {
-        match self.kept.extend_from_slice(bytes) {
-            Ok(()) => Ok(()),
-            Err(_) => Err(NoMemory),
-        }
+        self.kept.extend_from_slice(bytes)?;
+        Ok(())
     }
 
     /// Puts a number at the end, in decimal digits without a leading zero.
@@ -103,10 +101,8 @@ impl<T> Rows<T> {
     pub fn with_capacity(alloc: Global, count: usize) -> Result<Rows<T>, NoMemory>
         ensures { IfOk result (λ rows. rows ≡ []) }
     {
-        match Vec::with_capacity(alloc, count) {
-            Ok(kept) => Ok(Rows { kept }),
-            Err(_) => Err(NoMemory),
-        }
+        let kept = Vec::with_capacity(alloc, count)?;
+        Ok(Rows { kept })
     }
 
     /// All the items, in the order in which they were pushed.
@@ -132,10 +128,8 @@ impl<T: Drop> Rows<T> {
         ensures ok { OnOk result (self.new ≡ self.old ++ item ∷ []) }
         ensures err { OnErr result (self.new ≡ self.old) }
     {
-        match self.kept.push(item) {
-            Ok(()) => Ok(()),
-            Err(_) => Err(NoMemory),
-        }
+        self.kept.push(item)?;
+        Ok(())
     }
 }
 
@@ -144,9 +138,7 @@ impl<T: Copy> Rows<T> {
     pub fn try_clone(&self, alloc: Global) -> Result<Rows<T>, NoMemory>
         ensures { IfOk result (λ rows. rows ≡ self.now) }
     {
-        match Vec::from_slice(alloc, self.kept.as_slice()) {
-            Ok(kept) => Ok(Rows { kept }),
-            Err(_) => Err(NoMemory),
-        }
+        let kept = Vec::from_slice(alloc, self.kept.as_slice())?;
+        Ok(Rows { kept })
     }
 }
