@@ -9,7 +9,8 @@ use Rattle.sync_topo.specs.Lines.{delay_of, is_nominated, IsNominated}
 use Rattle.sync_topo.specs.Hops.{hops, IsRising}
 use Rattle.sync_topo.specs.Ranks.{IsLeastRank}
 use Rattle.net_rules.specs.Signals.{Signals}
-use Rattle.net_rules.specs.History.{Levels, timers_of, Obeys}
+use Rattle.net_rules.specs.History.{Levels, Obeys}
+use Rattle.net_rules.specs.Settings.{timers_of}
 use Rattle.net_rules.specs.Settled.{IsSettled}
 use Rattle.net_rules.specs.Staying.{IsQuietAfter}
 use Rattle.net_rules.specs.Settling.{IsWait, IsSettlingBound}

@@ -10,7 +10,8 @@ use Rattle.sync_topo.proofs.LineLaws.{IsNominated-within}
 use Rattle.sync_topo.specs.Hops.{IsRising, IsCycle}
 use Rattle.sync_topo.specs.WellFormed.{IsWellFormed}
 use Rattle.net_rules.specs.Signals.{Signals, signals_by}
-use Rattle.net_rules.specs.History.{Obeys, out_at, settings_of, element_past, Levels, taken_at, line_moment_at, signal_at}
+use Rattle.net_rules.specs.History.{Obeys, out_at, settings_of, element_past, Levels, taken_at, line_moment_at}
+use Rattle.net_rules.specs.Settings.{signal_at}
 use Rattle.net_rules.specs.Sameness.{IsSameUntil}
 use Rattle.net_rules.specs.Activity.{is_active, is_busy, TouchAlike}
 use Rattle.net_rules.specs.Settled.{IsSettled}

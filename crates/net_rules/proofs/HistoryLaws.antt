@@ -14,7 +14,8 @@ use Rattle.sync_topo.proofs.LineLaws.{IsNominated-within}
 use Rattle.net_rules.specs.Signals.{Signals}
 use Rattle.net_rules.specs.Inputs.{IsInputOf}
 use Rattle.net_rules.specs.Sameness.{IsSameUntil}
-use Rattle.net_rules.specs.History.{Levels, line_moment_at, heard, signal_at, input_level, moment_at, element_past, sent_by, sent_level, Obeys, rounds, out_at}
+use Rattle.net_rules.specs.History.{Levels, line_moment_at, heard, input_level, moment_at, element_past, sent_by, sent_level, Obeys, rounds, out_at}
+use Rattle.net_rules.specs.Settings.{input_by}
 use Rattle.net_rules.proofs.Lists.{Each-map, map-same, past-same}
 use Rattle.net_rules.proofs.InputLaws.{inputs-are}
 
@@ -79,13 +80,10 @@ input_moment : (up up_then clear clear_then : Bool) (level level_then : Option L
     → ◌≡◌ {A = InputMoment} (record { signal = record { up = up; clear = clear }; level = level }) (record { signal = record { up = up_then; clear = clear_then }; level = level_then })
 input_moment up up_then clear clear_then level level_then a b c = rw (a, b, c) refl
 
--- an input in a millisecond up to t
-abbrev input_at : Signals → (ℕ → ℕ → Option Level) → ℕ → InputId → InputMoment
-input_at signals hears s input = record { signal = signal_at signals input s; level = input_level signals hears input s }
-
+-- an input in a millisecond up to t is the same
 input-same : (plan : Topology) → IsDelayed plan → (signals others : Signals) (out other : Levels) (t element s : ℕ) → s ≤ t
     → SameInputs plan signals others t → AgreeBefore plan t out other → (input : InputId) → IsInputOf plan element input
-    → input_at signals (heard plan signals out) s input ≡ input_at others (heard plan others other) s input
+    → input_by signals (input_level signals (heard plan signals out)) s input ≡ input_by others (input_level others (heard plan others other)) s input
 input-same plan delayed signals others out other t element s until same agree (Line line) is =
     input_moment _ _ _ _ _ _ (same.up (Line line) s element is until) (same.clear (Line line) s element is until)
     (heard-same plan delayed signals others out other t line.0 s until same agree is.nominated)
@@ -104,7 +102,7 @@ pub moment-same : (plan : Topology) → IsDelayed plan → (signals others : Sig
 unfolding moment_at
 moment-same plan delayed signals others out other t element s until same commands agree =
     moment _ _ _ _
-    (map-same (input_at signals (heard plan signals out) s) (input_at others (heard plan others other) s) (inputs_of plan element)
+    (map-same (input_by signals (input_level signals (heard plan signals out)) s) (input_by others (input_level others (heard plan others other)) s) (inputs_of plan element)
     (Each-map (IsInputOf plan element) _ (input-same plan delayed signals others out other t element s until same agree) (inputs_of plan element) (inputs-are plan element)))
     (commands s until)
 

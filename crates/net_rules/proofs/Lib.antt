@@ -5,6 +5,7 @@ pub mod InputLaws
 pub mod HistoryLaws
 pub mod PlanLaws
 pub mod ElementLaws
+pub mod SettingLaws
 pub mod NetLaws
 pub mod Arrivals
 pub mod PairLaws

@@ -1,9 +1,10 @@
 -- Lists of which something holds of each, and lists that start as functions of time.
-use Rattle.std.proofs.Common.{◌≡◌, ◌≤◌, ◌<◌, ◌+◌, ℕ, zero, suc, Bool, true, false, List, [], ◌∷◌, ◌++◌, map, filter, refl, ap, sym, subst, ◌∙◌, arith}
-use Rattle.std.specs.Prelude.{if◌then◌else◌}
+use Rattle.std.proofs.Common.{◌≡◌, ◌≤◌, ◌<◌, ◌+◌, ℕ, zero, suc, Bool, true, false, List, [], ◌∷◌, ◌++◌, map, filter, length, Some, slice_get, refl, ap, sym, subst, ◌∙◌, arith, add-zero}
+use Rattle.std.specs.Prelude.{if◌then◌else◌, slice_index_or}
 use Rattle.std.specs.List.{range_with_len}
 use Rattle.std.proofs.Math.Decide.{dec_lt}
 use Rattle.std.proofs.lemmas.Bool.{true≢false}
+use Rattle.std.proofs.lemmas.Option.{same_Some, none-some}
 use Rattle.sync_ql.specs.Pasts.{past_of}
 use Rattle.net_rules.specs.Walks.{Each}
 
@@ -69,3 +70,23 @@ Each-kept P p from (suc n) k each low high passes = by (p from) refl each (Each-
       | yes later ↦ rest each (omega (arith, later)) (omega (arith, high)) passes
       | no here ↦ let same : from ≡ k = omega (arith, here, low) in absurd (true≢false (sym passes ∙ ap p (sym same) ∙ is))
     ]
+
+-- what stands at a place of a list of which something holds of each
+pub each-at : {A : Type 0} (P : A → Type 0) (xs : List A) (i : ℕ) (x : A) → Each P xs → slice_get xs i ≡ Some x → P x
+each-at P [] i x each at = absurd (none-some x at)
+each-at P (y ∷ xs) zero x each at = subst P (same_Some y x at) each.0
+each-at P (y ∷ xs) (suc i) x each at = each-at P xs i x each.1 at
+
+pub map-at : {A B : Type 0} (f : A → B) (xs : List A) (i : ℕ) (x : A) (d : B) → slice_get xs i ≡ Some x → slice_index_or (map f xs) i d ≡ f x
+map-at f [] i x d at = absurd (none-some x at)
+map-at f (y ∷ xs) zero x d at = ap f (same_Some y x at)
+map-at f (y ∷ xs) (suc i) x d at = map-at f xs i x d at
+
+-- two lists, one made by places from a number on and one of what stands there, are the same where
+-- they are so at each place
+pub map-places : {A B : Type 0} (f : ℕ → B) (g : A → B) (from : ℕ) (xs : List A)
+    → ((k i : ℕ) (x : A) → slice_get xs i ≡ Some x → k ≡ from + i → f k ≡ g x)
+    → map f (range_with_len from (length xs)) ≡ map g xs
+map-places f g from [] same = refl
+map-places f g from (x ∷ xs) same =
+    rw (same from 0 x refl (sym (add-zero from)), map-places f g (from + 1) xs (λ k i y at is. same k (suc i) y at (omega (arith, is)))) refl

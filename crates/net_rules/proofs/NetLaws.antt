@@ -1,56 +1,47 @@
 -- What an element takes, by its lines and sources.
-use Rattle.std.proofs.Common.{◌≡◌, ◌<◌, ℕ, zero, suc, Bool, true, false, List, [], ◌∷◌, map, length, Option, None, Some, IfSome, slice_get, refl, ap, sym, subst, ◌∙◌, inl, inr, arith}
-use Rattle.std.specs.Prelude.{slice_index_or, unwrap_or, option_and_then, if◌then◌else◌}
-use Rattle.std.proofs.lemmas.List.{length-map}
-use Rattle.std.proofs.lemmas.Option.{slice_get_cases, same_Some, none-some}
+use Rattle.std.proofs.Common.{◌≡◌, ◌<◌, ℕ, suc, Bool, true, false, List, length, Option, None, Some, IfSome, slice_get, refl, ap, sym, subst, ◌∙◌, inl, inr, arith}
+use Rattle.std.specs.Prelude.{unwrap_or, option_and_then, if◌then◌else◌}
+use Rattle.std.proofs.lemmas.Option.{slice_get_cases, none-some}
 use Rattle.sync_ql.specs.declared.levels.NetOption.{NetOption}
 use Rattle.sync_ql.specs.declared.levels.NetOption.TheVariants.{I, II}
 use Rattle.sync_ql.specs.declared.levels.Level.{Level}
 use Rattle.sync_ql.specs.Level.{do_not_use_of, IsBetter}
 use Rattle.sync_ql.specs.Pasts.{past_of}
 use Rattle.sync_ql.specs.Condition.{failed_at}
-use Rattle.sync_ql.specs.Moment.{InputMoment, Moment, input_of, signals_of, level_now, selection_at}
+use Rattle.sync_ql.specs.Moment.{Moment, input_of, signals_of, level_now, selection_at}
 use Rattle.sync_ql.specs.Output.{clock_level_at}
 use Rattle.sync_ql.specs.Taken.{MayBeTaken}
 use Rattle.sync_ql.proofs.TakenInputs.{taken_may_be_taken}
 use Rattle.sync_topo.specs.declared.input.InputId.{InputId}
 use Rattle.sync_topo.specs.Topology.{Topology}
-use Rattle.sync_topo.specs.Lines.{line_input, sender_of, receiver_of, inputs_of, input_priority, IsNominated, element_of}
+use Rattle.sync_topo.specs.Lines.{line_input, sender_of, receiver_of, inputs_of, IsNominated, element_of}
 use Rattle.net_rules.specs.Signals.{Signals}
 use Rattle.net_rules.specs.Inputs.{IsInputOf}
-use Rattle.net_rules.specs.History.{Levels, settings_of, timers_of, heard, signal_at, input_level, moment_at, element_past, taken_by, taken_at, level_at, failed_by, is_way_back, sent_level}
-use Rattle.net_rules.specs.Walks.{Each, IsTaken}
+use Rattle.net_rules.specs.History.{Levels, by_levels, settings_of, heard, input_level, moment_at, element_past, taken_by, taken_at, level_at, failed_by, is_way_back, sent_level}
+use Rattle.net_rules.specs.Settings.{timers_of, signal_at, input_by}
+use Rattle.net_rules.specs.Walks.{IsTaken}
 use Rattle.net_rules.specs.Safety.{taken_in}
 use Rattle.net_rules.proofs.InputLaws.{inputs-are}
+use Rattle.net_rules.proofs.Lists.{each-at}
+use Rattle.net_rules.proofs.SettingLaws.{input-by, signals-by, priorities-by}
 
--- what stands at a place of a list of which something holds of each
-pub each-at : {A : Type 0} (P : A → Type 0) (xs : List A) (i : ℕ) (x : A) → Each P xs → slice_get xs i ≡ Some x → P x
-each-at P [] i x each at = absurd (none-some x at)
-each-at P (y ∷ xs) zero x each at = subst P (same_Some y x at) each.0
-each-at P (y ∷ xs) (suc i) x each at = each-at P xs i x each.1 at
-
-pub map-at : {A B : Type 0} (f : A → B) (xs : List A) (i : ℕ) (x : A) (d : B) → slice_get xs i ≡ Some x → slice_index_or (map f xs) i d ≡ f x
-map-at f [] i x d at = absurd (none-some x at)
-map-at f (y ∷ xs) zero x d at = ap f (same_Some y x at)
-map-at f (y ∷ xs) (suc i) x d at = map-at f xs i x d at
-
--- an input of an element in a millisecond
-abbrev pub told_input : Signals → (ℕ → ℕ → Option Level) → ℕ → InputId → InputMoment
-told_input signals hears t input = record { signal = signal_at signals input t; level = input_level signals hears input t }
-
+-- an input of an element in a millisecond, and its signals up to one
 pub input-at : (plan : Topology) (signals : Signals) (hears : ℕ → ℕ → Option Level) (element t i : ℕ) (input : InputId)
     → slice_get (inputs_of plan element) i ≡ Some input
-    → input_of i (moment_at plan signals hears element t) ≡ told_input signals hears t input
+    → input_of i (moment_at plan signals hears element t) ≡ input_by signals (input_level signals hears) t input
 unfolding moment_at
-input-at plan signals hears element t i input at =
-    map-at (told_input signals hears t) (inputs_of plan element) i input (record { signal = record { up = true; clear = false }; level = None }) at
+input-at plan signals hears element t i input at = input-by plan signals (input_level signals hears) element t i input at
 
 pub signals-at : (plan : Topology) (signals : Signals) (hears : ℕ → ℕ → Option Level) (element n i : ℕ) (input : InputId)
     → slice_get (inputs_of plan element) i ≡ Some input
     → signals_of i (past_of (moment_at plan signals hears element) n) ≡ past_of (signal_at signals input) n
-signals-at plan signals hears element zero i input at = refl
-signals-at plan signals hears element (suc n) i input at =
-    rw (input-at plan signals hears element n i input at, signals-at plan signals hears element n i input at) refl
+unfolding moment_at
+signals-at plan signals hears element n i input at = signals-by plan signals (input_level signals hears) element n i input at
+
+-- an element has a priority for each input
+pub many-inputs : (plan : Topology) (element : ℕ) → length (settings_of plan element).priorities ≡ length (inputs_of plan element)
+unfolding settings_of
+many-inputs plan element = priorities-by (by_levels plan) plan element
 
 settings-timers : (plan : Topology) (element : ℕ) → (settings_of plan element).timers ≡ timers_of plan element
 unfolding settings_of
@@ -127,10 +118,9 @@ taken-is plan signals out element t input taken =
     }
 
 has_input : (plan : Topology) (element place : ℕ) → place < length (settings_of plan element).priorities → slice_get (inputs_of plan element) place ≡ None → ⊥
-unfolding settings_of
 has_input plan element place within none = elim (slice_get_cases (inputs_of plan element) place).1 [
   | inl there ↦ none-some there.0 (sym none ∙ there.2)
-  | inr past ↦ omega (arith, within, past.0, length-map (inputs_of plan element) (input_priority plan))
+  | inr past ↦ omega (arith, within, past.0, many-inputs plan element)
 ]
 
 -- an element that takes nothing has its own clock's level

@@ -21,13 +21,15 @@ use Rattle.sync_topo.specs.Lines.{line_count, line_input, sender_of, delay_of, i
 use Rattle.sync_topo.proofs.LineLaws.{IsNominated-within}
 use Rattle.net_rules.specs.Signals.{Signals, speaks_at}
 use Rattle.net_rules.specs.Inputs.{IsInputOf}
-use Rattle.net_rules.specs.History.{Levels, settings_of, timers_of, line_moment_at, heard, signal_at, input_level, moment_at, element_past, taken_by, taken_at, failed_by, is_way_back, sent_level, Obeys}
+use Rattle.net_rules.specs.History.{Levels, settings_of, line_moment_at, heard, input_level, moment_at, element_past, taken_by, taken_at, failed_by, is_way_back, sent_level, Obeys}
+use Rattle.net_rules.specs.Settings.{timers_of, signal_at}
 use Rattle.net_rules.specs.Settled.{is_sent_at, IsOnWay, IsSteady, IsSettled}
 use Rattle.net_rules.specs.Facing.{IsStill}
 use Rattle.net_rules.specs.Staying.{IsQuietAfter, AreStillBefore, IsSameAt}
 use Rattle.net_rules.proofs.ElementLaws.{IsAlikeAfter, AreAllAlikeAfter, output-stays}
 use Rattle.net_rules.proofs.InputLaws.{inputs-are}
-use Rattle.net_rules.proofs.NetLaws.{each-at, failed-at, level-at}
+use Rattle.net_rules.proofs.NetLaws.{failed-at, level-at}
+use Rattle.net_rules.proofs.Lists.{each-at}
 use Rattle.net_rules.proofs.HistoryLaws.{IsDelayed}
 use Rattle.net_rules.proofs.Arrivals.{came-or_not, sent-said, unheard}
 use Rattle.net_rules.proofs.PairLaws.{speaks-said, speaks-up, silent-said, is_heard, still-speaks}

@@ -16,7 +16,8 @@ use Rattle.sync_topo.specs.Hops.{goes_back, Hops, IsRising}
 use Rattle.sync_topo.specs.WellFormed.{IsWellFormed}
 use Rattle.sync_topo.proofs.LineLaws.{IsNominated-within}
 use Rattle.net_rules.specs.Signals.{Signals, speaks_at}
-use Rattle.net_rules.specs.History.{Levels, own_level, line_moment_at, heard, taken_at, level_at, is_way_back, sent_level, Obeys, settings_of}
+use Rattle.net_rules.specs.History.{Levels, line_moment_at, heard, taken_at, level_at, is_way_back, sent_level, Obeys, settings_of}
+use Rattle.net_rules.specs.Settings.{own_level}
 use Rattle.net_rules.specs.Walks.{Each, IsOneOf, IsClosedWalk, IsFacingPair, TraceEnd, at_source, at_clock, at_loop, IsTraceAfter}
 use Rattle.net_rules.specs.Settled.{IsSettled}
 use Rattle.net_rules.specs.Safety.{taken_in, IsEndLevel, IsLoopFreeAt}

@@ -14,7 +14,8 @@ use Rattle.sync_topo.specs.Hops.{Hops, IsRising}
 use Rattle.sync_topo.proofs.LineLaws.{IsNominated-within}
 use Rattle.net_rules.specs.Signals.{Signals, speaks_at}
 use Rattle.net_rules.specs.Inputs.{IsInputOf}
-use Rattle.net_rules.specs.History.{Levels, timers_of, line_moment_at, heard, signal_at, failed_by, Obeys}
+use Rattle.net_rules.specs.History.{Levels, line_moment_at, heard, failed_by, Obeys}
+use Rattle.net_rules.specs.Settings.{timers_of, signal_at}
 use Rattle.net_rules.specs.Settled.{is_sent_at, IsOnWay, IsSteady, IsSettled}
 use Rattle.net_rules.specs.Staying.{IsQuietAfter}
 use Rattle.net_rules.specs.Settling.{IsOneWay, settled_from}

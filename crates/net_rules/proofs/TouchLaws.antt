@@ -19,7 +19,7 @@ use Rattle.net_rules.specs.Signals.{is_of_part, says_up, says_esmc, says_level, 
 use Rattle.net_rules.specs.Inputs.{IsInputOf}
 use Rattle.net_rules.specs.Activity.{is_at, is_part_at, touches}
 use Rattle.net_rules.proofs.InputLaws.{inputs-are}
-use Rattle.net_rules.proofs.NetLaws.{each-at}
+use Rattle.net_rules.proofs.Lists.{each-at}
 
 if_none : {A : Type 0} (b : Bool) (x : A) → b ≡ false → (if b then Some x else None) ≡ None
 if_none true x is = cc

@@ -2,42 +2,30 @@
 -- The rules of one line and one element are those of sync_ql, over their pasts. What a network sends is
 -- the one unknown: levels for each line and millisecond that obey the rules. Each delay is at least one
 -- millisecond, so there is exactly one such history. After G.781 and G.8264.
-use Rattle.std.specs.Prelude.{◌≡◌, ◌<◌, ℕ, zero, suc, ◌+◌, Bool, false, if◌then◌else◌, List, length, map, slice_get, Option, None, Some, option_and_then}
-use Rattle.std.specs.Option.{option_map_or}
+use Rattle.std.specs.Prelude.{◌≡◌, ◌<◌, ℕ, zero, suc, ◌+◌, Bool, false, if◌then◌else◌, List, length, slice_get, Option, None, Some, option_and_then}
 use Rattle.sync_ql.specs.declared.levels.Level.{Level}
 use Rattle.sync_ql.specs.declared.rules.Cond.{Cond}
 use Rattle.sync_ql.specs.declared.rules.Mode.{Mode}
 use Rattle.sync_ql.specs.declared.rules.ClockState.{ClockState}
 use Rattle.sync_ql.specs.Level.{do_not_use_of}
 use Rattle.sync_ql.specs.Pasts.{past_of}
-use Rattle.sync_ql.specs.Condition.{Timers, Signal, failed_at, condition_at}
+use Rattle.sync_ql.specs.Condition.{failed_at, condition_at}
 use Rattle.sync_ql.specs.Messages.{LineMoment, heard_at}
-use Rattle.sync_ql.specs.Moment.{Moment, Settings, selection_at}
+use Rattle.sync_ql.specs.Moment.{Moment, Settings}
 use Rattle.sync_ql.specs.Output.{clock_level_at, mode_at, state_at}
 use Rattle.sync_topo.specs.declared.element.Element.{Element}
 use Rattle.sync_topo.specs.declared.input.InputId.{InputId}
 use Rattle.sync_topo.specs.declared.input.InputId.TheVariants.{Line, Source}
 use Rattle.sync_topo.specs.Topology.{Topology}
-use Rattle.sync_topo.specs.Lines.{line_count, line_input, sender_of, delay_of, input_priority, inputs_of, element_of}
+use Rattle.sync_topo.specs.Lines.{line_count, line_input, sender_of, delay_of, element_of}
 use Rattle.sync_topo.specs.Bundles.{line_bundle}
 use Rattle.sync_topo.specs.Hops.{goes_back}
 use Rattle.net_rules.specs.Signals.{Signals, planned_level}
+use Rattle.net_rules.specs.Settings.{Setting, InputLevels, timers_of, settings_by, signal_at, moment_by, taken_with}
 
 -- the levels sent on each line in each millisecond
 abbrev pub Levels : Type 0
 Levels = ℕ → ℕ → Level
-
--- the times of an element; 0 where there is no such element
-abbrev pub timers_of : Topology → ℕ → Timers
-timers_of plan element = record {
-  holdoff = option_map_or (λ (e : Element). e.holdoff) (slice_get plan.elements element) 0;
-  wtr = option_map_or (λ (e : Element). e.wtr) (slice_get plan.elements element) 0;
-}
-
--- the level of an element's own clock; do-not-use where there is no such element
-abbrev pub own_level : Topology → ℕ → Level
-own_level plan element =
-    option_map_or (λ (e : Element). e.own) (slice_get plan.elements element) (do_not_use_of plan.option)
 
 -- the level that an input has before any is told: a source's is the plan's, and a line has none
 abbrev pub first_level : Topology → InputId → Option Level
@@ -49,16 +37,17 @@ abbrev pub bundle_of_input : Topology → InputId → ℕ
 bundle_of_input plan (Line line) = line_bundle plan line.0
 bundle_of_input plan (Source source) = length plan.links + source
 
+-- how the elements of a plan choose: by its floors, the levels of its inputs and its bundles
+abbrev pub by_levels : Topology → Setting
+by_levels plan = record {
+  floor = λ element. option_and_then (λ (e : Element). e.floor) (slice_get plan.elements element);
+  first = first_level plan;
+  bundle = bundle_of_input plan;
+}
+
 -- what an element of a plan is set to
 unfoldable pub settings_of : Topology → ℕ → Settings
-settings_of plan element = record {
-  own = own_level plan element;
-  timers = timers_of plan element;
-  floor = option_and_then (λ (e : Element). e.floor) (slice_get plan.elements element);
-  priorities = map (input_priority plan) (inputs_of plan element);
-  first_levels = map (first_level plan) (inputs_of plan element);
-  bundles = map (bundle_of_input plan) (inputs_of plan element);
-}
+settings_of plan element = settings_by (by_levels plan) plan element
 
 -- a line in a millisecond, and the level that is heard on it, where these levels are sent
 abbrev pub line_moment_at : Signals → Levels → ℕ → ℕ → LineMoment
@@ -72,21 +61,14 @@ unfoldable pub heard : Topology → Signals → Levels → ℕ → ℕ → Optio
 heard plan signals out line t =
     heard_at (delay_of plan line) (past_of (line_moment_at signals out line) (suc t))
 
--- an input in a millisecond: a line has the level heard on it, and a source its own
-abbrev pub signal_at : Signals → InputId → ℕ → Signal
-signal_at signals input t = record { up = signals.up input t; clear = signals.clear input t }
-
-abbrev pub input_level : Signals → (ℕ → ℕ → Option Level) → InputId → ℕ → Option Level
+-- the level of an input in a millisecond: a line has the one heard on it, and a source its own
+abbrev pub input_level : Signals → (ℕ → ℕ → Option Level) → InputLevels
 input_level signals hears (Line line) t = hears line.0 t
 input_level signals hears (Source source) t = Some (signals.source_level source t)
 
 -- an element in a millisecond, where these levels are heard
 unfoldable pub moment_at : Topology → Signals → (ℕ → ℕ → Option Level) → ℕ → ℕ → Moment
-moment_at plan signals hears element t = record {
-  inputs = map (λ input. record { signal = signal_at signals input t; level = input_level signals hears input t })
-      (inputs_of plan element);
-  commands = signals.commands element t;
-}
+moment_at plan signals hears element t = moment_by plan signals (input_level signals hears) element t
 
 -- the first n milliseconds of an element, the newest first, where these levels are sent
 abbrev pub element_past : Topology → Signals → Levels → ℕ → ℕ → List Moment
@@ -95,8 +77,7 @@ element_past plan signals out element n =
 
 -- the input that an element takes after a past
 abbrev pub taken_by : Topology → ℕ → List Moment → Option InputId
-taken_by plan element past =
-    option_and_then (slice_get (inputs_of plan element)) (selection_at (settings_of plan element) past)
+taken_by plan element past = taken_with plan (settings_of plan element) element past
 
 -- the input that an element takes in a millisecond, and its level
 unfoldable pub taken_at : Topology → Signals → Levels → ℕ → ℕ → Option InputId

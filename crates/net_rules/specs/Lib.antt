@@ -1,5 +1,6 @@
 pub mod Signals
 pub mod Inputs
+pub mod Settings
 pub mod History
 pub mod Sameness
 pub mod Walks

@@ -6,7 +6,8 @@ use Rattle.sync_topo.specs.declared.event.Event.{Event}
 use Rattle.sync_topo.specs.Topology.{Topology}
 use Rattle.sync_topo.specs.Events.{IsEventList}
 use Rattle.net_rules.specs.Signals.{Signals, signals_by}
-use Rattle.net_rules.specs.History.{Levels, taken_at, level_at, own_level, out_at}
+use Rattle.net_rules.specs.History.{Levels, taken_at, level_at, out_at}
+use Rattle.net_rules.specs.Settings.{own_level}
 use Rattle.net_rules.specs.Walks.{Taken, IsClosedWalk, IsFacingPair, TraceEnd, at_source, at_clock, at_loop, IsTrace}
 use Rattle.net_rules.specs.Settled.{IsSettled}
 

@@ -5,9 +5,8 @@ use Rattle.std.specs.Option.{option_map_or}
 use Rattle.sync_ql.specs.declared.levels.NetOption.{NetOption}
 use Rattle.sync_ql.specs.declared.levels.NetOption.TheVariants.{I, II}
 use Rattle.sync_ql.specs.Level.{do_not_use_of}
-use Rattle.sync_ql.specs.Told.{moments_until}
 use Rattle.sync_element.specs.ElementState.{ElementState}
-use Rattle.sync_element.specs.StandsFor as Element
+use Rattle.sync_element.proofs.ElementSteps.{stands-new}
 use Rattle.sync_topo.specs.declared.source.Source as sources
 use Rattle.sync_topo.specs.declared.input.InputId.{InputId}
 use Rattle.sync_topo.specs.declared.input.InputId.TheVariants.{Line, Source}
@@ -15,7 +14,7 @@ use Rattle.sync_topo.specs.Topology.{Topology}
 use Rattle.sync_topo.specs.Lines.{inputs_of}
 use Rattle.sync_topo.specs.WellFormed.{IsWellFormed}
 use Rattle.net_rules.specs.Signals.{planned_level, last_word, says_up, says_esmc, says_level}
-use Rattle.net_rules.specs.History.{settings_of}
+use Rattle.net_rules.specs.History.{settings_of, moment_at}
 use Rattle.net_rules.specs.Walks.{Each}
 use Rattle.net_rules.proofs.Lists.{Each-made}
 use Rattle.sync_net.proofs.SplitWords.{none-before-0}
@@ -24,7 +23,7 @@ use Rattle.node_file.specs.NodeRow.{events_in}
 use Rattle.node_replay.specs.declared.inputs.InputKept.{InputKept}
 use Rattle.node_replay.specs.declared.outs.OutKept.{OutKept}
 use Rattle.node_replay.specs.declared.running.Run.{Run}
-use Rattle.node_rules.specs.Replay.{node_past}
+use Rattle.node_rules.specs.Replay.{signals_in, heard_in}
 use Rattle.node_rules.specs.NodeText.{lines_out}
 use Rattle.node_replay.specs.Starting.{new_input, new_out}
 use Rattle.node_replay.specs.Beginning.{IsNew}
@@ -102,10 +101,8 @@ new-out-at plan rows place line = record {
 }
 
 new-past : (plan : Topology) (place : ℕ) (rows : List NodeRow) (element : ElementState) → IsNew plan place element → IsOfPast plan rows place 0 element
-new-past plan place rows element new = record {
-  stands = subst (λ n. Element.StandsFor element (node_past plan rows place n)) (sym new.next) new.stands;
-  quiet = subst (λ n. node_past plan rows place 0 ≡ moments_until (settings_of plan place) 0 (node_past plan rows place n)) (sym new.next) refl;
-}
+new-past plan place rows element new =
+    stands-new (settings_of plan place) (moment_at plan (signals_in plan rows) (heard_in plan rows) place) element new.settings new.next new.due new.stands
 
 pub begun-stands : (plan : Topology) (place : ℕ) (run : Run) → IsNew plan place run.element
     → run.inputs.items ≡ map (new_input plan) (inputs_of plan place) → run.outs.items ≡ map new_out (lines_out plan place)

@@ -18,9 +18,9 @@ use Rattle.sync_topo.specs.WellFormed.{IsWellFormed}
 use Rattle.net_rules.specs.History.{settings_of}
 use Rattle.net_rules.specs.Walks.{Each}
 use Rattle.net_rules.proofs.Lists.{Each-append}
+use Rattle.net_rules.proofs.NetLaws.{many-inputs}
 use Rattle.sync_net.proofs.PlaceLemmas.{found-at}
 use Rattle.sync_net.proofs.SentLevels.{own-option}
-use Rattle.sync_net.proofs.ToldMoment.{many-inputs}
 use Rattle.node_file.specs.declared.row.NodeWord.{NodeWord}
 use Rattle.node_file.specs.declared.row.NodeWord.TheVariants.{Frame, Happens}
 use Rattle.node_file.specs.declared.row.NodeRow.{NodeRow}

@@ -117,7 +117,8 @@ module _ (plan : Topology) (place : ℕ) (rows : List NodeRow) (run : Run) (is :
   element-quiet : (k : ℕ) → run.next ≤ suc k → suc k < run.wake → rows_at (suc k) rows ≡ [] → RunStands plan rows place (suc k) run
       → IsOfPast plan rows place (suc (suc k)) run.element
   element-quiet k low high none stands =
-      quiet-past plan rows place (suc k) run.element (let later = is.later in omega (arith, later, low))
+      quiet-past plan rows place (suc k) run.element
+      (on_time (suc (suc k)) (omega (arith, low)) (omega (arith, high)) (begun (suc k) low high))
       (moment-quiet plan rows place k run.inputs.items is.ids stands.inputs (inputs-quiet (suc k) low high none stands)
       (events-here plan rows [] (suc k) list.in_order none))
       stands.element
@@ -126,8 +127,7 @@ module _ (plan : Topology) (place : ℕ) (rows : List NodeRow) (run : Run) (is :
       → Each (λ out. IsOutAt plan rows place (suc (suc k)) out × IsSaid plan rows place (suc k) out) (map (out_after plan [] run.shown) run.outs.items)
   outs-quiet k low high none stands =
       outs-step plan rows [] place (suc k) run.shown list.in_order none
-      (gives plan rows place (suc (suc k)) run.element run.shown is.shows
-      (on_time (suc (suc k)) (omega (arith, low)) (omega (arith, high)) (begun (suc k) low high)) (element-quiet k low high none stands))
+      (gives plan rows place (suc (suc k)) run.element run.shown is.shows (element-quiet k low high none stands))
       run.outs.items stands.outs (outs-lines plan place run.outs.items is.lines)
 
   rows-quiet : (k : ℕ) → run.next ≤ suc k → suc k < run.wake → rows_at (suc k) rows ≡ [] → RunStands plan rows place (suc k) run

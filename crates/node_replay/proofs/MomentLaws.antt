@@ -1,7 +1,7 @@
 -- What the element is told in a millisecond makes that millisecond of its past, and so does nothing where nothing comes.
 use Rattle.std.proofs.Common.{◌≡◌, ◌<◌, ◌+◌, ℕ, zero, suc, Bool, true, false, ◌||◌, List, [], ◌∷◌, ◌++◌, map, length, Option, None, Some, slice_get, refl, ap, sym, subst, ◌∙◌, arith, add-zero}
 use Rattle.std.specs.Prelude.{unwrap_or, nat_eq, if◌then◌else◌, option_map}
-use Rattle.std.specs.List.{list_any, filter_map, cons_option, range_with_len}
+use Rattle.std.specs.List.{list_any, filter_map, cons_option}
 use Rattle.std.specs.Option.{option_or}
 use Rattle.std.proofs.lemmas.Bool.{eq-eqb, ne_eqb}
 use Rattle.std.proofs.lemmas.List.Folds.{list_any-append}
@@ -12,8 +12,7 @@ use Rattle.sync_ql.specs.declared.rules.InputEvent.{InputEvent}
 use Rattle.sync_ql.specs.declared.rules.InputEvent.TheVariants as tell
 use Rattle.sync_ql.specs.Pasts.{past_of}
 use Rattle.sync_ql.specs.Condition.{is_up}
-use Rattle.sync_ql.specs.Moment.{Moment, signals_of}
-use Rattle.sync_ql.specs.Told.{last_said, says_up, says_level, clears, commands_in, last_level, input_after, moment_after}
+use Rattle.sync_ql.specs.Told.{last_said, says_up, says_level, clears, commands_in, moment_after}
 use Rattle.sync_topo.specs.declared.input.InputId.{InputId}
 use Rattle.sync_topo.specs.declared.input.InputId.TheVariants.{Line, Source}
 use Rattle.sync_topo.specs.declared.event.What.{What}
@@ -21,15 +20,16 @@ use Rattle.sync_topo.specs.declared.event.What.TheVariants.{Down, Up, EsmcOff, E
 use Rattle.sync_topo.specs.declared.event.Event.{Event}
 use Rattle.sync_topo.specs.Topology.{Topology}
 use Rattle.sync_topo.specs.Lines.{inputs_of, place_at, is_same_input}
-use Rattle.net_rules.specs.Signals.{events_at, last_word, says_up as says_input_up, clears as clears_input, command_to, up_at, source_level_at}
-use Rattle.net_rules.specs.History.{settings_of, signal_at, input_level, moment_at}
+use Rattle.net_rules.specs.Signals.{events_at, clears as clears_input, command_to, up_at, source_level_at}
+use Rattle.net_rules.specs.History.{by_levels, settings_of, input_level, moment_at}
+use Rattle.net_rules.specs.Settings.{signal_at}
 use Rattle.net_rules.specs.Walks.{Each}
-use Rattle.net_rules.proofs.NetLaws.{each-at, input-at, signals-at, told_input}
+use Rattle.net_rules.proofs.SettingLaws.{level_until, IsSaid, told-by}
+use Rattle.net_rules.proofs.Lists.{each-at}
 use Rattle.sync_net.specs.declared.saying.Saying.TheVariants.{IsCleared}
 use Rattle.sync_net.specs.Words.{word_at}
 use Rattle.sync_net.specs.Standing.{up_before}
-use Rattle.sync_net.proofs.SplitWords.{none-before-0}
-use Rattle.sync_net.proofs.ToldMoment.{many-inputs}
+use Rattle.sync_net.proofs.ToldMoment.{past-up}
 use Rattle.sync_net.proofs.WordLaws.{all-clear, last_said-append, commands_in-append}
 use Rattle.node_file.specs.declared.row.NodeWord.{NodeWord}
 use Rattle.node_file.specs.declared.row.NodeWord.TheVariants.{Frame, Happens}
@@ -39,15 +39,6 @@ use Rattle.node_replay.specs.declared.inputs.InputKept.{InputKept}
 use Rattle.node_rules.specs.Replay.{signals_in, heard_in, node_past}
 use Rattle.node_replay.specs.Telling.{place_in, word_of, row_word, told_from, all_told}
 use Rattle.node_replay.specs.Running.{level_before, IsInputAt}
-
--- two lists, one made by places from a number on and one of what stands there, are the same where
--- they are so at each place
-map-places : {A B : Type 0} (f : ℕ → B) (g : A → B) (from : ℕ) (xs : List A)
-    → ((k i : ℕ) (x : A) → slice_get xs i ≡ Some x → k ≡ from + i → f k ≡ g x)
-    → map f (range_with_len from (length xs)) ≡ map g xs
-map-places f g from [] same = refl
-map-places f g from (x ∷ xs) same =
-    rw (same from 0 x refl (sym (add-zero from)), map-places f g (from + 1) xs (λ k i y at is. same k (suc i) y at (omega (arith, is)))) refl
 
 -- what stands at a place of a list that is made from another
 kept-at : (inputs : List InputKept) (i : ℕ) (id : InputId) → slice_get (map (λ input. input.id) inputs) i ≡ Some id
@@ -203,36 +194,32 @@ up-now : (events : List Event) (input : InputId) (t : ℕ) → up_at events inpu
 unfolding up_at
 up-now events input t = refl
 
-past-up : (plan : Topology) (rows : List NodeRow) (input : InputId) (n : ℕ) → is_up (past_of (signal_at (signals_in plan rows) input) n) ≡ up_before (events_in rows) input n
-unfolding up_at
-past-up plan rows input zero = sym (ap (λ es. unwrap_or (last_word (says_input_up input) es) true) (none-before-0 (events_in rows)))
-past-up plan rows input (suc t) = refl
-
 module _ (plan : Topology) (rows here : List NodeRow) (element t : ℕ) (inputs : List InputKept) (ids : map (λ input. input.id) inputs ≡ inputs_of plan element)
     (is : Each (IsInputAt plan rows (suc t)) inputs) (events : events_at t (events_in rows) ≡ events_in here) where
   words : List InputEvent
   words = all_told (inputs_of plan element) element here inputs
 
-  input-told : (past : List Moment) (i : ℕ) (input : InputId) → slice_get (inputs_of plan element) i ≡ Some input
-      → input_after (settings_of plan element) past words i ≡ told_input (signals_in plan rows) (heard_in plan rows) t input
+  input-told : (i : ℕ) (input : InputId) → slice_get (inputs_of plan element) i ≡ Some input
+      → IsSaid (by_levels plan) (signals_in plan rows) (input_level (signals_in plan rows) (heard_in plan rows)) words t i input
   unfolding words
-  input-told past i input at =
+  input-told i input at =
       let kept = kept-at inputs i input (subst (λ xs. slice_get xs i ≡ Some input) (sym ids) at) in
       let one : IsInputAt plan rows (suc t) kept.0 = each-at (IsInputAt plan rows (suc t)) inputs i kept.0 is kept.1 in
       let front : List InputEvent = filter_map (row_word (inputs_of plan element) element) here in
-      let up : unwrap_or (last_said (says_up i) words) (is_up (signals_of i past)) ≡ up_at (events_in rows) input t =
-      ap (λ o. unwrap_or o (is_up (signals_of i past)))
-      (last_said-append (says_up i) front (told_from 0 inputs) ∙ ap (λ o. option_or o (last_said (says_up i) front)) (up-told 0 i i inputs kept.0 (omega arith) kept.1))
-      ∙ one.up ∙ ap (λ id. up_before (events_in rows) id (suc t)) kept.2 ∙ sym (up-now (events_in rows) input t) in
-      let level : unwrap_or (last_said (says_level i) words) (last_level (settings_of plan element) i past) ≡ input_level (signals_in plan rows) (heard_in plan rows) input t =
-      ap (λ o. unwrap_or o (last_level (settings_of plan element) i past))
-      (last_said-append (says_level i) front (told_from 0 inputs) ∙ ap (λ o. option_or o (last_said (says_level i) front)) (level-told 0 i i inputs kept.0 (omega arith) kept.1))
-      ∙ one.level ∙ ap (λ id. level_before plan rows id (suc t)) kept.2 ∙ sym (next-level plan rows input t) in
-      let clear : list_any (clears i) words ≡ list_any (λ event. clears_input input event.what) (events_at t (events_in rows)) =
-      list_any-append (clears i) front (told_from 0 inputs)
-      ∙ ap (λ b. list_any (clears i) front || b) (clears-none 0 i inputs) ∙ or-false (list_any (clears i) front)
-      ∙ rows-clear plan element i input at here ∙ ap (list_any (λ event. clears_input input event.what)) (sym events) in
-      rw (up, clear, level) refl
+      record {
+        up =
+            ap (λ o. unwrap_or o (is_up (past_of (signal_at (signals_in plan rows) input) t)))
+            (last_said-append (says_up i) front (told_from 0 inputs) ∙ ap (λ o. option_or o (last_said (says_up i) front)) (up-told 0 i i inputs kept.0 (omega arith) kept.1))
+            ∙ one.up ∙ ap (λ id. up_before (events_in rows) id (suc t)) kept.2 ∙ sym (up-now (events_in rows) input t);
+        clear =
+            list_any-append (clears i) front (told_from 0 inputs)
+            ∙ ap (λ b. list_any (clears i) front || b) (clears-none 0 i inputs) ∙ or-false (list_any (clears i) front)
+            ∙ rows-clear plan element i input at here ∙ ap (list_any (λ event. clears_input input event.what)) (sym events);
+        level =
+            ap (λ o. unwrap_or o (level_until (by_levels plan) (input_level (signals_in plan rows) (heard_in plan rows)) input t))
+            (last_said-append (says_level i) front (told_from 0 inputs) ∙ ap (λ o. option_or o (last_said (says_level i) front)) (level-told 0 i i inputs kept.0 (omega arith) kept.1))
+            ∙ one.level ∙ ap (λ id. level_before plan rows id (suc t)) kept.2 ∙ sym (next-level plan rows input t);
+      }
 
   commands-told : commands_in words ≡ filter_map (λ event. command_to plan element event.what) (events_at t (events_in rows))
   unfolding words
@@ -245,46 +232,34 @@ module _ (plan : Topology) (rows here : List NodeRow) (element t : ℕ) (inputs 
       nil [] = refl
       nil (x ∷ xs) = ap (λ ys. x ∷ ys) (nil xs)
 
-  pub moment-told : (past : List Moment) → moment_after (settings_of plan element) past (all_told (inputs_of plan element) element here inputs)
+  pub moment-told : moment_after (settings_of plan element) (node_past plan rows element t) (all_told (inputs_of plan element) element here inputs)
       ≡ moment_at plan (signals_in plan rows) (heard_in plan rows) element t
-  unfolding words moment_after moment_at
-  moment-told past = rw (parts, commands-told) refl
-    where
-      parts : map (input_after (settings_of plan element) past words) (range_with_len 0 (length (settings_of plan element).priorities))
-          ≡ map (told_input (signals_in plan rows) (heard_in plan rows) t) (inputs_of plan element)
-      parts = rw (many-inputs plan element) (map-places _ _ 0 (inputs_of plan element)
-          (λ k i input at same. let there : k ≡ i = omega (arith, same) in rw there (input-told past i input at)))
+  unfolding words settings_of moment_at
+  moment-told =
+      told-by (by_levels plan) plan (signals_in plan rows) (input_level (signals_in plan rows) (heard_in plan rows)) element t words input-told commands-told
 
 -- where nothing comes, and each input stays as it is
 module _ (plan : Topology) (rows : List NodeRow) (element t : ℕ) (inputs : List InputKept) (ids : map (λ input. input.id) inputs ≡ inputs_of plan element)
     (was : Each (IsInputAt plan rows (suc t)) inputs) (is : Each (IsInputAt plan rows (suc (suc t))) inputs) (events : events_at (suc t) (events_in rows) ≡ []) where
   input-quiet : (i : ℕ) (input : InputId) → slice_get (inputs_of plan element) i ≡ Some input
-      → input_after (settings_of plan element) (node_past plan rows element (suc t)) [] i ≡ told_input (signals_in plan rows) (heard_in plan rows) (suc t) input
+      → IsSaid (by_levels plan) (signals_in plan rows) (input_level (signals_in plan rows) (heard_in plan rows)) [] (suc t) i input
   input-quiet i input at =
       let kept = kept-at inputs i input (subst (λ xs. slice_get xs i ≡ Some input) (sym ids) at) in
       let before : IsInputAt plan rows (suc t) kept.0 = each-at (IsInputAt plan rows (suc t)) inputs i kept.0 was kept.1 in
       let after : IsInputAt plan rows (suc (suc t)) kept.0 = each-at (IsInputAt plan rows (suc (suc t))) inputs i kept.0 is kept.1 in
-      let up : is_up (signals_of i (node_past plan rows element (suc t))) ≡ up_at (events_in rows) input (suc t) =
-      ap is_up (signals-at plan (signals_in plan rows) (heard_in plan rows) element (suc t) i input at)
-      ∙ past-up plan rows input (suc t) ∙ sym (before.up ∙ ap (λ id. up_before (events_in rows) id (suc t)) kept.2)
-      ∙ after.up ∙ ap (λ id. up_before (events_in rows) id (suc (suc t))) kept.2 ∙ sym (up-now (events_in rows) input (suc t)) in
-      let level : last_level (settings_of plan element) i (node_past plan rows element (suc t)) ≡ input_level (signals_in plan rows) (heard_in plan rows) input (suc t) =
-      ap (λ told. told.level) (input-at plan (signals_in plan rows) (heard_in plan rows) element t i input at)
-      ∙ next-level plan rows input t ∙ sym (before.level ∙ ap (λ id. level_before plan rows id (suc t)) kept.2)
-      ∙ after.level ∙ ap (λ id. level_before plan rows id (suc (suc t))) kept.2 ∙ sym (next-level plan rows input (suc t)) in
-      let clear : false ≡ list_any (λ event. clears_input input event.what) (events_at (suc t) (events_in rows)) =
-      sym (ap (list_any (λ event. clears_input input event.what)) events) in
-      rw (up, ← clear, level) refl
+      record {
+        up =
+            past-up plan (events_in rows) input (suc t) ∙ sym (before.up ∙ ap (λ id. up_before (events_in rows) id (suc t)) kept.2)
+            ∙ after.up ∙ ap (λ id. up_before (events_in rows) id (suc (suc t))) kept.2 ∙ sym (up-now (events_in rows) input (suc t));
+        clear = sym (ap (list_any (λ event. clears_input input event.what)) events);
+        level =
+            next-level plan rows input t ∙ sym (before.level ∙ ap (λ id. level_before plan rows id (suc t)) kept.2)
+            ∙ after.level ∙ ap (λ id. level_before plan rows id (suc (suc t))) kept.2 ∙ sym (next-level plan rows input (suc t));
+      }
 
   pub moment-quiet : moment_after (settings_of plan element) (node_past plan rows element (suc t)) []
       ≡ moment_at plan (signals_in plan rows) (heard_in plan rows) element (suc t)
-  unfolding moment_after moment_at
-  moment-quiet = rw (parts, ← commands) refl
-    where
-      parts : map (input_after (settings_of plan element) (node_past plan rows element (suc t)) []) (range_with_len 0 (length (settings_of plan element).priorities))
-          ≡ map (told_input (signals_in plan rows) (heard_in plan rows) (suc t)) (inputs_of plan element)
-      parts = rw (many-inputs plan element) (map-places _ _ 0 (inputs_of plan element)
-          (λ k i input at same. let there : k ≡ i = omega (arith, same) in rw there (input-quiet i input at)))
-
-      commands : [] ≡ filter_map (λ event. command_to plan element event.what) (events_at (suc t) (events_in rows))
-      commands = sym (ap (filter_map (λ event. command_to plan element event.what)) events)
+  unfolding settings_of moment_at
+  moment-quiet =
+      told-by (by_levels plan) plan (signals_in plan rows) (input_level (signals_in plan rows) (heard_in plan rows)) element (suc t) [] input-quiet
+      (sym (ap (filter_map (λ event. command_to plan element event.what)) events))

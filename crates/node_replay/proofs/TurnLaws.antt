@@ -191,23 +191,15 @@ module _ (plan : Topology) (place : ℕ) (here rows : List NodeRow) (before mid 
   element-then : IsOfPast plan rows place (suc now) mid.element
   unfolding now
   element-then =
-      stepped-past plan rows place before.next _ before.element mid.element taken.stepped run.settings stands.element
+      stepped-past plan rows place before.next _ before.element mid.element taken.stepped stands.element
       (moment-told plan rows here place before.next mid.inputs.items run_mid.ids inputs-then
-      (events-here plan rows here before.next is_here.list.in_order is_here.stand) _)
-
-  on_time : IsInTime mid.element (suc now)
-  unfolding now
-  on_time = record {
-    first = λ never. (let next = taken.stepped.next in absurd (omega (arith, next, never)));
-    later = (let next = taken.stepped.next in omega (arith, next));
-    until_due = subst (λ n. IfSome mid.element.due (λ d. n ≤ d)) (add-one before.next) (if-later before.next mid.element.due taken.stepped.due_later);
-  }
+      (events-here plan rows here before.next is_here.list.in_order is_here.stand))
 
   outs-then : Each (λ out. IsOutAt plan rows place (suc now) out × IsSaid plan rows place now out) mid.outs.items
   unfolding now
   outs-then = subst (Each (λ out. IsOutAt plan rows place (suc before.next) out × IsSaid plan rows place before.next out)) (sym taken.outs)
       (outs-step plan rows here place before.next mid.shown is_here.list.in_order is_here.stand
-      (gives plan rows place (suc before.next) mid.element mid.shown taken.shows on_time element-then)
+      (gives plan rows place (suc before.next) mid.element mid.shown taken.shows element-then)
       before.outs.items stands.outs (outs-lines plan place before.outs.items run.lines))
 
   rows-then : map (sent_row plan place now) (filter_map (frame_of now) mid.outs.items) ≡ map (frame_row plan rows place now) (sending_at plan rows place now)

@@ -15,9 +15,9 @@ use Rattle.sync_topo.specs.Topology.{Topology}
 use Rattle.sync_topo.specs.Lines.{line_input, line_name, inputs_of}
 use Rattle.net_rules.specs.Signals.{events_at, events_before, last_word, says_up, says_esmc, says_level, clears, command_to, planned_level, up_at, esmc_at, said_at, source_level_at, source_level_before}
 use Rattle.net_rules.specs.History.{input_level, moment_at, sent_by}
+use Rattle.net_rules.specs.Settings.{input_by}
 use Rattle.net_rules.specs.Walks.{Each}
 use Rattle.net_rules.proofs.Lists.{map-same, past-same}
-use Rattle.net_rules.proofs.NetLaws.{told_input}
 use Rattle.sync_net.proofs.SplitWords.{none-before-0, until-split}
 use Rattle.esmc_frame.specs.Frame.{written_frame}
 use Rattle.node_file.specs.declared.row.NodeRow.{NodeRow}
@@ -94,12 +94,12 @@ module _ (plan : Topology) (rows others : List NodeRow) (element until : ℕ) (r
   unfolding moment_at
   moment-same t early =
       rw (
-        map-same (told_input (signals_in plan rows) (heard_in plan rows) t) (told_input (signals_in plan others) (heard_in plan others) t) (inputs_of plan element)
-            (each-any (λ input. told_input (signals_in plan rows) (heard_in plan rows) t input ≡ told_input (signals_in plan others) (heard_in plan others) t input) one (inputs_of plan element)),
+        map-same (input_by (signals_in plan rows) (input_level (signals_in plan rows) (heard_in plan rows)) t) (input_by (signals_in plan others) (input_level (signals_in plan others) (heard_in plan others)) t) (inputs_of plan element)
+            (each-any (λ input. input_by (signals_in plan rows) (input_level (signals_in plan rows) (heard_in plan rows)) t input ≡ input_by (signals_in plan others) (input_level (signals_in plan others) (heard_in plan others)) t input) one (inputs_of plan element)),
         ap (filter_map (λ (event : Event). command_to plan element event.what)) (events-same t early),
       ) refl
     where
-      one : (input : InputId) → told_input (signals_in plan rows) (heard_in plan rows) t input ≡ told_input (signals_in plan others) (heard_in plan others) t input
+      one : (input : InputId) → input_by (signals_in plan rows) (input_level (signals_in plan rows) (heard_in plan rows)) t input ≡ input_by (signals_in plan others) (input_level (signals_in plan others) (heard_in plan others)) t input
       one input = rw (up-same input t early, ap (list_any (λ (event : Event). clears input event.what)) (events-same t early), level-same input t early) refl
 
   past-is : (t : ℕ) → t ≤ until → node_past plan rows element (suc t) ≡ node_past plan others element (suc t)

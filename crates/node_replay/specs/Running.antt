@@ -9,8 +9,9 @@ use Rattle.sync_ql.specs.Pasts.{past_of, first_within}
 use Rattle.sync_ql.specs.Messages.{hearing_time, second, said}
 use Rattle.sync_ql.specs.Moment.{Moment}
 use Rattle.sync_ql.specs.Output.{clock_level_at}
-use Rattle.sync_ql.specs.Told.{moment_after, moments_until, IsOfOption}
+use Rattle.sync_ql.specs.Told.{moments_until, IsOfOption}
 use Rattle.sync_element.specs.ElementState.{ElementState, IsInTime}
+use Rattle.sync_element.specs.StandsAfter.{StandsAfter}
 use Rattle.sync_element.specs.StandsFor as Element
 use Rattle.sync_topo.specs.declared.input.InputId.{InputId}
 use Rattle.sync_topo.specs.declared.input.InputId.TheVariants.{Line, Source}
@@ -18,7 +19,7 @@ use Rattle.sync_topo.specs.Topology.{Topology}
 use Rattle.sync_topo.specs.Lines.{inputs_of, IsInput}
 use Rattle.sync_topo.specs.WellFormed.{IsWellFormed}
 use Rattle.net_rules.specs.Signals.{source_level_before}
-use Rattle.net_rules.specs.History.{settings_of, taken_by}
+use Rattle.net_rules.specs.History.{settings_of, moment_at, taken_by}
 use Rattle.net_rules.specs.Walks.{Each}
 use Rattle.sync_net.specs.Standing.{up_before, esmc_before, said_before}
 use Rattle.node_file.specs.declared.row.NodeRow.{NodeRow}
@@ -28,19 +29,10 @@ use Rattle.node_replay.specs.declared.inputs.InputKept.{InputKept}
 use Rattle.node_replay.specs.declared.outs.OutKept.{OutKept}
 use Rattle.node_replay.specs.declared.shown.Shown.{Shown}
 use Rattle.node_replay.specs.declared.running.Run.{Run}
-use Rattle.node_rules.specs.Replay.{counted, node_past, out_past}
+use Rattle.node_rules.specs.Replay.{counted, signals_in, heard_in, out_past}
 use Rattle.node_rules.specs.NodeText.{lines_out, rows_before, most_rows, IsLastFit, whole_text}
 use Rattle.node_replay.specs.Rows.{IsRowList}
 use Rattle.node_replay.specs.Keeping.{word_or, said_in, said_by, level_after}
-
--- an element makes a step in a millisecond, in which it is told some words
-pub record IsStepped (now : ℕ) (words : List InputEvent) (before after : ElementState) : Type 0 where
-  pub settings : after.settings ≡ before.settings
-  pub next : after.next ≡ now + 1
-  pub due_later : IfSome after.due (λ due. now < due)
-  pub stands : (past : List Moment) → Element.StandsFor before past → Element.StandsFor after
-      (moment_after before.settings (moments_until before.settings now past) words
-      ∷ moments_until before.settings now past)
 
 -- an element takes this, and has this level, after any past for which it stands, and after the milliseconds that follow
 -- up to its due time, if nothing is told
@@ -51,11 +43,10 @@ pub record Shows (plan : Topology) (place : ℕ) (element : ElementState) (shown
       → shown.level ≡ clock_level_at (settings_of plan place) (moments_until (settings_of plan place) n past)
   pub input : IfSome shown.taken (IsInput plan)
 
--- after n milliseconds it stands for the first of them, up to its last step, and in the others nothing is told
-pub record IsOfPast (plan : Topology) (rows : List NodeRow) (place n : ℕ) (element : ElementState) : Type 0 where
-  pub stands : Element.StandsFor element (node_past plan rows place element.next)
-  pub quiet : node_past plan rows place n
-      ≡ moments_until (settings_of plan place) n (node_past plan rows place element.next)
+-- the element after n milliseconds of what its rows bring it
+abbrev pub IsOfPast : Topology → List NodeRow → ℕ → ℕ → ElementState → Type 0
+IsOfPast plan rows place n element =
+    StandsAfter (settings_of plan place) (moment_at plan (signals_in plan rows) (heard_in plan rows) place) n element
 
 -- the last frame that counts on a line in the first n milliseconds
 abbrev pub last_counted : Topology → List NodeRow → ℕ → ℕ → Option LastWord

@@ -11,7 +11,7 @@ use Rattle.node_replay.specs.declared.running.Run.{Run}
 use Rattle.node_rules.specs.NodeText.{most_rows}
 use Rattle.node_replay.specs.Keeping.{heard_of, input_after, out_after, sent_row}
 use Rattle.node_replay.specs.Telling.{all_told}
-use Rattle.node_replay.specs.Running.{IsStepped, Shows}
+use Rattle.node_replay.specs.Running.{Shows}
 
 -- nothing is due, no level that is heard is lost and no second begins before a millisecond
 pub record IsWake (now : ℕ) (due : Option ℕ) (inputs : List InputKept) (wake : ℕ) : Type 0 where

@@ -3,10 +3,11 @@
 ghost use Rattle.std.specs.Prelude.{◌≡◌, ◌≤◌, ◌<◌, IfSome, All, length, option_and_then, slice_get};
 ghost use Rattle.sync_ql.specs.Told.{FitsElement};
 ghost use Rattle.sync_element.specs.ElementState.{IsInTime};
+ghost use Rattle.sync_element.specs.StandsAfter.{IsStepped};
 ghost use Rattle.sync_topo.specs.Lines.{line_count, IsInput};
 ghost use Rattle.net_rules.specs.History.{settings_of, is_way_back};
 ghost use Rattle.node_replay.specs.Keeping.{level_out};
-ghost use Rattle.node_replay.specs.Running.{IsStepped, Shows};
+ghost use Rattle.node_replay.specs.Running.{Shows};
 
 use std::marker::Brand;
 use std::sync::ledger::{Blank, Ledger};
@@ -93,4 +94,5 @@ fn step<L: Ledger>(element: &mut Element, now: u64, words: &[InputEvent], blank:
 {
     let mut steps = Steps::<L>::new(blank);
     element.step(now, words, &mut steps);
+    let _due = element.due();
 }

@@ -24,7 +24,8 @@ use Rattle.sync_topo.specs.Events.{Fits, MayHappen, IsEventList}
 use Rattle.sync_topo.specs.WellFormed.{IsWellFormed}
 use Rattle.net_rules.specs.Signals.{Signals, signals_by, events_before, last_word, says_level, up_at, said_at, planned_level, source_level_before, source_level_at}
 use Rattle.net_rules.specs.Inputs.{IsInputOf}
-use Rattle.net_rules.specs.History.{settings_of, line_moment_at, heard, signal_at, input_level, moment_at, element_past, taken_by, is_way_back, sent_level, out_at}
+use Rattle.net_rules.specs.History.{settings_of, line_moment_at, heard, input_level, moment_at, element_past, taken_by, is_way_back, sent_level, out_at}
+use Rattle.net_rules.specs.Settings.{input_by}
 use Rattle.net_rules.specs.Walks.{Each}
 use Rattle.net_rules.proofs.Lists.{Each-map, Each-filter}
 use Rattle.net_rules.proofs.EventLaws.{each-all}
@@ -157,7 +158,7 @@ module _ (plan : Topology) (events : List Event) (well : IsWellFormed plan) (are
       → (element i : ℕ) → IsOfOption plan.option (level_now i (element_past plan signals (out_at plan signals) element (suc t)))
   unfolding moment_at
   level-option t earlier element i =
-      at-place plan.option (λ input. record { signal = signal_at signals input t; level = input_level signals (heard plan signals (out_at plan signals)) input t })
+      at-place plan.option (input_by signals (input_level signals (heard plan signals (out_at plan signals))) t)
       (record { signal = record { up = true; clear = false }; level = None }) (inputs_of plan element) i tt
       (Each-map (IsInputOf plan element) _ (input-option t earlier element) (inputs_of plan element) (inputs-are plan element))
 

@@ -16,7 +16,8 @@ use Rattle.sync_topo.specs.Lines.{line_input, sender_of, receiver_of, delay_of, 
 use Rattle.sync_topo.specs.WellFormed.{IsWellFormed}
 use Rattle.net_rules.specs.Signals.{Signals, signals_by}
 use Rattle.net_rules.specs.Inputs.{IsInputOf}
-use Rattle.net_rules.specs.History.{Levels, settings_of, line_moment_at, heard, signal_at, input_level, moment_at, element_past, taken_by, taken_at, level_at, sent_by, sent_level, out_at}
+use Rattle.net_rules.specs.History.{Levels, settings_of, line_moment_at, heard, input_level, moment_at, element_past, taken_by, taken_at, level_at, sent_by, sent_level, out_at}
+use Rattle.net_rules.specs.Settings.{input_by}
 use Rattle.net_rules.proofs.Lists.{Each-map, map-same, past-same}
 use Rattle.net_rules.proofs.InputLaws.{inputs-are}
 use Rattle.net_rules.proofs.HistoryLaws.{line-input_of, out_at-sent}
@@ -71,9 +72,6 @@ line_moment : (up up_then esmc esmc_then : Bool) (level level_then : Level) → 
     → ◌≡◌ {A = LineMoment} (record { up = up; esmc = esmc; level = Some level }) (record { up = up_then; esmc = esmc_then; level = Some level_then })
 line_moment up up_then esmc esmc_then level level_then a b c = rw (a, b, c) refl
 
-abbrev input_in : Signals → (ℕ → ℕ → Option Level) → ℕ → InputId → InputMoment
-input_in signals hears s input = record { signal = signal_at signals input s; level = input_level signals hears input s }
-
 module _ (plan : Topology) (events : List Event) (element until : ℕ) (rows : List NodeRow) (well : IsWellFormed plan) (is : IsNodeFile plan events element until rows) where
   -- the network's signals, and the levels that it sends
   abbrev signals : Signals
@@ -112,7 +110,7 @@ module _ (plan : Topology) (events : List Event) (element until : ℕ) (rows : L
       ∙ ap (first_within hearing_time) (sym (arrivals-past (delay_of plan line) (line_moment_at signals out line) (suc s)))
 
   same-input : (s : ℕ) → s ≤ until → (input : InputId) → IsInputOf plan element input
-      → input_in (signals_in plan rows) (heard_in plan rows) s input ≡ input_in signals (heard plan signals out) s input
+      → input_by (signals_in plan rows) (input_level (signals_in plan rows) (heard_in plan rows)) s input ≡ input_by signals (input_level signals (heard plan signals out)) s input
   same-input s early (Line line) of = input_moment _ _ _ _ _ _ (same.up (Line line) s of early) (same.clear (Line line) s of early) (hears line.0 s of.nominated of.of_element early)
   same-input s early (Source source) of = input_moment _ _ _ _ _ _ (same.up (Source source) s of early) (same.clear (Source source) s of early) (ap Some (same.source_level source s of early))
 
@@ -121,7 +119,7 @@ module _ (plan : Topology) (events : List Event) (element until : ℕ) (rows : L
   unfolding moment_at
   same-moment s early =
       moment _ _ _ _
-      (map-same (input_in (signals_in plan rows) (heard_in plan rows) s) (input_in signals (heard plan signals out) s) (inputs_of plan element)
+      (map-same (input_by (signals_in plan rows) (input_level (signals_in plan rows) (heard_in plan rows)) s) (input_by signals (input_level signals (heard plan signals out)) s) (inputs_of plan element)
       (Each-map (IsInputOf plan element) _ (same-input s early) (inputs_of plan element) (inputs-are plan element)))
       (same.commands s early)
 

@@ -19,7 +19,7 @@ use Rattle.net_rules.specs.Signals.{is_of_part, says_up, says_esmc, says_level, 
 use Rattle.net_rules.specs.Inputs.{IsInputOf}
 use Rattle.net_rules.specs.Activity.{is_at, is_part_at}
 use Rattle.net_rules.proofs.InputLaws.{inputs-are}
-use Rattle.net_rules.proofs.NetLaws.{each-at}
+use Rattle.net_rules.proofs.Lists.{each-at}
 use Rattle.net_rules.proofs.TouchLaws.{input-is_at, up-silent, level-silent}
 use Rattle.node_rules.specs.FromNetwork.{is_part_out, is_input_at, is_told_to}
 

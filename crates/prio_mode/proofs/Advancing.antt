@@ -68,7 +68,7 @@ module _ (plan : Topology) (all : List Event) (next now : ℕ) (run : Run) (list
       then_stands : RunStands plan all (suc m) run
       then_stands place element within =
           quiet-stands plan all place m (element_in run place element) listed.in_order
-          (on_time place m element within low (omega (arith, high)) (omega (arith, low, high))).later
+          (on_time place (suc m) element within (omega (arith, low)) (omega (arith, high)) (omega (arith, low, high)))
           (ap (λ events. all_words plan events place) (none m low high)) (stood place element within)
 
       any : ElementState
@@ -89,10 +89,8 @@ module _ (plan : Topology) (all : List Event) (next now : ℕ) (run : Run) (list
       nothing place within =
           let shows = (is.ready place any (shown_after plan 0 []) within).shows in
           no-row plan m place (shown_by plan all place m) (shown_by plan all place (suc m))
-          (sym (shown-is plan all place m (element_in run place any) (shown_in run place (shown_after plan 0 [])) shows
-          (on_time place m any within low (omega (arith, high)) (omega (arith, low, high))) (stood place any within))
-          ∙ shown-is plan all place (suc m) (element_in run place any) (shown_in run place (shown_after plan 0 [])) shows
-          (on_time place (suc m) any within (omega (arith, low)) (omega (arith, high)) (omega (arith, low, high))) (then_stands place any within))
+          (sym (shown-is plan all place m (element_in run place any) (shown_in run place (shown_after plan 0 [])) shows (stood place any within))
+          ∙ shown-is plan all place (suc m) (element_in run place any) (shown_in run place (shown_after plan 0 [])) shows (then_stands place any within))
 
   quiet-more : (k : ℕ) → next + k ≤ now → RunStands plan all next run → Through (next + k)
   unfolding Through

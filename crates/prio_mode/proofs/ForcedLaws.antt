@@ -22,18 +22,19 @@ use Rattle.sync_topo.specs.declared.event.Event.{Event}
 use Rattle.sync_topo.specs.declared.event.What.TheVariants.{Forced}
 use Rattle.sync_topo.specs.declared.input.InputId.{InputId}
 use Rattle.sync_topo.specs.Topology.{Topology}
-use Rattle.sync_topo.specs.Lines.{line_input, receiver_of, inputs_of, IsNominated, input_priority, place_at}
+use Rattle.sync_topo.specs.Lines.{line_input, receiver_of, inputs_of, IsNominated, place_at}
 use Rattle.sync_topo.specs.Events.{IsEventList, Fits}
 use Rattle.sync_topo.specs.Ranks.{IsFirstCycle}
 use Rattle.sync_topo.proofs.LineLaws.{IsNominated-within}
 use Rattle.net_rules.specs.Signals.{Signals, signals_by, events_at, last_word, says_up, up_at, command_to}
+use Rattle.net_rules.specs.Settings.{input_by}
 use Rattle.net_rules.specs.Walks.{Each, AreApart, IsOneOf, IsTaken}
 use Rattle.net_rules.proofs.Lists.{Each-map}
-use Rattle.net_rules.proofs.NetLaws.{map-at}
+use Rattle.net_rules.proofs.SettingLaws.{input-by, priorities-by}
 use Rattle.sync_topo.specs.declared.returns.Returns.TheVariants.{Allowed}
 use Rattle.sync_topo.specs.Hops.{hops_any}
 use Rattle.sync_topo.proofs.HopLaws.{hop-meets}
-use Rattle.prio_mode.specs.PriorityAlone.{one_level, priority_settings, priority_input, priority_moment, priority_taken_at, priority_taken_in}
+use Rattle.prio_mode.specs.PriorityAlone.{one_level, by_priority, priority_levels, priority_settings, priority_moment, priority_taken_at, priority_taken_in}
 use Rattle.prio_mode.specs.ForcedLoop.{forced_on, IsForcedLoop}
 use Rattle.sync_net.proofs.DistinctInputs.{place-at}
 use Rattle.sync_net.proofs.PlaceLemmas.{no-place-there, stands-there}
@@ -149,17 +150,16 @@ above II = refl
 
 settings-length : (plan : Topology) (element : ℕ) → length (priority_settings plan element).priorities ≡ length (inputs_of plan element)
 unfolding priority_settings
-settings-length plan element = length-map (inputs_of plan element) (input_priority plan)
+settings-length plan element = priorities-by (by_priority plan) plan element
 
 no-floor : (plan : Topology) (element : ℕ) → (priority_settings plan element).floor ≡ None
 unfolding priority_settings
 no-floor plan element = refl
 
-pub priority-input-at : (plan : Topology) (signals : Signals) (element t i : ℕ) (input : InputId) → slice_get (inputs_of plan element) i ≡ Some input
-    → input_of i (priority_moment plan signals element t) ≡ priority_input plan signals t input
+priority-input-at : (plan : Topology) (signals : Signals) (element t i : ℕ) (input : InputId) → slice_get (inputs_of plan element) i ≡ Some input
+    → input_of i (priority_moment plan signals element t) ≡ input_by signals (priority_levels plan) t input
 unfolding priority_moment
-priority-input-at plan signals element t i input at =
-    map-at (priority_input plan signals t) (inputs_of plan element) i input (record { signal = record { up = true; clear = false }; level = None }) at
+priority-input-at plan signals element t i input at = input-by plan signals (priority_levels plan) element t i input at
 
 moment-commands : (plan : Topology) (signals : Signals) (element t : ℕ) → (priority_moment plan signals element t).commands ≡ signals.commands element t
 unfolding priority_moment

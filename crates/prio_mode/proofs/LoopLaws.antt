@@ -11,26 +11,18 @@ use Rattle.net_rules.specs.Inputs.{IsInputOf}
 use Rattle.net_rules.specs.Signals.{Signals, signals_by}
 use Rattle.net_rules.specs.Walks.{Taken, Each, IsTaken, Joins, IsClosedWalk}
 use Rattle.net_rules.proofs.InputLaws.{inputs-are}
-use Rattle.net_rules.proofs.NetLaws.{each-at}
+use Rattle.net_rules.proofs.Lists.{each-at}
 use Rattle.net_rules.proofs.WalkLaws.{AreNominated, walks-leads, no_cycle}
 use Rattle.sync_topo.specs.Hops.{hops_any}
 use Rattle.sync_topo.proofs.HopLaws.{hop-any-from}
 use Rattle.prio_mode.specs.PriorityAlone.{priority_settings, priority_past, priority_taken_by, priority_taken_at, priority_taken_in}
 use Rattle.prio_mode.specs.PriorityLoops.{NeverLoops}
 
--- what an element takes after a past is an input of its own
-pub taken-own : (plan : Topology) (element : ℕ) (past : List Moment) (input : InputId)
-    → priority_taken_by plan element past ≡ Some input → IsInputOf plan element input
-taken-own plan element past input taken = by (selection_at (priority_settings plan element) past) taken
-  where
-    by : (o : Option ℕ) → option_and_then (slice_get (inputs_of plan element)) o ≡ Some input → IsInputOf plan element input
-    by None is = absurd (none-some input is)
-    by (Some place) is = each-at (IsInputOf plan element) (inputs_of plan element) place input (inputs-are plan element) is
-
+-- a line that is taken is nominated
 pub taken-nominated : (plan : Topology) (signals : Signals) (t : ℕ) → AreNominated plan (priority_taken_in plan signals t)
 unfolding priority_taken_at
 taken-nominated plan signals t line taken =
-    (taken-own plan (receiver_of plan line) (priority_past plan signals (receiver_of plan line) (suc t)) (line_input line) taken).nominated
+    (taken-own plan (priority_settings plan (receiver_of plan line)) (receiver_of plan line) (priority_past plan signals (receiver_of plan line) (suc t)) (line_input line) taken).nominated
 
 -- lines that are taken and join hop from one to the next
 hops_along : (plan : Topology) (line : ℕ) (rest : List ℕ) (end : ℕ) → Each (IsNominated plan) (line ∷ rest) → IsNominated plan end

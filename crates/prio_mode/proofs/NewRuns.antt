@@ -11,11 +11,12 @@ use Rattle.std.proofs.lemmas.List.Elements.{All-map, All-nil, All-cons}
 use Rattle.sync_ql.specs.declared.levels.NetOption.{NetOption}
 use Rattle.sync_ql.specs.declared.levels.NetOption.TheVariants.{I, II}
 use Rattle.sync_ql.specs.declared.levels.Level.{Level}
-use Rattle.sync_ql.specs.Told.{IsOfOption, moments_until}
+use Rattle.sync_ql.specs.Told.{IsOfOption}
 use Rattle.agenda.specs.Marked.{none_marked}
 use Rattle.sync_element.specs.declared.config.InputConfig.{InputConfig}
 use Rattle.sync_element.specs.Configured as configured
 use Rattle.sync_element.specs.ElementState.{ElementState}
+use Rattle.sync_element.proofs.ElementSteps.{new-in_time, stands-new}
 use Rattle.sync_element.specs.StandsFor as Element
 use Rattle.sync_topo.specs.declared.element.Element as elements
 use Rattle.sync_topo.specs.declared.event.Event.{Event}
@@ -31,7 +32,7 @@ use Rattle.sync_net.specs.Places.{ArePlaces}
 use Rattle.prio_mode.specs.declared.shown.Shown.{Shown}
 use Rattle.prio_mode.specs.declared.running.Run.{Run}
 use Rattle.prio_mode.specs.Configured.{config_of, IsNewElement, AreShown}
-use Rattle.prio_mode.specs.PriorityAlone.{one_level, priority_settings, priority_past}
+use Rattle.prio_mode.specs.PriorityAlone.{one_level, priority_settings, priority_moment}
 use Rattle.prio_mode.proofs.Visiting.{read-any}
 use Rattle.prio_mode.specs.Running.{Shows, IsRun, RunStands, element_in}
 
@@ -115,7 +116,7 @@ begun plan run elements shown changes active places = record {
   };
   ready = λ place element none within. let is = elements.each place element within in record {
     settings = is.settings;
-    in_time = record { first = λ never. refl; later = (let next = is.next in omega (arith, next)); until_due = subst (λ o. IfSome o (λ due. 0 ≤ due)) (sym is.due) tt };
+    in_time = new-in_time (element_in run place element) is.next is.due;
     shows = shown.each place element none within;
   };
   untold = λ place. ap (λ xs. slice_index_or xs place []) changes ∙ none-replicated (length plan.elements) place [];
@@ -126,10 +127,7 @@ pub begun-stands : (plan : Topology) (run : Run) → AreEach (IsNewElement plan)
     → (all : List Event) → RunStands plan all 0 run
 begun-stands plan run elements all place element within =
     let is = elements.each place element within in
-    record {
-      stands = subst (λ n. Element.StandsFor (element_in run place element) (priority_past plan (signals_by plan all) place n)) (sym is.next) is.stands;
-      quiet = subst (λ n. priority_past plan (signals_by plan all) place 0 ≡ moments_until (priority_settings plan place) 0 (priority_past plan (signals_by plan all) place n)) (sym is.next) refl;
-    }
+    stands-new (priority_settings plan place) (priority_moment plan (signals_by plan all) place) (element_in run place element) is.settings is.next is.due is.stands
 
 -- what the element that is read shows
 pub shows-at : (plan : Topology) (elements : List ElementState) (place : ℕ) (element : ElementState) (shown : Shown) → length elements ≡ length plan.elements → place < length plan.elements

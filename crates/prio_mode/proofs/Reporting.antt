@@ -18,6 +18,7 @@ use Rattle.net_rules.proofs.PlanLaws.{receiver-within}
 use Rattle.net_rules.specs.Inputs.{IsInputOf}
 use Rattle.net_rules.specs.Signals.{signals_by}
 use Rattle.net_rules.specs.Walks.{Taken}
+use Rattle.net_rules.proofs.SettingLaws.{taken-own}
 use Rattle.prio_mode.specs.declared.shown.Shown.{Shown}
 use Rattle.prio_mode.specs.declared.running.Run.{Run}
 use Rattle.prio_mode.specs.PriorityAlone.{priority_settings, priority_past, priority_taken_at, priority_taken_in}
@@ -26,7 +27,6 @@ use Rattle.prio_mode.specs.Loops.{AreLoops, walk_rows}
 use Rattle.prio_mode.specs.PriorityReport.{IsPriorityReport}
 use Rattle.prio_mode.specs.Running.{IsRun, RunStands, element_in, shown_in}
 use Rattle.prio_mode.specs.GoingBack.{taken_by, TakeOwn}
-use Rattle.prio_mode.proofs.LoopLaws.{taken-own}
 use Rattle.prio_mode.proofs.Standing.{shown-is}
 
 -- an input of the plan is of one of its elements
@@ -56,15 +56,14 @@ module _ (plan : Topology) (events : List Event) (until : ℕ) (run : Run) (well
   unfolding shown_after priority_taken_at
   inside e within =
       let ready = is.ready e (any plan) (record { mode = Auto; input = None; state = FreeRun }) within in
-      let on_time : IsInTime (element_in run e (any plan)) (suc until) = subst (IsInTime (element_in run e (any plan))) (add-one until) ready.in_time in
       ap (λ (shown : Shown). shown.input)
-      (shown-is plan events e (suc until) (element_in run e (any plan)) (shown_in run e (record { mode = Auto; input = None; state = FreeRun })) ready.shows on_time (stood e (any plan) within))
+      (shown-is plan events e (suc until) (element_in run e (any plan)) (shown_in run e (record { mode = Auto; input = None; state = FreeRun })) ready.shows (stood e (any plan) within))
 
   beyond : (e : ℕ) → length plan.elements ≤ e → (o : Option InputId) → priority_taken_in plan (signals_by plan events) until e ≡ o → o ≡ None
   unfolding priority_taken_at
   beyond e past None taken = refl
   beyond e past (Some input) taken =
-      let of = taken-own plan e (priority_past plan (signals_by plan events) e (suc until)) input taken in
+      let of = taken-own plan (priority_settings plan e) e (priority_past plan (signals_by plan events) e (suc until)) input taken in
       let within = element-within plan input well of.has in
       let at = of.of_element in
       absurd (omega (arith, within, at, past))
@@ -83,7 +82,7 @@ module _ (plan : Topology) (events : List Event) (until : ℕ) (run : Run) (well
     where
       by : (o : Option InputId) → priority_taken_in plan (signals_by plan events) until e ≡ o → IfSome o (IsInputOf plan e)
       by None taken = tt
-      by (Some input) taken = taken-own plan e (priority_past plan (signals_by plan events) e (suc until)) input taken
+      by (Some input) taken = taken-own plan (priority_settings plan e) e (priority_past plan (signals_by plan events) e (suc until)) input taken
 
   -- the parts that were put are the report
   pub reported : (shown : List Shown) (first second third whole : List ℕ) → shown ≡ run.shown.items → first ≡ codes "changes\n"

@@ -6,16 +6,18 @@ use Rattle.std.proofs.lemmas.Option.{slice_get_read, get_or_from_slice_get}
 use Rattle.sync_ql.specs.declared.rules.InputEvent.{InputEvent}
 use Rattle.sync_ql.specs.Told.{moment_after}
 use Rattle.sync_element.specs.ElementState.{ElementState, IsInTime}
+use Rattle.sync_element.specs.StandsAfter.{IsStepped}
+use Rattle.sync_element.proofs.ElementSteps.{stepped-in_time, stands-stepped}
 use Rattle.sync_topo.specs.Topology.{Topology}
 use Rattle.net_rules.specs.Signals.{signals_by}
 use Rattle.sync_net.specs.Places.{ArePlaces}
 use Rattle.sync_net.specs.Tellings.{told_to, is_something}
 use Rattle.prio_mode.specs.declared.shown.Shown.{Shown}
 use Rattle.prio_mode.specs.declared.running.Run.{Run}
-use Rattle.prio_mode.specs.PriorityAlone.{priority_settings, priority_past}
+use Rattle.prio_mode.specs.PriorityAlone.{priority_settings, priority_moment, priority_past}
 use Rattle.prio_mode.specs.PriorityRows.{shown_by, row_between}
-use Rattle.prio_mode.specs.Running.{IsStepped, Shows, IsReady, IsOfPast, AreCounted, IsVisited, element_in, shown_in}
-use Rattle.prio_mode.proofs.Standing.{told-moment, stepped-in_time, stepped-stands, quiet-stands, shown-is, no-row}
+use Rattle.prio_mode.specs.Running.{Shows, IsReady, IsOfPast, AreCounted, IsVisited, element_in, shown_in}
+use Rattle.prio_mode.proofs.Standing.{told-moment, quiet-stands, shown-is, no-row}
 
 -- an item is read whatever stands for one beyond the list
 pub read-any : {A : Type 0} (xs : List A) (n i : ℕ) (x other : A) → length xs ≡ n → i < n → x ≡ slice_index_or xs i x → slice_index_or xs i other ≡ x
@@ -39,12 +41,11 @@ visited-idle plan now place run text counted ready none started due = record {
   flags = refl;
   stands = λ all element listed words is.
       let other : Shown = shown_by plan all place now in
-      let here = ready element other in
-      let later = here.in_time.later in
-      let then_stands = quiet-stands plan all place now (element_in run place element) listed.in_order later (words ∙ none) is in
+      let shows = (ready element other).shows in
       let then_time : IsInTime (element_in run place element) (suc now) = subst (IsInTime (element_in run place element)) (add-one now) (next element other) in
-      let same = sym (shown-is plan all place now (element_in run place element) (shown_in run place other) here.shows here.in_time is)
-      ∙ shown-is plan all place (suc now) (element_in run place element) (shown_in run place other) here.shows then_time then_stands in
+      let then_stands = quiet-stands plan all place now (element_in run place element) listed.in_order then_time (words ∙ none) is in
+      let same = sym (shown-is plan all place now (element_in run place element) (shown_in run place other) shows is)
+      ∙ shown-is plan all place (suc now) (element_in run place element) (shown_in run place other) shows then_stands in
       (then_stands, sym (ap (λ row. text ++ row) (no-row plan now place (shown_by plan all place now) (shown_by plan all place (suc now)) same) ∙ append-nil text));
 }
   where
@@ -96,7 +97,7 @@ module _ (plan : Topology) (now place : ℕ) (before after : Run) (text text_the
   settings_then = stepped.settings ∙ was_ready.settings
 
   then_ready : IsReady plan place (now + 1) element_then shown
-  then_ready = record { settings = settings_then; in_time = stepped-in_time now told element element_then stepped; shows = shows }
+  then_ready = record { settings = settings_then; in_time = subst (IsInTime element_then) (sym (add-one now)) (stepped-in_time now told element element_then stepped); shows = shows }
 
   pub visited-stepped : IsVisited plan now place (told_to before.tellings place) before after text text_then
   visited-stepped = record {
@@ -122,10 +123,9 @@ module _ (plan : Topology) (now place : ℕ) (before after : Run) (text text_the
         let stood : IsOfPast plan all place now element = subst (IsOfPast plan all place now) (element_before other) is in
         let told_is = ap (moment_after (priority_settings plan place) (priority_past plan (signals_by plan all) place now)) (sym (words ∙ told_before))
         ∙ told-moment plan all place now listed.in_order in
-        let then_stands = stepped-stands plan all place now told element element_then stepped was_ready.settings stood told_is in
-        let on_time : IsInTime element_then (suc now) = subst (IsInTime element_then) (add-one now) then_ready.in_time in
-        let was_is = shown-is plan all place now element was was_ready.shows was_ready.in_time stood in
-        let is_now = shown-is plan all place (suc now) element_then shown shows on_time then_stands in (
+        let then_stands = stands-stepped (priority_settings plan place) (priority_moment plan (signals_by plan all) place) now told element element_then stepped stood told_is in
+        let was_is = shown-is plan all place now element was was_ready.shows stood in
+        let is_now = shown-is plan all place (suc now) element_then shown shows then_stands in (
           subst (IsOfPast plan all place (suc now)) (sym (element_after other)) then_stands,
           put ∙ ap (λ row. text ++ row) (ap (λ s. row_between plan now place s shown) was_is ∙ ap (row_between plan now place (shown_by plan all place now)) is_now),
         );

@@ -1,7 +1,7 @@
 -- Elements that choose by priority alone: each input has one and the same level in every millisecond, so that
 -- levels decide nothing. After G.781, selection, external commands, and hold-off and wait-to-restore times; the
 -- rest is this project's own.
-use Rattle.std.specs.Prelude.{ℕ, suc, List, map, slice_get, Option, None, Some, option_and_then}
+use Rattle.std.specs.Prelude.{ℕ, suc, List, Option, None, Some}
 use Rattle.std.proofs.Common.{lit<}
 use Rattle.sync_ql.specs.declared.levels.NetOption.{NetOption}
 use Rattle.sync_ql.specs.declared.levels.NetOption.TheVariants.{I, II}
@@ -9,13 +9,12 @@ use Rattle.sync_ql.specs.declared.levels.Level.{Level}
 use Rattle.sync_ql.specs.declared.rules.Mode.{Mode}
 use Rattle.sync_ql.specs.declared.rules.ClockState.{ClockState}
 use Rattle.sync_ql.specs.Pasts.{past_of}
-use Rattle.sync_ql.specs.Moment.{InputMoment, Moment, Settings, selection_at}
+use Rattle.sync_ql.specs.Moment.{Moment, Settings}
 use Rattle.sync_ql.specs.Output.{mode_at, state_at}
 use Rattle.sync_topo.specs.declared.input.InputId.{InputId}
 use Rattle.sync_topo.specs.Topology.{Topology}
-use Rattle.sync_topo.specs.Lines.{inputs_of, input_priority}
 use Rattle.net_rules.specs.Signals.{Signals}
-use Rattle.net_rules.specs.History.{own_level, timers_of, signal_at}
+use Rattle.net_rules.specs.Settings.{Setting, InputLevels, settings_by, moment_by, taken_with}
 use Rattle.net_rules.specs.Walks.{Taken}
 
 -- the level that every input has: the option's first
@@ -23,27 +22,25 @@ abbrev pub one_level : NetOption → Level
 one_level I = record { option = I; place = 0; is_row = lit< tt }
 one_level II = record { option = II; place = 0; is_row = lit< tt }
 
--- what an element of a plan is set to: its times and priorities, one level for each input, no floor, and no bundles
-unfoldable pub priority_settings : Topology → ℕ → Settings
-priority_settings plan element = record {
-  own = own_level plan element;
-  timers = timers_of plan element;
-  floor = None;
-  priorities = map (input_priority plan) (inputs_of plan element);
-  first_levels = map (λ input. Some (one_level plan.option)) (inputs_of plan element);
-  bundles = map (λ input. 0) (inputs_of plan element);
+-- how elements choose by priority alone: without a floor, by one level for each input, and without bundles
+abbrev pub by_priority : Topology → Setting
+by_priority plan = record {
+  floor = λ element. None;
+  first = λ input. Some (one_level plan.option);
+  bundle = λ input. 0;
 }
 
--- an input in a millisecond: its signal, and the one level
-abbrev pub priority_input : Topology → Signals → ℕ → InputId → InputMoment
-priority_input plan signals t input = record { signal = signal_at signals input t; level = Some (one_level plan.option) }
+-- what an element of a plan is set to
+unfoldable pub priority_settings : Topology → ℕ → Settings
+priority_settings plan element = settings_by (by_priority plan) plan element
+
+-- each input has the one level in each millisecond
+abbrev pub priority_levels : Topology → InputLevels
+priority_levels plan input t = Some (one_level plan.option)
 
 -- an element in a millisecond
 unfoldable pub priority_moment : Topology → Signals → ℕ → ℕ → Moment
-priority_moment plan signals element t = record {
-  inputs = map (priority_input plan signals t) (inputs_of plan element);
-  commands = signals.commands element t;
-}
+priority_moment plan signals element t = moment_by plan signals (priority_levels plan) element t
 
 -- its first n milliseconds
 abbrev pub priority_past : Topology → Signals → ℕ → ℕ → List Moment
@@ -51,8 +48,7 @@ priority_past plan signals element n = past_of (priority_moment plan signals ele
 
 -- the input that an element takes after a past
 abbrev pub priority_taken_by : Topology → ℕ → List Moment → Option InputId
-priority_taken_by plan element past =
-    option_and_then (slice_get (inputs_of plan element)) (selection_at (priority_settings plan element) past)
+priority_taken_by plan element past = taken_with plan (priority_settings plan element) element past
 
 -- the input that an element takes in a millisecond
 unfoldable pub priority_taken_at : Topology → Signals → ℕ → ℕ → Option InputId

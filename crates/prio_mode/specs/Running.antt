@@ -1,9 +1,10 @@
 -- Private to this crate: what a run keeps, and how far it has come.
-use Rattle.std.specs.Prelude.{◌≡◌, ◌≢◌, ◌≤◌, ◌<◌, ◌+◌, ℕ, suc, false, List, [], ◌∷◌, ◌++◌, length, slice_index_or, IfSome}
+use Rattle.std.specs.Prelude.{◌≡◌, ◌≢◌, ◌≤◌, ◌<◌, ◌+◌, ℕ, suc, List, [], ◌++◌, length, slice_index_or, IfSome}
 use Rattle.sync_ql.specs.declared.rules.InputEvent.{InputEvent}
 use Rattle.sync_ql.specs.Moment.{Moment}
-use Rattle.sync_ql.specs.Told.{moment_after, moments_until}
+use Rattle.sync_ql.specs.Told.{moments_until}
 use Rattle.sync_element.specs.ElementState.{ElementState, IsInTime}
+use Rattle.sync_element.specs.StandsAfter.{StandsAfter}
 use Rattle.sync_element.specs.StandsFor as Element
 use Rattle.sync_topo.specs.declared.event.Event.{Event}
 use Rattle.sync_topo.specs.Topology.{Topology}
@@ -15,17 +16,8 @@ use Rattle.sync_net.specs.Tellings.{told_to, is_active, is_something}
 use Rattle.sync_net.specs.Words.{all_words}
 use Rattle.prio_mode.specs.declared.shown.Shown.{Shown}
 use Rattle.prio_mode.specs.declared.running.Run.{Run}
-use Rattle.prio_mode.specs.PriorityAlone.{priority_settings, priority_past}
+use Rattle.prio_mode.specs.PriorityAlone.{priority_settings, priority_moment}
 use Rattle.prio_mode.specs.PriorityRows.{shown_after, row_in, rows_before}
-
--- an element makes a step in a millisecond, in which it is told some words
-pub record IsStepped (now : ℕ) (words : List InputEvent) (before after : ElementState) : Type 0 where
-  pub settings : after.settings ≡ before.settings
-  pub next : after.next ≡ now + 1
-  pub due_later : IfSome after.due (λ due. now < due)
-  pub stands : (past : List Moment) → Element.StandsFor before past → Element.StandsFor after
-      (moment_after before.settings (moments_until before.settings now past) words
-      ∷ moments_until before.settings now past)
 
 -- an element of a plan shows this after any past for which it stands, and after the milliseconds that
 -- follow up to its due time, if nothing is told; and the input is one of the plan
@@ -40,12 +32,10 @@ pub record IsReady (plan : Topology) (place next : ℕ) (element : ElementState)
   pub in_time : IsInTime element next
   pub shows : Shows plan place element shown
 
--- after n milliseconds it stands for the first of them, up to its last step, and in the others nothing is
--- told
-pub record IsOfPast (plan : Topology) (events : List Event) (place n : ℕ) (element : ElementState) : Type 0 where
-  pub stands : Element.StandsFor element (priority_past plan (signals_by plan events) place element.next)
-  pub quiet : priority_past plan (signals_by plan events) place n
-      ≡ moments_until (priority_settings plan place) n (priority_past plan (signals_by plan events) place element.next)
+-- an element after n milliseconds of what it takes by priority alone
+abbrev pub IsOfPast : Topology → List Event → ℕ → ℕ → ElementState → Type 0
+IsOfPast plan events place n element =
+    StandsAfter (priority_settings plan place) (priority_moment plan (signals_by plan events) place) n element
 
 -- what is kept of the element at a place
 abbrev pub element_in : Run → ℕ → ElementState → ElementState

@@ -3,8 +3,9 @@
 ghost use Rattle.std.specs.Prelude.{◌≡◌, ◌≤◌, ◌<◌, [], All, length};
 ghost use Rattle.sync_ql.specs.Told.{FitsElement};
 ghost use Rattle.sync_element.specs.ElementState.{IsInTime};
+ghost use Rattle.sync_element.specs.StandsAfter.{IsStepped};
 ghost use Rattle.prio_mode.specs.PriorityAlone.{priority_settings};
-ghost use Rattle.prio_mode.specs.Running.{IsStepped, Shows};
+ghost use Rattle.prio_mode.specs.Running.{Shows};
 
 use crate::shown::{Shown, shown_of};
 use std::marker::Brand;
@@ -49,4 +50,5 @@ fn step<L: Ledger>(element: &mut Element, now: u64, words: &[InputEvent], blank:
 {
     let mut steps = Steps::<L>::new(blank);
     element.step(now, words, &mut steps);
+    let _due = element.due();
 }

@@ -20,9 +20,10 @@ use Rattle.net_rules.specs.Signals.{Signals}
 use Rattle.net_rules.specs.History.{Levels, settings_of, heard, moment_at, element_past, failed_by}
 use Rattle.net_rules.specs.Settled.{IsSteady}
 use Rattle.net_rules.specs.Walks.{Each}
-use Rattle.net_rules.proofs.NetLaws.{each-at, signals-at, failed-at}
+use Rattle.net_rules.proofs.NetLaws.{signals-at, failed-at, many-inputs}
+use Rattle.net_rules.proofs.Lists.{each-at}
 use Rattle.sync_net.specs.Standing.{ElementStands}
-use Rattle.sync_net.proofs.SteadyElements.{each-by, inputs-count, up-now, failed-now}
+use Rattle.sync_net.proofs.SteadyElements.{each-by, up-now, failed-now}
 use Rattle.settle_trace.specs.Resting.{AreSteady}
 
 -- no time runs: the condition is good or failed
@@ -50,7 +51,7 @@ module _ (plan : Topology) (signals : Signals) (out : Levels) (place t : ℕ) (e
   none-steady none =
       each-by (λ input. IsSteady plan signals input t) (inputs_of plan place) (λ i input at.
       let within : i < length (settings_of plan place).priorities =
-      omega (arith, inputs-count plan place, slice_get_within (inputs_of plan place) i input at) in
+      omega (arith, many-inputs plan place, slice_get_within (inputs_of plan place) i input at) in
       let ends : left_in (settings_of plan place) last i ≡ None =
       subst (λ settings. left_in settings last i ≡ None) stands.settings (none i (subst (λ settings. i < length settings.priorities) (sym stands.settings) within)) in
       sym (failed-now plan signals out place t element stands due i input at within)
@@ -68,7 +69,7 @@ module _ (plan : Topology) (signals : Signals) (out : Levels) (place t : ℕ) (e
             (failed-now plan signals out place t element stands due i there.0 there.2 within
             ∙ each-at (λ input. IsSteady plan signals input t) (inputs_of plan place) i there.0 steady there.2
             ∙ sym (ap not (up-now plan signals out place t element stands due i there.0 there.2 within)))
-        | inr past ↦ absurd (omega (arith, within, past.0, inputs-count plan place))
+        | inr past ↦ absurd (omega (arith, within, past.0, many-inputs plan place))
       ])
 
 -- so the answer that none ends is that all are steady

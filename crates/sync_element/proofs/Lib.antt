@@ -10,3 +10,4 @@ pub mod Taking
 pub mod Untouched
 pub mod Fitting
 pub mod SameLevels
+pub mod ElementSteps

@@ -15,6 +15,7 @@ use Rattle.sync_ql.specs.Told.{moments_until}
 use Rattle.sync_ql.specs.Quiet.{IsSameFailed, SomeFailedChanges, IsElementDue}
 use Rattle.sync_ql.proofs.Delivered.{length-past_of, same-is}
 use Rattle.sync_element.specs.ElementState.{ElementState}
+use Rattle.sync_element.proofs.ElementSteps.{past-quiet}
 use Rattle.link_model.specs.LineState.{LineState}
 use Rattle.link_model.proofs.Pasts.{same_level-same}
 use Rattle.sync_topo.specs.declared.input.InputId.{InputId}
@@ -28,7 +29,8 @@ use Rattle.net_rules.specs.Inputs.{IsInputOf}
 use Rattle.net_rules.specs.History.{Levels, settings_of, heard, moment_at, element_past, failed_by, out_at}
 use Rattle.net_rules.specs.Activity.{is_other, is_active, news_arrives, is_busy}
 use Rattle.net_rules.proofs.InputLaws.{inputs-are}
-use Rattle.net_rules.proofs.NetLaws.{each-at, failed-at}
+use Rattle.net_rules.proofs.NetLaws.{failed-at, many-inputs}
+use Rattle.net_rules.proofs.Lists.{each-at}
 use Rattle.net_rules.proofs.EventLaws.{up-same}
 use Rattle.net_rules.proofs.PlanLaws.{IsDelayed-well}
 use Rattle.net_rules.proofs.IdleLaws.{IsInactive, inactive-is, quiet-inactive, quiet-heard}
@@ -36,8 +38,8 @@ use Rattle.net_rules.specs.Signals.{says_up}
 use Rattle.sync_net.specs.NetState.{NetState, NoneDueBefore, IsDueAt}
 use Rattle.sync_net.specs.Sound.{IsSoundElement, IsSoundLine, AreSound}
 use Rattle.sync_net.specs.Standing.{ElementStands, LineStands, IsOfPast, NoneFrom}
-use Rattle.sync_net.proofs.QuietObjects.{HasNoNews, sound-due, past-quiet}
-use Rattle.sync_net.proofs.NoNews.{IsHeardSame, count, no-news-untouched}
+use Rattle.sync_net.proofs.QuietObjects.{HasNoNews, sound-due}
+use Rattle.sync_net.proofs.NoNews.{IsHeardSame, no-news-untouched}
 use Rattle.sync_net.proofs.QuietGap.{some_element, none-speaks, stands-later}
 use Rattle.sync_net.proofs.LineNews.{line-busy}
 
@@ -58,7 +60,7 @@ changed-place plan signals out place t element sound is none at =
     let same = first.same_before (suc t) (omega (arith, long, later)) (omega arith) changed.0 changed.1 in (
       changed.0,
       changed.1,
-      ap (λ p. failed_at settings.timers (signals_of changed.0 p)) (past-quiet plan signals out place t element is none)
+      ap (λ p. failed_at settings.timers (signals_of changed.0 p)) (past-quiet (settings_of plan place) (moment_at plan signals (heard plan signals out) place) (suc t) element is none)
           ∙ changed.2
           ∙ ap not (sym same ∙ sym (ap (λ p. failed_at settings.timers (signals_of changed.0 p)) is.quiet)),
     )
@@ -90,7 +92,7 @@ inactive-not_due : (plan : Topology) (events : List Event) (out : Levels) (place
     → IsSoundElement plan place element → ElementStands plan (signals_by plan events) out place (suc t) element → element.due ≡ Some (suc t) → ⊥
 inactive-not_due plan events out place t element inactive sound is at = elim (slice_get_cases (inputs_of plan place) changed.0).1 [
   | inl found ↦ different found.0 found.2
-  | inr past ↦ omega (arith, changed.1, count plan place, past.0)
+  | inr past ↦ omega (arith, changed.1, many-inputs plan place, past.0)
 ]
   where
     signals : Signals

@@ -10,9 +10,8 @@ use Rattle.sync_topo.specs.Topology.{Topology}
 use Rattle.sync_topo.specs.Lines.{line_count, line_input, is_nominated, receiver_of, source_priority, element_of_source, lines_into, sources_at, inputs_of, is_same_input, place_at}
 use Rattle.net_rules.specs.Inputs.{IsInputOf}
 use Rattle.net_rules.specs.Walks.{Each}
-use Rattle.net_rules.proofs.Lists.{Each-map, Each-append, Each-made, Each-range, Each-filter}
+use Rattle.net_rules.proofs.Lists.{Each-map, Each-append, Each-made, Each-range, Each-filter, each-at}
 use Rattle.net_rules.proofs.InputLaws.{inputs-are}
-use Rattle.net_rules.proofs.NetLaws.{each-at}
 
 -- each number of a list is greater than those before it
 abbrev Ascends : List ℕ → Type 0

@@ -7,6 +7,7 @@ use Rattle.std.proofs.lemmas.Bool.{true≢false}
 use Rattle.sync_ql.specs.Told.{FitsElement}
 use Rattle.agenda.specs.DueTimes.{due_in}
 use Rattle.sync_element.specs.ElementState.{ElementState}
+use Rattle.sync_element.specs.StandsAfter.{IsStepped}
 use Rattle.link_model.specs.LineState.{LineState}
 use Rattle.sync_topo.specs.declared.event.Event.{Event}
 use Rattle.sync_topo.specs.Topology.{Topology}
@@ -19,7 +20,6 @@ use Rattle.sync_net.specs.NetState as Net
 use Rattle.sync_net.specs.Telling.{IsTold}
 use Rattle.sync_net.specs.Noting.{line_at}
 use Rattle.sync_net.specs.Hearing.{heard_in, told_in, HearsMore, IsToldAt}
-use Rattle.sync_net.specs.Steps.{IsStepped}
 use Rattle.sync_net.specs.Stages.{is_marked, CanStep, CanSay, out_of}
 use Rattle.sync_net.specs.NetStep.{ElementSteps, ElementStays, ElementMoves}
 use Rattle.sync_net.specs.Whole.{kept_of, state_of, IsReadyElement, IsReadyLine, IsWhole}

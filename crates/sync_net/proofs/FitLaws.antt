@@ -24,6 +24,7 @@ use Rattle.net_rules.specs.Activity.{is_at, is_part_at, touches}
 use Rattle.net_rules.specs.History.{settings_of}
 use Rattle.net_rules.specs.Inputs.{IsInputOf}
 use Rattle.net_rules.proofs.TouchLaws.{input-is_at}
+use Rattle.net_rules.proofs.NetLaws.{many-inputs}
 use Rattle.sync_net.specs.declared.saying.Saying.{Saying}
 use Rattle.sync_net.specs.declared.saying.Saying.TheVariants.{IsUp, HasLevel, IsCleared, IsLocked, IsUnlocked, IsForced, IsManual}
 use Rattle.sync_net.specs.declared.signals.SourceSignal.{SourceSignal}
@@ -32,7 +33,6 @@ use Rattle.sync_net.specs.Words.{said_as, word_at, input_words, part_words, only
 use Rattle.sync_net.specs.Settling.{named_source, settled, level_words, all_level_words}
 use Rattle.sync_net.proofs.DistinctInputs.{input-of}
 use Rattle.sync_net.proofs.PlaceLemmas.{found-at, no-place-there}
-use Rattle.sync_net.proofs.ToldMoment.{many-inputs}
 
 -- an element's own level is of the plan's option
 own-option : (plan : Topology) (element : ℕ) → IsWellFormed plan → element < length plan.elements → (settings_of plan element).own.option ≡ plan.option

@@ -25,6 +25,7 @@ use Rattle.sync_topo.proofs.LineLaws.{IsNominated-within}
 use Rattle.net_rules.specs.Inputs.{IsInputOf}
 use Rattle.net_rules.specs.History.{settings_of}
 use Rattle.net_rules.proofs.WalkLaws.{line_input-same}
+use Rattle.net_rules.proofs.NetLaws.{many-inputs}
 use Rattle.sync_net.specs.Tellings.{is_something}
 use Rattle.sync_net.specs.Stages.{is_marked}
 use Rattle.sync_net.specs.declared.signals.LineSignal.{LineSignal}
@@ -35,7 +36,6 @@ use Rattle.sync_net.proofs.StageLaws.{one-of, none-of, is-place, keeps-marks, ke
 use Rattle.sync_net.proofs.SentLevels.{own-option}
 use Rattle.sync_net.proofs.DistinctInputs.{place-at, input-of}
 use Rattle.sync_net.proofs.PlaceLemmas.{found-at}
-use Rattle.sync_net.proofs.ToldMoment.{many-inputs}
 use Rattle.sync_net.proofs.WordLaws.{last_said-append, commands_in-append}
 
 -- nothing is told where nothing is otherwise

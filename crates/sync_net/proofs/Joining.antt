@@ -8,6 +8,7 @@ use Rattle.sync_ql.specs.Moment.{Moment, selection_at}
 use Rattle.sync_ql.specs.Output.{clock_level_at}
 use Rattle.sync_ql.specs.Told.{moments_until, moment_after, quiet_moment}
 use Rattle.sync_element.specs.ElementState.{ElementState}
+use Rattle.sync_element.proofs.ElementSteps.{stands-stepped}
 use Rattle.link_model.specs.LineState.{LineState}
 use Rattle.sync_topo.specs.declared.event.Event.{Event}
 use Rattle.sync_topo.specs.Topology.{Topology}
@@ -32,7 +33,7 @@ use Rattle.sync_net.proofs.SplitWords.{signals-after}
 use Rattle.sync_net.proofs.ToldMoment.{told-moment}
 use Rattle.sync_net.proofs.QuietObjects.{HasNoNews, element-quiet, element-sends, line-quiet, line-heard}
 use Rattle.sync_net.proofs.QuietGap.{some_element, line-moments}
-use Rattle.sync_net.proofs.ObjectSteps.{stepped-stands, told-stands, told-heard, said-stands}
+use Rattle.sync_net.proofs.ObjectSteps.{told-stands, told-heard, said-stands}
 
 -- what is later than a millisecond isn't before the next
 later-next : (now : ℕ) (due : Option ℕ) → IfSome due (λ d. now < d) → IfSome due (λ d. suc now ≤ d)
@@ -196,7 +197,7 @@ module _ (s t : NetState) (all events : List Event) (now : ℕ) (well : IsWellFo
   pub element_then : (element : ℕ) (other : ElementState) → element < length s.plan.elements →
       ElementStands s.plan (signals_by s.plan all) (out_at s.plan (signals_by s.plan all)) element (suc now) (slice_index_or t.elements element other)
   element_then element other within = elim (step.elements element other within) [
-    | inl steps ↦ stepped-stands s.plan (signals_by s.plan all) (out_at s.plan (signals_by s.plan all)) element now steps.changes _ _ steps.stepped (is.elements element other within) (moment_of element steps.changes steps.told)
+    | inl steps ↦ stands-stepped (settings_of s.plan element) (moment_at s.plan (signals_by s.plan all) (heard s.plan (signals_by s.plan all) (out_at s.plan (signals_by s.plan all))) element) now steps.changes _ _ steps.stepped (is.elements element other within) (moment_of element steps.changes steps.told)
     | inr stays ↦ left stays now refl
   ]
     where

@@ -16,13 +16,13 @@ use Rattle.sync_ql.specs.declared.levels.NetOption.TheVariants.{I, II}
 use Rattle.sync_ql.specs.declared.levels.Level.{Level}
 use Rattle.sync_ql.specs.Level.{do_not_use_of}
 use Rattle.sync_ql.specs.Messages.{heard_at}
-use Rattle.sync_ql.specs.Told.{IsOfOption, moments_until}
+use Rattle.sync_ql.specs.Told.{IsOfOption}
 use Rattle.agenda.specs.DueTimes.{due_in}
 use Rattle.agenda.specs.Marked.{Marked}
 use Rattle.sync_element.specs.declared.config.InputConfig.{InputConfig}
 use Rattle.sync_element.specs.Configured as configured
 use Rattle.sync_element.specs.ElementState.{ElementState}
-use Rattle.sync_element.specs.StandsFor as Element
+use Rattle.sync_element.proofs.ElementSteps.{stands-new}
 use Rattle.link_model.specs.LineState.{LineState}
 use Rattle.sync_topo.specs.declared.element.Element as elements
 use Rattle.sync_topo.specs.declared.link.Link.{Link}
@@ -34,7 +34,7 @@ use Rattle.sync_topo.specs.Topology.{Topology}
 use Rattle.sync_topo.specs.Lines.{line_count, ends_at_b, inputs_of, IsNominated}
 use Rattle.sync_topo.specs.WellFormed.{IsWellFormed}
 use Rattle.net_rules.specs.Signals.{Signals, signals_by, planned_level}
-use Rattle.net_rules.specs.History.{Levels, settings_of, element_past, out_at}
+use Rattle.net_rules.specs.History.{Levels, settings_of, heard, moment_at, out_at}
 use Rattle.net_rules.specs.Inputs.{IsInputOf}
 use Rattle.net_rules.specs.Walks.{Each}
 use Rattle.net_rules.proofs.Lists.{Each-map}
@@ -207,12 +207,8 @@ begun-whole plan parts begun = record {
 
 -- a new element follows its past of no milliseconds
 element-begins : (plan : Topology) (signals : Signals) (out : Levels) (place : ℕ) (element : ElementState) → IsNewElement plan place element → ElementStands plan signals out place 0 element
-element-begins plan signals out place element new = record {
-  settings = new.settings;
-  in_time = record { first = λ _first. refl; later = omega (arith, new.next); until_due = subst (λ o. IfSome o (λ due. 0 ≤ due)) (sym new.due) tt };
-  stands = subst (λ n. Element.StandsFor element (element_past plan signals out place n)) (sym new.next) new.stands;
-  quiet = subst (λ n. [] ≡ moments_until (settings_of plan place) 0 (element_past plan signals out place n)) (sym new.next) refl;
-}
+element-begins plan signals out place element new =
+    stands-new (settings_of plan place) (moment_at plan signals (heard plan signals out) place) element new.settings new.next new.due new.stands
 
 -- and so does a new line
 line-begins : (plan : Topology) (signals : Signals) (out : Levels) (line : ℕ) (state : LineState) → IsNewLine plan line state → LineStands plan signals out line 0 state

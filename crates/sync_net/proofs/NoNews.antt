@@ -15,15 +15,16 @@ use Rattle.sync_topo.specs.declared.input.InputId.TheVariants.{Line, Source}
 use Rattle.sync_topo.specs.declared.event.What.{What}
 use Rattle.sync_topo.specs.declared.event.Event.{Event}
 use Rattle.sync_topo.specs.Topology.{Topology}
-use Rattle.sync_topo.specs.Lines.{receiver_of, inputs_of, input_priority, IsNominated}
+use Rattle.sync_topo.specs.Lines.{receiver_of, inputs_of, IsNominated}
 use Rattle.net_rules.specs.Signals.{Signals, signals_by, events_at, says_up, says_level, clears, command_to, up_at, said_at, source_level_before, source_level_at, planned_level}
 use Rattle.net_rules.specs.Inputs.{IsInputOf}
 use Rattle.net_rules.specs.History.{Levels, settings_of, heard, input_level, moment_at, element_past}
+use Rattle.net_rules.specs.Settings.{input_by}
 use Rattle.net_rules.specs.Activity.{touches}
 use Rattle.net_rules.specs.Walks.{Each}
-use Rattle.net_rules.proofs.Lists.{Each-map}
+use Rattle.net_rules.proofs.Lists.{Each-map, each-at, map-at}
 use Rattle.net_rules.proofs.InputLaws.{inputs-are}
-use Rattle.net_rules.proofs.NetLaws.{each-at, map-at, told_input, input-at}
+use Rattle.net_rules.proofs.NetLaws.{input-at, many-inputs}
 use Rattle.net_rules.proofs.EventLaws.{same-before, up-same}
 use Rattle.net_rules.proofs.TouchLaws.{up-silent, level-silent, clear-silent, command-silent}
 use Rattle.net_rules.proofs.IdleLaws.{IsUntouched, untouched-is}
@@ -117,7 +118,7 @@ input-moments up up_then clear clear_then level level_then a b c = rw (a, b, c) 
 -- an input of the element is as it was, and not cleared
 input-stays : (plan : Topology) (events : List Event) (out : Levels) (element t : ℕ) → IsUntouched plan events element (suc t)
     → IsHeardSame plan (signals_by plan events) out element t → (input : InputId) → IsInputOf plan element input
-    → told_input (signals_by plan events) (heard plan (signals_by plan events) out) (suc t) input
+    → input_by (signals_by plan events) (input_level (signals_by plan events) (heard plan (signals_by plan events) out)) (suc t) input
     ≡ record {
       signal = record { up = up_at events input t; clear = false };
       level = input_level (signals_by plan events) (heard plan (signals_by plan events) out) input t;
@@ -138,11 +139,6 @@ input-quiet : (settings : Settings) (now : Moment) (before : List Moment) (i : �
     → input_after settings (now ∷ before) [] i ≡ record { signal = record { up = input.signal.up; clear = false }; level = input.level }
 input-quiet settings now before i input is = ap (λ told. record { signal = record { up = told.signal.up; clear = false }; level = told.level }) is
 
--- an element has a priority for each of its inputs
-pub count : (plan : Topology) (element : ℕ) → length (settings_of plan element).priorities ≡ length (inputs_of plan element)
-unfolding settings_of
-count plan element = length-map (inputs_of plan element) (input_priority plan)
-
 -- an element in a millisecond is the same by its parts
 moments : (inputs inputs_then : List InputMoment) (commands commands_then : List Cmd) → inputs ≡ inputs_then → commands ≡ commands_then
     → ◌≡◌ {A = Moment} (record { inputs = inputs; commands = commands }) (record { inputs = inputs_then; commands = commands_then })
@@ -152,24 +148,24 @@ moments inputs inputs_then commands commands_then a b = rw (a, b) refl
 place-stays : (plan : Topology) (events : List Event) (out : Levels) (element t i : ℕ) (input : InputId)
     → slice_get (inputs_of plan element) i ≡ Some input → IsUntouched plan events element (suc t)
     → IsHeardSame plan (signals_by plan events) out element t
-    → told_input (signals_by plan events) (heard plan (signals_by plan events) out) (suc t) input
+    → input_by (signals_by plan events) (input_level (signals_by plan events) (heard plan (signals_by plan events) out)) (suc t) input
     ≡ input_after (settings_of plan element) (element_past plan (signals_by plan events) out element (suc t)) [] i
 place-stays plan events out element t i input at untouched same =
     let signals = signals_by plan events in
     let hears = heard plan signals out in
     input-stays plan events out element t untouched same input (each-at (IsInputOf plan element) (inputs_of plan element) i input (inputs-are plan element) at)
     ∙ sym (input-quiet (settings_of plan element) (moment_at plan signals hears element t) (element_past plan signals out element t) i
-    (told_input signals hears t input) (input-at plan signals hears element t i input at))
+    (input_by signals (input_level signals hears) t input) (input-at plan signals hears element t i input at))
 
 -- the inputs of the element
 inputs-stay : (plan : Topology) (events : List Event) (out : Levels) (element t : ℕ) → IsUntouched plan events element (suc t)
     → IsHeardSame plan (signals_by plan events) out element t
-    → map (told_input (signals_by plan events) (heard plan (signals_by plan events) out) (suc t)) (inputs_of plan element)
+    → map (input_by (signals_by plan events) (input_level (signals_by plan events) (heard plan (signals_by plan events) out)) (suc t)) (inputs_of plan element)
     ≡ map (input_after (settings_of plan element) (element_past plan (signals_by plan events) out element (suc t)) []) (range_with_len 0 (length (settings_of plan element).priorities))
 inputs-stay plan events out element t untouched same =
     same_lists (map told (inputs_of plan element)) (map after (range_with_len 0 (length (settings_of plan element).priorities)))
     (length-map (inputs_of plan element) told
-    ∙ sym (count plan element)
+    ∙ sym (many-inputs plan element)
     ∙ sym (length-map-range_with_len after 0 (length (settings_of plan element).priorities)))
     (λ i d within. elim (slice_get_cases (inputs_of plan element) i).1 [
       | inl found ↦ there i d found.0 within found.2
@@ -177,7 +173,7 @@ inputs-stay plan events out element t untouched same =
     ])
   where
     told : InputId → InputMoment
-    told = told_input (signals_by plan events) (heard plan (signals_by plan events) out) (suc t)
+    told = input_by (signals_by plan events) (input_level (signals_by plan events) (heard plan (signals_by plan events) out)) (suc t)
 
     after : ℕ → InputMoment
     after = input_after (settings_of plan element) (element_past plan (signals_by plan events) out element (suc t)) []
@@ -188,7 +184,7 @@ inputs-stay plan events out element t untouched same =
         map-at told (inputs_of plan element) i input d at
         ∙ place-stays plan events out element t i input at untouched same
         ∙ sym (get_or-map-range_with_len after 0 (length (settings_of plan element).priorities) i i d
-        (omega (arith, within, length-map (inputs_of plan element) told, count plan element)) (zero-add i))
+        (omega (arith, within, length-map (inputs_of plan element) told, many-inputs plan element)) (zero-add i))
 
 -- so nothing is told of the element
 pub no-news-untouched : (plan : Topology) (events : List Event) (out : Levels) (element t : ℕ) → IsUntouched plan events element (suc t)

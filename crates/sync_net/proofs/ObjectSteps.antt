@@ -1,14 +1,10 @@
--- What an element and a line stand for after a step of the network.
+-- What a line stands for after a step of the network.
 use Rattle.std.proofs.Common.{◌≡◌, ◌≤◌, ◌<◌, ◌+◌, ◌-◌, ◌*◌, ℕ, suc, List, ◌∷◌, length, Option, None, Some, IfSome, refl, ap, sym, subst, ◌∙◌, arith, add-one}
 use Rattle.sync_ql.specs.declared.levels.Level.{Level}
-use Rattle.sync_ql.specs.declared.rules.InputEvent.{InputEvent}
 use Rattle.sync_ql.specs.Pasts.{past_of}
-use Rattle.sync_ql.specs.Moment.{Moment, Settings}
 use Rattle.sync_ql.specs.Messages.{LineMoment, heard_at, unchanged, line_until}
-use Rattle.sync_ql.specs.Told.{moment_after, quiet_moments, moments_until}
 use Rattle.sync_ql.proofs.Delivered.{length-past_of, heard_at-head}
-use Rattle.sync_element.specs.ElementState.{ElementState}
-use Rattle.sync_element.specs.StandsFor as Element
+use Rattle.sync_element.proofs.ElementSteps.{later-due}
 use Rattle.link_model.specs.LineState.{LineState}
 use Rattle.link_model.specs.Calls.{told, turned, with_up, with_esmc, with_level}
 use Rattle.link_model.specs.StandsFor as Line
@@ -16,46 +12,10 @@ use Rattle.link_model.proofs.Standing.{length-until, until-same, until-next}
 use Rattle.sync_topo.specs.Topology.{Topology}
 use Rattle.sync_topo.specs.Lines.{line_input, delay_of}
 use Rattle.net_rules.specs.Signals.{Signals}
-use Rattle.net_rules.specs.History.{Levels, settings_of, line_moment_at, heard, moment_at, element_past}
+use Rattle.net_rules.specs.History.{Levels, line_moment_at, heard}
 use Rattle.sync_net.specs.declared.signals.LineSignal.{LineSignal}
-use Rattle.sync_net.specs.Standing.{ElementStands, LineStands, heard_before}
-use Rattle.sync_net.specs.Steps.{IsStepped, told_past, IsLineTold, IsLineSaid}
-
--- what is later than a millisecond is not before the next
-later-due : (now : ℕ) (due : Option ℕ) → IfSome due (λ d. now < d) → IfSome due (λ d. suc now ≤ d)
-later-due now None later = tt
-later-due now (Some d) later = omega (arith, later)
-
--- a past that is long enough stays
-pub until-self : (settings : Settings) (past : List Moment) (n : ℕ) → length past ≡ n → moments_until settings n past ≡ past
-until-self settings past n long = let none : n - length past ≡ 0 = omega (arith, long) in ap (λ k. quiet_moments settings k past) none
-
--- an element that made a step stands for one more millisecond
-pub stepped-stands : (plan : Topology) (signals : Signals) (out : Levels) (element now : ℕ) (changes : List InputEvent) (before after : ElementState) →
-    IsStepped now changes before after → ElementStands plan signals out element now before →
-    moment_after (settings_of plan element) (element_past plan signals out element now) changes ≡ moment_at plan signals (heard plan signals out) element now →
-    ElementStands plan signals out element (suc now) after
-stepped-stands plan signals out element now changes before after stepped stands told =
-    let past : ℕ → List Moment = element_past plan signals out element in
-    let next : after.next ≡ suc now = stepped.next ∙ add-one now in
-    let settings : before.settings ≡ settings_of plan element = stands.settings in
-    let quiet : moments_until before.settings now (past before.next) ≡ past now =
-    ap (λ s. moments_until s now (past before.next)) settings ∙ sym stands.quiet in
-    let head : moment_after before.settings (moments_until before.settings now (past before.next)) changes ≡ moment_at plan signals (heard plan signals out) element now =
-    ap (λ p. moment_after before.settings p changes) quiet ∙ ap (λ s. moment_after s (past now) changes) settings ∙ told in
-    let whole : (moment_after before.settings (moments_until before.settings now (past before.next)) changes ∷ moments_until before.settings now (past before.next)) ≡ past (suc now) =
-    ap (λ m. m ∷ moments_until before.settings now (past before.next)) head ∙ ap (λ p. moment_at plan signals (heard plan signals out) element now ∷ p) quiet in
-    let long : length (past (suc now)) ≡ suc now = length-past_of (moment_at plan signals (heard plan signals out) element) (suc now) in
-    record {
-      settings = stepped.settings ∙ settings;
-      in_time = record {
-        first = λ none. absurd (omega (arith, next, none));
-        later = omega (arith, next);
-        until_due = later-due now after.due stepped.due_later;
-      };
-      stands = subst (λ n. Element.StandsFor after (past n)) (sym next) (subst (Element.StandsFor after) whole (stepped.stands (past before.next) stands.stands));
-      quiet = subst (λ n. past (suc now) ≡ moments_until (settings_of plan element) (suc now) (past n)) (sym next) (sym (until-self (settings_of plan element) (past (suc now)) (suc now) long));
-    }
+use Rattle.sync_net.specs.Standing.{LineStands, heard_before}
+use Rattle.sync_net.specs.Steps.{told_past, IsLineTold, IsLineSaid}
 
 -- the calls of one millisecond up to `take_due`, in which the line is up or down
 told_moment : LineSignal → LineMoment → LineMoment

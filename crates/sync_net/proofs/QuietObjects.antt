@@ -4,11 +4,12 @@ use Rattle.sync_ql.specs.Pasts.{past_of}
 use Rattle.sync_ql.specs.Moment.{Moment, Settings, signals_of}
 use Rattle.sync_ql.specs.Condition.{failed_at}
 use Rattle.sync_ql.specs.Messages.{LineMoment, heard_at, unchanged, line_until, IsSameOnLine, IsLineDue}
-use Rattle.sync_ql.specs.Told.{quiet_moment, quiet_moments, moments_until}
+use Rattle.sync_ql.specs.Told.{quiet_moment, moments_until}
 use Rattle.sync_ql.specs.Quiet.{IsSameFailed, IsSameOutput, IsElementDue}
 use Rattle.sync_ql.proofs.QuietMoments.{IsSameOutput-quiet}
 use Rattle.sync_ql.proofs.Delivered.{length-past_of, heard_at-head}
 use Rattle.sync_element.specs.ElementState.{ElementState}
+use Rattle.sync_element.proofs.ElementSteps.{past-quiet, stands-quiet}
 use Rattle.link_model.specs.LineState.{LineState}
 use Rattle.link_model.proofs.Standing.{until-next}
 use Rattle.sync_topo.specs.Topology.{Topology}
@@ -24,13 +25,6 @@ abbrev pub HasNoNews : Topology → Signals → Levels → ℕ → ℕ → Type 
 HasNoNews plan signals out element t =
     moment_at plan signals (heard plan signals out) element (suc t)
     ≡ quiet_moment (settings_of plan element) (element_past plan signals out element (suc t))
-
--- one more millisecond in which nothing is told
-until-more : (settings : Settings) (n : ℕ) (past : List Moment) → length past ≤ n
-    → moments_until settings (suc n) past ≡ quiet_moment settings (moments_until settings n past) ∷ moments_until settings n past
-until-more settings n past early =
-    let one : suc n - length past ≡ suc (n - length past) = omega (arith, early) in
-    ap (λ k. quiet_moments settings k past) one
 
 -- what is later than one millisecond is later than the one before
 pub due-earlier : (due : Option ℕ) (m n : ℕ) → m ≤ n → IfSome due (λ d. n ≤ d) → IfSome due (λ d. m ≤ d)
@@ -49,33 +43,18 @@ pub line-until : (delay : ℕ) (past : List LineMoment) (due : Option ℕ) (n : 
 line-until delay past None n never later in_time = never n later
 line-until delay past (Some due) n first later in_time = first.same_before n later in_time
 
--- the past up to the millisecond after t is that of the last step, and nothing told since
-pub past-quiet : (plan : Topology) (signals : Signals) (out : Levels) (place t : ℕ) (element : ElementState)
-    → ElementStands plan signals out place (suc t) element → HasNoNews plan signals out place t
-    → element_past plan signals out place (suc (suc t))
-    ≡ moments_until (settings_of plan place) (suc (suc t)) (element_past plan signals out place element.next)
-past-quiet plan signals out place t element is none =
-    ap (λ moment. moment ∷ element_past plan signals out place (suc t)) none
-    ∙ ap (λ past. quiet_moment (settings_of plan place) past ∷ past) is.quiet
-    ∙ sym (until-more (settings_of plan place) (suc t) (element_past plan signals out place element.next)
-    (let long = length-past_of (moment_at plan signals (heard plan signals out) place) element.next in
-    let later = is.in_time.later in omega (arith, long, later)))
-
 -- an element that isn't told anything, and isn't due, stands a millisecond later
 pub element-quiet : (plan : Topology) (signals : Signals) (out : Levels) (place t : ℕ) (element : ElementState)
     → ElementStands plan signals out place (suc t) element → HasNoNews plan signals out place t
     → IfSome element.due (λ due. suc (suc t) ≤ due)
     → ElementStands plan signals out place (suc (suc t)) element
-element-quiet plan signals out place t element is none due = record {
-  settings = is.settings;
-  in_time = record {
-    first = λ never. absurd (let begun = is.in_time.first never in omega (arith, begun));
-    later = (let later = is.in_time.later in omega (arith, later));
-    until_due = due;
-  };
-  stands = is.stands;
-  quiet = past-quiet plan signals out place t element is none;
-}
+element-quiet plan signals out place t element is none due =
+    stands-quiet (settings_of plan place) (moment_at plan signals (heard plan signals out) place) (suc t) element
+    (record {
+      first = λ never. absurd (let begun = is.in_time.first never in omega (arith, begun));
+      later = (let later = is.in_time.later in omega (arith, later));
+      until_due = due;
+    }) is none
 
 -- the past at its last step, and when an input's "failed" changes after it
 pub sound-due : (plan : Topology) (signals : Signals) (out : Levels) (place n : ℕ) (element : ElementState)
@@ -94,7 +73,7 @@ element-failed plan signals out place t element sound is none due i within =
     let long = length-past_of (moment_at plan signals (heard plan signals out) place) element.next in
     let later = is.in_time.later in
     let first = sound-due plan signals out place (suc t) element sound is in
-    ap (λ past. failed_at (settings_of plan place).timers (signals_of i past)) (past-quiet plan signals out place t element is none)
+    ap (λ past. failed_at (settings_of plan place).timers (signals_of i past)) (past-quiet (settings_of plan place) (moment_at plan signals (heard plan signals out) place) (suc t) element is none)
     ∙ failed-until (settings_of plan place) (element_past plan signals out place element.next) element.due (suc (suc t)) first (omega (arith, long, later)) due i within
     ∙ sym (failed-until (settings_of plan place) (element_past plan signals out place element.next) element.due (suc t) first (omega (arith, long, later))
     (due-earlier element.due (suc t) (suc (suc t)) (omega arith) due) i within)

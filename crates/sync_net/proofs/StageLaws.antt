@@ -4,11 +4,12 @@ use Rattle.std.specs.Prelude.{slice_index_or, IsSomeAnd}
 use Rattle.std.specs.List.{list_any}
 use Rattle.std.proofs.lemmas.Bool.Decides.{nat_tests}
 use Rattle.sync_element.specs.ElementState.{ElementState}
+use Rattle.sync_element.specs.StandsAfter.{IsStepped}
 use Rattle.sync_ql.specs.declared.levels.Level.{Level}
 use Rattle.sync_topo.specs.Topology.{Topology}
 use Rattle.sync_topo.specs.Lines.{line_count, sender_of}
 use Rattle.sync_net.specs.NetState.{line_in}
-use Rattle.sync_net.specs.Steps.{IsStepped, IsSteady}
+use Rattle.sync_net.specs.Steps.{IsSteady}
 use Rattle.sync_net.specs.Stages.{KeepsMarks, Workplace, changes_of, IsEvaluated, IsNotEvaluated, AreEvaluated, CanStep, IsLevelSent, Wires, IsNotGiven, IsSent, AreSent, CanSay, IsOnlyGiven}
 
 -- two tests, one of which is that of a place

@@ -23,7 +23,7 @@ use Rattle.net_rules.specs.Settled.{IsSteady}
 use Rattle.net_rules.specs.Walks.{Each}
 use Rattle.net_rules.proofs.InputLaws.{each-input}
 use Rattle.net_rules.proofs.PlanLaws.{receiver-within}
-use Rattle.net_rules.proofs.NetLaws.{signals-at, failed-at}
+use Rattle.net_rules.proofs.NetLaws.{signals-at, failed-at, many-inputs}
 use Rattle.sync_net.specs.Standing.{ElementStands}
 use Rattle.sync_net.proofs.QuietObjects.{failed-until}
 use Rattle.sync_net.proofs.DistinctInputs.{input-of}
@@ -101,10 +101,6 @@ steady-quietly settings past i within never = by (is_up (signals_of i past)) ref
     by true is = sym (later (suc settings.timers.wtr)) ∙ good-quietly settings settings.timers.wtr i past within is (omega arith) ∙ sym (ap not is)
     by false is = sym (later (suc settings.timers.holdoff)) ∙ failed-quietly settings settings.timers.holdoff i past within is (omega arith) ∙ sym (ap not is)
 
-pub inputs-count : (plan : Topology) (element : ℕ) → length (settings_of plan element).priorities ≡ length (inputs_of plan element)
-unfolding settings_of
-inputs-count plan element = length-map (inputs_of plan element) (input_priority plan)
-
 module _ (plan : Topology) (signals : Signals) (out : Levels) (place t : ℕ) (element : ElementState)
     (stands : ElementStands plan signals out place (suc t) element)
     (due : (past : List Moment) → Element.StandsFor element past → IsElementDue element.settings past element.due) where
@@ -136,7 +132,7 @@ module _ (plan : Topology) (signals : Signals) (out : Levels) (place t : ℕ) (e
   steady-idle never =
       each-by (λ input. IsSteady plan signals input t) (inputs_of plan place) (λ i input at.
       let within : i < length (settings_of plan place).priorities =
-      omega (arith, inputs-count plan place, slice_get_within (inputs_of plan place) i input at) in
+      omega (arith, many-inputs plan place, slice_get_within (inputs_of plan place) i input at) in
       sym (failed-now i input at within)
       ∙ steady-quietly (settings_of plan place) last i within never
       ∙ ap not (up-now i input at within))

@@ -5,6 +5,7 @@ use Rattle.sync_ql.specs.declared.levels.Level.{Level}
 use Rattle.sync_ql.specs.Messages.{is_same_level}
 use Rattle.sync_ql.specs.declared.rules.InputEvent.{InputEvent}
 use Rattle.sync_element.specs.ElementState.{ElementState}
+use Rattle.sync_element.specs.StandsAfter.{IsStepped}
 use Rattle.link_model.specs.LineState.{LineState}
 use Rattle.sync_topo.specs.declared.event.Event.{Event}
 use Rattle.sync_topo.specs.Topology.{Topology}
@@ -13,7 +14,7 @@ use Rattle.net_rules.specs.Activity.{touches}
 use Rattle.sync_net.specs.Kept.{Kept, line_signal, heard_on}
 use Rattle.sync_net.specs.Telling.{IsTold}
 use Rattle.sync_net.specs.Noted.{AreNoted}
-use Rattle.sync_net.specs.Steps.{IsStepped, IsSteady, IsLineTold, IsLineSaid}
+use Rattle.sync_net.specs.Steps.{IsSteady, IsLineTold, IsLineSaid}
 use Rattle.sync_net.specs.Stages.{IsLevelSent}
 use Rattle.sync_net.specs.NetState.{NetState, line_in}
 

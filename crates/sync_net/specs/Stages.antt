@@ -6,6 +6,7 @@ use Rattle.sync_ql.specs.declared.rules.InputEvent.{InputEvent}
 use Rattle.sync_ql.specs.Moment.{Moment}
 use Rattle.sync_ql.specs.Told.{moments_until, FitsElement}
 use Rattle.sync_element.specs.ElementState.{ElementState, IsInTime}
+use Rattle.sync_element.specs.StandsAfter.{IsStepped}
 use Rattle.sync_element.specs.StandsFor as Element
 use Rattle.link_model.specs.LineState.{LineState}
 use Rattle.agenda.specs.DueTimes.{due_in}
@@ -13,7 +14,7 @@ use Rattle.sync_topo.specs.Topology.{Topology}
 use Rattle.sync_topo.specs.Lines.{line_count, sender_of}
 use Rattle.net_rules.specs.History.{sent_by}
 use Rattle.sync_net.specs.NetState.{line_in}
-use Rattle.sync_net.specs.Steps.{IsStepped, IsSteady, IsLineSaid}
+use Rattle.sync_net.specs.Steps.{IsSteady, IsLineSaid}
 
 -- whether a place is marked; and the places of a list all are
 abbrev pub is_marked : List Bool → ℕ → Bool

@@ -3,9 +3,8 @@ use Rattle.std.specs.Prelude.{◌≡◌, ◌≤◌, ◌<◌, ◌*◌, ℕ, Bool,
 use Rattle.sync_ql.specs.declared.levels.Level.{Level}
 use Rattle.sync_ql.specs.Pasts.{past_of}
 use Rattle.sync_ql.specs.Messages.{heard_at, line_until}
-use Rattle.sync_ql.specs.Told.{moments_until}
-use Rattle.sync_element.specs.ElementState.{ElementState, IsInTime}
-use Rattle.sync_element.specs.StandsFor as Element
+use Rattle.sync_element.specs.ElementState.{ElementState}
+use Rattle.sync_element.specs.StandsAfter.{StandsAfter}
 use Rattle.link_model.specs.LineState.{LineState}
 use Rattle.link_model.specs.StandsFor as Line
 use Rattle.sync_topo.specs.declared.input.InputId.{InputId}
@@ -14,18 +13,14 @@ use Rattle.sync_topo.specs.declared.event.Event.{Event}
 use Rattle.sync_topo.specs.Topology.{Topology}
 use Rattle.sync_topo.specs.Lines.{line_count, line_input, delay_of, IsInput, is_nominated_input, IsNominated}
 use Rattle.net_rules.specs.Signals.{Signals, signals_by, events_before, events_at, last_word, says_up, says_esmc, says_level, planned_level, source_level_before}
-use Rattle.net_rules.specs.History.{Levels, settings_of, line_moment_at, element_past, out_at}
+use Rattle.net_rules.specs.History.{Levels, settings_of, line_moment_at, heard, moment_at, out_at}
 use Rattle.sync_net.specs.Kept.{Kept, line_signal, source_signal, heard_on}
 use Rattle.sync_net.specs.NetState.{NetState, line_in}
 
--- an element of a network after n milliseconds: it stands for the first of them, up to its last
--- step, and in the others nothing is told
-pub record ElementStands (plan : Topology) (signals : Signals) (out : Levels) (place n : ℕ) (element : ElementState) : Type 0 where
-  pub settings : element.settings ≡ settings_of plan place
-  pub in_time : IsInTime element n
-  pub stands : Element.StandsFor element (element_past plan signals out place element.next)
-  pub quiet : element_past plan signals out place n
-      ≡ moments_until (settings_of plan place) n (element_past plan signals out place element.next)
+-- an element of a network after n milliseconds of what the rules have for it
+abbrev pub ElementStands : Topology → Signals → Levels → ℕ → ℕ → ElementState → Type 0
+ElementStands plan signals out place n element =
+    StandsAfter (settings_of plan place) (moment_at plan signals (heard plan signals out) place) n element
 
 -- a line of a network after n milliseconds: so up to its last call
 pub record LineStands (plan : Topology) (signals : Signals) (out : Levels) (line n : ℕ) (state : LineState) : Type 0 where

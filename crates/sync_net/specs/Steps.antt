@@ -1,30 +1,17 @@
 -- Private to this crate: what becomes of one element and of one line in a millisecond.
-use Rattle.std.specs.Prelude.{◌≡◌, ◌<◌, ◌+◌, ◌*◌, ℕ, suc, List, ◌∷◌, Option, IfSome, nat_eq, if◌then◌else◌}
+use Rattle.std.specs.Prelude.{◌≡◌, ◌<◌, ◌+◌, ◌*◌, ℕ, suc, List, Option, IfSome}
 use Rattle.sync_ql.specs.declared.levels.NetOption.{NetOption}
 use Rattle.sync_ql.specs.declared.levels.Level.{Level}
-use Rattle.sync_ql.specs.declared.rules.InputEvent.{InputEvent}
 use Rattle.sync_ql.specs.Moment.{Moment, selection_at}
 use Rattle.sync_ql.specs.Messages.{LineMoment, heard_at, line_until, IsLineDue}
-use Rattle.sync_ql.specs.Told.{moment_after, moments_until, IsOfOption}
+use Rattle.sync_ql.specs.Told.{moments_until, IsOfOption}
 use Rattle.sync_ql.specs.Output.{clock_level_at}
-use Rattle.sync_ql.specs.Quiet.{IsElementDue}
 use Rattle.sync_element.specs.ElementState.{ElementState}
 use Rattle.sync_element.specs.StandsFor as Element
 use Rattle.link_model.specs.LineState.{LineState}
 use Rattle.link_model.specs.Calls.{with_up, with_esmc, with_level}
 use Rattle.link_model.specs.StandsFor as Line
 use Rattle.sync_net.specs.declared.signals.LineSignal.{LineSignal}
-
--- an element makes a step in a millisecond, in which it is told some changes
-pub record IsStepped (now : ℕ) (changes : List InputEvent) (before after : ElementState) : Type 0 where
-  pub settings : after.settings ≡ before.settings
-  pub next : after.next ≡ now + 1
-  pub due_later : IfSome after.due (λ due. now < due)
-  pub counts : after.later_steps ≡ (if nat_eq before.next 0 then 0 else before.later_steps + 1)
-  pub stands : (past : List Moment) → Element.StandsFor before past → Element.StandsFor after
-      (moment_after before.settings (moments_until before.settings now past) changes
-      ∷ moments_until before.settings now past)
-  pub due : (past : List Moment) → Element.StandsFor after past → IsElementDue after.settings past after.due
 
 -- it takes the same and has the same level after the millisecond as before it
 pub record IsSteady (now : ℕ) (before after : ElementState) : Type 0 where

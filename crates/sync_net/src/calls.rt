@@ -3,7 +3,8 @@
 ghost use Rattle.std.specs.Prelude.{◌≡◌, ◌≤◌, ◌+◌, ◌*◌, false, OnOk, IfOk, IfSome, All};
 ghost use Rattle.sync_ql.specs.Told.{FitsElement};
 ghost use Rattle.sync_element.specs.ElementState.{IsInTime};
-ghost use Rattle.sync_net.specs.Steps.{IsStepped, IsSteady, IsLineTold, IsLineSaid};
+ghost use Rattle.sync_element.specs.StandsAfter.{IsStepped};
+ghost use Rattle.sync_net.specs.Steps.{IsSteady, IsLineTold, IsLineSaid};
 
 use crate::signals::LineSignal;
 use link_model::Line;

@@ -19,7 +19,8 @@ use Rattle.sync_topo.specs.declared.input.InputId.{InputId}
 use Rattle.sync_topo.specs.Topology.{Topology}
 use Rattle.sync_topo.specs.Lines.{inputs_of, input_priority}
 use Rattle.net_rules.specs.Signals.{Signals}
-use Rattle.net_rules.specs.History.{Levels, settings_of, timers_of, signal_at, heard, moment_at, element_past, condition_by}
+use Rattle.net_rules.specs.History.{Levels, settings_of, heard, moment_at, element_past, condition_by}
+use Rattle.net_rules.specs.Settings.{timers_of, signal_at}
 use Rattle.net_rules.proofs.NetLaws.{signals-at}
 use Rattle.sync_net.specs.Standing.{ElementStands}
 use Rattle.sync_net.proofs.DistinctInputs.{input-of}
