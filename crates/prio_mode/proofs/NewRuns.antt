@@ -28,7 +28,6 @@ use Rattle.net_rules.specs.Walks.{Each}
 use Rattle.net_rules.proofs.Lists.{Each-map}
 use Rattle.net_rules.proofs.InputLaws.{inputs-are}
 use Rattle.sync_net.specs.Beginning.{AreEach}
-use Rattle.sync_net.specs.Places.{ArePlaces}
 use Rattle.prio_mode.specs.declared.shown.Shown.{Shown}
 use Rattle.prio_mode.specs.declared.running.Run.{Run}
 use Rattle.prio_mode.specs.Configured.{config_of, IsNewElement, AreShown}
@@ -105,14 +104,13 @@ none-replicated n i a = elim (cases_lt i n) [
 pub begun : (plan : Topology) (run : Run) → AreEach (IsNewElement plan) (length plan.elements) run.elements.items
     → AreShown plan run.elements.items (length plan.elements) run.shown.items
     → run.tellings.changes.items ≡ replicate (length plan.elements) [] → run.tellings.active ≡ none_marked (length plan.elements)
-    → ArePlaces plan run.places.items → IsRun plan 0 run
-begun plan run elements shown changes active places = record {
+    → IsRun plan 0 run
+begun plan run elements shown changes active = record {
   counted = record {
     elements = elements.count;
     shown = shown.count;
     changes = ap length changes ∙ length-replicate (length plan.elements) [];
     flags = ap (λ a. length a.flags) active ∙ length-replicate (length plan.elements) false;
-    places = places;
   };
   ready = λ place element none within. let is = elements.each place element within in record {
     settings = is.settings;

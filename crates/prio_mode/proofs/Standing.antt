@@ -22,7 +22,7 @@ use Rattle.net_rules.specs.History.{settings_of}
 use Rattle.net_rules.specs.Settings.{signal_at}
 use Rattle.net_rules.proofs.SettingLaws.{level_until, IsSaid, told-by}
 use Rattle.sync_net.specs.Words.{all_words}
-use Rattle.sync_net.proofs.DistinctInputs.{same-self}
+use Rattle.sync_topo.proofs.InputPlaces.{same-self}
 use Rattle.sync_net.proofs.SplitWords.{word-until}
 use Rattle.sync_net.proofs.ToldMoment.{past-up}
 use Rattle.sync_net.proofs.WordLaws.{all-up, all-level, all-clear, all-commands}

@@ -12,7 +12,6 @@ use Rattle.sync_element.specs.ElementState.{ElementState}
 use Rattle.sync_topo.specs.declared.event.Event.{Event}
 use Rattle.sync_topo.specs.Topology.{Topology}
 use Rattle.sync_topo.specs.WellFormed.{IsWellFormed}
-use Rattle.sync_net.specs.Places.{ArePlaces}
 use Rattle.sync_net.specs.Tellings.{told_to, is_something, AreTold}
 use Rattle.sync_net.specs.Words.{all_words}
 use Rattle.sync_net.proofs.FitLaws.{all-fit}
@@ -57,15 +56,14 @@ any_shown plan = shown_after plan 0 []
 
 -- all are told their words, and none was looked at
 pub halfway-first : (plan : Topology) (now : ℕ) (here : List Event) (run after : Run) (text : List ℕ) → IsRun plan now run
-    → after.elements ≡ run.elements → after.shown ≡ run.shown → after.places ≡ run.places
+    → after.elements ≡ run.elements → after.shown ≡ run.shown
     → AreTold (all_words plan here) run.tellings after.tellings → IsHalfway plan now 0 here run after text text
-halfway-first plan now here run after text is elements shown places told = record {
+halfway-first plan now here run after text is elements shown told = record {
   counted = record {
     elements = ap (λ xs. length xs.items) elements ∙ is.counted.elements;
     shown = ap (λ xs. length xs.items) shown ∙ is.counted.shown;
     changes = told.count ∙ is.counted.changes;
     flags = told.flags_count ∙ is.counted.flags;
-    places = subst (λ xs. ArePlaces plan xs.items) (sym places) is.counted.places;
   };
   done = λ place element none within low. absurd (omega (arith, low));
   left = λ place element none within low.
@@ -125,15 +123,14 @@ halfway-next plan now k here before mid after text text_mid text_then inside hal
 -- all were looked at, and the marks are taken away
 pub turned : (plan : Topology) (now k : ℕ) (here : List Event) (before mid after : Run) (text text_then : List ℕ) → length plan.elements ≤ k
     → IsHalfway plan now k here before mid text text_then
-    → after.elements ≡ mid.elements → after.shown ≡ mid.shown → after.places ≡ mid.places → after.tellings.changes ≡ mid.tellings.changes
+    → after.elements ≡ mid.elements → after.shown ≡ mid.shown → after.tellings.changes ≡ mid.tellings.changes
     → after.tellings.active ≡ none_marked (length mid.tellings.active.flags) → IsRun plan (now + 1) after
-turned plan now k here before mid after text text_then all half elements shown places changes active = record {
+turned plan now k here before mid after text text_then all half elements shown changes active = record {
   counted = record {
     elements = ap (λ xs. length xs.items) elements ∙ half.counted.elements;
     shown = ap (λ xs. length xs.items) shown ∙ half.counted.shown;
     changes = ap (λ xs. length xs.items) changes ∙ half.counted.changes;
     flags = ap (λ a. length a.flags) active ∙ length-replicate (length mid.tellings.active.flags) false ∙ half.counted.flags;
-    places = subst (λ xs. ArePlaces plan xs.items) (sym places) half.counted.places;
   };
   ready = λ place element none within.
       subst (λ e. IsReady plan place (now + 1) e (shown_in after place none)) (sym (ap (λ xs. slice_index_or xs.items place element) elements))

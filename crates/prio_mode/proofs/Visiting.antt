@@ -10,7 +10,6 @@ use Rattle.sync_element.specs.StandsAfter.{IsStepped}
 use Rattle.sync_element.proofs.ElementSteps.{stepped-in_time, stands-stepped}
 use Rattle.sync_topo.specs.Topology.{Topology}
 use Rattle.net_rules.specs.Signals.{signals_by}
-use Rattle.sync_net.specs.Places.{ArePlaces}
 use Rattle.sync_net.specs.Tellings.{told_to, is_something}
 use Rattle.prio_mode.specs.declared.shown.Shown.{Shown}
 use Rattle.prio_mode.specs.declared.running.Run.{Run}
@@ -67,7 +66,6 @@ module _ (plan : Topology) (now place : ℕ) (before after : Run) (text text_the
     (shows_set : after.shown.items ≡ slice_set before.shown.items place shown)
     (cleared : after.tellings.changes.items ≡ slice_set before.tellings.changes.items place [])
     (flags : after.tellings.active ≡ before.tellings.active)
-    (places : after.places.items ≡ before.places.items)
     (stepped : IsStepped now told element element_then)
     (shows : Shows plan place element_then shown)
     (put : text_then ≡ text ++ row_between plan now place was shown) where
@@ -106,7 +104,6 @@ module _ (plan : Topology) (now place : ℕ) (before after : Run) (text text_the
       shown = ap length shows_set ∙ length-set before.shown.items place shown ∙ counted.shown;
       changes = ap length cleared ∙ length-set before.tellings.changes.items place [] ∙ counted.changes;
       flags = ap (λ active. length active.flags) flags ∙ counted.flags;
-      places = subst (ArePlaces plan) (sym places) counted.places;
     };
     ready = λ other none.
         subst (λ e. IsReady plan place (now + 1) e (shown_in after place none)) (sym (element_after other))

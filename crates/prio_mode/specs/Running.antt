@@ -11,7 +11,6 @@ use Rattle.sync_topo.specs.Topology.{Topology}
 use Rattle.sync_topo.specs.Lines.{IsInput}
 use Rattle.sync_topo.specs.Events.{IsEventList}
 use Rattle.net_rules.specs.Signals.{signals_by, events_at}
-use Rattle.sync_net.specs.Places.{ArePlaces}
 use Rattle.sync_net.specs.Tellings.{told_to, is_active, is_something}
 use Rattle.sync_net.specs.Words.{all_words}
 use Rattle.prio_mode.specs.declared.shown.Shown.{Shown}
@@ -50,7 +49,6 @@ pub record AreCounted (plan : Topology) (run : Run) : Type 0 where
   pub shown : length run.shown.items ≡ length plan.elements
   pub changes : length run.tellings.changes.items ≡ length plan.elements
   pub flags : length run.tellings.active.flags ≡ length plan.elements
-  pub places : ArePlaces plan run.places.items
 
 -- a run before a millisecond: all elements are ready, and nothing is told
 pub record IsRun (plan : Topology) (next : ℕ) (run : Run) : Type 0 where

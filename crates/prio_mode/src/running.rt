@@ -29,8 +29,6 @@ pub(crate) struct Run {
     pub(crate) elements: Vec<Element>,
     pub(crate) shown: Vec<Shown>,
     pub(crate) tellings: Tellings,
-    /// The place of each input by its number.
-    pub(crate) places: Vec<u32>,
 }
 
 /// The first time at which an element is due.
@@ -134,7 +132,7 @@ impl Run {
             RunStands plan.now all now self.old →
             RunStands plan.now all (suc now) self.new × (text.new ≡ text.old ++ rows_in plan.now all now)) }
     {
-        tell_events(plan, self.places.as_slice(), &mut self.tellings, here)?;
+        tell_events(plan, &mut self.tellings, here)?;
         for place in 0..plan.elements() {
             self.visit(alloc, plan, place, now, text)?;
         }

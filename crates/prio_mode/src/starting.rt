@@ -12,7 +12,7 @@ use crate::running::Run;
 use crate::shown::{Shown, shown_of};
 use std::alloc::Global;
 use sync_element::{Config, Element, InputConfig};
-use sync_net::{new_tellings, places_of};
+use sync_net::new_tellings;
 use sync_ql::{Level, NetOption};
 use sync_text::{NoMemory, Rows};
 use sync_topo::{InputId, Plan};
@@ -25,12 +25,10 @@ pub(crate) fn new_run(alloc: Global, plan: &Plan) -> Result<Run, NoMemory>
     let elements = new_elements(alloc, plan)?;
     let shown = first_shown(alloc, plan, elements.as_slice())?;
     let tellings = new_tellings(alloc, plan)?;
-    let places = places_of(alloc, plan)?;
     Ok(Run {
         elements,
         shown,
         tellings,
-        places,
     })
 }
 

@@ -8,6 +8,7 @@ use Rattle.sync_topo.specs.declared.input.InputId.{InputId}
 use Rattle.sync_topo.specs.declared.input.InputId.TheVariants.{Line, Source}
 use Rattle.sync_topo.specs.Topology.{Topology}
 use Rattle.sync_topo.specs.Lines.{line_count, line_input, is_nominated, receiver_of, source_priority, element_of_source, lines_into, sources_at, inputs_of, is_same_input, place_at}
+use Rattle.sync_topo.proofs.InputPlaces.{same-is, same-self}
 use Rattle.net_rules.specs.Inputs.{IsInputOf}
 use Rattle.net_rules.specs.Walks.{Each}
 use Rattle.net_rules.proofs.Lists.{Each-map, Each-append, Each-made, Each-range, Each-filter, each-at}
@@ -69,18 +70,6 @@ inputs-apart plan element =
     all-apart (lines_into plan element) (sources_at plan element)
     (ascends-filter (λ line. is_nominated plan line && receiver_of plan line == element) 0 (line_count plan))
     (ascends-filter (λ source. nat_lt 0 (source_priority plan source) && element_of_source plan source == element) 0 (length plan.sources))
-
--- each input is the same as itself
-pub same-self : (input : InputId) → is_same_input input input ≡ true
-same-self (Line line) = eq-eqb line.0 line.0 refl
-same-self (Source source) = eq-eqb source source refl
-
--- inputs that are the same are equal
-pub same-is : (input other : InputId) → is_same_input input other ≡ true → input ≡ other
-same-is (Line line) (Line other) is = ap line_input (eqb-true line.0 other.0 is)
-same-is (Source source) (Source other) is = ap Source (eqb-true source other is)
-same-is (Line line) (Source other) is = cc
-same-is (Source source) (Line other) is = cc
 
 -- what is found first among inputs that are apart
 first-place : (inputs : List InputId) (i : ℕ) (input : InputId) → AreApart inputs → slice_get inputs i ≡ Some input

@@ -23,18 +23,18 @@ use Rattle.sync_net.specs.NetState.{NetState, line_in}
 use Rattle.sync_net.specs.NetState as Net
 use Rattle.sync_net.specs.Noted.{AreNoted}
 use Rattle.sync_net.specs.Noting.{line_at, AreOfOption}
-use Rattle.sync_net.specs.Places.{ArePlaces}
 use Rattle.sync_net.proofs.QuietGap.{some_element}
 use Rattle.sync_net.specs.Hearing.{heard_in, told_in}
 use Rattle.sync_net.specs.Steps.{IsSteady, IsLineTold, IsLineSaid}
-use Rattle.sync_net.specs.Stages.{is_marked, IsSent, IsNotGiven, out_of}
+use Rattle.sync_net.specs.Stages.{is_marked, IsSent, IsNotGiven, is_out_of}
 use Rattle.sync_net.specs.NetStep.{ElementStays, ElementMoves, LineIsTold, LineKeeps, LineIsSaid, LineMoves, IsNetStep, HasCause, AreEvaluatedFor}
 use Rattle.sync_net.specs.Evaluated.{IsCalledFor, AreAloneCalled}
-use Rattle.sync_net.specs.Whole.{kept_of, state_of, IsReadyElement, IsReadyLine, AreOuts, IsWhole}
+use Rattle.sync_net.proofs.OutLaws.{out-every, out-is}
+use Rattle.sync_net.specs.Whole.{kept_of, state_of, IsReadyElement, IsReadyLine, IsWhole}
 use Rattle.sync_net.specs.PartSteps.{AreCalled, AreTakenIn, AreHeardIn, AreEvaluatedIn, AreSentIn, IsOver}
 use Rattle.sync_net.proofs.StageLaws.{same-place, or-second}
 use Rattle.sync_net.proofs.Assembling.{unmarked-before, if_some_at, none-marked, exactly_now, kept_line, called_nominated, called_before, not_called_before, line_due_left}
-use Rattle.sync_net.proofs.Finishing.{listed_has, called_in_end, c_elements, c_dues, not_active, told_line, untold_line, element_steps, element_stays, element_moves, called_later}
+use Rattle.sync_net.proofs.Finishing.{called_in_end, c_elements, c_dues, not_active, told_line, untold_line, element_steps, element_stays, element_moves, called_later}
 
 -- what stands at a place of a list is listed
 pub listed-at : (ks : List ℕ) (i d : ℕ) → i < length ks → list_any (nat_eq (slice_index_or ks i d)) ks ≡ true
@@ -172,8 +172,8 @@ module _ (plan : Topology) (now : ℕ) (events : List Event) (p a b c d e q : Pa
       within : sender < length plan.elements
       within = sender-within plan whole.well_formed line (IsNominated-within plan line nominated)
 
-      out_here : list_any (nat_eq line) (out_of c.outs.items sender) ≡ true
-      out_here = ap (λ o. list_any (nat_eq line) (out_of o.items sender)) (third.tables.outs ∙ second.tables.outs ∙ first.tables.outs) ∙ whole.outs.every line nominated
+      out_here : is_out_of plan sender line ≡ true
+      out_here = out-every plan line nominated
 
       of : (m : Bool) → is_marked c.tellings.active.flags sender ≡ m →
           IsSteady now (slice_index_or p.elements.items sender other) (slice_index_or d.elements.items sender other)
@@ -429,8 +429,6 @@ module _ (plan : Topology) (now : ℕ) (events : List Event) (p a b c d e q : Pa
     changes_count = omega (arith, ap (λ t. length t.changes.items) (last.tellings ∙ fifth.tellings), fourth.evaluated.changes_count, third.told.changes_count, second.taken.list_count, ap (λ v. length v.items) first.changes, whole.changes_count);
     active_count = omega (arith, ap (λ t. length t.active.flags) (last.tellings ∙ fifth.tellings), ap (λ m. length m.flags) fourth.active, third.told.marks.count, second.taken.flag_count, first.due.elements.count, first.first.elements_kept.count, length-replicate (length p.tellings.active.flags) false, whole.active_count);
     called_count = omega (arith, ap (λ m. length m.flags) (last.called ∙ fifth.called), fourth.evaluated.called.count, ap (λ m. length m.flags) third.called, second.taken.mark_count, first.due.lines.count, first.first.lines_kept.count, length-replicate (length p.called.flags) false, whole.called_count);
-    places = subst (λ v. ArePlaces plan v.items) (sym (last.places ∙ fifth.tables.places ∙ fourth.tables.places ∙ third.tables.places ∙ second.tables.places ∙ first.tables.places)) whole.places;
-    outs = subst (λ v. AreOuts plan v.items) (sym (last.outs ∙ fifth.tables.outs ∙ fourth.tables.outs ∙ third.tables.outs ∙ second.tables.outs ∙ first.tables.outs)) whole.outs;
     elements = ready_element in_range;
     lines = ready_lines;
     every = every_line;
@@ -521,12 +519,9 @@ module _ (plan : Topology) (now : ℕ) (events : List Event) (p a b c d e q : Pa
       ]
     ]
     | inr out ↦ inr (inr (ap (λ sender. list_any (nat_eq sender) q.tellings.active.listed)
-        (listed_has (λ l. sender_of plan l ≡ out.0) line (out_of c.outs.items out.0) (subst (λ o. All (λ l. sender_of plan l ≡ out.0) (out_of o.items out.0)) (sym outs_same) (whole.outs.from out.0)) out.2)
+        (out-is plan out.0 line out.2).sent
         ∙ ap (list_any (nat_eq out.0)) listed_then ∙ out.1))
   ]
-    where
-      outs_same : c.outs ≡ p.outs
-      outs_same = third.tables.outs ∙ second.tables.outs ∙ first.tables.outs
 
   -- what stands in the list of called lines is called
   is_called_at : (i other : ℕ) → i < length d.called.listed → is_marked d.called.flags (slice_index_or d.called.listed i other) ≡ true

@@ -10,8 +10,9 @@ use Rattle.sync_element.specs.ElementState.{ElementState}
 use Rattle.sync_element.specs.StandsAfter.{IsStepped}
 use Rattle.link_model.specs.LineState.{LineState}
 use Rattle.sync_topo.specs.declared.event.Event.{Event}
+use Rattle.std.proofs.lemmas.List.Elements.{All-weaker}
 use Rattle.sync_topo.specs.Topology.{Topology}
-use Rattle.sync_topo.specs.Lines.{line_count, IsNominated}
+use Rattle.sync_topo.specs.Lines.{line_count, IsNominated, lines_out, IsLineOut}
 use Rattle.sync_topo.proofs.LineLaws.{IsNominated-within}
 use Rattle.net_rules.specs.History.{settings_of}
 use Rattle.sync_net.specs.declared.parts.Parts.{Parts}
@@ -20,20 +21,13 @@ use Rattle.sync_net.specs.NetState as Net
 use Rattle.sync_net.specs.Telling.{IsTold}
 use Rattle.sync_net.specs.Noting.{line_at}
 use Rattle.sync_net.specs.Hearing.{heard_in, told_in, HearsMore, IsToldAt}
-use Rattle.sync_net.specs.Stages.{is_marked, CanStep, CanSay, out_of}
+use Rattle.sync_net.specs.Stages.{is_marked, CanStep, CanSay}
 use Rattle.sync_net.specs.NetStep.{ElementSteps, ElementStays, ElementMoves}
+use Rattle.sync_net.proofs.OutLaws.{out-is}
 use Rattle.sync_net.specs.Whole.{kept_of, state_of, IsReadyElement, IsReadyLine, IsWhole}
 use Rattle.sync_net.specs.PartSteps.{AreCalled, AreTakenIn, AreHeardIn, AreEvaluatedIn}
-use Rattle.sync_net.proofs.StageLaws.{one-of, is-place}
+use Rattle.sync_topo.proofs.LinesOut.{lines_out-are}
 use Rattle.sync_net.proofs.Assembling.{told-more, unmarked-before, if_some_at, some_and, kept_line, called_nominated, not_active_before}
-
--- what holds of each place of a list holds of one that is listed
-pub listed_has : (P : ℕ → Type 0) (k : ℕ) (ks : List ℕ) → All P ks → list_any (nat_eq k) ks ≡ true → P k
-listed_has P k [] all is = absurd (true≢false (sym is))
-listed_has P k (x ∷ xs) all is = elim (one-of (nat_eq k x) (list_any (nat_eq k) xs) is) [
-  | inl here ↦ subst P (sym (is-place k x here)) (all 0 x (omega arith))
-  | inr later ↦ listed_has P k xs (λ i d inside. all (suc i) d (omega (arith, inside))) later.1
-]
 
 -- after the lines are told
 module _ (plan : Topology) (now : ℕ) (events : List Event) (p a b c : Parts) (whole : IsWhole plan p) (in_time : Net.IsInTime (state_of plan false p) now)
@@ -102,15 +96,11 @@ module _ (plan : Topology) (now : ℕ) (events : List Event) (p a b c : Parts) (
       (left.same ∙ ap (λ ls. line_in ls line) b_lines, left.level ∙ ap (λ hs. heard_in hs line) b_heards)
 
   -- the lines out of each element have marks
-  pub outs_within : (element : ℕ) → All (λ line. line < length c.called.flags) (out_of c.outs.items element)
-  outs_within element = λ k d inside.
-      let nominated : IsNominated plan (slice_index_or (out_of c.outs.items element) k d) =
-      subst (λ o. All (IsNominated plan) (out_of o.items element)) (sym outs) (whole.outs.nominated element) k d inside in
-      omega (arith, IsNominated-within plan (slice_index_or (out_of c.outs.items element) k d) nominated, counted)
+  pub outs_within : (element : ℕ) → All (λ line. line.0 < length c.called.flags) (lines_out plan element)
+  outs_within element =
+      All-weaker (IsLineOut plan element) (λ line. line.0 < length c.called.flags)
+      (λ line out. omega (arith, IsNominated-within plan line.0 out.nominated, counted)) (lines_out plan element) (lines_out-are plan element)
     where
-      outs : c.outs ≡ p.outs
-      outs = third.tables.outs ∙ second.tables.outs ∙ first.tables.outs
-
       counted : length c.called.flags ≡ line_count plan
       counted = omega (
         arith,
@@ -197,11 +187,8 @@ module _ (plan : Topology) (now : ℕ) (events : List Event) (p a b c d : Parts)
   pub called_in_end : (line : ℕ) → is_marked d.called.flags line ≡ true → IsNominated plan line
   called_in_end line is = elim (fourth.evaluated.cause line is) [
     | inl before ↦ called_nominated plan now events p a b whole in_time first second line (sym (ap (λ m. is_marked m.flags line) third.called) ∙ before)
-    | inr out ↦ listed_has (IsNominated plan) line (out_of c.outs.items out.0) (subst (λ o. All (IsNominated plan) (out_of o.items out.0)) (sym outs) (whole.outs.nominated out.0)) out.2
+    | inr out ↦ (out-is plan out.0 line out.2).nominated
   ]
-    where
-      outs : c.outs ≡ p.outs
-      outs = third.tables.outs ∙ second.tables.outs ∙ first.tables.outs
 
   pub can_say_called : (line : ℕ) → is_marked d.called.flags line ≡ true → IsSomeAnd (line_in d.lines.items line) (CanSay now)
   can_say_called line is =

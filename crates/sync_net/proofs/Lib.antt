@@ -21,6 +21,8 @@ pub mod HearingLaws
 pub mod Joining
 pub mod NewNets
 pub mod Assembling
+pub mod LevelsTold
+pub mod OutLaws
 pub mod Finishing
 pub mod Ending
 pub mod NetLaws

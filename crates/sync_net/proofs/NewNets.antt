@@ -189,8 +189,6 @@ begun-whole plan parts begun = record {
   changes_count = ap length begun.changes ∙ length-replicate (length plan.elements) [];
   active_count = ap (λ (m : Marked). length m.flags) begun.active ∙ length-replicate (length plan.elements) false;
   called_count = ap (λ m. length m.flags) begun.called ∙ length-replicate (line_count plan) false;
-  places = begun.places;
-  outs = begun.outs;
   elements = λ element other within. ready-element plan parts.next element _ begun.next (begun.elements.each element other within);
   lines = λ line within.
       if-some (IsNewLine plan line) (IsReadyLine plan parts.next line) _ (λ state new. ready-line plan parts.next line state new) (begun.lines.each line None within).is_new;

@@ -14,9 +14,8 @@ use Rattle.net_rules.specs.Inputs.{IsInputOf}
 use Rattle.net_rules.specs.Walks.{Each}
 use Rattle.net_rules.proofs.Lists.{Each-map}
 use Rattle.net_rules.proofs.InputLaws.{each-input}
-use Rattle.sync_net.specs.Places.{ArePlaces}
-use Rattle.sync_net.specs.NumberedInputs.{first_place, numbered}
-use Rattle.sync_net.proofs.DistinctInputs.{same-is, place-at, input-of}
+use Rattle.sync_net.proofs.DistinctInputs.{place-at, input-of}
+use Rattle.sync_topo.proofs.InputPlaces.{same-is}
 
 -- an input stands at its place
 pub found-at : (plan : Topology) (element i : ℕ) (input : InputId) → place_at plan element input ≡ Some i → slice_get (inputs_of plan element) i ≡ Some input
@@ -43,56 +42,11 @@ each-stands (x ∷ xs) =
 pub stands-there : (plan : Topology) (element : ℕ) (input : InputId) → IsInputOf plan element input → (i : ℕ) × (slice_get (inputs_of plan element) i ≡ Some input)
 stands-there plan element = each-input (λ input. (i : ℕ) × (slice_get (inputs_of plan element) i ≡ Some input)) plan element (each-stands (inputs_of plan element))
 
--- the input of an input's number
-numbered-number : (plan : Topology) (input : InputId) → IsInput plan input → numbered plan (input_number plan input) ≡ input
-numbered-number plan (Line line) has = rw (lt-ltb line.0 (line_count plan) has) refl
-numbered-number plan (Source source) has =
-    let less : line_count plan + source - line_count plan ≡ source = omega arith in
-    rw (le-ltb (line_count plan + source) (line_count plan) (omega arith), less) refl
-
-number-within : (plan : Topology) (input : InputId) → IsInput plan input → input_number plan input < line_count plan + length plan.sources
-number-within plan (Line line) has = omega (arith, has)
-number-within plan (Source source) has = omega (arith, has)
-
-first-place-is : (plan : Topology) (element i : ℕ) (input : InputId) → element_of plan input ≡ element → place_at plan element input ≡ Some i → first_place plan input ≡ i
-first-place-is plan element i input of_element is =
-    ap (λ e. unwrap_or (place_at plan e input) 0) of_element ∙ ap (λ o. unwrap_or o 0) is
-
--- one place more
-pub places-more : (plan : Topology) (places next : List ℕ) (number place : ℕ) (input : InputId)
-    → places ≡ map (λ k. first_place plan (numbered plan k)) (range_with_len 0 number)
-    → next ≡ places ++ place ∷ [] → place ≡ first_place plan input → input ≡ numbered plan number
-    → next ≡ map (λ k. first_place plan (numbered plan k)) (range_with_len 0 (number + 1))
-places-more plan places next number place input so_far more is at =
-    more
-    ∙ ap (λ xs. xs ++ place ∷ []) so_far
-    ∙ ap (λ p. map (λ k. first_place plan (numbered plan k)) (range_with_len 0 number) ++ p ∷ []) (is ∙ ap (first_place plan) at)
-    ∙ sym (map-range_with_len_more (λ k. first_place plan (numbered plan k)) 0 number number (omega arith))
-
--- the place of the input of each number is what is wanted
-pub places-hold : (plan : Topology) (places : List ℕ)
-    → places ≡ map (λ number. first_place plan (numbered plan number)) (range_with_len 0 (line_count plan + length plan.sources))
-    → ArePlaces plan places
-places-hold plan places is = record {
-  count = ap length is ∙ length-map-range_with_len (λ number. first_place plan (numbered plan number)) 0 (line_count plan + length plan.sources);
-  place = λ element input of.
-      let there = stands-there plan element input of in
-      let at = place-at plan element there.0 input there.1 in
-      at ∙ ap Some (sym (ap (λ xs. slice_index xs (input_number plan input)) is
-      ∙ get_or-map-range_with_len (λ number. first_place plan (numbered plan number)) 0 (line_count plan + length plan.sources)
-      (input_number plan input) (input_number plan input) 0 (number-within plan input of.has) (omega arith)
-      ∙ ap (first_place plan) (numbered-number plan input of.has)
-      ∙ first-place-is plan element there.0 input of.of_element at));
-}
-
 -- a nominated input has its place at its element, and none at any other
-pub placed-in : (plan : Topology) (places : List ℕ) (one number : ℕ) (input : InputId) → ArePlaces plan places → IsInput plan input → is_nominated_input plan input ≡ true
-    → one ≡ element_of plan input → number ≡ input_number plan input → (element : ℕ)
-    → place_at plan element input ≡ (if nat_eq one element then Some (slice_index places number) else None)
-placed-in plan places one number input are has nominated is_of is_number element = by (nat_eq one element) refl
+pub placed-in : (plan : Topology) (one place : ℕ) (input : InputId) → one ≡ element_of plan input → place_at plan (element_of plan input) input ≡ Some place → (element : ℕ)
+    → place_at plan element input ≡ (if nat_eq one element then Some place else None)
+placed-in plan one place input is_of at element = by (nat_eq one element) refl
   where
-    by : (b : Bool) → nat_eq one element ≡ b → place_at plan element input ≡ (if b then Some (slice_index places number) else None)
-    by true same =
-        are.place element input (record { has = has; nominated = nominated; of_element = sym is_of ∙ eqb-true one element same })
-        ∙ ap (λ n. Some (slice_index places n)) (sym is_number)
+    by : (b : Bool) → nat_eq one element ≡ b → place_at plan element input ≡ (if b then Some place else None)
+    by true same = ap (λ e. place_at plan e input) (sym (eqb-true one element same) ∙ is_of) ∙ at
     by false differs = no-place-there plan element input (λ of. true≢false (sym (eq-eqb one element (is_of ∙ of.of_element)) ∙ differs))

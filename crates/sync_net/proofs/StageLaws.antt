@@ -37,7 +37,7 @@ pub keeps-same : (a : List Bool) → KeepsMarks a a
 keeps-same a = record { count = refl; kept = λ k is. is }
 
 -- an element that was evaluated, and then left
-evaluated-left : (now : ℕ) (out : List ℕ) (e : ℕ) (s t u : Workplace) → IsEvaluated now out e s t → IsNotEvaluated e t u → KeepsMarks t.called u.called → IsEvaluated now out e s u
+evaluated-left : (now : ℕ) (out : ℕ → Bool) (e : ℕ) (s t u : Workplace) → IsEvaluated now out e s t → IsNotEvaluated e t u → KeepsMarks t.called u.called → IsEvaluated now out e s u
 evaluated-left now out e s t u one left kept = record {
   stepped = λ other. subst (IsStepped now (changes_of s.changes e) (slice_index_or s.elements e other)) (sym (left.element other)) (one.stepped other);
   cleared = left.changes ∙ one.cleared;
@@ -49,7 +49,7 @@ evaluated-left now out e s t u one left kept = record {
 }
 
 -- an element that was left, and then evaluated
-left-evaluated : (now : ℕ) (out : List ℕ) (e : ℕ) (s t u : Workplace) → IsNotEvaluated e s t → IsEvaluated now out e t u → IsEvaluated now out e s u
+left-evaluated : (now : ℕ) (out : ℕ → Bool) (e : ℕ) (s t u : Workplace) → IsNotEvaluated e s t → IsEvaluated now out e t u → IsEvaluated now out e s u
 left-evaluated now out e s t u left one = record {
   stepped = λ other. subst (λ c. IsStepped now c (slice_index_or s.elements e other) (slice_index_or u.elements e other)) left.changes
       (subst (λ x. IsStepped now (changes_of t.changes e) x (slice_index_or u.elements e other)) (left.element other) (one.stepped other));
@@ -71,7 +71,7 @@ or-there true b is = refl
 or-there false b is = is
 
 -- one element more
-pub evaluated-next : (now n m place : ℕ) (outs : ℕ → List ℕ) (done done_then : ℕ → Bool) (s t u : Workplace) → done place ≡ false →
+pub evaluated-next : (now n m place : ℕ) (outs : ℕ → ℕ → Bool) (done done_then : ℕ → Bool) (s t u : Workplace) → done place ≡ false →
     ((e : ℕ) → done_then e ≡ (done e || nat_eq e place)) →
     AreEvaluated now n outs done s t → m ≡ n → AreEvaluated now m outs (λ e. nat_eq e place) t u → AreEvaluated now n outs done_then s u
 evaluated-next now n m place outs done done_then s t u fresh next all same one_of = record {
@@ -108,7 +108,7 @@ evaluated-next now n m place outs done done_then s t u fresh next all same one_o
     apart e before false is = is
     apart e before true is = absurd (let same : e ≡ place = is-place e place is in let other : done e ≡ false = ap done same ∙ fresh in cc)
 
-pub evaluated-none : (now n : ℕ) (outs : ℕ → List ℕ) (done : ℕ → Bool) (s : Workplace) → ((e : ℕ) → done e ≡ false) → AreEvaluated now n outs done s s
+pub evaluated-none : (now n : ℕ) (outs : ℕ → ℕ → Bool) (done : ℕ → Bool) (s : Workplace) → ((e : ℕ) → done e ≡ false) → AreEvaluated now n outs done s s
 evaluated-none now n outs done s none = record {
   elements_count = refl;
   changes_count = refl;
@@ -121,7 +121,7 @@ evaluated-none now n outs done s none = record {
 }
 
 -- an element that isn't done yet can still make its step
-pub can-step-still : (now n e : ℕ) (outs : ℕ → List ℕ) (done : ℕ → Bool) (s t : Workplace) (other : ElementState) → e < n → done e ≡ false → AreEvaluated now n outs done s t →
+pub can-step-still : (now n e : ℕ) (outs : ℕ → ℕ → Bool) (done : ℕ → Bool) (s t : Workplace) (other : ElementState) → e < n → done e ≡ false → AreEvaluated now n outs done s t →
     CanStep now (slice_index_or s.elements e other) (changes_of s.changes e) → CanStep now (slice_index_or t.elements e other) (changes_of t.changes e)
 can-step-still now n e outs done s t other within fresh all can =
     let left = all.others e within fresh in

@@ -30,7 +30,8 @@ use Rattle.sync_net.specs.declared.signals.SourceSignal.{SourceSignal}
 use Rattle.sync_net.specs.Noting.{source_at}
 use Rattle.sync_net.specs.Words.{word_at, input_words, part_words, only_to, words_of, all_words}
 use Rattle.sync_net.specs.Settling.{named_source, is_it, names_source, settled, level_words, all_level_words}
-use Rattle.sync_net.proofs.DistinctInputs.{same-is, same-self, place-at}
+use Rattle.sync_net.proofs.DistinctInputs.{place-at}
+use Rattle.sync_topo.proofs.InputPlaces.{same-is, same-self}
 use Rattle.sync_net.proofs.PlaceLemmas.{found-at}
 
 -- a place is that of the input at another

@@ -18,9 +18,6 @@ use Rattle.net_rules.specs.Signals.{planned_level}
 use Rattle.net_rules.specs.History.{settings_of, first_level, bundle_of_input}
 use Rattle.sync_net.specs.declared.parts.Parts.{Parts}
 use Rattle.sync_net.specs.declared.signals.SourceSignal.{SourceSignal}
-use Rattle.sync_net.specs.Places.{ArePlaces}
-use Rattle.sync_net.specs.Stages.{out_of}
-use Rattle.sync_net.specs.Whole.{AreOuts}
 
 -- a list has n items, and something holds of each of them and its place
 pub record AreEach {A : Type 0} (Holds : ℕ → A → Type 0) (n : ℕ) (items : List A) : Type 0 where
@@ -65,13 +62,6 @@ pub record IsNewSource (plan : Topology) (number : ℕ) (source : SourceSignal) 
   pub level : source.level ≡ planned_level plan number
   pub of_option : (planned_level plan number).option ≡ plan.option
 
--- the lines before a number that are nominated are listed at their senders, and no others
-pub record AreOutsBefore (plan : Topology) (n : ℕ) (outs : List (List ℕ)) : Type 0 where
-  pub count : length outs ≡ length plan.elements
-  pub every : (line : ℕ) → line < n → IsNominated plan line → list_any (nat_eq line) (out_of outs (sender_of plan line)) ≡ true
-  pub nominated : (element : ℕ) → All (IsNominated plan) (out_of outs element)
-  pub from : (element : ℕ) → All (λ line. sender_of plan line ≡ element) (out_of outs element)
-
 -- all that a network keeps that was told nothing
 pub record IsBegun (plan : Topology) (parts : Parts) : Type 0 where
   pub well_formed : IsWellFormed plan
@@ -86,5 +76,3 @@ pub record IsBegun (plan : Topology) (parts : Parts) : Type 0 where
   pub changes : parts.tellings.changes.items ≡ replicate (length plan.elements) []
   pub active : parts.tellings.active ≡ none_marked (length plan.elements)
   pub called : parts.called ≡ none_marked (line_count plan)
-  pub places : ArePlaces plan parts.places.items
-  pub outs : AreOuts plan parts.outs.items

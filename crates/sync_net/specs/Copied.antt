@@ -19,8 +19,6 @@ pub record AreSame (parts copy : Parts) : Type 0 where
   pub changes : copy.tellings.changes.items ≡ parts.tellings.changes.items
   pub active : copy.tellings.active ≡ parts.tellings.active
   pub called : copy.called ≡ parts.called
-  pub places : copy.places.items ≡ parts.places.items
-  pub outs : copy.outs.items ≡ parts.outs.items
 
 -- two lists of one length are the same, but for some places
 pub record AreSameBut {A : Type 0} (places : List ℕ) (xs ys : List A) : Type 0 where
@@ -56,5 +54,3 @@ pub record AreReturned (base before after : Parts) : Type 0 where
   pub changes : after.tellings.changes ≡ before.tellings.changes
   pub active : after.tellings.active ≡ base.tellings.active
   pub called : after.called ≡ base.called
-  pub places : after.places ≡ before.places
-  pub outs : after.outs ≡ before.outs

@@ -4,11 +4,9 @@ pub mod Standing
 pub mod Kept
 pub mod Sound
 pub mod Telling
-pub mod Places
 pub mod Noted
 pub mod Words
 pub mod Tellings
-pub mod NumberedInputs
 pub mod InputPlaces
 pub mod Noting
 pub mod Settling

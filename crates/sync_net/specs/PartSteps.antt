@@ -10,14 +10,12 @@ use Rattle.sync_net.specs.declared.parts.Parts.{Parts}
 use Rattle.sync_net.specs.Noting.{line_at, AreOfOption}
 use Rattle.sync_net.specs.Taking.{AreTaken}
 use Rattle.sync_net.specs.Hearing.{AreTold}
-use Rattle.sync_net.specs.Stages.{is_marked, KeepsMarks, AreDueMarked, AreEvaluated, AreSent, out_of}
+use Rattle.sync_net.specs.Stages.{is_marked, KeepsMarks, AreDueMarked, AreEvaluated, AreSent, is_out_of}
 
 -- what no stage changes
 pub record SameTables (p q : Parts) : Type 0 where
   pub next : q.next ≡ p.next
   pub later_steps : q.later_steps ≡ p.later_steps
-  pub places : q.places ≡ p.places
-  pub outs : q.outs ≡ p.outs
 
 -- in the first step all elements and nominated lines are marked
 pub record IsFirstMarked (plan : Topology) (next : ℕ) (elements elements_then lines lines_then : List Bool) : Type 0 where
@@ -80,7 +78,7 @@ pub record AreEvaluatedIn (plan : Topology) (now : ℕ) (p q : Parts) : Type 0 w
   pub active : q.tellings.active ≡ p.tellings.active
   pub listed : AreListed p.tellings.active
   pub called_listed : AreListed q.called
-  pub evaluated : AreEvaluated now (length plan.elements) (out_of p.outs.items) (λ e. list_any (nat_eq e) p.tellings.active.listed)
+  pub evaluated : AreEvaluated now (length plan.elements) (is_out_of plan) (λ e. list_any (nat_eq e) p.tellings.active.listed)
       (record { elements = p.elements.items; changes = p.tellings.changes.items; dues = p.dues; called = p.called.flags })
       (record { elements = q.elements.items; changes = q.tellings.changes.items; dues = q.dues; called = q.called.flags })
 
@@ -109,5 +107,3 @@ pub record IsOver (now : ℕ) (p q : Parts) : Type 0 where
   pub dues : q.dues ≡ p.dues
   pub tellings : q.tellings ≡ p.tellings
   pub called : q.called ≡ p.called
-  pub places : q.places ≡ p.places
-  pub outs : q.outs ≡ p.outs

@@ -13,15 +13,17 @@ use Rattle.agenda.specs.DueTimes.{due_in}
 use Rattle.sync_topo.specs.Topology.{Topology}
 use Rattle.sync_topo.specs.Lines.{line_count, sender_of}
 use Rattle.net_rules.specs.History.{sent_by}
+use Rattle.sync_topo.specs.declared.input.LineId.{LineId}
+use Rattle.sync_topo.specs.Lines.{lines_out}
 use Rattle.sync_net.specs.NetState.{line_in}
 use Rattle.sync_net.specs.Steps.{IsSteady, IsLineSaid}
 
--- whether a place is marked; and the places of a list all are
+-- whether a place is marked; and the places that pass a test all are
 abbrev pub is_marked : List Bool → ℕ → Bool
 is_marked flags k = slice_index_or flags k false
 
-abbrev pub AreMarked : List ℕ → List Bool → Type 0
-AreMarked places flags = (k : ℕ) → list_any (nat_eq k) places ≡ true → is_marked flags k ≡ true
+abbrev pub AreMarked : (ℕ → Bool) → List Bool → Type 0
+AreMarked test flags = (k : ℕ) → test k ≡ true → is_marked flags k ≡ true
 
 -- what is marked stays marked
 pub record KeepsMarks (flags flags_then : List Bool) : Type 0 where
@@ -57,13 +59,16 @@ pub record Workplace : Type 0 where
 abbrev pub changes_of : List (List InputEvent) → ℕ → List InputEvent
 changes_of changes e = slice_index_or changes e []
 
--- the lines out of an element that are kept
-abbrev pub out_of : List (List ℕ) → ℕ → List ℕ
-out_of outs e = slice_index_or outs e []
+-- whether a line is one of some, and whether it is one of the nominated lines out of an element
+abbrev pub is_among : List LineId → ℕ → Bool
+is_among lines l = list_any (λ line. nat_eq l line.0) lines
+
+abbrev pub is_out_of : Topology → ℕ → ℕ → Bool
+is_out_of plan e l = is_among (lines_out plan e) l
 
 -- an element made a step: it is due when it says, it was told all, and either it gives what it gave
 -- or the lines out of it are to be called
-pub record IsEvaluated (now : ℕ) (out : List ℕ) (e : ℕ) (s t : Workplace) : Type 0 where
+pub record IsEvaluated (now : ℕ) (out : ℕ → Bool) (e : ℕ) (s t : Workplace) : Type 0 where
   pub stepped : (other : ElementState) → IsStepped now (changes_of s.changes e) (slice_index_or s.elements e other) (slice_index_or t.elements e other)
   pub cleared : changes_of t.changes e ≡ []
   pub due : (other : ElementState) → due_in t.dues e ≡ (slice_index_or t.elements e other).due
@@ -76,12 +81,12 @@ pub record IsNotEvaluated (e : ℕ) (s t : Workplace) : Type 0 where
   pub due : due_in t.dues e ≡ due_in s.dues e
 
 -- so each of n elements is
-pub record AreEvaluated (now n : ℕ) (outs : ℕ → List ℕ) (done : ℕ → Bool) (s t : Workplace) : Type 0 where
+pub record AreEvaluated (now n : ℕ) (outs : ℕ → ℕ → Bool) (done : ℕ → Bool) (s t : Workplace) : Type 0 where
   pub elements_count : length t.elements ≡ length s.elements
   pub changes_count : length t.changes ≡ length s.changes
   pub dues_count : length t.dues ≡ length s.dues
   pub called : KeepsMarks s.called t.called
-  pub cause : (l : ℕ) → is_marked t.called l ≡ true → (is_marked s.called l ≡ true) ⊎ ((e : ℕ) × (done e ≡ true) × (list_any (nat_eq l) (outs e) ≡ true))
+  pub cause : (l : ℕ) → is_marked t.called l ≡ true → (is_marked s.called l ≡ true) ⊎ ((e : ℕ) × (done e ≡ true) × (outs e l ≡ true))
   pub evaluated : (e : ℕ) → e < n → done e ≡ true → IsEvaluated now (outs e) e s t
   pub others : (e : ℕ) → e < n → done e ≡ false → IsNotEvaluated e s t
   pub lines : (k : ℕ) → n ≤ k → due_in t.dues k ≡ due_in s.dues k

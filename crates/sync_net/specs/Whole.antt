@@ -14,10 +14,8 @@ use Rattle.sync_net.specs.declared.parts.Parts.{Parts}
 use Rattle.sync_net.specs.Kept.{Kept}
 use Rattle.sync_net.specs.NetState.{NetState, line_in}
 use Rattle.sync_net.specs.Sound.{IsSoundElement, IsSoundLine}
-use Rattle.sync_net.specs.Places.{ArePlaces}
 use Rattle.sync_net.specs.Noting.{AreOfOption}
 use Rattle.sync_net.specs.Hearing.{heard_in, told_in}
-use Rattle.sync_net.specs.Stages.{out_of}
 
 abbrev pub kept_of : Parts → Kept
 kept_of parts = record { lines = parts.signals.items; sources = parts.sources.items; heards = parts.heards.items }
@@ -49,13 +47,6 @@ pub record IsReadyLine (plan : Topology) (next line : ℕ) (state : LineState) :
   pub turn : state.turn ≤ 4 * next
   pub due_later : IfSome state.due (λ due. next ≤ due)
 
--- the nominated lines out of each element, and no others
-pub record AreOuts (plan : Topology) (outs : List (List ℕ)) : Type 0 where
-  pub count : length outs ≡ length plan.elements
-  pub every : (line : ℕ) → IsNominated plan line → list_any (nat_eq line) (out_of outs (sender_of plan line)) ≡ true
-  pub nominated : (element : ℕ) → All (IsNominated plan) (out_of outs element)
-  pub from : (element : ℕ) → All (λ line. sender_of plan line ≡ element) (out_of outs element)
-
 pub record IsWhole (plan : Topology) (parts : Parts) : Type 0 where
   pub well_formed : IsWellFormed plan
   pub in_range : parts.next ≤ LAST_MILLISECOND + 1
@@ -69,8 +60,6 @@ pub record IsWhole (plan : Topology) (parts : Parts) : Type 0 where
   pub changes_count : length parts.tellings.changes.items ≡ length plan.elements
   pub active_count : length parts.tellings.active.flags ≡ length plan.elements
   pub called_count : length parts.called.flags ≡ line_count plan
-  pub places : ArePlaces plan parts.places.items
-  pub outs : AreOuts plan parts.outs.items
   pub elements : (element : ℕ) (other : ElementState) → element < length plan.elements →
       IsReadyElement plan parts.next element (slice_index_or parts.elements.items element other)
   pub lines : (line : ℕ) → line < line_count plan → IfSome (line_in parts.lines.items line) (IsReadyLine plan parts.next line)

@@ -26,8 +26,6 @@ pub fn try_clone_parts(alloc: Global, parts: &Parts) -> Result<Parts, NoMemory>
     let changes = try_clone_told(alloc, parts.tellings.changes.as_slice())?;
     let active = parts.tellings.active.try_clone(alloc)?;
     let called = parts.called.try_clone(alloc)?;
-    let places = copy_places(alloc, parts.places.as_slice())?;
-    let outs = try_clone_outs(alloc, parts.outs.as_slice())?;
     Ok(Parts {
         next: parts.next,
         later_steps: parts.later_steps,
@@ -39,8 +37,6 @@ pub fn try_clone_parts(alloc: Global, parts: &Parts) -> Result<Parts, NoMemory>
         dues,
         tellings: Tellings { changes, active },
         called,
-        places,
-        outs,
     })
 }
 
@@ -83,16 +79,6 @@ fn try_clone_told(alloc: Global, changes: &[Told]) -> Result<Vec<Told>, NoMemory
     Ok(copies.into_vec())
 }
 
-fn try_clone_outs(alloc: Global, outs: &[Rows<u32>]) -> Result<Vec<Rows<u32>>, NoMemory>
-    ensures { IfOk result (λ copies. copies.items ≡ outs.now) }
-{
-    let mut copies = Rows::with_capacity(alloc, outs.len())?;
-    for lines in outs {
-        copies.push(lines.try_clone(alloc)?)?;
-    }
-    Ok(copies.into_vec())
-}
-
 fn copy_signals(alloc: Global, signals: &[LineSignal]) -> Result<Vec<LineSignal>, NoMemory>
     ensures { IfOk result (λ copies. copies.items ≡ signals.now) }
 {
@@ -115,15 +101,6 @@ fn copy_levels(alloc: Global, levels: &[Option<Level>]) -> Result<Vec<Option<Lev
     ensures { IfOk result (λ copies. copies.items ≡ levels.now) }
 {
     match Vec::from_slice(alloc, levels) {
-        Ok(copies) => Ok(copies),
-        Err(_) => Err(NoMemory),
-    }
-}
-
-fn copy_places(alloc: Global, places: &[u32]) -> Result<Vec<u32>, NoMemory>
-    ensures { IfOk result (λ copies. copies.items ≡ places.now) }
-{
-    match Vec::from_slice(alloc, places) {
         Ok(copies) => Ok(copies),
         Err(_) => Err(NoMemory),
     }

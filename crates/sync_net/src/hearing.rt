@@ -7,7 +7,6 @@ ghost use Rattle.sync_ql.specs.Messages.{is_same_level};
 ghost use Rattle.sync_ql.specs.Told.{IsOfOption};
 ghost use Rattle.sync_topo.specs.Lines.{line_count, IsNominated};
 ghost use Rattle.sync_topo.specs.WellFormed.{IsWellFormed};
-ghost use Rattle.sync_net.specs.Places.{ArePlaces};
 ghost use Rattle.sync_net.specs.NetState.{line_in};
 ghost use Rattle.sync_net.specs.Noting.{line_at};
 ghost use Rattle.sync_net.specs.Hearing.{AreTold, IsPassedOn, IsLineToldIn, CanTell};
@@ -27,7 +26,6 @@ use sync_topo::{InputId, LineId, Plan};
 // Keeps the level that is heard on a line, and tells it to the line's element, if it is another.
 fn pass_on(
     plan: &Plan,
-    places: &[u32],
     line: LineId,
     level: Option<Level>,
     heards: &mut [Option<Level>],
@@ -36,7 +34,6 @@ fn pass_on(
     requires well_formed { IsWellFormed plan.now }
     requires line { line.0 < line_count plan.now }
     requires nominated { IsNominated plan.now line.0 }
-    requires places { ArePlaces plan.now places.now }
     requires heards { length heards.old ≡ line_count plan.now }
     requires lists { length tellings.old.changes.items ≡ length plan.now.elements }
     requires flags { length tellings.old.active.flags ≡ length plan.now.elements }
@@ -49,7 +46,7 @@ fn pass_on(
         return Ok(());
     }
     heards[line.0 as usize] = level;
-    let Some(there) = input_place(plan, places, InputId::Line(line)) else {
+    let Some(there) = input_place(plan, InputId::Line(line)) else {
         unreachable!()
     };
     tellings.tell(there.element, InputEvent::Heard(there.place, level))?;
@@ -70,7 +67,6 @@ fn is_same(one: Option<Level>, other: Option<Level>) -> bool
 // Tells each marked line what it is, takes what arrives, and passes on what is heard.
 pub fn hear_lines(
     plan: &Plan,
-    places: &[u32],
     signals: &[LineSignal],
     called: &Marks,
     lines: &mut [Option<Line>],
@@ -80,7 +76,6 @@ pub fn hear_lines(
 ) -> Result<(), NoMemory>
     requires in_range { now ≤ LAST_MILLISECOND }
     requires well_formed { IsWellFormed plan.now }
-    requires places { ArePlaces plan.now places.now }
     requires signals { length signals.now ≡ line_count plan.now }
     requires marks { length called.now.flags ≡ line_count plan.now }
     requires lines { length lines.old ≡ line_count plan.now }
@@ -98,7 +93,6 @@ pub fn hear_lines(
         let signal = signal_of(signals, *place);
         hear(
             plan,
-            places,
             LineId(*place),
             signal,
             lines,
@@ -113,7 +107,6 @@ pub fn hear_lines(
 // Tells one line what it is, takes what arrives, and passes on what is heard.
 fn hear(
     plan: &Plan,
-    places: &[u32],
     line: LineId,
     signal: LineSignal,
     lines: &mut [Option<Line>],
@@ -125,7 +118,6 @@ fn hear(
     requires well_formed { IsWellFormed plan.now }
     requires line { line.0 < line_count plan.now }
     requires nominated { IsNominated plan.now line.0 }
-    requires places { ArePlaces plan.now places.now }
     requires lines { length lines.old ≡ line_count plan.now }
     requires heards { length heards.old ≡ line_count plan.now }
     requires lists { length tellings.old.changes.items ≡ length plan.now.elements }
@@ -136,7 +128,7 @@ fn hear(
         (record { lines = lines.new; heards = heards.new; changes = tellings.new.changes.items; active = tellings.new.active.flags })) }
 {
     let level = tell(lines, line, signal, plan.option(), now);
-    pass_on(plan, places, line, level, heards, tellings)?;
+    pass_on(plan, line, level, heards, tellings)?;
     Ok(())
 }
 

@@ -43,7 +43,6 @@ mod wording;
 
 pub use laws::{elements_law, gap_law, later_events_law};
 pub use net::Net;
-pub use places::places_of;
 pub use starting::new_tellings;
 pub use tellings::Tellings;
 pub use told::Told;

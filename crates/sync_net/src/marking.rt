@@ -5,21 +5,21 @@ ghost use Rattle.std.specs.List.{list_any};
 ghost use Rattle.agenda.specs.DueTimes.{AreLater};
 ghost use Rattle.sync_topo.specs.Lines.{line_count, IsNominated};
 ghost use Rattle.sync_net.specs.PartSteps.{IsFirstMarked};
-ghost use Rattle.sync_net.specs.Stages.{is_marked, AreMarked, KeepsMarks, AreDueMarked};
+ghost use Rattle.sync_net.specs.Stages.{is_marked, is_among, AreMarked, KeepsMarks, AreDueMarked};
 
 use agenda::{DueTimes, Marks};
 use sync_topo::{InputId, LineId, Plan};
 
-// Marks all places of a list.
-pub fn mark_all(marks: &mut Marks, places: &[u32])
-    requires within { All (λ k. k < length marks.old.flags) places.now }
+// Marks all lines of a list.
+pub fn mark_all(marks: &mut Marks, lines: &[LineId])
+    requires within { All (λ line. line.0 < length marks.old.flags) lines.now }
     ensures kept { KeepsMarks marks.old.flags marks.new.flags }
-    ensures marked { AreMarked places.now marks.new.flags }
+    ensures marked { AreMarked (is_among lines.now) marks.new.flags }
     ensures cause { (k : ℕ) → is_marked marks.new.flags k ≡ true →
-        (is_marked marks.old.flags k ≡ true) ⊎ (list_any (nat_eq k) places.now ≡ true) }
+        (is_marked marks.old.flags k ≡ true) ⊎ (is_among lines.now k ≡ true) }
 {
-    for place in places {
-        marks.mark(*place);
+    for line in lines {
+        marks.mark(line.0);
     }
 }
 

@@ -6,7 +6,6 @@ use agenda::{DueTimes, Marks};
 use link_model::Line;
 use sync_element::Element;
 use sync_ql::Level;
-use sync_text::Rows;
 
 // All that a network keeps, each list by number: of elements, lines or sources.
 #[derive(Debug, Drop)]
@@ -28,8 +27,4 @@ pub struct Parts {
     pub tellings: Tellings,
     // The lines that are called in a millisecond; these stay marked until the next.
     pub called: Marks,
-    // The place of each input among those of its element, by input number.
-    pub places: Vec<u32>,
-    // The nominated lines out of each element.
-    pub outs: Vec<Rows<u32>>,
 }

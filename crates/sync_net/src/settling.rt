@@ -3,7 +3,6 @@
 ghost use Rattle.std.specs.Prelude.{◌≡◌, ◌<◌, [], ◌∷◌, length, slice_set, OnOk, IfSome};
 ghost use Rattle.std.specs.List.{All};
 ghost use Rattle.sync_topo.specs.Events.{Fits, MayHappen};
-ghost use Rattle.sync_net.specs.Places.{ArePlaces};
 ghost use Rattle.sync_net.specs.Noting.{source_at, AreOfOption};
 ghost use Rattle.sync_net.specs.Settling.{named_source, settled, AreSourcesSettled, level_words, all_level_words};
 ghost use Rattle.sync_net.specs.Tellings.{AreTold};
@@ -19,13 +18,11 @@ use sync_topo::{Event, InputId, Part, Plan, What};
 // Settles the level of each source that an event names, and tells it.
 pub fn settle_sources(
     plan: &Plan,
-    places: &[u32],
     sources: &mut [SourceSignal],
     tellings: &mut Tellings,
     events: &[Event],
 ) -> Result<(), NoMemory>
     requires fit { All (Fits plan.now) events.now }
-    requires places { ArePlaces plan.now places.now }
     requires sources { length sources.old ≡ length plan.now.sources }
     requires of_option { AreOfOption plan.now.option sources.old }
     requires lists { length tellings.old.changes.items ≡ length plan.now.elements }
@@ -35,20 +32,18 @@ pub fn settle_sources(
     ensures of_option { OnOk result (AreOfOption plan.now.option sources.new) }
 {
     for event in events {
-        settle_event(plan, places, sources, tellings, *event)?;
+        settle_event(plan, sources, tellings, *event)?;
     }
     Ok(())
 }
 
 fn settle_event(
     plan: &Plan,
-    places: &[u32],
     sources: &mut [SourceSignal],
     tellings: &mut Tellings,
     event: Event,
 ) -> Result<(), NoMemory>
     requires fits { Fits plan.now event }
-    requires places { ArePlaces plan.now places.now }
     requires sources { length sources.old ≡ length plan.now.sources }
     requires of_option { AreOfOption plan.now.option sources.old }
     requires lists { length tellings.old.changes.items ≡ length plan.now.elements }
@@ -63,7 +58,6 @@ fn settle_event(
     let level = settle(sources, source);
     tell_input(
         plan,
-        places,
         tellings,
         InputId::Source(source),
         Saying::HasLevel(level),

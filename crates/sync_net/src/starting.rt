@@ -3,13 +3,12 @@
 ghost use Rattle.std.specs.Prelude.{◌≡◌, ◌≤◌, ◌<◌, ◌+◌, ℕ, true, false, List, [], ◌∷◌, ◌++◌, IfOk, OnOk, None, length, map, replicate};
 ghost use Rattle.agenda.specs.Marked.{none_marked};
 ghost use Rattle.sync_topo.specs.declared.event.Event.{Event};
-ghost use Rattle.sync_topo.specs.Lines.{line_count, inputs_of, IsInput, IsNominated};
-ghost use Rattle.sync_net.specs.Beginning.{AreEach, AreOutsBefore, IsBegun, IsNewElement, IsNewPlace, IsNewSource, config_of};
+ghost use Rattle.sync_topo.specs.Lines.{line_count, inputs_of, IsInput};
+ghost use Rattle.sync_net.specs.Beginning.{AreEach, IsBegun, IsNewElement, IsNewPlace, IsNewSource, config_of};
 ghost use Rattle.sync_net.specs.Standing.{IsOfPast};
-ghost use Rattle.sync_net.specs.Whole.{AreOuts, IsWhole, state_of};
+ghost use Rattle.sync_net.specs.Whole.{IsWhole, state_of};
 
 use crate::parts::Parts;
-use crate::places::places_of;
 use crate::signals::{LineSignal, SourceSignal};
 use crate::tellings::Tellings;
 use crate::told::Told;
@@ -46,8 +45,6 @@ fn begun(alloc: Global, plan: &Plan) -> Result<Parts, NoMemory>
     let dues = DueTimes::new(alloc, (plan.elements() + plan.lines()) as usize)?;
     let tellings = new_tellings(alloc, plan)?;
     let called = Marks::new(alloc, plan.lines() as usize)?;
-    let places = places_of(alloc, plan)?;
-    let outs = outs_of(alloc, plan)?;
     Ok(Parts {
         next: 0,
         later_steps: 0,
@@ -59,8 +56,6 @@ fn begun(alloc: Global, plan: &Plan) -> Result<Parts, NoMemory>
         dues,
         tellings,
         called,
-        places,
-        outs,
     })
 }
 
@@ -220,40 +215,4 @@ pub fn new_tellings(alloc: Global, plan: &Plan) -> Result<Tellings, NoMemory>
         changes: changes.into_vec(),
         active,
     })
-}
-
-// The nominated lines out of each element.
-fn outs_of(alloc: Global, plan: &Plan) -> Result<Vec<Rows<u32>>, NoMemory>
-    ensures { IfOk result (λ outs. AreOuts plan.now outs.items) }
-{
-    let mut outs = no_outs(alloc, plan)?;
-    for number in 0..plan.lines() {
-        add_out(plan, outs.as_mut_slice(), LineId(number))?;
-    }
-    Ok(outs)
-}
-
-// For each element no line.
-fn no_outs(alloc: Global, plan: &Plan) -> Result<Vec<Rows<u32>>, NoMemory>
-    ensures { IfOk result (λ outs. outs.items ≡ replicate (length plan.now.elements) []) }
-{
-    let mut outs = Rows::with_capacity(alloc, plan.elements() as usize)?;
-    for _element in 0..plan.elements() {
-        outs.push(Rows::new(alloc))?;
-    }
-    Ok(outs.into_vec())
-}
-
-// One line more is listed, if it is nominated.
-fn add_out(plan: &Plan, outs: &mut [Rows<u32>], line: LineId) -> Result<(), NoMemory>
-    requires within { line.0 < line_count plan.now }
-    requires so_far { AreOutsBefore plan.now line.0 outs.old }
-    ensures count { length outs.new ≡ length outs.old }
-    ensures listed { OnOk result (AreOutsBefore plan.now (line.0 + 1) outs.new) }
-{
-    if !plan.nominated(InputId::Line(line)) {
-        return Ok(());
-    }
-    outs[plan.from(line) as usize].push(line.0)?;
-    Ok(())
 }

@@ -4,14 +4,13 @@ ghost use Rattle.std.specs.Prelude.{◌≡◌, ◌≤◌, ◌<◌, ◌+◌, ℕ,
 ghost use Rattle.std.specs.List.{list_any};
 ghost use Rattle.sync_element.specs.ElementState.{ElementState};
 ghost use Rattle.sync_topo.specs.Events.{Fits};
-ghost use Rattle.sync_topo.specs.Lines.{line_count, IsNominated};
+ghost use Rattle.sync_topo.specs.Lines.{line_count, IsNominated, lines_out};
 ghost use Rattle.sync_topo.specs.WellFormed.{IsWellFormed};
 ghost use Rattle.net_rules.specs.History.{settings_of};
-ghost use Rattle.sync_net.specs.Places.{ArePlaces};
 ghost use Rattle.sync_net.specs.NetState.{line_in};
 ghost use Rattle.sync_net.specs.Noting.{AreOfOption};
 ghost use Rattle.sync_net.specs.Hearing.{CanTell, told_in};
-ghost use Rattle.sync_net.specs.Stages.{CanStep, CanSay, out_of};
+ghost use Rattle.sync_net.specs.Stages.{CanStep, CanSay};
 ghost use Rattle.sync_net.specs.NetState.{IsInTime};
 ghost use Rattle.sync_net.specs.NetStep.{IsNetStep, AreEvaluatedFor};
 ghost use Rattle.sync_net.specs.Evaluated.{IsCalledFor, AreAloneCalled};
@@ -90,7 +89,6 @@ fn call_due(plan: &Plan, parts: &mut Parts, now: u64)
 // Takes in the events.
 fn take_in(plan: &Plan, parts: &mut Parts, events: &[Event]) -> Result<(), NoMemory>
     requires fit { All (Fits plan.now) events.now }
-    requires places { ArePlaces plan.now parts.old.places.items }
     requires signals { length parts.old.signals.items ≡ line_count plan.now }
     requires sources { length parts.old.sources.items ≡ length plan.now.sources }
     requires of_option { AreOfOption plan.now.option parts.old.sources.items }
@@ -101,7 +99,6 @@ fn take_in(plan: &Plan, parts: &mut Parts, events: &[Event]) -> Result<(), NoMem
 {
     take_events(
         plan,
-        parts.places.as_slice(),
         parts.signals.as_mut_slice(),
         parts.sources.as_mut_slice(),
         &mut parts.called,
@@ -116,7 +113,6 @@ fn take_in(plan: &Plan, parts: &mut Parts, events: &[Event]) -> Result<(), NoMem
 fn hear(plan: &Plan, parts: &mut Parts, now: u64) -> Result<(), NoMemory>
     requires in_range { now ≤ LAST_MILLISECOND }
     requires well_formed { IsWellFormed plan.now }
-    requires places { ArePlaces plan.now parts.old.places.items }
     requires signals { length parts.old.signals.items ≡ line_count plan.now }
     requires called { length parts.old.called.flags ≡ line_count plan.now }
     requires lines { length parts.old.lines.items ≡ line_count plan.now }
@@ -130,7 +126,6 @@ fn hear(plan: &Plan, parts: &mut Parts, now: u64) -> Result<(), NoMemory>
     let _listed = parts.called.listed();
     hear_lines(
         plan,
-        parts.places.as_slice(),
         parts.signals.as_slice(),
         &parts.called,
         parts.lines.as_mut_slice(),
@@ -147,9 +142,8 @@ fn evaluate<L: Ledger>(plan: &Plan, parts: &mut Parts, now: u64, steps: &mut Ste
     requires elements { length parts.old.elements.items ≡ length plan.now.elements }
     requires flags { length parts.old.tellings.active.flags ≡ length plan.now.elements }
     requires lists { length parts.old.tellings.changes.items ≡ length plan.now.elements }
-    requires outs { length parts.old.outs.items ≡ length plan.now.elements }
     requires dues { length plan.now.elements ≤ length parts.old.dues }
-    requires lines { (e : ℕ) → All (λ l. l < length parts.old.called.flags) (out_of parts.old.outs.items e) }
+    requires lines { (e : ℕ) → All (λ line. line.0 < length parts.old.called.flags) (lines_out plan.now e) }
     requires can_step { (e : ℕ) (other : ElementState) → e < length plan.now.elements →
         CanStep now (slice_index_or parts.old.elements.items e other) (told_in parts.old.tellings.changes.items e) }
     ensures evaluated { AreEvaluatedIn plan.now now parts.old parts.new }
@@ -158,10 +152,10 @@ fn evaluate<L: Ledger>(plan: &Plan, parts: &mut Parts, now: u64, steps: &mut Ste
     let _elements = plan.elements();
     let _listed = parts.tellings.active.listed();
     evaluate_elements(
+        plan,
         &parts.tellings.active,
         parts.elements.as_mut_slice(),
         parts.tellings.changes.as_mut_slice(),
-        parts.outs.as_slice(),
         &mut parts.dues,
         &mut parts.called,
         now,

@@ -4,7 +4,6 @@ ghost use Rattle.std.specs.Prelude.{◌≡◌, length, OnOk};
 ghost use Rattle.std.specs.List.{All};
 ghost use Rattle.sync_topo.specs.Events.{Fits};
 ghost use Rattle.sync_topo.specs.Lines.{line_count};
-ghost use Rattle.sync_net.specs.Places.{ArePlaces};
 ghost use Rattle.sync_net.specs.Noting.{AreOfOption};
 ghost use Rattle.sync_net.specs.Taking.{AreTaken};
 
@@ -21,7 +20,6 @@ use sync_topo::{Event, Plan};
 // are told of them. It takes the same time for each event, whatever the plan.
 pub fn take_events(
     plan: &Plan,
-    places: &[u32],
     lines: &mut [LineSignal],
     sources: &mut [SourceSignal],
     marks: &mut Marks,
@@ -29,7 +27,6 @@ pub fn take_events(
     events: &[Event],
 ) -> Result<(), NoMemory>
     requires fit { All (Fits plan.now) events.now }
-    requires places { ArePlaces plan.now places.now }
     requires lines { length lines.old ≡ line_count plan.now }
     requires sources { length sources.old ≡ length plan.now.sources }
     requires of_option { AreOfOption plan.now.option sources.old }
@@ -45,7 +42,7 @@ pub fn take_events(
     let _elements = plan.elements();
     note_lines(plan, lines, marks, events);
     note_sources(plan, sources, events);
-    tell_events(plan, places, tellings, events)?;
-    settle_sources(plan, places, sources, tellings, events)?;
+    tell_events(plan, tellings, events)?;
+    settle_sources(plan, sources, tellings, events)?;
     Ok(())
 }

@@ -1,7 +1,7 @@
 use Rattle.std.proofs.Common.{◌≡◌, ◌<◌, ◌+◌, ℕ, length, slice_index, take, nat_eq, List, arith, ap, subst, sym, false, ◌||◌, take_all}
 use Rattle.std.specs.List.{list_any}
 use Rattle.agenda.proofs.MarkedPlaces.{behind, not_before}
-use Rattle.sync_net.specs.Stages.{out_of}
+use Rattle.sync_net.specs.Stages.{is_out_of}
 use Rattle.sync_net.proofs.StageLaws.{evaluated-next, can-step-still}
 use Rattle.sync_net.proofs.evaluating.evaluate_elements.Goals as goal
 
@@ -17,7 +17,7 @@ evaluate-requires-clause-can_step g c = λ other.
     subst (λ k. k < length c.args.elements.now) (sym place) (omega (arith, c.listed-place-items.ensures.all.within i 0 inside, c.requires.marks)) in
     let fresh : list_any (nat_eq (slice_index items i)) (take i marked.listed) ≡ false =
     subst (λ k. list_any (nat_eq k) (take i marked.listed) ≡ false) (sym place) (not_before i marked.listed c.listed-place-items.ensures.all.apart inside) in
-    can-step-still c.args.now (length c.args.elements.now) (slice_index items i) (out_of c.args.outs.now)
+    can-step-still c.args.now (length c.args.elements.now) (slice_index items i) (is_out_of c.args.plan.now)
     (λ e. list_any (nat_eq e) (take i marked.listed)) _ _ other within fresh c.loop-place.invariant.evaluated
     (c.requires.can_step (slice_index items i) other within)
 
@@ -33,7 +33,7 @@ loop-place-preserved g c =
     subst (λ k. list_any (nat_eq k) (take i marked.listed) ≡ false) (sym place) (not_before i marked.listed c.listed-place-items.ensures.all.apart inside) in
     record {
       steps = omega (arith, c.evaluate.ensures.ticks, c.loop-place.invariant.steps);
-      evaluated = evaluated-next c.args.now (length c.args.elements.now) (length c.loop-place.elements) (slice_index items i) (out_of c.args.outs.now)
+      evaluated = evaluated-next c.args.now (length c.args.elements.now) (length c.loop-place.elements) (slice_index items i) (is_out_of c.args.plan.now)
           (λ e. list_any (nat_eq e) (take i marked.listed)) (λ e. list_any (nat_eq e) (take (i + 1) marked.listed)) _ _ _ fresh
           (λ e. subst (λ k. list_any (nat_eq e) (take (i + 1) marked.listed) ≡ (list_any (nat_eq e) (take i marked.listed) || nat_eq e k)) (sym place) (behind e i marked.listed inside))
           c.loop-place.invariant.evaluated

@@ -1,5 +1,5 @@
 use Rattle.std.proofs.Common.{arith, sym, ◌∙◌, ap}
-use Rattle.std.proofs.lemmas.Option.{none-some}
+use Rattle.std.proofs.lemmas.Bool.{true≢false}
 use Rattle.sync_ql.specs.Messages.{is_same_level}
 use Rattle.sync_topo.specs.Lines.{line_input, receiver_of}
 use Rattle.net_rules.proofs.HistoryLaws.{line-input_of}
@@ -13,9 +13,7 @@ returns-then-is_same c =
     ∙ sym c.is_same.ensures ∙ c.if-is_same.true)
 
 pub unreachable-requires : goal.unreachable-requires
-unreachable-requires c =
-    none-some _ (sym (c.in_default.ensures.place (receiver_of c.args.plan.now c.args.line.0))
-    ∙ c.requires.places.place (receiver_of c.args.plan.now c.args.line.0) (line_input c.args.line.0) (line-input_of c.args.plan.now c.args.line.0 c.requires.nominated))
+unreachable-requires c = true≢false (sym c.requires.nominated ∙ sym c.in_default.ensures.nominated)
 
 pub returns : goal.returns
 returns c =

@@ -1,14 +1,13 @@
-use Rattle.std.proofs.Common.{sym, ◌∙◌}
-use Rattle.std.proofs.lemmas.Bool.{true≢false}
-use Rattle.sync_net.proofs.PlaceLemmas.{no-place-there, placed-in}
+use Rattle.std.proofs.Common.{ap, sym, ◌∙◌}
+use Rattle.std.specs.Prelude.{is_some}
+use Rattle.sync_topo.proofs.InputPlaces.{not-placed}
+use Rattle.sync_net.proofs.PlaceLemmas.{placed-in}
 use Rattle.sync_net.proofs.places.input_place.Goals as goal
 
-pub returns-then-not-nominated-clause-place : goal.returns-then-not-nominated-clause-place
-returns-then-not-nominated-clause-place c = λ element.
-    no-place-there c.args.plan.now element c.args.input
-    (λ of. true≢false (sym of.nominated ∙ sym c.nominated.ensures.nominated ∙ c.if-not-nominated.true))
+pub returns-in_default-clause-place : goal.returns-in_default-clause-place
+returns-in_default-clause-place c = λ element.
+    not-placed c.args.plan.now element c.args.input (sym c.in_default.ensures.nominated)
 
 pub returns-clause-place : goal.returns-clause-place
 returns-clause-place c = λ element.
-    placed-in c.args.plan.now c.args.places.now c.element_of-element.result c.number.result c.args.input c.requires.places c.requires.has
-    (sym c.nominated.ensures.nominated ∙ c.if-not-nominated.false) c.element_of-element.ensures.element c.number.ensures.number element
+    placed-in c.args.plan.now c.element_of-element.result c.in-Some.place c.args.input c.element_of-element.ensures.element (sym c.in-Some.ensures.place) element

@@ -26,6 +26,4 @@ returns c =
       changes = refl;
       active = search rules;
       called = search rules;
-      places = refl;
-      outs = refl;
     }

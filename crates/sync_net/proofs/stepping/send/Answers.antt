@@ -9,7 +9,7 @@ returns c =
     let sent = rw (c.as_slice.ensures.value, c.as_mut_slice.ensures.value) at c.in_ok-send_lines.ensures.sent in
     let same : (with_items lines c.send_lines.new.lines).items ≡ c.send_lines.new.lines = with_items_is lines c.send_lines.new.lines (sent.lines_count ∙ sym lines.ok.0) in
     record {
-      tables = record { next = refl; later_steps = refl; places = refl; outs = refl };
+      tables = record { next = refl; later_steps = refl };
       elements = refl;
       signals = refl;
       sources = refl;

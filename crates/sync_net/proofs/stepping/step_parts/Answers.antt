@@ -46,8 +46,6 @@ returns-clause-whole g c =
       dues = refl;
       tellings = refl;
       called = refl;
-      places = refl;
-      outs = refl;
     })
     c.requires.in_range
 
@@ -66,8 +64,6 @@ returns-clause-stepped g c =
       dues = refl;
       tellings = refl;
       called = refl;
-      places = refl;
-      outs = refl;
     })
 
 pub returns-clause-evaluated : goal.returns-clause-evaluated
@@ -85,8 +81,6 @@ returns-clause-evaluated g c =
       dues = refl;
       tellings = refl;
       called = refl;
-      places = refl;
-      outs = refl;
     })
 
 pub returns-clause-called : goal.returns-clause-called
@@ -104,8 +98,6 @@ returns-clause-called g c =
       dues = refl;
       tellings = refl;
       called = refl;
-      places = refl;
-      outs = refl;
     })
 
 pub returns-clause-called_only : goal.returns-clause-called_only
@@ -123,6 +115,4 @@ returns-clause-called_only g c =
       dues = refl;
       tellings = refl;
       called = refl;
-      places = refl;
-      outs = refl;
     })

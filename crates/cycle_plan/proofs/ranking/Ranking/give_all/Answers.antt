@@ -1,9 +1,9 @@
-use Rattle.std.proofs.Common.{◌∙◌, None, take, take_all, subst, ap}
+use Rattle.std.proofs.Common.{◌∙◌, None, take, take_all, subst, sym, ap}
 use Rattle.std.specs.Prelude.{◌≢◌}
 use Rattle.std.specs.List.{All}
 use Rattle.std.proofs.lemmas.List.Elements.{All-more, All-weaker}
 use Rattle.sync_topo.specs.declared.input.LineId.{LineId}
-use Rattle.sync_topo.specs.Lines.{sender_of}
+use Rattle.sync_topo.specs.Lines.{sender_of, IsLineOut}
 use Rattle.sync_topo.proofs.LinesOut.{lines_out-are, lines_out-all}
 use Rattle.rank_cert.specs.Ranks.{rank_at}
 use Rattle.cycle_plan.specs.Peeling.{IsAmong}
@@ -14,15 +14,16 @@ use Rattle.cycle_plan.proofs.ranking.Ranking.give_all.Goals as goal
 pub loop-line-preserved : goal.loop-line-preserved
 loop-line-preserved c =
     let more = c.in_ok-give_next.ensures.more in
-    let output = lines_out-are c.args.plan.now c.args.element c.loop-line.line-index (record { 0 = 0 }) (rw (← c.lines_out.ensures.lines) c.loop-line-test.true) in
+    let out = subst (All (IsLineOut c.args.plan.now c.args.element)) (sym c.lines_out-line-items.ensures.lines) (lines_out-are c.args.plan.now c.args.element) in
+    let output = out c.loop-line.line-index (record { 0 = 0 }) c.loop-line-test.true in
     record {
       more = IsMore-trans c.args.returns c.args.plan.now c.args.self.now c.loop-line.self c.give_next.new.self c.loop-line.invariant.more more;
       next = AreNext-grows c.args.returns c.args.plan.now c.loop-line.self.ranks c.give_next.new.self.ranks c.args.element c.args.only c.top-top.result more.grows c.loop-line.invariant.next;
       given =
-          All-more (λ (line : LineId). IsAmong c.args.returns c.args.plan.now c.args.only line.0 → rank_at c.give_next.new.self.ranks line.0 ≢ None) c.lines_out.result.now c.loop-line.line-index (record { 0 = 0 }) c.loop-line-test.true
+          All-more (λ (line : LineId). IsAmong c.args.returns c.args.plan.now c.args.only line.0 → rank_at c.give_next.new.self.ranks line.0 ≢ None) c.lines_out-line-items.result.now c.loop-line.line-index (record { 0 = 0 }) c.loop-line-test.true
           (All-weaker (λ (line : LineId). IsAmong c.args.returns c.args.plan.now c.args.only line.0 → rank_at c.loop-line.self.ranks line.0 ≢ None) (λ (line : LineId). IsAmong c.args.returns c.args.plan.now c.args.only line.0 → rank_at c.give_next.new.self.ranks line.0 ≢ None)
           (λ line some among none. some among (fewer (rank_at c.loop-line.self.ranks) (rank_at c.give_next.new.self.ranks) more.grows line.0 none))
-          (take c.loop-line.line-index c.lines_out.result.now) c.loop-line.invariant.given)
+          (take c.loop-line.line-index c.lines_out-line-items.result.now) c.loop-line.invariant.given)
           (c.in_ok-give_next.ensures.given output.nominated);
       others = λ other apart.
           c.in_ok-give_next.ensures.others other (λ same. apart (ap (λ l. sender_of c.args.plan.now l) same ∙ output.sent))
@@ -33,5 +34,5 @@ pub returns-clause-given : goal.returns-clause-given
 returns-clause-given c = λ line nominated sent.
     lines_out-all (λ (l : LineId). IsAmong c.args.returns c.args.plan.now c.args.only l.0 → rank_at c.loop-line.self.ranks l.0 ≢ None) c.args.plan.now c.args.element
     (subst (λ lines. All (λ (l : LineId). IsAmong c.args.returns c.args.plan.now c.args.only l.0 → rank_at c.loop-line.self.ranks l.0 ≢ None) lines)
-    (take_all c.loop-line.line-index c.lines_out.result.now c.loop-line-test.false ∙ c.lines_out.ensures.lines) c.loop-line.invariant.given)
+    (take_all c.loop-line.line-index c.lines_out-line-items.result.now c.loop-line-test.false ∙ c.lines_out-line-items.ensures.lines) c.loop-line.invariant.given)
     line nominated sent

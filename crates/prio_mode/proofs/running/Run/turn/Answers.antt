@@ -7,7 +7,7 @@ use Rattle.prio_mode.proofs.running.Run.turn.Goals as goal
 
 pub loop-place-init : goal.loop-place-init
 loop-place-init c =
-    halfway-first c.args.plan.now c.args.now c.args.here.now c.args.self.now _ c.args.text.now c.requires.run refl refl refl c.in_ok-tell_events.ensures
+    halfway-first c.args.plan.now c.args.now c.args.here.now c.args.self.now _ c.args.text.now c.requires.run refl refl c.in_ok-tell_events.ensures
 
 pub visit-requires-clause-ready : goal.visit-requires-clause-ready
 visit-requires-clause-ready c = λ element shown.
@@ -28,7 +28,7 @@ loop-place-preserved c =
 pub returns-clause-run : goal.returns-clause-run
 returns-clause-run c =
     turned c.args.plan.now c.args.now c.loop-place.place c.args.here.now c.args.self.now c.loop-place.self _ c.args.text.now c.loop-place.text
-    (omega (arith, c.loop-place-test.false, c.elements-place-end.ensures.count)) c.loop-place.invariant refl refl refl refl c.clear.ensures
+    (omega (arith, c.loop-place-test.false, c.elements-place-end.ensures.count)) c.loop-place.invariant refl refl refl c.clear.ensures
 
 pub returns-clause-stands : goal.returns-clause-stands
 returns-clause-stands c = λ all listed stood.

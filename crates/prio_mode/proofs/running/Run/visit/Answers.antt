@@ -43,6 +43,6 @@ returns c =
     (visited-stepped c.args.plan.now c.args.now c.args.place c.args.self.now _ c.args.text.now c.put_if_other.new.text
     c.index_mut.result.now c.step_told-shown.new.element c.index_mut-2.result.now c.index-was.result.now c.step_told-shown.result
     c.requires.counted c.requires.within c.requires.ready c.index_mut.ensures.value c.index_mut-2.ensures.value c.index-was.ensures
-    refl refl (ap (slice_set c.args.self.now.tellings.changes.items c.args.place) c.step_told-shown.ensures.told) refl refl
+    refl refl (ap (slice_set c.args.self.now.tellings.changes.items c.args.place) c.step_told-shown.ensures.told) refl
     c.step_told-shown.ensures.stepped c.step_told-shown.ensures.shows)
     c.put_if_other.ensures.put
