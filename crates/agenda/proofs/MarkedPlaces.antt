@@ -12,11 +12,8 @@ use Rattle.std.proofs.lemmas.List.Elements.{All-nil, All-push}
 use Rattle.std.proofs.lemmas.List.Folds.{list_any-append, list_any_more, list_any_none}
 use Rattle.std.proofs.lemmas.Map.Keys.{IsDistinct-push, IsDistinct-from_apart, apart_from_distinct}
 use Rattle.std.proofs.lemmas.Map.Steps.{length-le_from_distinct_below}
+use Rattle.std.proofs.Math.Bool.{or-false}
 use Rattle.agenda.specs.Marked.{Marked, none_marked, AreListed}
-
-or_false : (b : Bool) → (b || false) ≡ b
-or_false true = refl
-or_false false = refl
 
 -- without marks no place has a flag
 no_flag : (count k : ℕ) → slice_index_or (replicate count false) k false ≡ false
@@ -68,7 +65,7 @@ with_mark marked k all within free = record {
       | inl same ↦ rw (list_any-append (nat_eq j) marked.listed (k ∷ []), same.0)
           (ap (λ i. slice_index_or (set marked.flags k true) i false) same.1 ∙ get_or-set_same marked.flags k true false within ∙ sym (or_true (list_any (nat_eq j) marked.listed)))
       | inr other ↦ rw (list_any-append (nat_eq j) marked.listed (k ∷ []), other.0)
-          (get_or-set_other marked.flags k j true false other.1 ∙ all.listed j ∙ sym (or_false (list_any (nat_eq j) marked.listed)))
+          (get_or-set_other marked.flags k j true false other.1 ∙ all.listed j ∙ sym (or-false (list_any (nat_eq j) marked.listed)))
     ]
 
 -- so there was room for it
@@ -93,7 +90,7 @@ listed-append k xs ys = list_any-append (nat_eq k) xs ys
 
 -- a place of a list with one more is one of the list or that one
 pub listed-push : (k n : ℕ) (xs : List ℕ) → list_any (nat_eq k) (xs ++ n ∷ []) ≡ (list_any (nat_eq k) xs || nat_eq k n)
-listed-push k n xs = list_any-append (nat_eq k) xs (n ∷ []) ∙ ap (λ b. list_any (nat_eq k) xs || b) (or_false (nat_eq k n))
+listed-push k n xs = list_any-append (nat_eq k) xs (n ∷ []) ∙ ap (λ b. list_any (nat_eq k) xs || b) (or-false (nat_eq k n))
 
 -- the places to come at an index are the one there and those after it
 pub to_come : (k i : ℕ) (xs : List ℕ) → i < length xs → list_any (nat_eq k) (drop i xs) ≡ (nat_eq k (slice_index xs i) || list_any (nat_eq k) (drop (i + 1) xs))

@@ -17,7 +17,7 @@ use Rattle.sync_ql.proofs.Tables.{level_of_name-name_of, codes_name, found_by_co
 use Rattle.capture_text.specs.declared.reading.Codes.{Codes}
 use Rattle.capture_text.specs.Row.{level_text, name_or_number}
 use Rattle.capture_text.specs.Reading.{enhanced_or_none, enhanced_named, codes_of_level, codes_of_code, code_of_number, codes_of_text}
-use Rattle.capture_text.proofs.RowLemmas.{at_each}
+use Rattle.sync_ql.proofs.Tables.{at_each}
 
 nothing : {A : Type 0} (found : Option A) → is_none found ≡ true → found ≡ None
 nothing None is = refl

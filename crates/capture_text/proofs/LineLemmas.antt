@@ -1,7 +1,7 @@
 -- Bytes cut at the first that passes a test.
-use Rattle.std.proofs.Common.{◌≡◌, ◌<◌, ℕ, zero, suc, ◌+◌, ◌||◌, Bool, true, false, List, [], ◌∷◌, length, take, drop, get_or, refl, nat_lt, None, Some, position, inl, inr, ap, ◌∙◌, arith}
+use Rattle.std.proofs.Common.{◌≡◌, ◌<◌, ℕ, zero, suc, ◌+◌, Bool, true, false, List, [], ◌∷◌, length, take, drop, get_or, refl, nat_lt, None, Some, position, inl, inr, ap, ◌∙◌, arith}
 use Rattle.std.specs.List.{slice_split, position_or_len, list_any}
-use Rattle.std.proofs.lemmas.Bool.{cases_Bool, cond-true, cond-false, ltb-true, lt-ltb}
+use Rattle.std.proofs.lemmas.Bool.{cases_Bool, cond-true, cond-false, ltb-true, lt-ltb, or_parts}
 use Rattle.std.proofs.lemmas.Bool.Decides.{nat_tests}
 use Rattle.std.proofs.lemmas.List.Splits.{slice_split_first, slice_split-cons_no}
 
@@ -27,14 +27,10 @@ split_whole p (x ∷ xs) none =
     let rest = split_whole p xs h.1 in
     slice_split-cons_no p x xs h.0 ∙ rw rest refl
 
-neither : (a b : Bool) → (a || b) ≡ false → (a ≡ false) × (b ≡ false)
-neither true b is = cc
-neither false b is = (refl, is)
-
 pub split_unless_any : (p : ℕ → Bool) (xs : List ℕ) → list_any p xs ≡ false → slice_split p xs ≡ xs ∷ []
 split_unless_any p [] none = refl
 split_unless_any p (x ∷ xs) none =
-    let h = neither (p x) (list_any p xs) none in
+    let h = or_parts (p x) (list_any p xs) none in
     let rest = split_unless_any p xs h.1 in
     slice_split-cons_no p x xs h.0 ∙ rw rest refl
 
@@ -43,7 +39,7 @@ place_is : (p : ℕ → Bool) (xs : List ℕ) (place : ℕ) → place < length x
 place_is p [] place within passes none = absurd (omega (arith, within))
 place_is p (x ∷ xs) zero within passes none = rw passes refl
 place_is p (x ∷ xs) (suc place) within passes none =
-    let h = neither (p x) (list_any p (take place xs)) none in
+    let h = or_parts (p x) (list_any p (take place xs)) none in
     let rest = place_is p xs place (omega (arith, within)) passes h.1 in
     let here : position_or_len p (x ∷ xs) ≡ 1 + position_or_len p xs = rw h.0 refl in
     here ∙ omega (arith, rest)

@@ -1,20 +1,19 @@
 -- The parts of a row.
-use Rattle.std.proofs.Common.{◌≡◌, ◌≤◌, ◌<◌, ◌==◌, ℕ, ◌+◌, ◌/◌, ◌%◌, ◌^◌, Bool, true, false, not, List, [], ◌∷◌, ◌++◌, length, codes, refl, nat_le, get_or, sym, ap, ◌∙◌, arith, zero-add, append_assoc, append-nil, Option}
+use Rattle.std.proofs.Common.{◌≡◌, ◌≤◌, ◌<◌, ◌==◌, ℕ, ◌+◌, ◌/◌, ◌%◌, ◌^◌, Bool, true, false, not, List, [], ◌∷◌, ◌++◌, length, codes, refl, nat_le, sym, ap, ◌∙◌, arith, append_assoc, append-nil, Option}
 use Rattle.std.specs.Fmt.{decimal, digits}
 use Rattle.std.specs.List.{list_all, range_with_len, join_with_byte, All}
 use native.Mathlib.Decide.{dec_lt}
 use Rattle.std.proofs.lemmas.Bool.{and_parts}
 use Rattle.std.proofs.lemmas.Bool.Decides.{nat_tests}
 use Rattle.std.proofs.lemmas.Fmt.{decimal_digit, decimal_step}
-use Rattle.std.proofs.lemmas.List.FromFn.{length-range_with_len, get_or-range_with_len}
 use Rattle.std.proofs.lemmas.List.Elements.{All-cons}
-use Rattle.std.proofs.lemmas.List.Recursion.{and_at}
 use Rattle.std.proofs.lemmas.List.Splits.{slice_split_at, slice_split_none}
 use Rattle.sync_ql.specs.declared.levels.NetOption.{NetOption}
 use Rattle.sync_ql.specs.declared.levels.NetOption.TheVariants.{I, II}
 use Rattle.sync_ql.specs.declared.levels.Level.{Level}
 use Rattle.sync_ql.specs.Table.{levels_of}
 use Rattle.sync_ql.specs.Level.{row_at, name_of}
+use Rattle.sync_ql.proofs.Tables.{at_each}
 use Rattle.esmc_frame.specs.declared.frame.Extended.{Extended}
 use Rattle.capture_text.specs.Row.{fields_behind}
 use Rattle.capture_text.specs.Reading.{fields_of}
@@ -38,13 +37,6 @@ three_digits number hundred small =
     let few : number / 10 < 100 = omega arith in
     let hundreds : number / 10 / 10 ≡ number / 100 = omega arith in
     decimal_step number ten fits ∙ rw (two_digits (number / 10) tens few, hundreds) refl
-
--- a test of all numbers below n holds at each of them
-pub at_each : (test : ℕ → Bool) (n place : ℕ) → list_all test (range_with_len 0 n) ≡ true → place < n → test place ≡ true
-at_each test n place all within =
-    let inside : place < length (range_with_len 0 n) = omega (arith, length-range_with_len 0 n, within) in
-    let here : test (get_or (range_with_len 0 n) place 0) ≡ true = and_at (list_all test) test refl (λ _ _. refl) (range_with_len 0 n) place 0 inside all in
-    ap test (sym (get_or-range_with_len 0 n place 0 within ∙ zero-add place)) ∙ here
 
 has_short_name : NetOption → ℕ → Bool
 has_short_name option place = nat_le (length (row_at option place).name) 8

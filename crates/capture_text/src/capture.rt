@@ -12,13 +12,11 @@ use crate::error::CaptureErr;
 use crate::lines::Lines;
 use crate::reading::read_row;
 use crate::row::row_for;
-use esmc_frame::{FrameErr, Pdu, decode, encode};
+use esmc_frame::{FRAME, FrameErr, GREATEST_FRAME, Pdu, decode, encode};
 use std::alloc::Global;
 use sync_ql::NetOption;
 use sync_text::{NoMemory, Text};
 
-/// The most octets of a frame.
-const LONGEST_FRAME: usize = 1514;
 /// The octets before the padding of a frame that has no extended QL TLV.
 const BEFORE_PADDING: usize = 28;
 /// The padding of the shortest frame that has no extended QL TLV.
@@ -37,7 +35,7 @@ pub fn decode_lines(alloc: Global, bytes: &[u8], option: NetOption) -> Result<Te
     ensures exact { Gives result (decoded_text option bytes.now) }
 {
     let mut text = Text::new(alloc);
-    let mut room = [0; LONGEST_FRAME];
+    let mut room = [0; GREATEST_FRAME];
     let mut lines = Lines::of(bytes);
     while let Some((number, line)) = lines.next_line() {
         put_row_of(&mut text, &mut room, number, line, option)?;
@@ -67,7 +65,7 @@ pub fn encode_rows(alloc: Global, bytes: &[u8], option: NetOption) -> Result<Tex
 /// Puts the row of the frame on a line, with a line feed. The octets of the frame go into the room.
 fn put_row_of(
     text: &mut Text,
-    room: &mut [u8; LONGEST_FRAME],
+    room: &mut [u8; GREATEST_FRAME],
     number: u64,
     line: &[u8],
     option: NetOption,
@@ -83,11 +81,11 @@ fn put_row_of(
 }
 
 /// What the frame on a line carries, whose octets go into the room.
-fn value_of(room: &mut [u8; LONGEST_FRAME], number: u64, line: &[u8]) -> Result<Pdu, CaptureErr>
+fn value_of(room: &mut [u8; GREATEST_FRAME], number: u64, line: &[u8]) -> Result<Pdu, CaptureErr>
     ensures value { carried_at number line.now ≡ result }
     ensures code { IfOk result (λ pdu. pdu.code < 16) }
 {
-    if line.len() > 2 * LONGEST_FRAME {
+    if line.len() > 2 * GREATEST_FRAME {
         return Err(refusal_of_long(number, line));
     }
     value_in(&mut room[..line.len() / 2], number, line)
@@ -132,7 +130,7 @@ fn put_padded(octets: &mut [u8], front: &[u8]) -> bool
 
 /// Why a line is refused that is longer than any frame: for its digits, and else for its length.
 fn refusal_of_long(number: u64, line: &[u8]) -> CaptureErr
-    requires { 2 * LONGEST_FRAME < length line.now }
+    requires { 2 * GREATEST_FRAME < length line.now }
     ensures { carried_at number line.now ≡ Err result }
 {
     if gives_octets(line) {
@@ -186,14 +184,14 @@ fn put_frame_of(
     let Some(pdu) = read_row(line, option) else {
         return Err(CaptureErr::Row(number));
     };
-    let mut frame = [0; 60];
+    let mut frame = [0; FRAME];
     encode(&pdu, &mut frame);
     put_digits(text, &frame)?;
     Ok(())
 }
 
 /// Puts a frame as digits, with a line feed.
-fn put_digits(text: &mut Text, frame: &[u8; 60]) -> Result<(), NoMemory>
+fn put_digits(text: &mut Text, frame: &[u8; FRAME]) -> Result<(), NoMemory>
     ensures { OnOk result (text.new ≡ text.old ++ as_line (encode_lower frame.now)) }
 {
     text.put(&digits_of(frame))?;
@@ -202,7 +200,7 @@ fn put_digits(text: &mut Text, frame: &[u8; 60]) -> Result<(), NoMemory>
 
 /// The digits of a frame.
 #[tactic(auto, using(crate::proofs::PaddingLemmas::ends_with_padding))]
-fn digits_of(frame: &[u8; 60]) -> [u8; 120]
+fn digits_of(frame: &[u8; FRAME]) -> [u8; 120]
     ensures { result ≡ encode_lower frame.now }
 {
     let (front, behind) = frame.split_at(BEFORE_PADDING);

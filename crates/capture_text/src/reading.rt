@@ -11,13 +11,11 @@ ghost use Rattle.capture_text.specs.Reading.{IsRow, pdu_of, codes_of_text, code_
 use crate::cutting::cut_at;
 use esmc_frame::{Extended, Pdu};
 use hex::FromHex;
-use sync_ql::{NetOption, code_of, enhanced_of, level_of_code, level_of_name};
+use sync_ql::{NOT_ENHANCED, NetOption, code_of, enhanced_of, level_of_code, level_of_name};
 use sync_text::read_number;
 
 /// How many digits a source has.
 const SOURCE_DIGITS: usize = 12;
-/// The enhanced code of a level that its four-bit code alone names.
-const NOT_ENHANCED: u8 = 0xff;
 
 /// The four-bit code and the enhanced code that the text of a level stands for.
 #[derive(Clone, Copy)]

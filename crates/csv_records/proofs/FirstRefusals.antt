@@ -1,24 +1,8 @@
 -- The first refusal of some rows.
-use Rattle.std.proofs.Common.{◌≡◌, ℕ, ◌+◌, ◌<◌, ◌≤◌, zero, suc, Bool, true, false, find, Option, Some, None, refl, ap, inl, inr, arith}
+use Rattle.std.proofs.Common.{◌≡◌, ℕ, ◌<◌, true, Option, Some, None, refl, arith}
 use Rattle.std.specs.Prelude.{is_some}
-use Rattle.std.specs.List.{range_with_len}
-use Rattle.std.proofs.lemmas.Bool.Decides.{eqb_tells}
+use Rattle.sync_text.proofs.Ranges.{find_range-none, find_range-first}
 use Rattle.csv_records.specs.FirstRefusal.{first_refusal}
-
--- a search finds nothing where no number passes
-find_range-none : (p : ℕ → Bool) (a n : ℕ) → ((i : ℕ) → a ≤ i → i < a + n → p i ≡ false) → find p (range_with_len a n) ≡ None
-find_range-none p a zero never = refl
-find_range-none p a (suc n) never =
-    rw (never a (omega arith) (omega arith)) (find_range-none p (a + 1) n (λ i low high. never i (omega arith) (omega arith)))
-
--- and else the first that passes
-find_range-first : (p : ℕ → Bool) (a n k : ℕ) → a ≤ k → k < a + n → p k ≡ true → ((i : ℕ) → a ≤ i → i < k → p i ≡ false) → find p (range_with_len a n) ≡ Some k
-find_range-first p a zero k low high here before = absurd (omega arith)
-find_range-first p a (suc n) k low high here before =
-    elim (eqb_tells a k) [
-      | inl same ↦ let hit : p a ≡ true = rw same.1 here in rw hit (ap Some same.1)
-      | inr other ↦ rw (before a (omega arith) (omega arith)) (find_range-first p (a + 1) n k (omega arith) (omega arith) here (λ i l h. before i (omega arith) h))
-    ]
 
 -- the first refusal, where no place before it has one
 pub first_refusal-some : {E : Type 0} (refusal_at : ℕ → Option E) (n k : ℕ) (e : E) → k < n → refusal_at k ≡ Some e → ((i : ℕ) → i < k → refusal_at i ≡ None)

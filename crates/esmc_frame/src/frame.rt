@@ -9,8 +9,8 @@ ghost use Rattle.esmc_frame.specs.Reading.{first_wrong, reading_of, extended_of}
 use crate::error::FrameErr;
 use crate::parts::{
     CLOCK_AT, CODE_AT, CODE_BITS, DESTINATION, EECS_AT, EEECS_AT, ENHANCED_CODE_AT, ETHERTYPE,
-    EVENT_FLAG, EXTENDED_TLV, FLAGS_AT, ITU_SUBTYPE, LONGEST, OUI, PADDING, QL_TLV, RESERVED,
-    SHORT_PADDING, SHORTEST, SOURCE_AT, SUBTYPE, VERSION, VERSION_AND_FLAG_AT, put_at,
+    EVENT_FLAG, EXTENDED_TLV, FLAGS_AT, FRAME, GREATEST_FRAME, ITU_SUBTYPE, OUI, PADDING, QL_TLV,
+    RESERVED, SHORT_PADDING, SOURCE_AT, SUBTYPE, VERSION, VERSION_AND_FLAG_AT, put_at,
 };
 
 /// What an ESMC frame carries.
@@ -63,7 +63,7 @@ pub fn decode(frame: &[u8]) -> Result<Pdu, FrameErr>
     // No octets spell two values.
     ensures one_value { (p q : Pdu) → Spells frame.now p → Spells frame.now q → p ≡ q }
 {
-    if !(SHORTEST..=LONGEST).contains(&frame.len()) {
+    if !(FRAME..=GREATEST_FRAME).contains(&frame.len()) {
         return Err(FrameErr::Length);
     }
     if !DESTINATION.is_in(frame) {
@@ -99,7 +99,7 @@ pub fn decode(frame: &[u8]) -> Result<Pdu, FrameErr>
 
 /// The extended QL TLV of a frame, if it has one.
 fn extended_in(frame: &[u8]) -> Option<Extended>
-    requires { 60 ≤ length frame.now }
+    requires { FRAME ≤ length frame.now }
     ensures { result ≡ extended_of frame.now }
 {
     if !EXTENDED_TLV.is_in(frame) {
@@ -120,7 +120,7 @@ fn extended_in(frame: &[u8]) -> Option<Extended>
 ///
 /// Reserved bits and octets and the padding are zero. An extended QL TLV stands behind the QL TLV.
 /// After G.8264, ESMC PDU format; the layout of the extended QL TLV is this project's own.
-pub fn encode(pdu: &Pdu, out: &mut [u8; 60])
+pub fn encode(pdu: &Pdu, out: &mut [u8; FRAME])
     requires { pdu.now.code < 16 }
     ensures written { out.new ≡ written_frame pdu.now }
     ensures spelled { Spells out.new pdu.now }
@@ -142,8 +142,8 @@ pub fn encode(pdu: &Pdu, out: &mut [u8; 60])
 }
 
 /// Writes the extended QL TLV, if there is one, and padding, behind the QL TLV.
-fn put_extended(out: &mut [u8; 60], extended: &Option<Extended>)
-    ensures put { take 60 out.new ≡ take 28 out.old ++ written_extended extended.now }
+fn put_extended(out: &mut [u8; FRAME], extended: &Option<Extended>)
+    ensures put { take FRAME out.new ≡ take 28 out.old ++ written_extended extended.now }
     ensures clock { IfSome extended.now (λ extended. length extended.clock ≡ 8) }
 {
     match extended {
@@ -153,8 +153,8 @@ fn put_extended(out: &mut [u8; 60], extended: &Option<Extended>)
 }
 
 /// Writes the extended QL TLV and padding, behind the QL TLV.
-fn put_tlv(out: &mut [u8; 60], extended: &Extended)
-    ensures put { take 60 out.new ≡ take 28 out.old ++ written_extended (Some extended.now) }
+fn put_tlv(out: &mut [u8; FRAME], extended: &Extended)
+    ensures put { take FRAME out.new ≡ take 28 out.old ++ written_extended (Some extended.now) }
     ensures clock { length extended.now.clock ≡ 8 }
 {
     EXTENDED_TLV.put(out);

@@ -19,3 +19,4 @@ mod parts;
 
 pub use error::FrameErr;
 pub use frame::{Extended, Pdu, decode, encode};
+pub use parts::{FRAME, GREATEST_FRAME};

@@ -4,10 +4,10 @@
 ghost use Rattle.std.specs.Prelude.{◌≡◌, ◌+◌, ◌≤◌, ◌++◌, length, take, slice_range};
 ghost use Rattle.std.specs.Str.{bytes_eq};
 
-/// The fewest octets of a frame.
-pub const SHORTEST: usize = 60;
-/// The most octets of a frame.
-pub const LONGEST: usize = 1514;
+/// The octets of a frame that is written, and the fewest of one that is read.
+pub const FRAME: usize = 60;
+/// The most octets of a frame that is read.
+pub const GREATEST_FRAME: usize = 1514;
 
 /// Destination Address: the multicast address of the slow protocols.
 pub const DESTINATION: Part<6> = Part {
@@ -101,8 +101,8 @@ impl<const N: usize> Part<N> {
     }
 
     /// Writes this part behind what was written so far.
-    pub fn put(&self, out: &mut [u8; 60])
-        requires { self.now.first + N ≤ 60 }
+    pub fn put(&self, out: &mut [u8; FRAME])
+        requires { self.now.first + N ≤ FRAME }
         ensures { let next = self.now.first + N
             in take next out.new ≡ take self.now.first out.old ++ self.now.octets }
     {
@@ -111,8 +111,8 @@ impl<const N: usize> Part<N> {
 }
 
 /// Writes these octets from the first one on, behind what was written so far.
-pub fn put_at<const N: usize>(out: &mut [u8; 60], first: usize, octets: &[u8; N])
-    requires { first + N ≤ 60 }
+pub fn put_at<const N: usize>(out: &mut [u8; FRAME], first: usize, octets: &[u8; N])
+    requires { first + N ≤ FRAME }
     ensures { take (first + N) out.new ≡ take first out.old ++ octets.now }
 {
     out[first..first + N].copy_from_slice(octets);

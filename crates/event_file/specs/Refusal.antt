@@ -1,5 +1,6 @@
 -- What a refusal of an event file is printed with, and what a call answers that may refuse.
-use Rattle.std.specs.Prelude.{◌≡◌, ℕ, ⊤, Option, Some, None, Result, Ok, Err}
+use Rattle.std.specs.Prelude.{ℕ, Bool, true, false, Option, Some, None, Result}
+use Rattle.sync_text.specs.Gives.{GivesBut, RefusesBut}
 use Rattle.event_file.specs.declared.error.EventErr.{EventErr}
 use Rattle.event_file.specs.declared.error.EventErr.TheVariants.{Header, Fields, Time, Order, What, Target, Value, Limit, NoMemory}
 
@@ -15,19 +16,15 @@ number_of (Value n) = Some 32
 number_of Limit = Some 33
 number_of NoMemory = None
 
+-- memory ran out
+abbrev pub is_want : EventErr → Bool
+is_want NoMemory = true
+is_want refusal = false
+
 -- the refusal is the definition's; want of memory says nothing
 abbrev pub Refuses : {A : Type 0} → EventErr → Result A EventErr → Type 0
-Refuses Header answer = answer ≡ Err Header
-Refuses (Fields n) answer = answer ≡ Err (Fields n)
-Refuses (Time n) answer = answer ≡ Err (Time n)
-Refuses (Order n) answer = answer ≡ Err (Order n)
-Refuses (What n) answer = answer ≡ Err (What n)
-Refuses (Target n) answer = answer ≡ Err (Target n)
-Refuses (Value n) answer = answer ≡ Err (Value n)
-Refuses Limit answer = answer ≡ Err Limit
-Refuses NoMemory answer = ⊤
+Refuses error answer = RefusesBut is_want error answer
 
 -- the answer is the definition's, value or refusal; want of memory says nothing
 abbrev pub Gives : {A : Type 0} → Result A EventErr → Result A EventErr → Type 0
-Gives (Ok value) answer = answer ≡ Ok value
-Gives (Err error) answer = Refuses error answer
+Gives result answer = GivesBut is_want result answer

@@ -1,5 +1,6 @@
 -- What each call makes of a line.
 use Rattle.std.proofs.Common.{◌≡◌, ◌≤◌, ◌<◌, ℕ, suc, ◌+◌, ◌-◌, ◌*◌, Bool, true, false, not, ◌&&◌, nat_eq, if◌then◌else◌, List, [], ◌∷◌, ◌++◌, length, map, Option, None, Some, IfSome, is_some, refl, ap, sym, subst, ◌∙◌, arith}
+use Rattle.std.proofs.lemmas.List.{append-nil}
 use Rattle.sync_ql.specs.declared.levels.Level.{Level}
 use Rattle.sync_ql.specs.Pasts.{first_within}
 use Rattle.sync_ql.specs.Messages.{LineMoment, said_in, said, is_same_level, is_news, came, arrivals, unchanged, line_until}
@@ -15,10 +16,6 @@ use Rattle.link_model.proofs.Pasts.{Each-map, Each-append, said-unchanged, said-
 use Rattle.link_model.proofs.Ordering.{kept_words, Each-over, words_of-ended, ordered-lost, ordered-said, due-arrival}
 use Rattle.link_model.proofs.Telling.{goes-down, comes-up, says-same, says-other}
 use Rattle.link_model.proofs.Standing.{taken, next-is, next-low, each-taken, each-lost, ready, said-before, length-until, until-next, quiet-until, IsAt, gap-kept, at-call}
-
-append-nil : (xs : List Word) → xs ++ [] ≡ xs
-append-nil [] = refl
-append-nil (x ∷ xs) = ap (λ ys. x ∷ ys) (append-nil xs)
 
 -- words of which each has a fact that an end doesn't change
 pub each-said : (P : Word → Type 0) (now : ℕ) (level : Option Level) (k : WordsKept) → ((w : Word) → P w → P (ended now w)) → Each P (new_word now level) → Each P (all_words k) → Each P (all_words (said_from now level k))

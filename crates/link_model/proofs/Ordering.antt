@@ -1,6 +1,7 @@
 -- The words of a line stay in their order, whatever is told of it.
 use Rattle.std.proofs.lemmas.Bool.Decides.{nat_tests}
-use Rattle.std.proofs.Common.{◌≡◌, ◌≤◌, ◌<◌, ℕ, suc, ◌+◌, ◌-◌, Bool, true, false, nat_eq, nat_lt, if◌then◌else◌, List, [], ◌∷◌, ◌++◌, map, Option, None, Some, IfSome, refl, ap, sym, subst, arith}
+use Rattle.std.proofs.Common.{◌≡◌, ◌≤◌, ◌<◌, ℕ, suc, ◌+◌, ◌-◌, Bool, true, false, nat_eq, nat_lt, if◌then◌else◌, List, [], ◌∷◌, ◌++◌, map, Option, None, Some, IfSome, refl, sym, subst, arith}
+use Rattle.std.proofs.lemmas.List.{append-nil}
 use Rattle.sync_ql.specs.declared.levels.Level.{Level}
 use Rattle.link_model.specs.declared.word.Word.{Word}
 use Rattle.link_model.specs.Each.{Each}
@@ -170,10 +171,6 @@ came_ended d n now (Some w) came = came
 all_end : (now : ℕ) (ws : List Word) → Each (IsWord (suc now)) ws → Each (λ w. EndsBy w.until now) (map (ended now) ws)
 all_end now [] all = tt
 all_end now (w ∷ ws) all = (ended_now now w.until all.0.over, all_end now ws all.1)
-
-append-nil : (xs : List Word) → xs ++ [] ≡ xs
-append-nil [] = refl
-append-nil (x ∷ xs) = ap (λ ys. x ∷ ys) (append-nil xs)
 
 -- and another level is said from now on, or none
 pub ordered-said : (d now : ℕ) (level : Option Level) (a : Option Word) (ws : List Word) → 1 ≤ d → Each (λ w. w.sent < now) (words_of a ws)

@@ -1,16 +1,13 @@
 -- Pasts of a line: one more millisecond, and those in which nothing is told.
 use Rattle.std.proofs.Math.Bool.{and-true}
 use Rattle.std.proofs.Common.{◌≡◌, ◌≤◌, ◌<◌, ℕ, zero, suc, ◌+◌, ◌%◌, Bool, true, false, ◌&&◌, nat_eq, nat_le, if◌then◌else◌, List, [], ◌∷◌, ◌++◌, length, drop, take, filter, Option, None, Some, is_some, refl, ap, sym, ◌∙◌, arith}
+use Rattle.std.proofs.lemmas.List.{append-nil}
 use Rattle.sync_ql.specs.declared.levels.NetOption.{NetOption}
 use Rattle.sync_ql.specs.declared.levels.NetOption.TheVariants.{I, II}
 use Rattle.sync_ql.specs.declared.levels.Level.{Level}
 use Rattle.sync_ql.specs.Messages.{LineMoment, Message, said_in, said, is_same_option, is_same_level, is_news, is_sent, was_up, came, delivered, message_in, news_since_down, unchanged, after_unchanged, second}
 use Rattle.link_model.specs.Each.{Each}
 use Rattle.link_model.proofs.Times.{within, equal, is_within}
-
-append-nil : {A : Type 0} (xs : List A) → xs ++ [] ≡ xs
-append-nil [] = refl
-append-nil (x ∷ xs) = ap (λ ys. x ∷ ys) (append-nil xs)
 
 same_option-same : (a : NetOption) → is_same_option a a ≡ true
 same_option-same I = refl

@@ -16,6 +16,9 @@ use sync_ql::Level;
 use sync_ql::limits::{GREATEST_DELAY, HEARING_TIME, LAST_MILLISECOND, LEAST_DELAY};
 use sync_text::NoMemory;
 
+/// The turns of a millisecond, one for each call in its order.
+const TURNS: u64 = 4;
+
 /// One delayed line, from what its sender says to what is heard at its end.
 ///
 /// Times are milliseconds from 0. In one millisecond the calls come in the order `set_up`,
@@ -27,7 +30,7 @@ use sync_text::NoMemory;
 #[derive(Debug, Drop)]
 pub struct Line {
     delay: u64,
-    /// The turns taken: four in each millisecond, one for each call in its order.
+    /// The turns taken.
     turn: u64,
     up: bool,
     esmc: bool,
@@ -112,7 +115,7 @@ impl Line {
         self.words.pass(self.delay, now, up);
         self.up = up;
         self.level = level;
-        self.turn = 4 * now + 1;
+        self.turn = TURNS * now + 1;
     }
 
     /// Tells whether the line's ESMC is on at the end of a millisecond.
@@ -137,7 +140,7 @@ impl Line {
         self.words.end_unless(on, now);
         self.esmc = on;
         self.level = level;
-        self.turn = 4 * now + 2;
+        self.turn = TURNS * now + 2;
     }
 
     /// The level of the message that arrives in a millisecond, one that only repeats included.
@@ -159,7 +162,7 @@ impl Line {
             result ≡ came self.old.delay (line_until (suc now) past) }
     {
         self.words.take_in(self.delay, now);
-        self.turn = 4 * now + 3;
+        self.turn = TURNS * now + 3;
         self.words.heard(self.delay, 1, now + 1)
     }
 
@@ -185,7 +188,7 @@ impl Line {
         match self.words.say_if(news, self.delay, now, level) {
             Ok(()) => {
                 self.level = Some(level);
-                self.turn = 4 * now + 4;
+                self.turn = TURNS * now + 4;
                 Ok(())
             }
             Err(NoMemory) => Err(NoMemory),
@@ -223,7 +226,7 @@ impl Line {
         ensures busy { (past : List LineMoment) → StandsFor self.now past →
             IfSome result (IsBusyAt self.now.delay past) }
     {
-        let next = (self.turn + 3) / 4;
+        let next = (self.turn + (TURNS - 1)) / TURNS;
         self.words.due(self.delay, next)
     }
 

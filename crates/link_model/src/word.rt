@@ -4,6 +4,7 @@ ghost use Rattle.link_model.specs.Spoken.{end_before, second_before, last_sent};
 ghost use Rattle.link_model.specs.Kept.{ended, cut_at};
 
 use sync_ql::Level;
+use sync_ql::limits::SECOND;
 
 /// A level that a line says from one millisecond on, until another.
 ///
@@ -85,5 +86,5 @@ fn second_before(now: u64) -> u64
     ensures bound { result ≤ now }
 {
     let last = now.saturating_sub(1);
-    last - last % 1000
+    last - last % SECOND
 }

@@ -2,9 +2,9 @@
 use Rattle.std.proofs.Common.{◌≡◌, ◌≤◌, ℕ, true, List, [], ◌∷◌, map, Option, None, Some, IfSome, slice_get, refl, ap, sym, subst, ◌∙◌, arith}
 use Rattle.std.specs.Prelude.{unwrap_or}
 use Rattle.std.specs.Option.{option_map_or}
-use Rattle.sync_ql.specs.declared.levels.NetOption.{NetOption}
-use Rattle.sync_ql.specs.declared.levels.NetOption.TheVariants.{I, II}
 use Rattle.sync_ql.specs.Level.{do_not_use_of}
+use Rattle.sync_ql.specs.Told.{moments_until}
+use Rattle.sync_ql.proofs.DoNotUse.{do_not_use-option}
 use Rattle.sync_element.specs.ElementState.{ElementState}
 use Rattle.sync_element.proofs.ElementSteps.{stands-new}
 use Rattle.sync_topo.specs.declared.source.Source as sources
@@ -37,17 +37,12 @@ lines-same : (xs : List ℕ) → map (λ (out : OutKept). out.line.0) (map new_o
 lines-same [] = refl
 lines-same (x ∷ xs) = ap (λ ys. x ∷ ys) (lines-same xs)
 
--- do-not-use of an option is of that option
-none-of : (option : NetOption) → (do_not_use_of option).option ≡ option
-none-of I = refl
-none-of II = refl
-
 -- the level that the plan gives a source is of its option
 planned-fits : (plan : Topology) (source : ℕ) → IsWellFormed plan → (planned_level plan source).option ≡ plan.option
 planned-fits plan source well = of (slice_get plan.sources source) refl
   where
     of : (o : Option sources.Source) → slice_get plan.sources source ≡ o → (option_map_or (λ s. s.level) o (do_not_use_of plan.option)).option ≡ plan.option
-    of None is = none-of plan.option
+    of None is = do_not_use-option plan.option
     of (Some found) is = (well.sources_fit source found is).of_option
 
 new-kept : (plan : Topology) (input : InputId) → IsWellFormed plan → IsKeptOf plan.option (new_input plan input)

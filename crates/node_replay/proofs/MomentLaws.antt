@@ -6,6 +6,7 @@ use Rattle.std.specs.Option.{option_or}
 use Rattle.std.proofs.lemmas.Bool.{eq-eqb, ne_eqb}
 use Rattle.std.proofs.lemmas.List.Folds.{list_any-append}
 use Rattle.std.proofs.lemmas.Option.{same_Some, none-some}
+use Rattle.std.proofs.Math.Bool.{or-false}
 use Rattle.sync_ql.specs.declared.rules.Cmd.{Cmd}
 use Rattle.sync_ql.specs.declared.rules.Cmd.TheVariants as command
 use Rattle.sync_ql.specs.declared.rules.InputEvent.{InputEvent}
@@ -83,10 +84,6 @@ commands-none place [] = refl
 commands-none place (input ∷ inputs) = commands-none (place + 1) inputs
 
 -- the words of rows say which inputs are cleared
-or-false : (b : Bool) → (b || false) ≡ b
-or-false true = refl
-or-false false = refl
-
 any-cons : {A : Type 0} (p : A → Bool) (o : Option A) (xs : List A) → list_any p (cons_option o xs) ≡ (list_any p (cons_option o []) || list_any p xs)
 any-cons p None xs = refl
 any-cons p (Some x) xs = ap (λ b. b || list_any p xs) (sym (or-false (p x)))

@@ -6,6 +6,7 @@ use Rattle.std.specs.List.{filter_map, cons_option, concat, range_with_len}
 use Rattle.std.proofs.Math.ListN.{get_or, set}
 use Rattle.std.proofs.Math.Seq.{drop-cons, get_or-append_seam, set-append_seam}
 use Rattle.std.proofs.lemmas.List.{length-map, length-take-le, map_more}
+use Rattle.sync_text.proofs.Options.{option_or-none, option_or-assoc}
 use Rattle.sync_ql.specs.declared.levels.Level.{Level}
 use Rattle.sync_ql.specs.declared.rules.InputEvent.{InputEvent}
 use Rattle.sync_topo.specs.declared.event.What.{What}
@@ -20,17 +21,9 @@ use Rattle.node_rules.specs.Replay.{last_of}
 use Rattle.node_replay.specs.Keeping.{row_says}
 use Rattle.node_replay.specs.Telling.{told_from}
 
-or-none : {A : Type 0} (o : Option A) → option_or o None ≡ o
-or-none None = refl
-or-none (Some x) = refl
-
-or-assoc : {A : Type 0} (a b c : Option A) → option_or (option_or a b) c ≡ option_or a (option_or b c)
-or-assoc None b c = refl
-or-assoc (Some x) b c = refl
-
 word-more-at : {A : Type 0} (says : What → Option A) (at : ℕ) (word : NodeWord) (rows : List NodeRow)
     → last_word says (events_in (record { at = at; word = word } ∷ rows)) ≡ option_or (last_word says (events_in rows)) (row_says says (record { at = at; word = word }))
-word-more-at says at (Frame line level) rows = sym (or-none (last_word says (events_in rows)))
+word-more-at says at (Frame line level) rows = sym (option_or-none (last_word says (events_in rows)))
 word-more-at says at (Happens what) rows = refl
 
 -- what rows say last is what those behind the first say, or else what the first says
@@ -68,7 +61,7 @@ pub step-said : {A : Type 0} (says : What → Option A) (here : List NodeRow) (i
     → after ≡ option_or (row_says says row) before → option_or (last_word says (events_in (drop (i + 1) here))) after ≡ whole
 step-said says here i row before after whole within at so_far is =
     ap (option_or (last_word says (events_in (drop (i + 1) here)))) is
-    ∙ sym (or-assoc (last_word says (events_in (drop (i + 1) here))) (row_says says row) before)
+    ∙ sym (option_or-assoc (last_word says (events_in (drop (i + 1) here))) (row_says says row) before)
     ∙ ap (λ o. option_or o before) (sym (word-more says row (drop (i + 1) here)))
     ∙ ap (λ rows. option_or (last_word says (events_in rows)) before) (sym (drop-at here i row within at))
     ∙ so_far
@@ -79,7 +72,7 @@ last-some x [] = (x, refl)
 last-some x (y ∷ ys) = last-some y ys
 
 last-more : {A : Type 0} (o : Option A) (xs : List A) → last_of (cons_option o xs) ≡ option_or (last_of xs) o
-last-more None xs = sym (or-none (last_of xs))
+last-more None xs = sym (option_or-none (last_of xs))
 last-more (Some x) [] = refl
 last-more (Some x) (y ∷ ys) = let some = last-some y ys in rw some.1 refl
 
@@ -88,7 +81,7 @@ pub step-frame : (line : ℕ) (here : List NodeRow) (i : ℕ) (row : NodeRow) (b
     → after ≡ option_or (said_on line row) before → option_or (last_of (frames_on line (drop (i + 1) here))) after ≡ whole
 step-frame line here i row before after whole within at so_far is =
     ap (option_or (last_of (frames_on line (drop (i + 1) here)))) is
-    ∙ sym (or-assoc (last_of (frames_on line (drop (i + 1) here))) (said_on line row) before)
+    ∙ sym (option_or-assoc (last_of (frames_on line (drop (i + 1) here))) (said_on line row) before)
     ∙ ap (λ o. option_or o before) (sym (last-more (said_on line row) (frames_on line (drop (i + 1) here))))
     ∙ ap (λ rows. option_or (last_of (frames_on line rows)) before) (sym (drop-at here i row within at))
     ∙ so_far
@@ -107,7 +100,7 @@ pub end-frame : (line : ℕ) (here : List NodeRow) (i : ℕ) (now whole : Option
 end-frame line here i now whole past is = sym (ap (λ rows. option_or (last_of (frames_on line rows)) now) (drop-end here i past)) ∙ is
 
 pub first-said : {A : Type 0} (o : Option A) → option_or o None ≡ o
-first-said o = or-none o
+first-said o = option_or-none o
 
 -- some are made from a list, one after another
 cons-append : {A : Type 0} (o : Option A) (xs : List A) → cons_option o xs ≡ cons_option o [] ++ xs

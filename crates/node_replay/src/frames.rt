@@ -10,17 +10,12 @@ ghost use Rattle.node_rules.specs.NodeText.{address_of, extended_for, carried};
 ghost use Rattle.node_replay.specs.Keeping.{frame_of, sent_row};
 
 use crate::outs::OutKept;
-use esmc_frame::{Extended, Pdu, encode};
+use esmc_frame::{Extended, FRAME, Pdu, encode};
 use std::alloc::Global;
-use sync_ql::{Level, NetOption, code_of, enhanced_of};
+use sync_ql::limits::SECOND;
+use sync_ql::{Level, NOT_ENHANCED, NetOption, code_of, enhanced_of};
 use sync_text::{NoMemory, Rows, Text};
 use sync_topo::{InputId, LineId, Plan};
-
-/// Frames without news go out in the milliseconds that this divides.
-pub(crate) const SECOND: u64 = 1000;
-
-/// The enhanced code of a level that has none of its own.
-const NOT_ENHANCED: u8 = 0xff;
 
 /// A frame that goes out on a line.
 #[derive(Clone, Copy, Debug, Drop)]
@@ -184,7 +179,7 @@ fn digits_of(pdu: &Pdu) -> [u8; 120]
     requires { pdu.now.code < 16 }
     ensures { result ≡ encode_lower (written_frame pdu.now) }
 {
-    let mut frame = [0; 60];
+    let mut frame = [0; FRAME];
     encode(pdu, &mut frame);
     let mut digits = [0; 120];
     hex::encode_to_slice(frame.as_slice(), &mut digits).unwrap();

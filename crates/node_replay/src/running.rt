@@ -11,7 +11,7 @@ ghost use Rattle.node_replay.specs.Keeping.{heard_of};
 ghost use Rattle.node_replay.specs.Running.{IsRun, RunStands, RunHolds, AreHere, AreAway};
 ghost use Rattle.node_replay.specs.Turning.{IsWake, IsTaken, IsWritten};
 
-use crate::frames::{SECOND, Sent, frames_of, put_frames};
+use crate::frames::{Sent, frames_of, put_frames};
 use crate::inputs::{InputKept, loss_of, note_inputs};
 use crate::outs::{OutKept, note_outs};
 use crate::shown::{Shown, shown_of, step_told};
@@ -20,7 +20,7 @@ use node_file::NodeRow;
 use std::alloc::Global;
 use sync_element::Element;
 use sync_net::Told;
-use sync_ql::limits::LAST_MILLISECOND;
+use sync_ql::limits::{LAST_MILLISECOND, SECOND};
 use sync_text::{NoMemory, Text};
 use sync_topo::Plan;
 

@@ -3,7 +3,6 @@ use Rattle.std.proofs.Common.{◌≡◌, ◌<◌, ℕ, zero, suc, Bool, true, fa
 use Rattle.std.specs.Prelude.{if◌then◌else◌, slice_get, unwrap_or, option_and_then, nat_lt, nat_eq}
 use Rattle.std.specs.Option.{option_map_or, option_or}
 use Rattle.sync_ql.specs.declared.levels.NetOption.{NetOption}
-use Rattle.sync_ql.specs.declared.levels.NetOption.TheVariants.{I, II}
 use Rattle.sync_ql.specs.declared.levels.Level.{Level}
 use Rattle.sync_ql.specs.Level.{do_not_use_of}
 use Rattle.sync_ql.specs.Pasts.{past_of}
@@ -11,6 +10,7 @@ use Rattle.sync_ql.specs.Messages.{said_in, heard_at}
 use Rattle.sync_ql.specs.Moment.{InputMoment, Moment, Settings, level_now, selection_at}
 use Rattle.sync_ql.specs.Output.{clock_level_at}
 use Rattle.sync_ql.specs.Told.{IsOfOption}
+use Rattle.sync_ql.proofs.DoNotUse.{do_not_use-option}
 use Rattle.sync_topo.specs.declared.element.Element.{Element}
 use Rattle.sync_topo.specs.declared.source.Source as declared
 use Rattle.sync_topo.specs.declared.input.InputId.{InputId}
@@ -35,10 +35,6 @@ use Rattle.net_rules.proofs.HistoryLaws.{out_at-sent}
 use Rattle.net_rules.proofs.PlanLaws.{IsDelayed-well}
 
 -- ---- plans
-
-do_not_use-option : (option : NetOption) → (do_not_use_of option).option ≡ option
-do_not_use-option I = refl
-do_not_use-option II = refl
 
 own-option : (plan : Topology) (element : ℕ) → IsWellFormed plan → (settings_of plan element).own.option ≡ plan.option
 unfolding settings_of

@@ -11,7 +11,7 @@ ghost use Rattle.pcap_file.specs.WrittenSoFar.{IsWrittenSoFar};
 
 use crate::writing::{put_head, put_packet};
 use capture_text::{CaptureErr, Lines, cut_at, read_row};
-use esmc_frame::{Pdu, encode};
+use esmc_frame::{FRAME, Pdu, encode};
 use std::alloc::Global;
 use sync_ql::NetOption;
 use sync_text::{Text, read_number};
@@ -62,7 +62,7 @@ fn put_record_of(
     let Some(timed) = timed_of(line, option) else {
         return Err(CaptureErr::Row(number));
     };
-    let mut frame = [0; 60];
+    let mut frame = [0; FRAME];
     encode(&timed.pdu, &mut frame);
     put_packet(text, timed.sec, timed.usec, &frame)?;
     Ok(())

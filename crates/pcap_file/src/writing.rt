@@ -6,16 +6,15 @@ ghost use Rattle.pcap_file.specs.declared.reading.Packet.{Packet};
 ghost use Rattle.pcap_file.specs.Pcap.{packets_of, octets_of};
 ghost use Rattle.pcap_file.specs.Written.{written_head, record_head, written_record, written_packet, IsLittleCapture};
 
+use esmc_frame::GREATEST_FRAME;
 use sync_text::{NoMemory, Text};
 
 /// The most octets of a frame in a capture that is written.
 const LONGEST: usize = 65_535;
-/// The most octets of a frame for which a record has little room.
-const LONGEST_SHORT: usize = 1_514;
 /// The octets of a record before its frame.
 const RECORD_HEAD: usize = 16;
-/// Room for a record of a short frame, and of any.
-const SHORT_ROOM: usize = RECORD_HEAD + LONGEST_SHORT;
+/// Room for a record of a frame that is no longer than those of Ethernet, and of any.
+const SHORT_ROOM: usize = RECORD_HEAD + GREATEST_FRAME;
 
 const ROOM: usize = RECORD_HEAD + LONGEST;
 
@@ -59,7 +58,7 @@ fn put_made(out: &mut Text, head: &[u8; 16], frame: &[u8]) -> Result<(), NoMemor
     ensures ok { OnOk result (out.new ≡ out.old ++ (head.now ++ frame.now)) }
     ensures err { OnErr result (out.new ≡ out.old) }
 {
-    if frame.len() <= LONGEST_SHORT {
+    if frame.len() <= GREATEST_FRAME {
         put_short(out, head, frame)
     } else {
         put_long(out, head, frame)
@@ -87,7 +86,7 @@ fn put_at(room: &mut [u8], first: usize, octets: &[u8])
 }
 
 fn put_short(out: &mut Text, head: &[u8; 16], frame: &[u8]) -> Result<(), NoMemory>
-    requires { length frame.now ≤ LONGEST_SHORT }
+    requires { length frame.now ≤ GREATEST_FRAME }
     ensures ok { OnOk result (out.new ≡ out.old ++ (head.now ++ frame.now)) }
     ensures err { OnErr result (out.new ≡ out.old) }
 {

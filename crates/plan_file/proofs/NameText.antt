@@ -1,11 +1,9 @@
 -- A name is spelled as it is: bare where it is a key, and between quotes where it is a value.
-use Rattle.std.proofs.Common.{◌≡◌, ℕ, ◌<◌, ◌≤◌, Bool, true, false, not, ◌&&◌, ◌||◌, ◌==◌, List, [], ◌∷◌, ◌++◌, length, codes, get_or, refl, sym, ap, subst, ◌∙◌, arith, zero-add}
+use Rattle.std.proofs.Common.{◌≡◌, ℕ, ◌<◌, ◌≤◌, Bool, true, false, not, ◌&&◌, ◌||◌, ◌==◌, List, [], ◌∷◌, ◌++◌, length, codes, refl, subst, arith}
 use Rattle.std.specs.List.{list_all, list_any, range_with_len}
 use Rattle.std.specs.Str.{IsAscii}
 use Rattle.std.proofs.lemmas.Bool.{and_parts, leb-true, lt-ltb, not-true}
 use Rattle.std.proofs.lemmas.Bool.Decides.{nat_tests}
-use Rattle.std.proofs.lemmas.List.FromFn.{length-range_with_len, get_or-range_with_len}
-use Rattle.std.proofs.lemmas.List.Recursion.{and_at}
 use Rattle.std.proofs.lemmas.Str.Ascii.{IsAscii-nil, IsAscii-cons}
 use Rattle.toml_parser.specs.Lexical.{line_feed, quote, backslash, is_bare}
 use Rattle.toml_writer.specs.Text.{string_text, key_text, encoding_of, escaped, needs_escape, quotes_after, is_control}
@@ -14,15 +12,9 @@ use Rattle.sync_ql.specs.declared.levels.NetOption.TheVariants.{I, II}
 use Rattle.sync_ql.specs.declared.levels.Level.{Level}
 use Rattle.sync_ql.specs.Table.{levels_of}
 use Rattle.sync_ql.specs.Level.{row_at, name_of}
+use Rattle.sync_ql.proofs.Tables.{at_each}
 use Rattle.sync_topo.specs.Names.{is_name, is_name_byte}
 use Rattle.plan_file.specs.Writing.{option_name}
-
--- a test of all numbers below n holds at each of them
-at_each : (test : ℕ → Bool) (n place : ℕ) → list_all test (range_with_len 0 n) ≡ true → place < n → test place ≡ true
-at_each test n place all within =
-    let inside : place < length (range_with_len 0 n) = omega (arith, length-range_with_len 0 n, within) in
-    let here : test (get_or (range_with_len 0 n) place 0) ≡ true = and_at (list_all test) test refl (λ _ _. refl) (range_with_len 0 n) place 0 inside all in
-    ap test (sym (get_or-range_with_len 0 n place 0 within ∙ zero-add place)) ∙ here
 
 -- ---- the bytes of a name
 

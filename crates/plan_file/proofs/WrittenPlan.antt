@@ -4,6 +4,7 @@ use Rattle.std.specs.Prelude.{Bool, false, codes, is_some}
 use Rattle.std.proofs.lemmas.Bool.{true≢false}
 use Rattle.std.specs.Str.{IsUtf8}
 use Rattle.std.proofs.lemmas.Str.{is_utf8-from_IsUtf8}
+use Rattle.std.proofs.lemmas.Simd.{map-map}
 use Rattle.toml.specs.Data.{Data, string, array, table, Items, Members, member, depth, items_depth, members_depth, has_valid_dates, items_have_valid_dates, members_have_valid_dates}
 use Rattle.toml.specs.View.{items_of}
 use Rattle.toml.specs.Parse.{parse_document}
@@ -19,7 +20,7 @@ use Rattle.sync_topo.specs.Topology.{Topology}
 use Rattle.sync_topo.specs.WellFormed.{IsWellFormed}
 use Rattle.sync_topo.specs.RowsOfPlan.{row_of_element, row_of_link, row_of_source, rows_of_plan}
 use Rattle.sync_topo.proofs.BundleRules.{none-passes}
-use Rattle.sync_topo.proofs.RowsOfPlan.{map-map, plan_of_rows-rows_of_plan}
+use Rattle.sync_topo.proofs.RowsOfPlan.{plan_of_rows-rows_of_plan}
 use Rattle.plan_file.specs.declared.version.Version.{Version}
 use Rattle.plan_file.specs.declared.version.Version.TheVariants.{One, Two}
 use Rattle.plan_file.specs.Rules.{refusal_of, data_of}

@@ -1,5 +1,6 @@
 -- What the reading of a plan file answers.
-use Rattle.std.specs.Prelude.{◌≡◌, ◌⊎◌, ◌↔◌, ⊤, Result, Ok, Err}
+use Rattle.std.specs.Prelude.{◌≡◌, ◌⊎◌, ◌↔◌, Bool, true, false, Result, Ok, Err}
+use Rattle.sync_text.specs.Gives.{GivesBut, RefusesBut}
 use Rattle.sync_topo.specs.declared.error.PlanErr.{PlanErr}
 use Rattle.sync_topo.specs.declared.error.PlanErr.TheVariants as rows
 use Rattle.plan_file.specs.declared.error.PlanFileErr.{PlanFileErr}
@@ -10,15 +11,18 @@ abbrev pub file_error : PlanErr → PlanFileErr
 file_error rows.NoMemory = NoMemory
 file_error error = Plan error
 
+-- memory ran out
+abbrev pub is_want : PlanFileErr → Bool
+is_want NoMemory = true
+is_want refusal = false
+
 -- the refusal is the definition's; want of memory says nothing
 abbrev pub Refuses : {A : Type 0} → PlanFileErr → Result A PlanFileErr → Type 0
-Refuses NoMemory answer = ⊤
-Refuses refusal answer = answer ≡ Err refusal
+Refuses error answer = RefusesBut is_want error answer
 
 -- the answer is the definition's, value or refusal; want of memory says nothing
 abbrev pub Gives : {A : Type 0} → Result A PlanFileErr → Result A PlanFileErr → Type 0
-Gives (Ok value) answer = answer ≡ Ok value
-Gives (Err error) answer = Refuses error answer
+Gives result answer = GivesBut is_want result answer
 
 -- the same of a value that stands for what `see` makes of it
 abbrev pub GivesBy : {A B : Type 0} → (A → B) → Result A PlanFileErr → Result B PlanFileErr → Type 0

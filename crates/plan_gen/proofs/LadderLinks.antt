@@ -7,7 +7,7 @@ use Rattle.std.proofs.lemmas.List.{map-append}
 use Rattle.std.proofs.lemmas.Grind.{flat_map-append}
 use Rattle.sync_topo.specs.declared.link.Link.{Link}
 use Rattle.plan_gen.specs.Ladder.{step, rail, links_up_to}
-use Rattle.plan_gen.proofs.Ranges.{range_more}
+use Rattle.sync_text.proofs.Ranges.{range_more}
 
 -- link k is a step where k is 0 or odd
 abbrev pub is_step : ℕ → Bool

@@ -12,6 +12,7 @@ use Rattle.std.proofs.lemmas.Slice.Eq.{bytes_eq-Decides}
 use Rattle.std.proofs.lemmas.List.FromFn.{length-map-range_with_len}
 use Rattle.std.proofs.lemmas.Option.{none-some, same_Some}
 use Rattle.std.proofs.lemmas.Fmt.{decimal_injective, length-decimal-le, digits_decimal}
+use Rattle.std.proofs.lemmas.Simd.{map-map}
 use Rattle.sync_text.proofs.Decimals.{own}
 use Rattle.sync_ql.specs.declared.levels.NetOption.TheVariants.{I}
 use Rattle.sync_topo.specs.declared.element.Element.{Element}
@@ -24,7 +25,6 @@ use Rattle.sync_topo.specs.Bundles.{is_same_bundle}
 use Rattle.sync_topo.specs.Rules.{is_bad_bundle_name}
 use Rattle.sync_topo.specs.WellFormed.{AreDistinct, IsElementOf, JoinsTwo, IsSourceOf, IsWellFormed}
 use Rattle.sync_topo.proofs.KeptRules.{inputs_counted}
-use Rattle.sync_topo.proofs.RowsOfPlan.{map-map}
 use Rattle.plan_gen.specs.Ladder.{numbered, ladder_element, ladder}
 use Rattle.plan_gen.proofs.Ranges.{range_at, range_get, list_all-range, list_any-range, AreDistinct-range, AreDistinct-last, filter_range-between}
 use Rattle.plan_gen.proofs.LadderLinks.{is_step, top_of, ladder_link, link_is_step, link_is_rail, rail_is_even, step_is_first_or_odd, links_by_number}

@@ -3,18 +3,11 @@ use Rattle.std.proofs.Common.{◌≡◌, ℕ, ◌+◌, ◌-◌, ◌<◌, ◌≤�
 use Rattle.std.specs.Prelude.{◌≢◌}
 use Rattle.std.specs.List.{list_all, list_any, range_with_len}
 use Rattle.std.proofs.lemmas.Bool.{cases_Bool, cases_lt, true≢false}
-use Rattle.std.proofs.lemmas.List.{map-id}
-use Rattle.std.proofs.lemmas.List.FromFn.{map-range_with_len_more, length-map-range_with_len, get_or-map-range_with_len}
+use Rattle.std.proofs.lemmas.List.FromFn.{length-map-range_with_len, get_or-map-range_with_len}
 use Rattle.std.proofs.lemmas.Option.{same_Some, slice_get_within, slice_get-get_or}
 use Rattle.sync_topo.specs.Names.{is_named}
 use Rattle.sync_topo.specs.WellFormed.{AreDistinct}
 use Rattle.sync_topo.proofs.RuleLemmas.{slice_get-middle, slice_get-front, is_named-at}
-
--- one number more
-pub range_more : (n : ℕ) → range_with_len 0 (n + 1) ≡ range_with_len 0 n ++ n ∷ []
-range_more n =
-    let e : 0 + n ≡ n = omega arith in
-    simp map-id at (map-range_with_len_more (λ (x : ℕ). x) 0 n n e)
 
 -- what stands at a place is made from the number of that place
 pub range_at : {A : Type 0} (f : ℕ → A) (n i : ℕ) → (x : A) → slice_get (map f (range_with_len 0 n)) i ≡ Some x → (i < n) × (f i ≡ x)

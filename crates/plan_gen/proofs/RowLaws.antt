@@ -7,6 +7,7 @@ use Rattle.std.proofs.Math.Decide.{dec_lt}
 use Rattle.std.proofs.lemmas.Bool.{ne_eqb}
 use Rattle.std.proofs.lemmas.List.{append-nil, map-append}
 use Rattle.std.proofs.lemmas.Grind.{flat_map-append}
+use Rattle.std.proofs.lemmas.Simd.{map-map}
 use Rattle.sync_ql.specs.declared.levels.NetOption.TheVariants.{I}
 use Rattle.sync_topo.specs.declared.link.Link.{Link}
 use Rattle.sync_topo.specs.declared.error.PlanErr.{PlanErr}
@@ -19,10 +20,11 @@ use Rattle.sync_topo.specs.Gives.{Refuses}
 use Rattle.sync_topo.specs.WellFormed.{IsWellFormed}
 use Rattle.sync_topo.proofs.RuleLemmas.{is_named-at}
 use Rattle.sync_topo.proofs.KeptRules.{ElementRowFits, LinkRowFits, RowsFit, plan_of_rows-kept}
-use Rattle.sync_topo.proofs.RowsOfPlan.{map-map, all-map, place_of-distinct}
+use Rattle.sync_topo.proofs.RowsOfPlan.{all-map, place_of-distinct}
 use Rattle.plan_gen.specs.Ladder.{numbered, link_up, links_up_to, ladder}
 use Rattle.plan_gen.specs.LadderRows.{element_row, link_row, step_row, rail_row, link_rows_up_to, ladder_rows}
-use Rattle.plan_gen.proofs.Ranges.{range_more, range_get}
+use Rattle.sync_text.proofs.Ranges.{range_more}
+use Rattle.plan_gen.proofs.Ranges.{range_get}
 use Rattle.plan_gen.proofs.LadderPlan.{elements_by_name, IsWellFormed-ladder}
 
 -- ---- loops over a range

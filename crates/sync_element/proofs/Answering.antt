@@ -6,7 +6,6 @@ use Rattle.sync_ql.specs.Level.{do_not_use_of}
 use Rattle.sync_ql.specs.Selection.{candidate}
 use Rattle.sync_ql.specs.Moment.{Moment, level_now, selection_at}
 use Rattle.sync_ql.specs.declared.levels.NetOption.{NetOption}
-use Rattle.sync_ql.specs.declared.levels.NetOption.TheVariants.{I, II}
 use Rattle.sync_ql.specs.Told.{moments_until, IsOfOption}
 use Rattle.sync_ql.specs.Output.{goes_back, clock_level_at, sent_back_at, mode_of, mode_at, state_of, state_at}
 use Rattle.std.proofs.Math.Decide.{dec_lt}
@@ -16,6 +15,7 @@ use Rattle.sync_element.specs.ElementState.{ElementState, inputs_of, IsInTime}
 use Rattle.sync_element.specs.Whole.{watched_of, level_of, level_back_of, IsWhole}
 use Rattle.sync_element.specs.StandsFor.{IsAfter}
 use Rattle.sync_ql.proofs.QuietMoments.{selection_at-within, level_of_taken}
+use Rattle.sync_ql.proofs.DoNotUse.{do_not_use-option}
 use Rattle.sync_element.proofs.Waiting.{stays_until}
 
 pub selected_until : (e : ElementState) → IsWhole e → (past : List Moment) (n : ℕ) → IsAfter e past → IsInTime e n → e.kept.selection ≡ selection_at e.settings (moments_until e.settings n past)
@@ -55,15 +55,11 @@ candidate_option e whole i =
 pub level_option : (e : ElementState) → IsWhole e → (level_of e).option ≡ e.settings.own.option
 level_option e whole = taken_option e.settings.own.option e.settings.own (λ i. (candidate e.kept.inputs.candidates i).level) e.kept.selection refl (candidate_option e whole)
 
-dnu_option : (option : NetOption) → (do_not_use_of option).option ≡ option
-dnu_option I = refl
-dnu_option II = refl
-
 pub level_back_option : (e : ElementState) → IsWhole e → (i : ℕ) → (level_back_of e i).option ≡ e.settings.own.option
 level_back_option e whole i = of (goes_back e.settings e.kept.selection i)
   where
     of : (b : Bool) → (if b then do_not_use_of e.settings.own.option else level_of e).option ≡ e.settings.own.option
-    of true = dnu_option e.settings.own.option
+    of true = do_not_use-option e.settings.own.option
     of false = level_option e whole
 
 pub level_back_until : (e : ElementState) → IsWhole e → (i : ℕ) (past : List Moment) (n : ℕ) → IsAfter e past → IsInTime e n → level_back_of e i ≡ sent_back_at e.settings (moments_until e.settings n past) i

@@ -4,6 +4,7 @@ use Rattle.std.specs.Prelude.{if◌then◌else◌, is_some}
 use Rattle.std.specs.List.{list_any}
 use Rattle.std.specs.Option.{option_or}
 use Rattle.std.proofs.lemmas.Bool.Decides.{nat_tests}
+use Rattle.std.proofs.lemmas.Bool.{or_parts}
 use Rattle.sync_ql.specs.declared.rules.Cmd.{Cmd}
 use Rattle.sync_ql.specs.declared.rules.Cmd.TheVariants.{Lockout, Unlock, Forced, Manual, Clear}
 use Rattle.sync_ql.specs.declared.rules.InputEvent.{InputEvent}
@@ -11,11 +12,6 @@ use Rattle.sync_ql.specs.declared.rules.InputEvent.TheVariants.{Signal, Heard, C
 use Rattle.sync_ql.specs.Switches.{Switches, is_locked, after_command, after_commands, carried_out}
 use Rattle.sync_ql.specs.Told.{last_said, says_up, says_level, clears, commands_in}
 use Rattle.sync_element.specs.Renewing.{touches}
-
-none-first : (a b : Bool) → (a || b) ≡ false → (a ≡ false) × (b ≡ false)
-none-first false false none = (refl, refl)
-none-first false true none = absurd (cc)
-none-first true b none = absurd (cc)
 
 -- one event
 up-one : (i : ℕ) (event : InputEvent) → touches i event ≡ false → says_up i event ≡ None
@@ -54,26 +50,26 @@ locked-one s i Clear none = refl
 pub up-untouched : (i : ℕ) (events : List InputEvent) → list_any (touches i) events ≡ false → last_said (says_up i) events ≡ None
 up-untouched i [] none = refl
 up-untouched i (event ∷ events) none =
-    let parts = none-first (touches i event) (list_any (touches i) events) none in
+    let parts = or_parts (touches i event) (list_any (touches i) events) none in
     ap (λ o. option_or o (says_up i event)) (up-untouched i events parts.1) ∙ up-one i event parts.0
 
 pub level-untouched : (i : ℕ) (events : List InputEvent) → list_any (touches i) events ≡ false → last_said (says_level i) events ≡ None
 level-untouched i [] none = refl
 level-untouched i (event ∷ events) none =
-    let parts = none-first (touches i event) (list_any (touches i) events) none in
+    let parts = or_parts (touches i event) (list_any (touches i) events) none in
     ap (λ o. option_or o (says_level i event)) (level-untouched i events parts.1) ∙ level-one i event parts.0
 
 pub clear-untouched : (i : ℕ) (events : List InputEvent) → list_any (touches i) events ≡ false → list_any (clears i) events ≡ false
 clear-untouched i [] none = refl
 clear-untouched i (event ∷ events) none =
-    let parts = none-first (touches i event) (list_any (touches i) events) none in
+    let parts = or_parts (touches i event) (list_any (touches i) events) none in
     rw (clear-one i event parts.0) (clear-untouched i events parts.1)
 
 pub locked-untouched : (i : ℕ) (events : List InputEvent) (s : Switches) → list_any (touches i) events ≡ false → is_locked (after_commands s (commands_in events)) i ≡ is_locked s i
 locked-untouched i [] s none = refl
-locked-untouched i (Signal k up ∷ events) s none = locked-untouched i events s (none-first (touches i (Signal k up)) (list_any (touches i) events) none).1
-locked-untouched i (Heard k level ∷ events) s none = locked-untouched i events s (none-first (touches i (Heard k level)) (list_any (touches i) events) none).1
-locked-untouched i (ClearWtr k ∷ events) s none = locked-untouched i events s (none-first (touches i (ClearWtr k)) (list_any (touches i) events) none).1
+locked-untouched i (Signal k up ∷ events) s none = locked-untouched i events s (or_parts (touches i (Signal k up)) (list_any (touches i) events) none).1
+locked-untouched i (Heard k level ∷ events) s none = locked-untouched i events s (or_parts (touches i (Heard k level)) (list_any (touches i) events) none).1
+locked-untouched i (ClearWtr k ∷ events) s none = locked-untouched i events s (or_parts (touches i (ClearWtr k)) (list_any (touches i) events) none).1
 locked-untouched i (Command command ∷ events) s none =
-    let parts = none-first (touches i (Command command)) (list_any (touches i) events) none in
+    let parts = or_parts (touches i (Command command)) (list_any (touches i) events) none in
     locked-untouched i events (after_command s command) parts.1 ∙ locked-one s i command parts.0

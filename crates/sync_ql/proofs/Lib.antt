@@ -1,5 +1,6 @@
 pub mod Positions
 pub mod Tables
+pub mod DoNotUse
 pub mod Eligible
 pub mod Choices
 pub mod SameChoice

@@ -49,7 +49,7 @@ is_place-true None place is = cc
 is_place-true (Some found) place is = ap Some (eqb-true found place is)
 
 -- a test of all places below n holds at each of them
-at_each : (test : ℕ → Bool) (n place : ℕ) → list_all test (range_with_len 0 n) ≡ true → place < n → test place ≡ true
+pub at_each : (test : ℕ → Bool) (n place : ℕ) → list_all test (range_with_len 0 n) ≡ true → place < n → test place ≡ true
 at_each test n place all within =
     let inside : place < length (range_with_len 0 n) = omega (arith, length-range_with_len 0 n, within) in
     let here : test (get_or (range_with_len 0 n) place 0) ≡ true = and_at (list_all test) test refl (λ _ _. refl) (range_with_len 0 n) place 0 inside all in

@@ -13,6 +13,9 @@ pub const GREATEST_HOLDOFF: u32 = 1800;
 /// The longest wait-to-restore time, in minutes.
 pub const GREATEST_WTR_MINUTES: u32 = 12;
 
+/// A second, in milliseconds. Messages without news go out at the whole seconds.
+pub const SECOND: u64 = 1000;
+
 /// A minute, in milliseconds.
 pub const MINUTE: u32 = 60_000;
 

@@ -7,7 +7,7 @@ ghost use Rattle.sync_ql.specs.Rows.{rows_seen};
 use crate::levels::NetOption;
 
 /// The enhanced code of a level that its SSM code alone names.
-pub(crate) const NOT_ENHANCED: u8 = 0xff;
+pub const NOT_ENHANCED: u8 = 0xff;
 
 /// A quality level as it is named and sent.
 pub(crate) struct Row {
