@@ -1,5 +1,5 @@
 -- Rows are taken one after another.
-use Rattle.std.proofs.Common.{◌≡◌, ◌≤◌, ◌<◌, ◌+◌, ℕ, suc, List, [], ◌∷◌, ◌++◌, None, ap, sym, subst, ◌∙◌, arith, append_assoc, append-nil, add-one}
+use Rattle.std.proofs.Common.{◌≡◌, ◌≤◌, ◌<◌, ◌+◌, ℕ, suc, List, [], ◌∷◌, ◌++◌, None, refl, ap, sym, subst, ◌∙◌, arith, append_assoc, append-nil, add-one}
 use Rattle.std.specs.Prelude.{if◌then◌else◌}
 use Rattle.std.proofs.lemmas.Bool.{eq-eqb, ne_eqb}
 use Rattle.sync_topo.specs.Topology.{Topology}
@@ -19,6 +19,22 @@ use Rattle.node_replay.proofs.Going.{going-stands, came-to}
 last-two : (rows : List NodeRow) (row next : NodeRow) → AreInOrder ((rows ++ row ∷ []) ++ next ∷ []) → row.at ≤ next.at
 last-two [] row next ordered = ordered.0.0
 last-two (first ∷ rows) row next ordered = last-two rows row next ordered.1
+
+-- a new run stands for no rows
+pub begun-after : (plan : Topology) (element until : ℕ) (run : Run) (here : List NodeRow) → here ≡ [] → run.next ≡ 0 → run.stopped ≡ None
+    → ((rows : List NodeRow) → RunStands plan rows element 0 run)
+    → IsAfter plan (record { element = element; until = until; run = run; at = 0; here = here }) []
+begun-after plan element until run here empty next going stands = record {
+  stands = record {
+    list = record { each = tt; in_order = tt };
+    here = λ still. sym empty;
+    away = λ still t low high apart. refl;
+    holds = λ more list later.
+        subst (RunHolds plan more element until run.next run) (sym going)
+        (subst (λ n. RunStands plan more element n run) (sym next) (stands more));
+  };
+  at_least = λ row list. omega arith;
+}
 
 -- one row alone, at a millisecond or not
 one-here : (t : ℕ) (row : NodeRow) → row.at ≡ t → rows_at t (row ∷ []) ≡ row ∷ []

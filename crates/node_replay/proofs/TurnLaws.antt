@@ -1,5 +1,5 @@
 -- What one millisecond makes of a run.
-use Rattle.std.proofs.Common.{◌≡◌, ◌≤◌, ◌<◌, ◌+◌, ◌-◌, ◌%◌, ℕ, zero, suc, Bool, true, false, ◌&&◌, List, [], ◌∷◌, ◌++◌, map, filter, length, Option, None, Some, IfSome, refl, ap, sym, subst, ◌∙◌, inl, inr, ◌⊎◌, arith, add-one}
+use Rattle.std.proofs.Common.{◌≡◌, ◌≤◌, ◌<◌, ◌+◌, ◌-◌, ◌%◌, ℕ, zero, suc, Bool, true, false, ◌&&◌, List, [], ◌∷◌, ◌++◌, map, filter, length, Option, None, Some, IfSome, refl, ap, sym, subst, ◌∙◌, inl, inr, ◌⊎◌, arith}
 use Rattle.std.specs.Prelude.{nat_eq, nat_lt, not, ◌||◌, ◌==◌, if◌then◌else◌}
 use Rattle.std.specs.List.{All, filter_map, cons_option, concat, range_with_len}
 use Rattle.std.proofs.Math.Decide.{dec_lt}
@@ -8,7 +8,7 @@ use Rattle.std.proofs.lemmas.List.Folds.{concat-append}
 use Rattle.sync_ql.specs.declared.levels.Level.{Level}
 use Rattle.sync_ql.specs.declared.limits.TheConstants.{LAST_MILLISECOND}
 use Rattle.sync_ql.specs.Messages.{second, is_same_level}
-use Rattle.sync_element.specs.ElementState.{ElementState, IsInTime}
+use Rattle.sync_element.specs.ElementState.{ElementState}
 use Rattle.sync_topo.specs.declared.input.InputId.{InputId}
 use Rattle.sync_topo.specs.declared.input.InputId.TheVariants.{Line, Source}
 use Rattle.sync_topo.specs.Topology.{Topology}
@@ -28,7 +28,6 @@ use Rattle.node_rules.specs.NodeText.{lines_out, frame_row, sending_at, rows_bef
 use Rattle.node_replay.specs.Keeping.{heard_of, level_after, up_then, last_then, input_after, out_after, frame_for, frame_of, sent_row}
 use Rattle.node_replay.specs.Running.{Shows, IsOfPast, IsInputAt, IsOutAt, IsKeptOf, AreSteady, AreGiven, IsRun, RunStands, RunHolds, AreHere}
 use Rattle.node_replay.specs.Turning.{IsTaken, IsWritten}
-use Rattle.node_replay.proofs.Losses.{if-later}
 use Rattle.node_replay.proofs.KeptLevels.{all-each, each-all, kept-all, ids-after, outs-lines}
 use Rattle.node_replay.proofs.InputSteps.{inputs-step, events-here}
 use Rattle.node_replay.proofs.MomentLaws.{moment-told}

@@ -1,10 +1,9 @@
 -- Private to this crate: what a run keeps, and how far it has come.
-use Rattle.std.specs.Prelude.{◌≡◌, ◌≤◌, ◌<◌, ◌+◌, ◌%◌, ℕ, zero, suc, false, ◌&&◌, nat_eq, List, [], ◌∷◌, length, map, Option, None, Some, IfSome, option_and_then}
+use Rattle.std.specs.Prelude.{◌≡◌, ◌≤◌, ◌<◌, ◌+◌, ◌%◌, ℕ, zero, suc, false, ◌&&◌, nat_eq, List, [], length, map, Option, None, Some, IfSome, option_and_then}
 use Rattle.std.specs.List.{concat}
 use Rattle.sync_ql.specs.declared.levels.NetOption.{NetOption}
 use Rattle.sync_ql.specs.declared.levels.Level.{Level}
 use Rattle.sync_ql.specs.declared.limits.TheConstants.{LAST_MILLISECOND}
-use Rattle.sync_ql.specs.declared.rules.InputEvent.{InputEvent}
 use Rattle.sync_ql.specs.Pasts.{past_of, first_within}
 use Rattle.sync_ql.specs.Messages.{hearing_time, second, said}
 use Rattle.sync_ql.specs.Moment.{Moment}

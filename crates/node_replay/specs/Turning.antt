@@ -2,6 +2,7 @@
 use Rattle.std.specs.Prelude.{◌≡◌, ◌≤◌, ◌<◌, ◌+◌, ◌-◌, ◌%◌, ℕ, false, nat_eq, List, ◌++◌, length, map, Option, Some, IfSome}
 use Rattle.std.specs.List.{All, concat}
 use Rattle.sync_ql.specs.Messages.{second}
+use Rattle.sync_element.specs.StandsAfter.{IsStepped}
 use Rattle.sync_topo.specs.Topology.{Topology}
 use Rattle.sync_topo.specs.Lines.{inputs_of}
 use Rattle.node_file.specs.declared.row.NodeRow.{NodeRow}

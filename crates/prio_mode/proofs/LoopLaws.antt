@@ -1,21 +1,16 @@
 -- Where ranks rise over every hop, elements that choose by priority alone never go round in a loop.
-use Rattle.std.proofs.Common.{◌≡◌, ℕ, suc, List, [], ◌∷◌, Option, None, Some, slice_get}
-use Rattle.std.specs.Prelude.{IsTrue, option_and_then}
-use Rattle.std.proofs.lemmas.Option.{none-some}
-use Rattle.sync_ql.specs.Moment.{Moment, selection_at}
-use Rattle.sync_topo.specs.declared.input.InputId.{InputId}
+use Rattle.std.proofs.Common.{ℕ, suc, List, [], ◌∷◌}
+use Rattle.std.specs.Prelude.{IsTrue}
 use Rattle.sync_topo.specs.Topology.{Topology}
-use Rattle.sync_topo.specs.Lines.{line_input, sender_of, receiver_of, is_nominated, IsNominated, inputs_of}
+use Rattle.sync_topo.specs.Lines.{line_input, sender_of, receiver_of, is_nominated, IsNominated}
 use Rattle.sync_topo.specs.Ranks.{Rises, Circles, Leads}
-use Rattle.net_rules.specs.Inputs.{IsInputOf}
 use Rattle.net_rules.specs.Signals.{Signals, signals_by}
 use Rattle.net_rules.specs.Walks.{Taken, Each, IsTaken, Joins, IsClosedWalk}
-use Rattle.net_rules.proofs.InputLaws.{inputs-are}
-use Rattle.net_rules.proofs.Lists.{each-at}
+use Rattle.net_rules.proofs.SettingLaws.{taken-own}
 use Rattle.net_rules.proofs.WalkLaws.{AreNominated, walks-leads, no_cycle}
 use Rattle.sync_topo.specs.Hops.{hops_any}
 use Rattle.sync_topo.proofs.HopLaws.{hop-any-from}
-use Rattle.prio_mode.specs.PriorityAlone.{priority_settings, priority_past, priority_taken_by, priority_taken_at, priority_taken_in}
+use Rattle.prio_mode.specs.PriorityAlone.{priority_settings, priority_past, priority_taken_at, priority_taken_in}
 use Rattle.prio_mode.specs.PriorityLoops.{NeverLoops}
 
 -- a line that is taken is nominated

@@ -1,5 +1,5 @@
 -- Private to this crate: what a run keeps, and how far it has come.
-use Rattle.std.specs.Prelude.{◌≡◌, ◌≢◌, ◌≤◌, ◌<◌, ◌+◌, ℕ, suc, List, [], ◌++◌, length, slice_index_or, IfSome}
+use Rattle.std.specs.Prelude.{◌≡◌, ◌≢◌, ◌≤◌, ◌<◌, ◌+◌, ℕ, suc, false, List, [], ◌++◌, length, slice_index_or, IfSome}
 use Rattle.sync_ql.specs.declared.rules.InputEvent.{InputEvent}
 use Rattle.sync_ql.specs.Moment.{Moment}
 use Rattle.sync_ql.specs.Told.{moments_until}

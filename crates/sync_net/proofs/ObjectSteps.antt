@@ -1,5 +1,5 @@
 -- What a line stands for after a step of the network.
-use Rattle.std.proofs.Common.{◌≡◌, ◌≤◌, ◌<◌, ◌+◌, ◌-◌, ◌*◌, ℕ, suc, List, ◌∷◌, length, Option, None, Some, IfSome, refl, ap, sym, subst, ◌∙◌, arith, add-one}
+use Rattle.std.proofs.Common.{◌≡◌, ◌≤◌, ◌<◌, ◌+◌, ◌*◌, ℕ, suc, List, ◌∷◌, length, Option, IfSome, refl, ap, sym, subst, ◌∙◌, arith}
 use Rattle.sync_ql.specs.declared.levels.Level.{Level}
 use Rattle.sync_ql.specs.Pasts.{past_of}
 use Rattle.sync_ql.specs.Messages.{LineMoment, heard_at, unchanged, line_until}
@@ -12,7 +12,7 @@ use Rattle.link_model.proofs.Standing.{length-until, until-same, until-next}
 use Rattle.sync_topo.specs.Topology.{Topology}
 use Rattle.sync_topo.specs.Lines.{line_input, delay_of}
 use Rattle.net_rules.specs.Signals.{Signals}
-use Rattle.net_rules.specs.History.{Levels, line_moment_at, heard}
+use Rattle.net_rules.specs.History.{Levels, line_moment_at}
 use Rattle.sync_net.specs.declared.signals.LineSignal.{LineSignal}
 use Rattle.sync_net.specs.Standing.{LineStands, heard_before}
 use Rattle.sync_net.specs.Steps.{told_past, IsLineTold, IsLineSaid}

@@ -1,5 +1,5 @@
 -- One element and one line over a millisecond in which they aren't called.
-use Rattle.std.proofs.Common.{◌≡◌, ◌≤◌, ◌<◌, ℕ, suc, ◌-◌, List, ◌∷◌, length, Option, None, Some, IfSome, ap, sym, subst, ◌∙◌, arith}
+use Rattle.std.proofs.Common.{◌≡◌, ◌≤◌, ◌<◌, ℕ, suc, List, ◌∷◌, length, Option, None, Some, IfSome, ap, sym, subst, ◌∙◌, arith}
 use Rattle.sync_ql.specs.Pasts.{past_of}
 use Rattle.sync_ql.specs.Moment.{Moment, Settings, signals_of}
 use Rattle.sync_ql.specs.Condition.{failed_at}

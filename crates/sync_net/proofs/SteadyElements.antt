@@ -1,7 +1,6 @@
 -- Whether the inputs of an element are steady, by its last step.
 use Rattle.std.proofs.Common.{◌≡◌, ◌≤◌, ◌<◌, ◌+◌, ◌-◌, ℕ, zero, suc, Bool, true, false, not, List, [], ◌∷◌, length, slice_get, Some, refl, ap, sym, subst, ◌∙◌, inl, inr, arith}
 use Rattle.std.specs.Prelude.{nat_lt, if◌then◌else◌, IsTrue}
-use Rattle.std.proofs.lemmas.List.{length-map}
 use Rattle.std.proofs.lemmas.Bool.{le-ltb, lt-ltb}
 use Rattle.std.proofs.lemmas.Option.{slice_get_within, slice_get_cases}
 use Rattle.sync_ql.specs.Condition.{is_up, down_for, up_for, failed_at}
@@ -15,7 +14,7 @@ use Rattle.sync_element.specs.StandsFor as Element
 use Rattle.sync_topo.specs.declared.input.InputId.{InputId}
 use Rattle.sync_topo.specs.declared.input.InputId.TheVariants.{Line, Source}
 use Rattle.sync_topo.specs.Topology.{Topology}
-use Rattle.sync_topo.specs.Lines.{IsInput, is_nominated_input, inputs_of, input_priority, element_of}
+use Rattle.sync_topo.specs.Lines.{IsInput, is_nominated_input, inputs_of, element_of}
 use Rattle.sync_topo.specs.WellFormed.{IsWellFormed}
 use Rattle.net_rules.specs.Signals.{Signals}
 use Rattle.net_rules.specs.History.{Levels, settings_of, heard, moment_at, element_past, failed_by}

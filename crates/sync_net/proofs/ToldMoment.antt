@@ -14,7 +14,7 @@ use Rattle.sync_topo.specs.declared.event.Event.{Event}
 use Rattle.sync_topo.specs.Topology.{Topology}
 use Rattle.sync_topo.specs.Lines.{inputs_of}
 use Rattle.net_rules.specs.Inputs.{IsInputOf}
-use Rattle.net_rules.specs.Signals.{Signals, signals_by, events_at, last_word, clears as clears_input, says_up as says_input_up, command_to, up_at, source_level_at, source_level_before}
+use Rattle.net_rules.specs.Signals.{signals_by, events_at, last_word, clears as clears_input, says_up as says_input_up, command_to, up_at, source_level_at, source_level_before}
 use Rattle.net_rules.specs.History.{by_levels, settings_of, first_level, heard, input_level, moment_at, element_past, out_at}
 use Rattle.net_rules.specs.Settings.{InputLevels, signal_at}
 use Rattle.net_rules.proofs.SettingLaws.{level_until, IsSaid, told-by}
