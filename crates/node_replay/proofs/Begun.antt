@@ -17,7 +17,7 @@ use Rattle.net_rules.specs.Signals.{planned_level, last_word, says_up, says_esmc
 use Rattle.net_rules.specs.History.{settings_of, moment_at}
 use Rattle.net_rules.specs.Walks.{Each}
 use Rattle.net_rules.proofs.Lists.{Each-made}
-use Rattle.sync_net.proofs.SplitWords.{none-before-0}
+use Rattle.net_words.proofs.SplitWords.{none-before-0}
 use Rattle.node_file.specs.declared.row.NodeRow.{NodeRow}
 use Rattle.node_file.specs.NodeRow.{events_in}
 use Rattle.node_replay.specs.declared.inputs.InputKept.{InputKept}

@@ -13,8 +13,8 @@ use Rattle.sync_topo.specs.Events.{IsInOrder}
 use Rattle.net_rules.specs.Signals.{events_at, last_word, says_up, says_level, planned_level, source_level_before, up_at, said_at}
 use Rattle.net_rules.specs.Walks.{Each}
 use Rattle.net_rules.proofs.Lists.{Each-map, Each-made}
-use Rattle.sync_net.specs.Standing.{up_before, said_before}
-use Rattle.sync_net.proofs.SplitWords.{word-until}
+use Rattle.net_words.specs.Before.{up_before, said_before}
+use Rattle.net_words.proofs.SplitWords.{word-until}
 use Rattle.node_file.specs.declared.row.NodeRow.{NodeRow}
 use Rattle.node_file.specs.NodeRow.{events_in, rows_at, frames_on}
 use Rattle.node_replay.specs.declared.inputs.LastWord.{LastWord}

@@ -27,11 +27,11 @@ use Rattle.net_rules.specs.Settings.{signal_at}
 use Rattle.net_rules.specs.Walks.{Each}
 use Rattle.net_rules.proofs.SettingLaws.{level_until, IsSaid, told-by}
 use Rattle.net_rules.proofs.Lists.{each-at}
-use Rattle.sync_net.specs.declared.saying.Saying.TheVariants.{IsCleared}
-use Rattle.sync_net.specs.Words.{word_at}
-use Rattle.sync_net.specs.Standing.{up_before}
-use Rattle.sync_net.proofs.ToldMoment.{past-up}
-use Rattle.sync_net.proofs.WordLaws.{all-clear, last_said-append, commands_in-append}
+use Rattle.net_words.specs.declared.saying.Saying.TheVariants.{IsCleared}
+use Rattle.net_words.specs.Words.{word_at}
+use Rattle.net_words.specs.Before.{up_before}
+use Rattle.net_words.proofs.SplitWords.{past-up}
+use Rattle.net_words.proofs.WordLaws.{all-clear, last_said-append, commands_in-append}
 use Rattle.node_file.specs.declared.row.NodeWord.{NodeWord}
 use Rattle.node_file.specs.declared.row.NodeWord.TheVariants.{Frame, Happens}
 use Rattle.node_file.specs.declared.row.NodeRow.{NodeRow}

@@ -14,8 +14,8 @@ use Rattle.net_rules.specs.Signals.{last_word, says_esmc, up_at, esmc_at}
 use Rattle.net_rules.specs.History.{settings_of, taken_by, is_way_back}
 use Rattle.net_rules.specs.Walks.{Each}
 use Rattle.net_rules.proofs.Lists.{Each-map, Each-made, Each-both}
-use Rattle.sync_net.specs.Standing.{up_before, esmc_before}
-use Rattle.sync_net.proofs.SplitWords.{word-until}
+use Rattle.net_words.specs.Before.{up_before, esmc_before}
+use Rattle.net_words.proofs.SplitWords.{word-until}
 use Rattle.node_file.specs.declared.row.NodeRow.{NodeRow}
 use Rattle.node_file.specs.NodeRow.{events_in, rows_at}
 use Rattle.node_replay.specs.declared.outs.OutKept.{OutKept}

@@ -11,7 +11,7 @@ use Rattle.sync_ql.specs.declared.levels.Level.{Level}
 use Rattle.sync_ql.specs.declared.rules.InputEvent.{InputEvent}
 use Rattle.sync_topo.specs.declared.event.What.{What}
 use Rattle.net_rules.specs.Signals.{last_word}
-use Rattle.sync_net.proofs.SplitWords.{unwrap_or-or}
+use Rattle.net_words.proofs.SplitWords.{unwrap_or-or}
 use Rattle.node_file.specs.declared.row.NodeWord.{NodeWord}
 use Rattle.node_file.specs.declared.row.NodeWord.TheVariants.{Frame, Happens}
 use Rattle.node_file.specs.declared.row.NodeRow.{NodeRow}

@@ -18,7 +18,7 @@ use Rattle.net_rules.specs.History.{input_level, moment_at, sent_by}
 use Rattle.net_rules.specs.Settings.{input_by}
 use Rattle.net_rules.specs.Walks.{Each}
 use Rattle.net_rules.proofs.Lists.{map-same, past-same}
-use Rattle.sync_net.proofs.SplitWords.{none-before-0, until-split}
+use Rattle.net_words.proofs.SplitWords.{none-before-0, until-split}
 use Rattle.esmc_frame.specs.Frame.{written_frame}
 use Rattle.node_file.specs.declared.row.NodeRow.{NodeRow}
 use Rattle.node_file.specs.NodeRow.{events_in, rows_at, frames_on}

@@ -20,7 +20,7 @@ use Rattle.sync_topo.specs.WellFormed.{IsWellFormed}
 use Rattle.net_rules.specs.Signals.{source_level_before}
 use Rattle.net_rules.specs.History.{settings_of, moment_at, taken_by}
 use Rattle.net_rules.specs.Walks.{Each}
-use Rattle.sync_net.specs.Standing.{up_before, esmc_before, said_before}
+use Rattle.net_words.specs.Before.{up_before, esmc_before, said_before}
 use Rattle.node_file.specs.declared.row.NodeRow.{NodeRow}
 use Rattle.node_file.specs.NodeRow.{events_in, rows_at}
 use Rattle.node_replay.specs.declared.inputs.LastWord.{LastWord}

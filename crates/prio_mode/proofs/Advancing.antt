@@ -8,7 +8,7 @@ use Rattle.sync_topo.specs.declared.event.Event.{Event}
 use Rattle.sync_topo.specs.Topology.{Topology}
 use Rattle.sync_topo.specs.Events.{IsEventList}
 use Rattle.net_rules.specs.Signals.{events_at}
-use Rattle.sync_net.specs.Words.{all_words}
+use Rattle.net_words.specs.Words.{all_words}
 use Rattle.prio_mode.specs.declared.running.Run.{Run}
 use Rattle.prio_mode.specs.PriorityAlone.{priority_settings}
 use Rattle.prio_mode.specs.EventTimes.{AreFrom, IsNextTime}

@@ -36,8 +36,8 @@ use Rattle.sync_topo.specs.Hops.{hops_any}
 use Rattle.sync_topo.proofs.HopLaws.{hop-meets}
 use Rattle.prio_mode.specs.PriorityAlone.{one_level, by_priority, priority_levels, priority_settings, priority_moment, priority_taken_at, priority_taken_in}
 use Rattle.prio_mode.specs.ForcedLoop.{forced_on, IsForcedLoop}
-use Rattle.sync_net.proofs.DistinctInputs.{place-at}
-use Rattle.sync_net.proofs.PlaceLemmas.{no-place-there, stands-there}
+use Rattle.net_words.proofs.DistinctInputs.{place-at}
+use Rattle.net_words.proofs.PlaceLemmas.{no-place-there, stands-there}
 use Rattle.prio_mode.proofs.RingLaws.{IsFollowed, each_followed, receivers_apart, ring_apart, ring_joins}
 
 -- up in its first millisecond, an input isn't failed

@@ -26,7 +26,7 @@ use Rattle.net_rules.specs.Inputs.{IsInputOf}
 use Rattle.net_rules.specs.Walks.{Each}
 use Rattle.net_rules.proofs.Lists.{Each-map}
 use Rattle.net_rules.proofs.InputLaws.{inputs-are}
-use Rattle.sync_net.specs.Beginning.{AreEach}
+use Rattle.net_words.specs.NewElements.{AreEach}
 use Rattle.prio_mode.specs.declared.shown.Shown.{Shown}
 use Rattle.prio_mode.specs.declared.running.Run.{Run}
 use Rattle.prio_mode.specs.Configured.{config_of, IsNewElement, AreShown}

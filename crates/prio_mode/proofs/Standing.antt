@@ -21,11 +21,10 @@ use Rattle.net_rules.specs.Signals.{signals_by, events_at, last_word, says_up as
 use Rattle.net_rules.specs.History.{settings_of}
 use Rattle.net_rules.specs.Settings.{signal_at}
 use Rattle.net_rules.proofs.SettingLaws.{level_until, IsSaid, told-by}
-use Rattle.sync_net.specs.Words.{all_words}
+use Rattle.net_words.specs.Words.{all_words}
 use Rattle.sync_topo.proofs.InputPlaces.{same-self}
-use Rattle.sync_net.proofs.SplitWords.{word-until}
-use Rattle.sync_net.proofs.ToldMoment.{past-up}
-use Rattle.sync_net.proofs.WordLaws.{all-up, all-level, all-clear, all-commands}
+use Rattle.net_words.proofs.SplitWords.{word-until, past-up}
+use Rattle.net_words.proofs.WordLaws.{all-up, all-level, all-clear, all-commands}
 use Rattle.prio_mode.specs.declared.shown.Shown.{Shown}
 use Rattle.prio_mode.specs.PriorityAlone.{one_level, by_priority, priority_levels, priority_settings, priority_moment, priority_past}
 use Rattle.prio_mode.specs.PriorityRows.{shown_after, is_same_mode, is_same_state, is_same_taken, is_other, shown_by, row_between, change_row}

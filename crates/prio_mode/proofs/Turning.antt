@@ -12,9 +12,9 @@ use Rattle.sync_element.specs.ElementState.{ElementState}
 use Rattle.sync_topo.specs.declared.event.Event.{Event}
 use Rattle.sync_topo.specs.Topology.{Topology}
 use Rattle.sync_topo.specs.WellFormed.{IsWellFormed}
-use Rattle.sync_net.specs.Tellings.{told_to, is_something, AreTold}
-use Rattle.sync_net.specs.Words.{all_words}
-use Rattle.sync_net.proofs.FitLaws.{all-fit}
+use Rattle.net_words.specs.Tellings.{told_to, is_something, AreTold}
+use Rattle.net_words.specs.Words.{all_words}
+use Rattle.net_words.proofs.FitLaws.{all-fit}
 use Rattle.prio_mode.specs.declared.shown.Shown.{Shown}
 use Rattle.prio_mode.specs.declared.running.Run.{Run}
 use Rattle.prio_mode.specs.PriorityAlone.{priority_settings}

@@ -10,7 +10,7 @@ use Rattle.sync_element.specs.StandsAfter.{IsStepped}
 use Rattle.sync_element.proofs.ElementSteps.{stepped-in_time, stands-stepped}
 use Rattle.sync_topo.specs.Topology.{Topology}
 use Rattle.net_rules.specs.Signals.{signals_by}
-use Rattle.sync_net.specs.Tellings.{told_to, is_something}
+use Rattle.net_words.specs.Tellings.{told_to, is_something}
 use Rattle.prio_mode.specs.declared.shown.Shown.{Shown}
 use Rattle.prio_mode.specs.declared.running.Run.{Run}
 use Rattle.prio_mode.specs.PriorityAlone.{priority_settings, priority_moment, priority_past}

@@ -1,11 +1,7 @@
 -- Elements that choose by priority alone: each input has one and the same level in every millisecond, so that
 -- levels decide nothing. After G.781, selection, external commands, and hold-off and wait-to-restore times; the
 -- rest is this project's own.
-use Rattle.std.specs.Prelude.{ℕ, suc, List, Option, None, Some}
-use Rattle.std.proofs.Common.{lit<}
-use Rattle.sync_ql.specs.declared.levels.NetOption.{NetOption}
-use Rattle.sync_ql.specs.declared.levels.NetOption.TheVariants.{I, II}
-use Rattle.sync_ql.specs.declared.levels.Level.{Level}
+use Rattle.std.specs.Prelude.{ℕ, suc, List, Option, Some}
 use Rattle.sync_ql.specs.declared.rules.Mode.{Mode}
 use Rattle.sync_ql.specs.declared.rules.ClockState.{ClockState}
 use Rattle.sync_ql.specs.Pasts.{past_of}
@@ -14,21 +10,9 @@ use Rattle.sync_ql.specs.Output.{mode_at, state_at}
 use Rattle.sync_topo.specs.declared.input.InputId.{InputId}
 use Rattle.sync_topo.specs.Topology.{Topology}
 use Rattle.net_rules.specs.Signals.{Signals}
-use Rattle.net_rules.specs.Settings.{Setting, InputLevels, settings_by, moment_by, taken_with}
+use Rattle.net_rules.specs.Settings.{InputLevels, settings_by, moment_by, taken_with}
 use Rattle.net_rules.specs.Walks.{Taken}
-
--- the level that every input has: the option's first
-abbrev pub one_level : NetOption → Level
-one_level I = record { option = I; place = 0; is_row = lit< tt }
-one_level II = record { option = II; place = 0; is_row = lit< tt }
-
--- how elements choose by priority alone: without a floor, by one level for each input, and without bundles
-abbrev pub by_priority : Topology → Setting
-by_priority plan = record {
-  floor = λ element. None;
-  first = λ input. Some (one_level plan.option);
-  bundle = λ input. 0;
-}
+use Rattle.net_words.specs.NewElements.{one_level, by_priority}
 
 -- what an element of a plan is set to
 unfoldable pub priority_settings : Topology → ℕ → Settings

@@ -11,8 +11,8 @@ use Rattle.sync_topo.specs.Topology.{Topology}
 use Rattle.sync_topo.specs.Lines.{IsInput}
 use Rattle.sync_topo.specs.Events.{IsEventList}
 use Rattle.net_rules.specs.Signals.{signals_by, events_at}
-use Rattle.sync_net.specs.Tellings.{told_to, is_active, is_something}
-use Rattle.sync_net.specs.Words.{all_words}
+use Rattle.net_words.specs.Tellings.{told_to, is_active, is_something}
+use Rattle.net_words.specs.Words.{all_words}
 use Rattle.prio_mode.specs.declared.shown.Shown.{Shown}
 use Rattle.prio_mode.specs.declared.running.Run.{Run}
 use Rattle.prio_mode.specs.PriorityAlone.{priority_settings, priority_moment}

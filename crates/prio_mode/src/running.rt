@@ -5,7 +5,7 @@ ghost use Rattle.sync_ql.specs.Told.{FitsElement};
 ghost use Rattle.sync_element.specs.ElementState.{ElementState};
 ghost use Rattle.sync_topo.specs.declared.event.Event.{Event};
 ghost use Rattle.sync_topo.specs.Events.{Fits};
-ghost use Rattle.sync_net.specs.Tellings.{told_to, is_active, is_something};
+ghost use Rattle.net_words.specs.Tellings.{told_to, is_active, is_something};
 ghost use Rattle.prio_mode.specs.declared.shown.Shown.{Shown};
 ghost use Rattle.prio_mode.specs.EventTimes.{AreFrom};
 ghost use Rattle.prio_mode.specs.PriorityAlone.{priority_settings};

@@ -3,7 +3,7 @@
 ghost use Rattle.std.specs.Prelude.{◌≡◌, ◌<◌, ℕ, List, IfOk, length, map};
 ghost use Rattle.sync_topo.specs.declared.event.Event.{Event};
 ghost use Rattle.sync_topo.specs.Lines.{inputs_of, IsInput};
-ghost use Rattle.sync_net.specs.Beginning.{AreEach};
+ghost use Rattle.net_words.specs.NewElements.{AreEach};
 ghost use Rattle.prio_mode.specs.Configured.{config_of, IsNewElement, AreShown};
 ghost use Rattle.prio_mode.specs.PriorityAlone.{one_level};
 ghost use Rattle.prio_mode.specs.Running.{IsRun, RunStands};

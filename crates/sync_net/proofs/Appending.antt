@@ -39,7 +39,8 @@ use Rattle.net_rules.proofs.PlanLaws.{IsDelayed-well, sender-within, receiver-wi
 use Rattle.net_rules.proofs.OrderLaws.{later-same, touch-same}
 use Rattle.net_rules.proofs.FinalLaws.{later-pasts, order-pasts}
 use Rattle.sync_net.specs.NetState.{NetState, line_in}
-use Rattle.sync_net.specs.Standing.{ElementStands, LineStands, up_before, esmc_before, said_before, IsNominatedSource, IsOfPast}
+use Rattle.sync_net.specs.Standing.{ElementStands, LineStands, IsNominatedSource, IsOfPast}
+use Rattle.net_words.specs.Before.{up_before, esmc_before, said_before}
 use Rattle.sync_net.proofs.QuietGap.{line-moments}
 
 -- two lists of events say the same of elements, lines and sources before a millisecond

@@ -26,17 +26,17 @@ use Rattle.net_rules.specs.Inputs.{IsInputOf}
 use Rattle.net_rules.specs.History.{settings_of}
 use Rattle.net_rules.proofs.WalkLaws.{line_input-same}
 use Rattle.net_rules.proofs.NetLaws.{many-inputs}
-use Rattle.sync_net.specs.Tellings.{is_something}
+use Rattle.net_words.specs.Tellings.{is_something}
 use Rattle.sync_net.specs.Stages.{is_marked}
 use Rattle.sync_net.specs.declared.signals.LineSignal.{LineSignal}
 use Rattle.sync_net.specs.NetState.{line_in}
 use Rattle.sync_net.specs.Steps.{IsLineTold}
 use Rattle.sync_net.specs.Hearing.{Ears, heard_in, IsToldAt, IsNotTold, HearsMore, told_in, AreTold, CanTell, IsPassedOn}
 use Rattle.sync_net.proofs.StageLaws.{one-of, none-of, is-place, keeps-marks, keeps-same, or-second}
-use Rattle.sync_net.proofs.SentLevels.{own-option}
-use Rattle.sync_net.proofs.DistinctInputs.{place-at, input-of}
-use Rattle.sync_net.proofs.PlaceLemmas.{found-at}
-use Rattle.sync_net.proofs.WordLaws.{last_said-append, commands_in-append}
+use Rattle.net_rules.proofs.SettingLaws.{own-option}
+use Rattle.net_words.proofs.DistinctInputs.{place-at, input-of}
+use Rattle.net_words.proofs.PlaceLemmas.{found-at}
+use Rattle.net_words.proofs.WordLaws.{last_said-append, commands_in-append}
 
 -- nothing is told where nothing is otherwise
 pub hears-same : (plan : Topology) (element : ℕ) (heards : List (Option Level)) (changes : List InputEvent) → HearsMore plan element heards heards changes changes

@@ -29,7 +29,7 @@ use Rattle.sync_net.specs.Telling.{IsTold}
 use Rattle.sync_net.specs.Steps.{IsSteady, IsLineSaid}
 use Rattle.sync_net.specs.Stages.{IsLevelSent}
 use Rattle.sync_net.specs.NetStep.{ElementStays, LineIsTold, LineKeeps, LineIsSaid, LineStays, IsNetStep}
-use Rattle.sync_net.proofs.SplitWords.{signals-after}
+use Rattle.sync_net.proofs.SignalsAfter.{signals-after}
 use Rattle.sync_net.proofs.ToldMoment.{told-moment}
 use Rattle.sync_net.proofs.QuietObjects.{HasNoNews, element-quiet, element-sends, line-quiet, line-heard}
 use Rattle.sync_net.proofs.QuietGap.{some_element, line-moments}

@@ -5,13 +5,13 @@ use Rattle.sync_ql.specs.declared.rules.InputEvent.{InputEvent}
 use Rattle.sync_topo.specs.declared.event.Event.{Event}
 use Rattle.sync_topo.specs.declared.input.InputId.TheVariants.{Source}
 use Rattle.sync_topo.specs.Topology.{Topology}
-use Rattle.sync_net.specs.declared.saying.Saying.TheVariants.{HasLevel}
+use Rattle.net_words.specs.declared.saying.Saying.TheVariants.{HasLevel}
 use Rattle.sync_net.specs.declared.signals.SourceSignal.{SourceSignal}
-use Rattle.sync_net.specs.declared.tellings.Tellings.{Tellings}
+use Rattle.net_words.specs.declared.tellings.Tellings.{Tellings}
 use Rattle.sync_net.specs.Noting.{source_at}
-use Rattle.sync_net.specs.Words.{input_words}
+use Rattle.net_words.specs.Words.{input_words}
 use Rattle.sync_net.specs.Settling.{named_source, names_source, settled, settle_if, AreSourcesSettled, level_words, all_level_words}
-use Rattle.sync_net.specs.Tellings.{told_to, is_active, is_something, AreTold, AreToldSoFar}
+use Rattle.net_words.specs.Tellings.{told_to, is_active, is_something, AreTold, AreToldSoFar}
 
 -- what is told of levels is the same of sources that settle alike
 same-words : (plan : Topology) (sources others : List SourceSignal) (named : Option ℕ) (element : ℕ)

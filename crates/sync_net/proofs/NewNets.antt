@@ -47,83 +47,9 @@ use Rattle.sync_net.specs.Noting.{line_at, source_at, AreOfOption}
 use Rattle.sync_net.specs.Hearing.{heard_in, told_in}
 use Rattle.sync_net.specs.Standing.{ElementStands, LineStands, AreSignals, AreHeard, IsOfPast}
 use Rattle.sync_net.specs.Whole.{IsReadyElement, IsReadyLine, IsWhole, kept_of, state_of}
-use Rattle.sync_net.specs.Beginning.{AreEach, IsNewElement, IsNewLine, IsNewSource, IsBegun, config_of}
-use Rattle.sync_net.proofs.SplitWords.{none-before-0}
-
--- nothing holds of each of no items
-pub each-none : {A : Type 0} (P : ℕ → A → Type 0) → AreEach P 0 []
-each-none P = record { count = refl; each = λ place other early. absurd (omega (arith, early)) }
-
--- one item more
-pub each-more : {A : Type 0} (P : ℕ → A → Type 0) (n : ℕ) (xs ys : List A) (x : A) → AreEach P n xs → ys ≡ xs ++ x ∷ [] → P n x → AreEach P (n + 1) ys
-each-more P n xs ys x before more last = subst (AreEach P (n + 1)) (sym more) (record {
-  count = length-append xs (x ∷ []) ∙ ap (λ k. k + 1) before.count;
-  each = λ place other early. elim (dec_lt place n) [
-    | yes earlier ↦ subst (P place) (sym (get_or-append xs (x ∷ []) other place (omega (arith, before.count, earlier)))) (before.each place other earlier)
-    | no here ↦
-        let same : place ≡ n = omega (arith, here, early) in
-        subst (P place) (sym (ap (λ k. slice_index_or (xs ++ x ∷ []) k other) (same ∙ sym before.count) ∙ get_or-append_seam xs x [] other)) (subst (λ k. P k x) (sym same) last)
-  ];
-})
-
--- what holds of each of a list holds at each of its places
-all-from : {A : Type 0} (P : A → Type 0) (xs : List A) → Each P xs → All P xs
-all-from P [] each = All-nil P
-all-from P (x ∷ xs) each = All-cons P x xs each.0 (all-from P xs each.1)
-
--- a list made twice over is made once
-map-map : {A B C : Type 0} (f : A → B) (g : B → C) (xs : List A) → map g (map f xs) ≡ map (λ x. g (f x)) xs
-map-map f g [] = refl
-map-map f g (x ∷ xs) = ap (λ ys. g (f x) ∷ ys) (map-map f g xs)
-
--- the priorities of an element's inputs are at least 1
-pub priorities-fit : (plan : Topology) (place : ℕ) (configs : List InputConfig) → configs ≡ map (config_of plan) (inputs_of plan place) → All (λ input. 1 ≤ input.priority) configs
-priorities-fit plan place configs is =
-    subst (All (λ input. 1 ≤ input.priority)) (sym is)
-    (All-map (λ input. 1 ≤ input.priority) (config_of plan) (inputs_of plan place)
-    (all-from (λ input. 1 ≤ (config_of plan input).priority) (inputs_of plan place)
-    (Each-map (IsInputOf plan place) (λ input. 1 ≤ (config_of plan input).priority) (λ input of. ltb-true 0 (config_of plan input).priority of.nominated) (inputs_of plan place) (inputs-are plan place))))
-
--- do-not-use of an option is of that option
-none-of : (option : NetOption) → (do_not_use_of option).option ≡ option
-none-of I = refl
-none-of II = refl
-
--- the level that the plan gives a source is of its option
-pub planned-fits : (plan : Topology) (source : ℕ) → IsWellFormed plan → source < length plan.sources → (planned_level plan source).option ≡ plan.option
-planned-fits plan source well within = of (slice_get plan.sources source) refl
-  where
-    of : (o : Option sources.Source) → slice_get plan.sources source ≡ o → (option_map_or (λ s. s.level) o (do_not_use_of plan.option)).option ≡ plan.option
-    of None is = none-of plan.option
-    of (Some found) is = (well.sources_fit source found is).of_option
-
--- the level that an input of an element has at first is of the plan's option
-first-fits : (plan : Topology) (place : ℕ) (input : InputId) → IsWellFormed plan → IsInputOf plan place input → IsOfOption plan.option (config_of plan input).first
-first-fits plan place (Line line) well of = tt
-first-fits plan place (Source source) well of = planned-fits plan source well of.has
-
--- the levels that an element's inputs have at first are of the option of its clock
-pub firsts-fit : (plan : Topology) (place : ℕ) (own : Level) (configs : List InputConfig) → IsWellFormed plan → own.option ≡ plan.option → configs ≡ map (config_of plan) (inputs_of plan place)
-    → All (λ input. IsOfOption own.option input.first) configs
-firsts-fit plan place own configs well own_is is =
-    subst (λ o. All (λ input. IsOfOption o input.first) configs) (sym own_is)
-    (subst (All (λ input. IsOfOption plan.option input.first)) (sym is)
-    (All-map (λ input. IsOfOption plan.option input.first) (config_of plan) (inputs_of plan place)
-    (all-from (λ input. IsOfOption plan.option (config_of plan input).first) (inputs_of plan place)
-    (Each-map (IsInputOf plan place) (λ input. IsOfOption plan.option (config_of plan input).first) (λ input of. first-fits plan place input well of) (inputs_of plan place) (inputs-are plan place)))))
-
--- an element set to what the plan says has the plan's settings
-pub settings-are : (plan : Topology) (place : ℕ) (element : elements.Element) (configs : List InputConfig) → slice_get plan.elements place ≡ Some element → configs ≡ map (config_of plan) (inputs_of plan place)
-    → configured.settings_of (record { own = element.own; floor = element.floor; holdoff = element.holdoff; wtr = element.wtr; inputs = configs }) ≡ settings_of plan place
-unfolding settings_of
-settings-are plan place element configs is configs_are =
-    rw (
-      is,
-      configs_are,
-      map-map (config_of plan) (λ input. input.priority) (inputs_of plan place),
-      map-map (config_of plan) (λ input. input.first) (inputs_of plan place),
-      map-map (config_of plan) (λ input. input.bundle) (inputs_of plan place),
-    ) refl
+use Rattle.sync_net.specs.Beginning.{IsNewLine, IsNewSource, IsBegun, config_of}
+use Rattle.net_words.specs.NewElements.{AreEach, IsNewElement}
+use Rattle.net_words.proofs.SplitWords.{none-before-0}
 
 -- a nominated line is a line of the plan
 nominated-within : (plan : Topology) (line : ℕ) → IsNominated plan line → line < line_count plan
@@ -146,7 +72,8 @@ if-some P Q None f holds = tt
 if-some P Q (Some x) f holds = f x holds
 
 -- a new element stands between two steps
-ready-element : (plan : Topology) (next place : ℕ) (element : ElementState) → next ≡ 0 → IsNewElement plan place element → IsReadyElement plan next place element
+ready-element : (plan : Topology) (next place : ℕ) (element : ElementState) → next ≡ 0 → IsNewElement (by_levels plan) plan place element → IsReadyElement plan next place element
+unfolding settings_of
 ready-element plan next place element at_first new = record {
   sound = record { settings = new.settings; due = new.changes };
   first = λ _first. at_first;

@@ -14,18 +14,8 @@ use Rattle.sync_topo.specs.declared.element.Element as declared
 use Rattle.sync_topo.specs.Topology.{Topology}
 use Rattle.sync_topo.specs.Lines.{sender_of, inputs_of}
 use Rattle.sync_topo.specs.WellFormed.{IsWellFormed}
+use Rattle.net_rules.proofs.SettingLaws.{own-option}
 use Rattle.net_rules.specs.History.{settings_of, taken_by, is_way_back, sent_by}
-
--- an element's own level is of the plan's option
-pub own-option : (plan : Topology) (element : ℕ) → IsWellFormed plan → element < length plan.elements → (settings_of plan element).own.option ≡ plan.option
-unfolding settings_of
-own-option plan element well within = elim ((slice_get_cases plan.elements element).1) [
-  | inl some ↦ of (slice_get plan.elements element) some.0 some.2 some.2
-  | inr none ↦ absurd (omega (arith, none.0, within))
-]
-  where
-    of : (o : Option declared.Element) (e : declared.Element) → o ≡ Some e → slice_get plan.elements element ≡ Some e → (option_map_or (λ (e : declared.Element). e.own) o (do_not_use_of plan.option)).option ≡ plan.option
-    of o e is has = rw is ((well.elements_fit element e has).own_is_clock_level.of_option)
 
 -- a level that is the sender's own, where the line doesn't lead back
 pub own-sent : (plan : Topology) (line : ℕ) (sender : ElementState) (selected : Option ℕ) (level : Level) →

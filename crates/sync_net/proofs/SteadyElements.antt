@@ -25,7 +25,7 @@ use Rattle.net_rules.proofs.PlanLaws.{receiver-within}
 use Rattle.net_rules.proofs.NetLaws.{signals-at, failed-at, many-inputs}
 use Rattle.sync_net.specs.Standing.{ElementStands}
 use Rattle.sync_net.proofs.QuietObjects.{failed-until}
-use Rattle.sync_net.proofs.DistinctInputs.{input-of}
+use Rattle.net_words.proofs.DistinctInputs.{input-of}
 
 -- the element of an input is one of the plan
 pub input-within : (plan : Topology) → IsWellFormed plan → (input : InputId) → IsInput plan input → element_of plan input < length plan.elements

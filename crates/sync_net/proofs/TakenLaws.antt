@@ -24,17 +24,19 @@ use Rattle.net_rules.specs.History.{settings_of}
 use Rattle.net_rules.specs.Signals.{last_word, says_up as says_input_up, says_esmc, says_level as says_source_level}
 use Rattle.sync_net.specs.declared.signals.LineSignal.{LineSignal}
 use Rattle.sync_net.specs.declared.signals.SourceSignal.{SourceSignal}
-use Rattle.sync_net.specs.declared.tellings.Tellings.{Tellings}
+use Rattle.net_words.specs.declared.tellings.Tellings.{Tellings}
 use Rattle.sync_net.specs.Kept.{kept_up, kept_level}
 use Rattle.sync_net.specs.Noted.{AreNoted, IsSettled}
 use Rattle.sync_net.specs.Noting.{line_at, source_at, is_marked, names_line, AreOfOption, AreLinesNoted, AreSourcesNoted}
 use Rattle.sync_net.specs.Settling.{named_source, is_it, names_source, settled, settle_if, AreSourcesSettled, all_level_words}
 use Rattle.sync_net.specs.Taking.{Taking, AreTaken, kept_in}
 use Rattle.sync_net.specs.Telling.{IsTold}
-use Rattle.sync_net.specs.Tellings.{told_to, is_active, is_something, AreTold}
-use Rattle.sync_net.specs.Words.{all_words}
-use Rattle.sync_net.proofs.FitLaws.{all-fit, levels-fit, all-away, levels-away}
-use Rattle.sync_net.proofs.WordLaws.{all-named-level, last_said-append, commands_in-append, all-up, all-level, all-clear, levels-up, levels-level, levels-clear, all-commands, levels-commands}
+use Rattle.net_words.specs.Tellings.{told_to, is_active, is_something, AreTold}
+use Rattle.net_words.specs.Words.{all_words}
+use Rattle.net_words.proofs.FitLaws.{all-fit, all-away}
+use Rattle.sync_net.proofs.LevelFits.{levels-fit, levels-away}
+use Rattle.net_words.proofs.WordLaws.{last_said-append, commands_in-append, all-up, all-level, all-clear, all-commands}
+use Rattle.sync_net.proofs.LevelWords.{all-named-level, levels-up, levels-level, levels-clear, levels-commands}
 
 or-none : {A : Type 0} (o : Option A) → option_or o None ≡ o
 or-none None = refl

@@ -19,10 +19,11 @@ use Rattle.net_rules.specs.History.{by_levels, settings_of, first_level, heard, 
 use Rattle.net_rules.specs.Settings.{InputLevels, signal_at}
 use Rattle.net_rules.proofs.SettingLaws.{level_until, IsSaid, told-by}
 use Rattle.sync_net.specs.Kept.{Kept, kept_up, kept_level}
-use Rattle.sync_net.specs.Standing.{AreSignals, AreHeard, up_before, heard_before}
+use Rattle.sync_net.specs.Standing.{AreSignals, AreHeard, heard_before}
+use Rattle.net_words.specs.Before.{up_before}
 use Rattle.sync_net.specs.Telling.{IsTold}
-use Rattle.sync_net.proofs.DistinctInputs.{input-of}
-use Rattle.sync_net.proofs.SplitWords.{none-before-0}
+use Rattle.net_words.proofs.DistinctInputs.{input-of}
+use Rattle.net_words.proofs.SplitWords.{none-before-0}
 
 -- the level that an input has after n milliseconds
 abbrev level_before : Topology → List Event → InputId → ℕ → Option Level
@@ -40,12 +41,6 @@ kept-level : (plan : Topology) (kept : Kept) (all : List Event) (n element : ℕ
 kept-level plan kept all n element (Line line) signals heards of = heards line.0 of.nominated
 kept-level plan kept all n element (Source source) signals heards of =
     ap Some (signals.source_level source (record { has = of.has; nominated = of.nominated }))
-
--- an input is up after n milliseconds of its past as the events before them say
-pub past-up : (plan : Topology) (all : List Event) (input : InputId) (n : ℕ) → is_up (past_of (signal_at (signals_by plan all) input) n) ≡ up_before all input n
-unfolding up_at
-past-up plan all input zero = sym (ap (λ es. unwrap_or (last_word (says_input_up input) es) true) (none-before-0 all))
-past-up plan all input (suc t) = refl
 
 heard-none : (delay : ℕ) → heard_at delay [] ≡ None
 unfolding heard_at

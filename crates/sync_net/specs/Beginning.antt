@@ -15,30 +15,10 @@ use Rattle.sync_topo.specs.Topology.{Topology}
 use Rattle.sync_topo.specs.Lines.{line_count, delay_of, sender_of, input_priority, IsNominated}
 use Rattle.sync_topo.specs.WellFormed.{IsWellFormed}
 use Rattle.net_rules.specs.Signals.{planned_level}
-use Rattle.net_rules.specs.History.{settings_of, first_level, bundle_of_input}
+use Rattle.net_rules.specs.History.{by_levels}
+use Rattle.net_words.specs.NewElements.{AreEach, IsNewElement}
 use Rattle.sync_net.specs.declared.parts.Parts.{Parts}
 use Rattle.sync_net.specs.declared.signals.SourceSignal.{SourceSignal}
-
--- a list has n items, and something holds of each of them and its place
-pub record AreEach {A : Type 0} (Holds : ℕ → A → Type 0) (n : ℕ) (items : List A) : Type 0 where
-  pub count : length items ≡ n
-  pub each : (place : ℕ) (other : A) → place < n → Holds place (slice_index_or items place other)
-
--- what an element is set to for an input
-abbrev pub config_of : Topology → InputId → InputConfig
-config_of plan input = record {
-  priority = input_priority plan input;
-  first = first_level plan input;
-  bundle = bundle_of_input plan input;
-}
-
--- an element that was told nothing
-pub record IsNewElement (plan : Topology) (place : ℕ) (element : ElementState) : Type 0 where
-  pub settings : element.settings ≡ settings_of plan place
-  pub next : element.next ≡ 0
-  pub due : element.due ≡ None
-  pub stands : Element.StandsFor element []
-  pub changes : (past : List Moment) → Element.StandsFor element past → IsElementDue element.settings past element.due
 
 -- a line that was told nothing
 pub record IsNewLine (plan : Topology) (line : ℕ) (state : LineState) : Type 0 where
@@ -67,7 +47,7 @@ pub record IsBegun (plan : Topology) (parts : Parts) : Type 0 where
   pub well_formed : IsWellFormed plan
   pub next : parts.next ≡ 0
   pub later_steps : parts.later_steps ≡ 0
-  pub elements : AreEach (IsNewElement plan) (length plan.elements) parts.elements.items
+  pub elements : AreEach (IsNewElement (by_levels plan) plan) (length plan.elements) parts.elements.items
   pub lines : AreEach (IsNewPlace plan) (line_count plan) parts.lines.items
   pub signals : parts.signals.items ≡ replicate (line_count plan) (record { up = true; esmc = true })
   pub sources : AreEach (IsNewSource plan) (length plan.sources) parts.sources.items

@@ -5,9 +5,6 @@ pub mod Kept
 pub mod Sound
 pub mod Telling
 pub mod Noted
-pub mod Words
-pub mod Tellings
-pub mod InputPlaces
 pub mod Noting
 pub mod Settling
 pub mod Taking

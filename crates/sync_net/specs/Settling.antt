@@ -10,9 +10,9 @@ use Rattle.sync_topo.specs.declared.event.What.TheVariants.{Down, Up, SourceLeve
 use Rattle.sync_topo.specs.declared.event.Event.{Event}
 use Rattle.sync_topo.specs.Topology.{Topology}
 use Rattle.sync_net.specs.declared.signals.SourceSignal.{SourceSignal}
-use Rattle.sync_net.specs.declared.saying.Saying.TheVariants.{HasLevel}
+use Rattle.net_words.specs.declared.saying.Saying.TheVariants.{HasLevel}
 use Rattle.sync_net.specs.Noting.{source_at}
-use Rattle.sync_net.specs.Words.{input_words}
+use Rattle.net_words.specs.Words.{input_words}
 
 -- the source that an event goes down, comes up or gets a level by it
 abbrev pub named_source : What → Option ℕ

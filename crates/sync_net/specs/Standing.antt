@@ -34,18 +34,6 @@ pub record LineStands (plan : Topology) (signals : Signals) (out : Levels) (line
   pub unchanged : past_of (line_moment_at signals out line) n
       ≡ line_until n (past_of (line_moment_at signals out line) called)
 
--- an input is up, a line's ESMC is on, and a source was said to have a level, as the events before
--- a millisecond have it
-abbrev pub up_before : List Event → InputId → ℕ → Bool
-up_before events input n = unwrap_or (last_word (says_up input) (events_before n events)) true
-
-abbrev pub esmc_before : List Event → ℕ → ℕ → Bool
-esmc_before events line n = unwrap_or (last_word (says_esmc line) (events_before n events)) true
-
-abbrev pub said_before : Topology → List Event → ℕ → ℕ → Level
-said_before plan events source n =
-    unwrap_or (last_word (says_level source) (events_before n events)) (planned_level plan source)
-
 -- the level that is heard on a line after n milliseconds
 abbrev pub heard_before : Topology → Signals → Levels → ℕ → ℕ → Option Level
 heard_before plan signals out line n =

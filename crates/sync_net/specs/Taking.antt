@@ -8,12 +8,12 @@ use Rattle.sync_topo.specs.Lines.{IsNominated}
 use Rattle.net_rules.specs.Activity.{touches}
 use Rattle.sync_net.specs.declared.signals.LineSignal.{LineSignal}
 use Rattle.sync_net.specs.declared.signals.SourceSignal.{SourceSignal}
-use Rattle.sync_net.specs.declared.tellings.Tellings.{Tellings}
+use Rattle.net_words.specs.declared.tellings.Tellings.{Tellings}
 use Rattle.sync_net.specs.Kept.{Kept}
 use Rattle.sync_net.specs.Noted.{AreNoted}
 use Rattle.sync_net.specs.Noting.{line_at, is_marked, names_line}
 use Rattle.sync_net.specs.Telling.{IsTold}
-use Rattle.sync_net.specs.Tellings.{told_to, is_active}
+use Rattle.net_words.specs.Tellings.{told_to, is_active}
 
 -- the lines, the sources, the marks of lines, and what elements are told
 pub record Taking : Type 0 where

@@ -5,9 +5,8 @@ ghost use Rattle.sync_net.specs.Copied.{AreSame};
 
 use crate::parts::Parts;
 use crate::signals::{LineSignal, SourceSignal};
-use crate::tellings::Tellings;
-use crate::told::Told;
 use link_model::Line;
+use net_words::{Tellings, Told};
 use std::alloc::Global;
 use sync_element::Element;
 use sync_ql::Level;

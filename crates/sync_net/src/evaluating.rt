@@ -9,8 +9,8 @@ ghost use Rattle.sync_net.specs.Stages.{AreEvaluated, CanStep, changes_of, is_ou
 
 use crate::calls::step_element;
 use crate::marking::mark_all;
-use crate::told::Told;
 use agenda::{DueTimes, Marks};
+use net_words::Told;
 use std::sync::ledger::Ledger;
 use sync_element::Element;
 use sync_ql::limits::LAST_MILLISECOND;

@@ -12,11 +12,10 @@ ghost use Rattle.sync_net.specs.Noting.{line_at};
 ghost use Rattle.sync_net.specs.Hearing.{AreTold, IsPassedOn, IsLineToldIn, CanTell};
 
 use crate::calls::tell_line;
-use crate::places::input_place;
 use crate::signals::LineSignal;
-use crate::tellings::Tellings;
 use agenda::Marks;
 use link_model::Line;
+use net_words::{Tellings, input_place};
 use sync_element::InputEvent;
 use sync_ql::limits::LAST_MILLISECOND;
 use sync_ql::{Level, NetOption};

@@ -1,9 +1,9 @@
 //! What a network keeps beside its plan.
 
 use crate::signals::{LineSignal, SourceSignal};
-use crate::tellings::Tellings;
 use agenda::{DueTimes, Marks};
 use link_model::Line;
+use net_words::Tellings;
 use sync_element::Element;
 use sync_ql::Level;
 

@@ -5,12 +5,10 @@ ghost use Rattle.std.specs.List.{All};
 ghost use Rattle.sync_topo.specs.Events.{Fits, MayHappen};
 ghost use Rattle.sync_net.specs.Noting.{source_at, AreOfOption};
 ghost use Rattle.sync_net.specs.Settling.{named_source, settled, AreSourcesSettled, level_words, all_level_words};
-ghost use Rattle.sync_net.specs.Tellings.{AreTold};
+ghost use Rattle.net_words.specs.Tellings.{AreTold};
 
-use crate::saying::Saying;
 use crate::signals::SourceSignal;
-use crate::tellings::Tellings;
-use crate::wording::tell_input;
+use net_words::{Saying, Tellings, tell_input};
 use sync_ql::Level;
 use sync_text::NoMemory;
 use sync_topo::{Event, InputId, Part, Plan, What};

@@ -4,18 +4,17 @@ ghost use Rattle.std.specs.Prelude.{◌≡◌, ◌≤◌, ◌<◌, ◌+◌, ℕ,
 ghost use Rattle.agenda.specs.Marked.{none_marked};
 ghost use Rattle.sync_topo.specs.declared.event.Event.{Event};
 ghost use Rattle.sync_topo.specs.Lines.{line_count, inputs_of, IsInput};
-ghost use Rattle.sync_net.specs.Beginning.{AreEach, IsBegun, IsNewElement, IsNewPlace, IsNewSource, config_of};
+ghost use Rattle.sync_net.specs.Beginning.{IsBegun, IsNewPlace, IsNewSource};
+ghost use Rattle.net_words.specs.NewElements.{AreEach};
 ghost use Rattle.sync_net.specs.Standing.{IsOfPast};
 ghost use Rattle.sync_net.specs.Whole.{IsWhole, state_of};
 
 use crate::parts::Parts;
 use crate::signals::{LineSignal, SourceSignal};
-use crate::tellings::Tellings;
-use crate::told::Told;
 use agenda::{DueTimes, Marks};
 use link_model::Line;
+use net_words::{Chooses, new_elements, new_tellings};
 use std::alloc::Global;
-use sync_element::{Config, Element, InputConfig};
 use sync_ql::Level;
 use sync_text::{NoMemory, Rows};
 use sync_topo::{InputId, LineId, Plan};
@@ -37,7 +36,7 @@ pub fn new_parts(alloc: Global, plan: &Plan) -> Result<Parts, NoMemory>
 fn begun(alloc: Global, plan: &Plan) -> Result<Parts, NoMemory>
     ensures { IfOk result (IsBegun plan.now) }
 {
-    let elements = new_elements(alloc, plan)?;
+    let elements = new_elements(alloc, plan, Chooses::ByLevel)?;
     let lines = new_lines(alloc, plan)?;
     let signals = new_signals(alloc, plan)?;
     let sources = new_sources(alloc, plan)?;
@@ -57,71 +56,6 @@ fn begun(alloc: Global, plan: &Plan) -> Result<Parts, NoMemory>
         tellings,
         called,
     })
-}
-
-// The elements, by number.
-fn new_elements(alloc: Global, plan: &Plan) -> Result<Vec<Element>, NoMemory>
-    ensures { IfOk result (λ elements.
-        AreEach (IsNewElement plan.now) (length plan.now.elements) elements.items) }
-{
-    let mut elements = Rows::with_capacity(alloc, plan.elements() as usize)?;
-    for place in 0..plan.elements() {
-        elements.push(new_element(alloc, plan, place)?)?;
-    }
-    Ok(elements.into_vec())
-}
-
-// An element by the plan, that was told nothing.
-fn new_element(alloc: Global, plan: &Plan, place: u32) -> Result<Element, NoMemory>
-    requires { place < length plan.now.elements }
-    ensures { IfOk result (IsNewElement plan.now place) }
-{
-    let inputs = input_configs(alloc, plan, place)?;
-    let planned = plan.element(place);
-    let element = Element::new(
-        alloc,
-        Config {
-            own: planned.own,
-            floor: planned.floor,
-            holdoff: planned.holdoff,
-            wtr: planned.wtr,
-            inputs,
-        },
-    )?;
-    let _due = element.due();
-    Ok(element)
-}
-
-// What an element is set to for its inputs.
-fn input_configs(alloc: Global, plan: &Plan, place: u32) -> Result<Rows<InputConfig>, NoMemory>
-    requires { place < length plan.now.elements }
-    ensures { IfOk result (λ inputs. inputs ≡ map (config_of plan.now) (inputs_of plan.now place)) }
-{
-    let mut inputs = Rows::with_capacity(alloc, plan.inputs(place).len())?;
-    for input in plan.inputs(place) {
-        inputs.push(input_config(plan, *input))?;
-    }
-    Ok(inputs)
-}
-
-// What an element is set to for an input.
-fn input_config(plan: &Plan, input: InputId) -> InputConfig
-    requires { IsInput plan.now input }
-    ensures { result ≡ config_of plan.now input }
-{
-    let priority = plan.priority(input);
-    match input {
-        InputId::Line(line) => InputConfig {
-            priority,
-            first: None,
-            bundle: plan.bundle(line.0 / 2),
-        },
-        InputId::Source(source) => InputConfig {
-            priority,
-            first: Some(plan.source(source).level),
-            bundle: plan.links() + source,
-        },
-    }
 }
 
 // The lines, by number, of which only the nominated ones are kept.
@@ -197,22 +131,4 @@ fn no_levels(alloc: Global, plan: &Plan) -> Result<Vec<Option<Level>>, NoMemory>
         Ok(levels) => Ok(levels),
         Err(_) => Err(NoMemory),
     }
-}
-
-/// No element is told anything. This project's own.
-pub fn new_tellings(alloc: Global, plan: &Plan) -> Result<Tellings, NoMemory>
-    ensures changes { IfOk result (λ tellings.
-        tellings.changes.items ≡ replicate (length plan.now.elements) []) }
-    ensures active { IfOk result (λ tellings.
-        tellings.active ≡ none_marked (length plan.now.elements)) }
-{
-    let mut changes = Rows::with_capacity(alloc, plan.elements() as usize)?;
-    for _element in 0..plan.elements() {
-        changes.push(Told::new(alloc))?;
-    }
-    let active = Marks::new(alloc, plan.elements() as usize)?;
-    Ok(Tellings {
-        changes: changes.into_vec(),
-        active,
-    })
 }

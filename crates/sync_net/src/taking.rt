@@ -10,9 +10,8 @@ ghost use Rattle.sync_net.specs.Taking.{AreTaken};
 use crate::noting::{note_lines, note_sources};
 use crate::settling::settle_sources;
 use crate::signals::{LineSignal, SourceSignal};
-use crate::tellings::Tellings;
-use crate::wording::tell_events;
 use agenda::Marks;
+use net_words::{Tellings, tell_events};
 use sync_text::NoMemory;
 use sync_topo::{Event, Plan};
 

@@ -23,7 +23,7 @@ use Rattle.net_rules.specs.History.{Levels, settings_of, heard, moment_at, eleme
 use Rattle.net_rules.specs.Settings.{timers_of, signal_at}
 use Rattle.net_rules.proofs.NetLaws.{signals-at}
 use Rattle.sync_net.specs.Standing.{ElementStands}
-use Rattle.sync_net.proofs.DistinctInputs.{input-of}
+use Rattle.net_words.proofs.DistinctInputs.{input-of}
 
 -- an element has the inputs of the plan
 pub inputs-count : (plan : Topology) (place : ℕ) (element : ElementState) → element.settings ≡ settings_of plan place

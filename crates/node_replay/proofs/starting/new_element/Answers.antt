@@ -1,5 +1,5 @@
 use Rattle.std.proofs.Common.{◌∙◌}
-use Rattle.sync_net.proofs.NewNets.{priorities-fit, firsts-fit, settings-are}
+use Rattle.net_words.proofs.NewElements.{priorities-fit, firsts-fit, settings-are}
 use Rattle.node_replay.proofs.starting.new_element.Goals as goal
 
 pub new-requires-clause-priorities : goal.new-requires-clause-priorities

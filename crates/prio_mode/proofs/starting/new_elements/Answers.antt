@@ -1,5 +1,5 @@
 use Rattle.prio_mode.specs.Configured.{IsNewElement}
-use Rattle.sync_net.proofs.NewNets.{each-more}
+use Rattle.net_words.proofs.NewElements.{each-more}
 use Rattle.prio_mode.proofs.starting.new_elements.Goals as goal
 
 pub loop-place-preserved : goal.loop-place-preserved

@@ -1,4 +1,4 @@
-use Rattle.sync_net.specs.Beginning.{AreEach}
+use Rattle.net_words.specs.NewElements.{AreEach}
 use Rattle.prio_mode.specs.Configured.{IsNewElement}
 use Rattle.prio_mode.proofs.starting.new_elements.Given as goal
 

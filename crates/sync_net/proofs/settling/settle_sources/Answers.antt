@@ -4,7 +4,7 @@ use Rattle.std.proofs.Math.Numerals.{suc-eq-add-one}
 use Rattle.std.specs.Prelude.{List}
 use Rattle.sync_topo.specs.declared.event.Event.{Event}
 use Rattle.sync_net.specs.Settling.{AreSourcesSettled, all_level_words}
-use Rattle.sync_net.specs.Tellings.{AreToldSoFar}
+use Rattle.net_words.specs.Tellings.{AreToldSoFar}
 use Rattle.sync_net.proofs.LevelsTold.{levels-told, levels-settled}
 use Rattle.sync_net.proofs.settling.settle_sources.Goals as goal
 

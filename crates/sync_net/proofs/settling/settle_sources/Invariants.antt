@@ -1,7 +1,7 @@
 use Rattle.std.proofs.Common.{drop}
 use Rattle.sync_net.specs.Noting.{AreOfOption}
 use Rattle.sync_net.specs.Settling.{AreSourcesSettled, all_level_words}
-use Rattle.sync_net.specs.Tellings.{AreToldSoFar}
+use Rattle.net_words.specs.Tellings.{AreToldSoFar}
 use Rattle.sync_net.proofs.settling.settle_sources.Given as goal
 
 -- what is left of the events is still to be settled and told

@@ -1,5 +1,5 @@
 use Rattle.sync_net.specs.Beginning.{IsNewPlace}
-use Rattle.sync_net.proofs.NewNets.{each-more}
+use Rattle.net_words.proofs.NewElements.{each-more}
 use Rattle.sync_net.proofs.starting.new_lines.Goals as goal
 
 pub loop-number-preserved : goal.loop-number-preserved

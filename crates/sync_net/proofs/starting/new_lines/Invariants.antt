@@ -1,4 +1,5 @@
-use Rattle.sync_net.specs.Beginning.{AreEach, IsNewPlace}
+use Rattle.sync_net.specs.Beginning.{IsNewPlace}
+use Rattle.net_words.specs.NewElements.{AreEach}
 use Rattle.sync_net.proofs.starting.new_lines.Given as goal
 
 -- the lines so far

@@ -1,4 +1,5 @@
-use Rattle.sync_net.specs.Beginning.{AreEach, IsNewSource}
+use Rattle.sync_net.specs.Beginning.{IsNewSource}
+use Rattle.net_words.specs.NewElements.{AreEach}
 use Rattle.sync_net.proofs.starting.new_sources.Given as goal
 
 -- the sources so far

@@ -5,7 +5,7 @@ use Rattle.std.specs.List.{All}
 use Rattle.std.proofs.lemmas.Bool.{true≢false}
 use Rattle.std.proofs.lemmas.Result.{on_ok_weaker}
 use Rattle.sync_ql.specs.Told.{FitsElement}
-use Rattle.sync_net.specs.Tellings.{told_to}
+use Rattle.net_words.specs.Tellings.{told_to}
 use Rattle.prio_mode.specs.PriorityAlone.{priority_settings}
 use Rattle.prio_mode.specs.Running.{IsReady, element_in, shown_in}
 use Rattle.prio_mode.proofs.Visiting.{ready-at, told-at, visited-idle, visited-stepped, due-later, nothing-told}

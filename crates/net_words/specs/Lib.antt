@@ -1,0 +1,5 @@
+pub mod NewElements
+pub mod Before
+pub mod Words
+pub mod Tellings
+pub mod InputPlaces
