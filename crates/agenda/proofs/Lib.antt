@@ -1,3 +1,4 @@
 pub mod Tournaments
 pub mod FirstDues
 pub mod MarkedPlaces
+pub mod SortedPlaces

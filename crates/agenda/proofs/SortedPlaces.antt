@@ -6,10 +6,9 @@ use Rattle.std.specs.List.Sorted.{IsSorted}
 use Rattle.std.specs.Ordering.{nat_cmp, is_lt}
 use Rattle.std.specs.declared.cmp.Ordering.TheVariants.{Less, Equal, Greater}
 use Rattle.std.proofs.Math.Decide.{dec_lt}
-use Rattle.std.proofs.lemmas.Bool.{true≢false, lt-ltb}
+use Rattle.std.proofs.lemmas.Bool.{true≢false, lt-ltb, eq-eqb}
 use Rattle.std.proofs.lemmas.Bool.Decides.{eqb_tells}
 use Rattle.std.proofs.lemmas.Map.Keys.{apart_from_distinct}
-use Rattle.sync_net.proofs.StageLaws.{same-place}
 
 -- each number is above those before it, and the first is at least this one
 Rises : ℕ → List ℕ → Type 0
@@ -42,7 +41,7 @@ rises-kept : (p : ℕ → Bool) (low n : ℕ) (xs : List ℕ) → Rises low xs
 unfolding Rises
 rises-kept p low zero [] rises has within = refl
 rises-kept p low zero (x ∷ xs) rises has within =
-    let passes : p x ≡ true = sym (has x rises.0) ∙ ap (λ b. b || list_any (nat_eq x) xs) (same-place x) in
+    let passes : p x ≡ true = sym (has x rises.0) ∙ ap (λ b. b || list_any (nat_eq x) xs) (eq-eqb x x refl) in
     absurd (omega (arith, within x passes, rises.0))
 rises-kept p low (suc n) xs rises has within = by (p low) refl xs rises has (rises-kept p (low + 1) n)
   where
@@ -91,7 +90,7 @@ sorted-above a b not_less apart = elim (dec_lt a b) [
   | no below ↦ elim (dec_lt b a) [
     | yes less ↦ absurd (true≢false (sym (ap (λ c. is_lt (cond c Less (cond (nat_eq b a) Equal Greater))) (lt-ltb b a less)) ∙ not_less))
     | no equal ↦ let same : a ≡ b = omega (arith, below, equal) in
-        absurd (true≢false (sym (same-place a) ∙ ap (nat_eq a) same ∙ apart))
+        absurd (true≢false (sym (eq-eqb a a refl) ∙ ap (nat_eq a) same ∙ apart))
   ]
 ]
 

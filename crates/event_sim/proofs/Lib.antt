@@ -1,6 +1,5 @@
 pub mod ShownLemmas
 pub mod RowLaws
-pub mod SortedPlaces
 pub mod NotingLaws
 pub mod EventTimes
 mod EventCut

@@ -15,6 +15,7 @@ use Rattle.std.proofs.lemmas.List.FromFn.{length-range_with_len, get_or-range_wi
 use Rattle.std.proofs.lemmas.List.Folds.{list_any-append, list_any_none}
 use Rattle.std.proofs.lemmas.List.Sorted.{list_any-IsPermutation}
 use Rattle.std.proofs.lemmas.Map.Keys.{IsDistinct-push, IsDistinct-IsPermutation, IsDistinct-from_apart, apart_from_distinct}
+use Rattle.agenda.proofs.SortedPlaces.{sorted-kept}
 use Rattle.sync_element.specs.ElementState.{ElementState}
 use Rattle.sync_topo.specs.Topology.{Topology}
 use Rattle.sync_net.specs.NetState.{NetState}
@@ -23,7 +24,6 @@ use Rattle.event_sim.specs.declared.change.Change.{Change}
 use Rattle.event_sim.specs.Rows.{is_other, shown_after, row_of}
 use Rattle.event_sim.specs.Showing.{Shows, kept_in, AreSeen, AreRenewed, others_in}
 use Rattle.event_sim.proofs.RowLaws.{other-same}
-use Rattle.event_sim.proofs.SortedPlaces.{sorted-kept}
 
 -- of distinct places the one at an index doesn't come before it
 pub not-before : (i : ℕ) (xs : List ℕ) → IsDistinct nat_eq xs → i < length xs → list_any (nat_eq (slice_index xs i)) (take i xs) ≡ false
