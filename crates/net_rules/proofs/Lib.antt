@@ -6,6 +6,7 @@ pub mod HistoryLaws
 pub mod PlanLaws
 pub mod ElementLaws
 pub mod SettingLaws
+pub mod OwnLevels
 pub mod NetLaws
 pub mod Arrivals
 pub mod PairLaws

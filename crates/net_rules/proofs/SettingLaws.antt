@@ -92,11 +92,3 @@ module _ (setting : Setting) (plan : Topology) (signals : Signals) (levels : Inp
           ≡ map (input_by signals levels t) (inputs_of plan element)
       inputs = rw (priorities-by setting plan element) (map-places _ _ 0 (inputs_of plan element)
           (λ k i input at is. let here : k ≡ i = omega (arith, is) in rw here (input-said i input at (said i input at))))
-
--- an element's own level is of the plan's option
-pub own-option : (plan : Topology) (element : ℕ) → IsWellFormed plan → element < length plan.elements → (settings_of plan element).own.option ≡ plan.option
-unfolding settings_of
-own-option plan element well within = elim (slice_get_cases plan.elements element).1 [
-  | inl there ↦ rw there.2 (well.elements_fit element there.0 there.2).own_is_clock_level.of_option
-  | inr past ↦ absurd (omega (arith, within, past.0))
-]

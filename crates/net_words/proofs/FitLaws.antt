@@ -25,7 +25,7 @@ use Rattle.net_rules.specs.History.{settings_of}
 use Rattle.net_rules.specs.Inputs.{IsInputOf}
 use Rattle.net_rules.proofs.TouchLaws.{input-is_at}
 use Rattle.net_rules.proofs.NetLaws.{many-inputs}
-use Rattle.net_rules.proofs.SettingLaws.{own-option}
+use Rattle.net_rules.proofs.OwnLevels.{own-option}
 use Rattle.net_words.specs.declared.saying.Saying.{Saying}
 use Rattle.net_words.specs.declared.saying.Saying.TheVariants.{IsUp, HasLevel, IsCleared, IsLocked, IsUnlocked, IsForced, IsManual}
 use Rattle.net_words.specs.Words.{said_as, word_at, input_words, part_words, only_to, words_of, all_words}

@@ -4,18 +4,18 @@ use Rattle.std.specs.Prelude.{unwrap_or, if◌then◌else◌, slice_index_or}
 use Rattle.std.specs.Option.{option_or}
 use Rattle.std.proofs.Math.Decide.{dec_lt}
 use Rattle.std.proofs.lemmas.Bool.{le-ltb, lt-ltb, ne_eqb, eq-eqb}
-use Rattle.sync_topo.specs.declared.input.InputId.TheVariants.{Source}
+use Rattle.sync_ql.specs.Pasts.{past_of}
+use Rattle.sync_ql.specs.Condition.{is_up}
+use Rattle.sync_topo.specs.declared.input.InputId.{InputId}
 use Rattle.sync_topo.specs.declared.event.What.{What}
 use Rattle.sync_topo.specs.declared.event.Event.{Event}
 use Rattle.sync_topo.specs.Topology.{Topology}
 use Rattle.sync_topo.specs.Events.{IsInOrder}
 use Rattle.sync_topo.specs.Lines.{line_input}
-use Rattle.net_rules.specs.Signals.{events_before, events_at, last_word, says_up, says_esmc, says_level, planned_level, source_level_before, up_at, said_at}
+use Rattle.net_rules.specs.Signals.{events_before, events_at, last_word, says_up as says_input_up, signals_by, up_at}
+use Rattle.net_rules.specs.Settings.{signal_at}
 use Rattle.net_rules.specs.Walks.{Each}
-use Rattle.sync_net.specs.Kept.{Kept, source_signal}
-use Rattle.sync_net.specs.Standing.{AreSignals, IsNominatedSource}
-use Rattle.net_words.specs.Before.{up_before, said_before}
-use Rattle.sync_net.specs.Noted.{AreNoted, IsSettled}
+use Rattle.net_words.specs.Before.{up_before}
 
 -- what follows a list in order is in order
 in-order-tail : (event : Event) (events : List Event) → IsInOrder (event ∷ events) → IsInOrder events

@@ -20,7 +20,7 @@ use Rattle.net_rules.specs.Walks.{Each}
 use Rattle.net_rules.proofs.Lists.{Each-append}
 use Rattle.net_rules.proofs.NetLaws.{many-inputs}
 use Rattle.net_words.proofs.PlaceLemmas.{found-at}
-use Rattle.net_rules.proofs.SettingLaws.{own-option}
+use Rattle.net_rules.proofs.OwnLevels.{own-option}
 use Rattle.node_file.specs.declared.row.NodeWord.{NodeWord}
 use Rattle.node_file.specs.declared.row.NodeWord.TheVariants.{Frame, Happens}
 use Rattle.node_file.specs.declared.row.NodeRow.{NodeRow}

@@ -33,7 +33,7 @@ use Rattle.sync_net.specs.NetState.{line_in}
 use Rattle.sync_net.specs.Steps.{IsLineTold}
 use Rattle.sync_net.specs.Hearing.{Ears, heard_in, IsToldAt, IsNotTold, HearsMore, told_in, AreTold, CanTell, IsPassedOn}
 use Rattle.sync_net.proofs.StageLaws.{one-of, none-of, is-place, keeps-marks, keeps-same, or-second}
-use Rattle.net_rules.proofs.SettingLaws.{own-option}
+use Rattle.net_rules.proofs.OwnLevels.{own-option}
 use Rattle.net_words.proofs.DistinctInputs.{place-at, input-of}
 use Rattle.net_words.proofs.PlaceLemmas.{found-at}
 use Rattle.net_words.proofs.WordLaws.{last_said-append, commands_in-append}

@@ -14,7 +14,7 @@ use Rattle.sync_topo.specs.declared.element.Element as declared
 use Rattle.sync_topo.specs.Topology.{Topology}
 use Rattle.sync_topo.specs.Lines.{sender_of, inputs_of}
 use Rattle.sync_topo.specs.WellFormed.{IsWellFormed}
-use Rattle.net_rules.proofs.SettingLaws.{own-option}
+use Rattle.net_rules.proofs.OwnLevels.{own-option}
 use Rattle.net_rules.specs.History.{settings_of, taken_by, is_way_back, sent_by}
 
 -- a level that is the sender's own, where the line doesn't lead back

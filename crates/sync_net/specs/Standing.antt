@@ -14,6 +14,7 @@ use Rattle.sync_topo.specs.Topology.{Topology}
 use Rattle.sync_topo.specs.Lines.{line_count, line_input, delay_of, IsInput, is_nominated_input, IsNominated}
 use Rattle.net_rules.specs.Signals.{Signals, signals_by, events_before, events_at, last_word, says_up, says_esmc, says_level, planned_level, source_level_before}
 use Rattle.net_rules.specs.History.{Levels, settings_of, line_moment_at, heard, moment_at, out_at}
+use Rattle.net_words.specs.Before.{up_before, esmc_before, said_before}
 use Rattle.sync_net.specs.Kept.{Kept, line_signal, source_signal, heard_on}
 use Rattle.sync_net.specs.NetState.{NetState, line_in}
 

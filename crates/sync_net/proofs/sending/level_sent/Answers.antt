@@ -1,6 +1,6 @@
 use Rattle.std.proofs.Common.{ap, ◌∙◌}
 use Rattle.sync_net.proofs.SentLevels.{own-sent}
-use Rattle.net_rules.proofs.SettingLaws.{own-option}
+use Rattle.net_rules.proofs.OwnLevels.{own-option}
 use Rattle.sync_net.proofs.sending.level_sent.Goals as goal
 
 pub returns : goal.returns
