@@ -1,15 +1,28 @@
 use Rattle.std.proofs.Common.{◌∙◌, None, take, take_all, subst, sym, ap}
-use Rattle.std.specs.Prelude.{◌≢◌}
+use Rattle.std.specs.Prelude.{◌≢◌, slice_index_or}
 use Rattle.std.specs.List.{All}
 use Rattle.std.proofs.lemmas.List.Elements.{All-more, All-weaker}
 use Rattle.sync_topo.specs.declared.input.LineId.{LineId}
 use Rattle.sync_topo.specs.Lines.{sender_of, IsLineOut}
+use Rattle.sync_topo.proofs.LineLaws.{IsNominated-within}
 use Rattle.sync_topo.proofs.LinesOut.{lines_out-are, lines_out-all}
 use Rattle.rank_cert.specs.Ranks.{rank_at}
 use Rattle.cycle_plan.specs.Peeling.{IsAmong}
 use Rattle.cycle_plan.proofs.PeelingLemmas.{fewer}
 use Rattle.cycle_plan.proofs.Settling.{IsMore-trans, AreNext-grows}
 use Rattle.cycle_plan.proofs.ranking.Ranking.give_all.Goals as goal
+
+pub give_next-requires-clause-within : goal.give_next-requires-clause-within
+give_next-requires-clause-within c =
+    let out = subst (All (IsLineOut c.args.plan.now c.args.element)) (sym c.lines_out-line-items.ensures.lines) (lines_out-are c.args.plan.now c.args.element) in
+    IsNominated-within c.args.plan.now (slice_index_or c.lines_out-line-items.result.now c.loop-line.line-index (record { 0 = 0 })).0
+    (out c.loop-line.line-index (record { 0 = 0 }) c.loop-line-test.true).nominated
+
+pub give_next-requires-clause-next : goal.give_next-requires-clause-next
+give_next-requires-clause-next c = λ nominated among.
+    let out = subst (All (IsLineOut c.args.plan.now c.args.element)) (sym c.lines_out-line-items.ensures.lines) (lines_out-are c.args.plan.now c.args.element) in
+    c.loop-line.invariant.next (slice_index_or c.lines_out-line-items.result.now c.loop-line.line-index (record { 0 = 0 })).0 nominated
+    (out c.loop-line.line-index (record { 0 = 0 }) c.loop-line-test.true).sent among
 
 pub loop-line-preserved : goal.loop-line-preserved
 loop-line-preserved c =
