@@ -14,7 +14,7 @@ use Rattle.sync_topo.specs.Topology.{Topology}
 use Rattle.sync_topo.specs.Lines.{inputs_of}
 use Rattle.sync_topo.specs.WellFormed.{IsWellFormed}
 use Rattle.net_rules.specs.Signals.{planned_level, last_word, says_up, says_esmc, says_level}
-use Rattle.net_rules.specs.History.{settings_of, moment_at}
+use Rattle.net_rules.specs.History.{by_levels, settings_of, moment_at}
 use Rattle.net_rules.specs.Walks.{Each}
 use Rattle.net_rules.proofs.Lists.{Each-made}
 use Rattle.net_words.proofs.SplitWords.{none-before-0}
@@ -26,7 +26,7 @@ use Rattle.node_replay.specs.declared.running.Run.{Run}
 use Rattle.node_rules.specs.Replay.{signals_in, heard_in}
 use Rattle.node_rules.specs.NodeText.{lines_out}
 use Rattle.node_replay.specs.Starting.{new_input, new_out}
-use Rattle.node_replay.specs.Beginning.{IsNew}
+use Rattle.net_words.specs.NewElements.{IsNewElement}
 use Rattle.node_replay.specs.Running.{Shows, IsOfPast, IsInputAt, IsOutAt, IsKeptOf, IsRun, RunStands}
 
 ids-same : (plan : Topology) (xs : List InputId) → map (λ (input : InputKept). input.id) (map (new_input plan) xs) ≡ xs
@@ -53,9 +53,10 @@ each-any : {A : Type 0} (P : A → Type 0) → ((x : A) → P x) → (xs : List 
 each-any P all [] = tt
 each-any P all (x ∷ xs) = (all x, each-any P all xs)
 
-pub begun : (plan : Topology) (place : ℕ) (run : Run) → IsWellFormed plan → IsNew plan place run.element → Shows plan place run.element run.shown
+pub begun : (plan : Topology) (place : ℕ) (run : Run) → IsWellFormed plan → IsNewElement (by_levels plan) plan place run.element → Shows plan place run.element run.shown
     → run.inputs.items ≡ map (new_input plan) (inputs_of plan place) → run.outs.items ≡ map new_out (lines_out plan place)
     → run.next ≡ 0 → run.wake ≡ 0 → run.rows ≡ 0 → IsRun plan place run
+unfolding settings_of
 begun plan place run well new shows inputs outs next wake rows = record {
   well_formed = well;
   settings = new.settings;
@@ -95,11 +96,12 @@ new-out-at plan rows place line = record {
   said = refl;
 }
 
-new-past : (plan : Topology) (place : ℕ) (rows : List NodeRow) (element : ElementState) → IsNew plan place element → IsOfPast plan rows place 0 element
+new-past : (plan : Topology) (place : ℕ) (rows : List NodeRow) (element : ElementState) → IsNewElement (by_levels plan) plan place element → IsOfPast plan rows place 0 element
+unfolding settings_of
 new-past plan place rows element new =
     stands-new (settings_of plan place) (moment_at plan (signals_in plan rows) (heard_in plan rows) place) element new.settings new.next new.due new.stands
 
-pub begun-stands : (plan : Topology) (place : ℕ) (run : Run) → IsNew plan place run.element
+pub begun-stands : (plan : Topology) (place : ℕ) (run : Run) → IsNewElement (by_levels plan) plan place run.element
     → run.inputs.items ≡ map (new_input plan) (inputs_of plan place) → run.outs.items ≡ map new_out (lines_out plan place)
     → run.text ≡ [] → run.rows ≡ 0 → (rows : List NodeRow) → RunStands plan rows place 0 run
 begun-stands plan place run new inputs outs text count rows = record {

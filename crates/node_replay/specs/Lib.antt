@@ -4,7 +4,6 @@ pub mod ReplayState
 pub mod Keeping
 pub mod Telling
 pub mod Starting
-pub mod Beginning
 pub mod Running
 pub mod Turning
 pub mod Collecting

@@ -3,20 +3,17 @@
 ghost use Rattle.std.specs.Prelude.{◌≡◌, ◌++◌, ◌∷◌, [], ◌<◌, ℕ, List, None, OnOk, IfOk, length, map, if◌then◌else◌, ◌==◌};
 ghost use Rattle.sync_topo.specs.Lines.{line_count, sender_of, inputs_of, IsInput};
 ghost use Rattle.net_rules.specs.History.{first_level};
-ghost use Rattle.sync_net.specs.Beginning.{config_of};
 ghost use Rattle.node_file.specs.declared.row.NodeRow.{NodeRow};
 ghost use Rattle.node_rules.specs.NodeText.{lines_out};
 ghost use Rattle.node_replay.specs.Starting.{first_word, new_input, new_out};
-ghost use Rattle.node_replay.specs.Beginning.{IsNew};
 ghost use Rattle.node_replay.specs.Running.{IsRun, RunStands};
 
 use crate::inputs::{InputKept, LastWord};
 use crate::outs::OutKept;
 use crate::running::Run;
 use crate::shown::shown_of;
+use net_words::{Chooses, Told, new_element};
 use std::alloc::Global;
-use sync_element::{Config, Element, InputConfig};
-use sync_net::Told;
 use sync_ql::Level;
 use sync_text::{NoMemory, Rows, Text};
 use sync_topo::{InputId, LineId, Plan};
@@ -30,7 +27,7 @@ pub(crate) fn new_run(alloc: Global, plan: &Plan, place: u32) -> Result<Run, NoM
     ensures stands { IfOk result (λ run. (rows : List NodeRow) → RunStands plan.now rows place 0 run) }
 {
     let _elements = plan.elements();
-    let element = new_element(alloc, plan, place)?;
+    let element = new_element(alloc, plan, place, Chooses::ByLevel)?;
     let shown = shown_of(plan, place, &element);
     let inputs = new_inputs(alloc, plan, place)?;
     let outs = new_outs(alloc, plan, place)?;
@@ -46,58 +43,6 @@ pub(crate) fn new_run(alloc: Global, plan: &Plan, place: u32) -> Result<Run, NoM
         rows: 0,
         stopped: None,
     })
-}
-
-/// An element by the plan, that was told nothing.
-fn new_element(alloc: Global, plan: &Plan, place: u32) -> Result<Element, NoMemory>
-    requires { place < length plan.now.elements }
-    ensures { IfOk result (IsNew plan.now place) }
-{
-    let inputs = input_configs(alloc, plan, place)?;
-    let planned = plan.element(place);
-    let element = Element::new(
-        alloc,
-        Config {
-            own: planned.own,
-            floor: planned.floor,
-            holdoff: planned.holdoff,
-            wtr: planned.wtr,
-            inputs,
-        },
-    )?;
-    Ok(element)
-}
-
-/// What the element is set to for its inputs.
-fn input_configs(alloc: Global, plan: &Plan, place: u32) -> Result<Rows<InputConfig>, NoMemory>
-    requires { place < length plan.now.elements }
-    ensures { IfOk result (λ inputs. inputs ≡ map (config_of plan.now) (inputs_of plan.now place)) }
-{
-    let mut inputs = Rows::new(alloc);
-    for input in plan.inputs(place) {
-        inputs.push(input_config(plan, *input))?;
-    }
-    Ok(inputs)
-}
-
-/// What an element is set to for an input.
-fn input_config(plan: &Plan, input: InputId) -> InputConfig
-    requires { IsInput plan.now input }
-    ensures { result ≡ config_of plan.now input }
-{
-    let priority = plan.priority(input);
-    match input {
-        InputId::Line(line) => InputConfig {
-            priority,
-            first: None,
-            bundle: plan.bundle(line.0 / 2),
-        },
-        InputId::Source(source) => InputConfig {
-            priority,
-            first: Some(plan.source(source).level),
-            bundle: plan.links() + source,
-        },
-    }
 }
 
 /// The inputs, to which nothing happened.

@@ -7,7 +7,7 @@ ghost use Rattle.node_replay.specs.Telling.{place_in, word_of, row_word, told_fr
 
 use crate::inputs::InputKept;
 use node_file::{NodeRow, NodeWord};
-use sync_net::Told;
+use net_words::Told;
 use sync_ql::limits::MOST_INPUTS;
 use sync_ql::rules::{Cmd, InputEvent};
 use sync_text::NoMemory;

@@ -26,57 +26,13 @@ use Rattle.net_rules.specs.Inputs.{IsInputOf}
 use Rattle.net_rules.specs.Walks.{Each}
 use Rattle.net_rules.proofs.Lists.{Each-map}
 use Rattle.net_rules.proofs.InputLaws.{inputs-are}
-use Rattle.net_words.specs.NewElements.{AreEach}
+use Rattle.net_words.specs.NewElements.{AreEach, IsNewElement, by_priority}
 use Rattle.prio_mode.specs.declared.shown.Shown.{Shown}
 use Rattle.prio_mode.specs.declared.running.Run.{Run}
-use Rattle.prio_mode.specs.Configured.{config_of, IsNewElement, AreShown}
-use Rattle.prio_mode.specs.PriorityAlone.{one_level, priority_settings, priority_moment}
+use Rattle.prio_mode.specs.Configured.{AreShown}
+use Rattle.prio_mode.specs.PriorityAlone.{priority_settings, priority_moment}
 use Rattle.prio_mode.proofs.Visiting.{read-any}
 use Rattle.prio_mode.specs.Running.{Shows, IsRun, RunStands, element_in}
-
--- what holds of each of a list holds at each of its places
-all-from : {A : Type 0} (P : A → Type 0) (xs : List A) → Each P xs → All P xs
-all-from P [] each = All-nil P
-all-from P (x ∷ xs) each = All-cons P x xs each.0 (all-from P xs each.1)
-
--- a list made twice over is made once
-map-map : {A B C : Type 0} (f : A → B) (g : B → C) (xs : List A) → map g (map f xs) ≡ map (λ x. g (f x)) xs
-map-map f g [] = refl
-map-map f g (x ∷ xs) = ap (λ ys. g (f x) ∷ ys) (map-map f g xs)
-
--- the priorities of an element's inputs are at least 1
-pub priorities-fit : (plan : Topology) (place : ℕ) (configs : List InputConfig) → configs ≡ map (config_of plan) (inputs_of plan place) → All (λ input. 1 ≤ input.priority) configs
-priorities-fit plan place configs is =
-    subst (All (λ input. 1 ≤ input.priority)) (sym is)
-    (All-map (λ input. 1 ≤ input.priority) (config_of plan) (inputs_of plan place)
-    (all-from (λ input. 1 ≤ (config_of plan input).priority) (inputs_of plan place)
-    (Each-map (IsInputOf plan place) (λ input. 1 ≤ (config_of plan input).priority) (λ input of. ltb-true 0 (config_of plan input).priority of.nominated) (inputs_of plan place) (inputs-are plan place))))
-
--- the one level is of its option
-one-option : (option : NetOption) → (one_level option).option ≡ option
-one-option I = refl
-one-option II = refl
-
-pub firsts-fit : (plan : Topology) (place : ℕ) (own : Level) (configs : List InputConfig) → own.option ≡ plan.option → configs ≡ map (config_of plan) (inputs_of plan place)
-    → All (λ input. IsOfOption own.option input.first) configs
-firsts-fit plan place own configs own_is is =
-    subst (λ o. All (λ input. IsOfOption o input.first) configs) (sym own_is)
-    (subst (All (λ input. IsOfOption plan.option input.first)) (sym is)
-    (All-map (λ input. IsOfOption plan.option input.first) (config_of plan) (inputs_of plan place)
-    (λ k d inside. one-option plan.option)))
-
--- an element set to what the plan says has the plan's settings
-pub settings-are : (plan : Topology) (place : ℕ) (element : elements.Element) (configs : List InputConfig) → slice_get plan.elements place ≡ Some element → configs ≡ map (config_of plan) (inputs_of plan place)
-    → configured.settings_of (record { own = element.own; floor = None; holdoff = element.holdoff; wtr = element.wtr; inputs = configs }) ≡ priority_settings plan place
-unfolding priority_settings
-settings-are plan place element configs is configs_are =
-    rw (
-      is,
-      configs_are,
-      map-map (config_of plan) (λ input. input.priority) (inputs_of plan place),
-      map-map (config_of plan) (λ input. input.first) (inputs_of plan place),
-      map-map (config_of plan) (λ input. input.bundle) (inputs_of plan place),
-    ) refl
 
 -- one more is kept
 pub shown-more : (plan : Topology) (elements : List ElementState) (n : ℕ) (before after : List Shown) (shown : Shown) → AreShown plan elements n before → after ≡ before ++ shown ∷ []
@@ -100,10 +56,11 @@ none-replicated n i a = elim (cases_lt i n) [
 ]
 
 -- new elements, and what they show, are a run
-pub begun : (plan : Topology) (run : Run) → AreEach (IsNewElement plan) (length plan.elements) run.elements.items
+pub begun : (plan : Topology) (run : Run) → AreEach (IsNewElement (by_priority plan) plan) (length plan.elements) run.elements.items
     → AreShown plan run.elements.items (length plan.elements) run.shown.items
     → run.tellings.changes.items ≡ replicate (length plan.elements) [] → run.tellings.active ≡ none_marked (length plan.elements)
     → IsRun plan 0 run
+unfolding priority_settings
 begun plan run elements shown changes active = record {
   counted = record {
     elements = elements.count;
@@ -120,8 +77,9 @@ begun plan run elements shown changes active = record {
   idle = λ place. ap (λ a. slice_index_or a.flags place false) active ∙ none-replicated (length plan.elements) place false;
 }
 
-pub begun-stands : (plan : Topology) (run : Run) → AreEach (IsNewElement plan) (length plan.elements) run.elements.items
+pub begun-stands : (plan : Topology) (run : Run) → AreEach (IsNewElement (by_priority plan) plan) (length plan.elements) run.elements.items
     → (all : List Event) → RunStands plan all 0 run
+unfolding priority_settings
 begun-stands plan run elements all place element within =
     let is = elements.each place element within in
     stands-new (priority_settings plan place) (priority_moment plan (signals_by plan all) place) (element_in run place element) is.settings is.next is.due is.stands
@@ -133,7 +91,8 @@ shows-at plan elements place element shown counted within at shows other =
     subst (λ e. Shows plan place e shown) (sym (read-any elements (length plan.elements) place element other counted within at)) shows
 
 -- the element that is read has the plan's settings
-pub settings-at : (plan : Topology) (elements : List ElementState) (place : ℕ) (element : ElementState) → AreEach (IsNewElement plan) (length plan.elements) elements → place < length plan.elements
+pub settings-at : (plan : Topology) (elements : List ElementState) (place : ℕ) (element : ElementState) → AreEach (IsNewElement (by_priority plan) plan) (length plan.elements) elements → place < length plan.elements
     → element ≡ slice_index_or elements place element → element.settings ≡ priority_settings plan place
+unfolding priority_settings
 settings-at plan elements place element are within at =
     subst (λ e. e.settings ≡ priority_settings plan place) (sym at) (are.each place element within).settings

@@ -8,10 +8,10 @@ ghost use Rattle.prio_mode.specs.PriorityAlone.{priority_settings};
 ghost use Rattle.prio_mode.specs.Running.{Shows};
 
 use crate::shown::{Shown, shown_of};
+use net_words::Told;
 use std::marker::Brand;
 use std::sync::ledger::{Blank, Ledger};
 use sync_element::{Element, InputEvent};
-use sync_net::Told;
 use sync_ql::limits::LAST_MILLISECOND;
 use sync_text::Steps;
 use sync_topo::Plan;

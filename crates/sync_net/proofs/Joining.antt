@@ -128,14 +128,14 @@ module _ (s t : NetState) (all events : List Event) (now : ℕ) (well : IsWellFo
   unfolding up_at
   up_kept line u at nominated same =
       ap ((signals_by s.plan all).up (line_input line)) (sym at) ∙ sym (up_then line nominated) ∙ ap (λ signal. signal.up) same
-      ∙ subst (λ n. (line_signal s.kept line).up ≡ Rattle.sync_net.specs.Standing.up_before all (line_input line) n) at (is.signals.line_up line nominated)
+      ∙ subst (λ n. (line_signal s.kept line).up ≡ Rattle.net_words.specs.Before.up_before all (line_input line) n) at (is.signals.line_up line nominated)
 
   esmc_kept : (line u : ℕ) → now ≡ suc u → IsNominated s.plan line → line_signal t.kept line ≡ line_signal s.kept line →
       (signals_by s.plan all).esmc line (suc u) ≡ (signals_by s.plan all).esmc line u
   unfolding esmc_at
   esmc_kept line u at nominated same =
       ap ((signals_by s.plan all).esmc line) (sym at) ∙ sym (esmc_then line nominated) ∙ ap (λ signal. signal.esmc) same
-      ∙ subst (λ n. (line_signal s.kept line).esmc ≡ Rattle.sync_net.specs.Standing.esmc_before all line n) at (is.signals.line_esmc line nominated)
+      ∙ subst (λ n. (line_signal s.kept line).esmc ≡ Rattle.net_words.specs.Before.esmc_before all line n) at (is.signals.line_esmc line nominated)
 
   line_before : (line : ℕ) (state : LineState) → line < line_count s.plan → line_in s.lines line ≡ Some state → LineStands s.plan (signals_by s.plan all) (out_at s.plan (signals_by s.plan all)) line now state
   line_before line state within has = of (line_in s.lines line) has (is.lines line within)

@@ -34,7 +34,7 @@ use Rattle.sync_topo.specs.Topology.{Topology}
 use Rattle.sync_topo.specs.Lines.{line_count, ends_at_b, inputs_of, IsNominated}
 use Rattle.sync_topo.specs.WellFormed.{IsWellFormed}
 use Rattle.net_rules.specs.Signals.{Signals, signals_by, planned_level}
-use Rattle.net_rules.specs.History.{Levels, settings_of, heard, moment_at, out_at}
+use Rattle.net_rules.specs.History.{by_levels, Levels, settings_of, heard, moment_at, out_at}
 use Rattle.net_rules.specs.Inputs.{IsInputOf}
 use Rattle.net_rules.specs.Walks.{Each}
 use Rattle.net_rules.proofs.Lists.{Each-map}
@@ -47,7 +47,7 @@ use Rattle.sync_net.specs.Noting.{line_at, source_at, AreOfOption}
 use Rattle.sync_net.specs.Hearing.{heard_in, told_in}
 use Rattle.sync_net.specs.Standing.{ElementStands, LineStands, AreSignals, AreHeard, IsOfPast}
 use Rattle.sync_net.specs.Whole.{IsReadyElement, IsReadyLine, IsWhole, kept_of, state_of}
-use Rattle.sync_net.specs.Beginning.{IsNewLine, IsNewSource, IsBegun, config_of}
+use Rattle.sync_net.specs.Beginning.{IsNewLine, IsNewSource, IsBegun}
 use Rattle.net_words.specs.NewElements.{AreEach, IsNewElement}
 use Rattle.net_words.proofs.SplitWords.{none-before-0}
 
@@ -131,7 +131,8 @@ begun-whole plan parts begun = record {
 }
 
 -- a new element follows its past of no milliseconds
-element-begins : (plan : Topology) (signals : Signals) (out : Levels) (place : ℕ) (element : ElementState) → IsNewElement plan place element → ElementStands plan signals out place 0 element
+element-begins : (plan : Topology) (signals : Signals) (out : Levels) (place : ℕ) (element : ElementState) → IsNewElement (by_levels plan) plan place element → ElementStands plan signals out place 0 element
+unfolding settings_of
 element-begins plan signals out place element new =
     stands-new (settings_of plan place) (moment_at plan signals (heard plan signals out) place) element new.settings new.next new.due new.stands
 

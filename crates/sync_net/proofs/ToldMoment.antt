@@ -23,7 +23,7 @@ use Rattle.sync_net.specs.Standing.{AreSignals, AreHeard, heard_before}
 use Rattle.net_words.specs.Before.{up_before}
 use Rattle.sync_net.specs.Telling.{IsTold}
 use Rattle.net_words.proofs.DistinctInputs.{input-of}
-use Rattle.net_words.proofs.SplitWords.{none-before-0}
+use Rattle.net_words.proofs.SplitWords.{none-before-0, past-up}
 
 -- the level that an input has after n milliseconds
 abbrev level_before : Topology → List Event → InputId → ℕ → Option Level
