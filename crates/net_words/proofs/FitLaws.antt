@@ -1,11 +1,11 @@
 -- The words in which elements are told of events fit the elements, and only events that touch one
 -- have some.
-use Rattle.std.proofs.Common.{◌≡◌, ◌<◌, ◌+◌, ◌*◌, ℕ, Bool, true, false, List, [], ◌∷◌, ◌++◌, length, Option, None, Some, refl, ap, sym, subst, ◌∙◌, inl, inr, arith}
+use Rattle.std.proofs.Common.{◌≡◌, ◌<◌, ◌+◌, ◌*◌, ℕ, Bool, true, false, List, [], ◌∷◌, ◌++◌, length, Option, None, Some, refl, ap, sym, subst, ◌∙◌}
 use Rattle.std.specs.Prelude.{nat_eq, if◌then◌else◌, All}
 use Rattle.std.specs.List.{list_any}
 use Rattle.std.proofs.lemmas.Bool.{true≢false, or_parts}
 use Rattle.std.proofs.lemmas.List.Elements.{All-nil, All-cons, All-append}
-use Rattle.std.proofs.lemmas.Option.{slice_get_within, slice_get_cases}
+use Rattle.std.proofs.lemmas.Option.{slice_get_within}
 use Rattle.sync_ql.specs.declared.levels.NetOption.{NetOption}
 use Rattle.sync_ql.specs.declared.rules.Cmd.TheVariants as command
 use Rattle.sync_ql.specs.declared.rules.InputEvent.TheVariants as tell

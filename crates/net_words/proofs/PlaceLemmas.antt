@@ -1,20 +1,17 @@
 -- Where the inputs of elements stand.
-use Rattle.std.proofs.Common.{◌≡◌, ◌<◌, ◌+◌, ◌-◌, ℕ, suc, Bool, true, false, List, [], ◌∷◌, ◌++◌, map, length, get_or, Option, None, Some, slice_get, refl, ap, sym, ◌∙◌, arith}
-use Rattle.std.specs.Prelude.{nat_eq, if◌then◌else◌, slice_index, unwrap_or}
-use Rattle.std.specs.List.{range_with_len}
-use Rattle.std.proofs.lemmas.Bool.{true≢false, eqb-true, eq-eqb, lt-ltb, le-ltb}
-use Rattle.std.proofs.lemmas.List.FromFn.{get_or-map-range_with_len, length-map-range_with_len, map-range_with_len_more}
+use Rattle.std.proofs.Common.{◌≡◌, ℕ, suc, Bool, true, false, List, [], ◌∷◌, get_or, Option, None, Some, slice_get, refl, ap, sym, ◌∙◌}
+use Rattle.std.specs.Prelude.{nat_eq, if◌then◌else◌}
+use Rattle.std.proofs.lemmas.Bool.{true≢false, eqb-true, eq-eqb}
 use Rattle.std.proofs.lemmas.List.Quantifiers.{position-Some}
 use Rattle.std.proofs.lemmas.Option.{slice_get-get_or}
 use Rattle.sync_topo.specs.declared.input.InputId.{InputId}
-use Rattle.sync_topo.specs.declared.input.InputId.TheVariants.{Line, Source}
 use Rattle.sync_topo.specs.Topology.{Topology}
-use Rattle.sync_topo.specs.Lines.{line_count, input_number, inputs_of, IsInput, is_nominated_input, is_same_input, place_at, element_of}
+use Rattle.sync_topo.specs.Lines.{inputs_of, is_same_input, place_at, element_of}
 use Rattle.net_rules.specs.Inputs.{IsInputOf}
 use Rattle.net_rules.specs.Walks.{Each}
 use Rattle.net_rules.proofs.Lists.{Each-map}
 use Rattle.net_rules.proofs.InputLaws.{each-input}
-use Rattle.net_words.proofs.DistinctInputs.{place-at, input-of}
+use Rattle.net_words.proofs.DistinctInputs.{input-of}
 use Rattle.sync_topo.proofs.InputPlaces.{same-is}
 
 -- an input stands at its place

@@ -1,6 +1,6 @@
 -- What the events before the next millisecond say, by those before this one and those in it.
 use Rattle.std.proofs.Common.{◌≡◌, ◌≤◌, ◌<◌, ◌+◌, ℕ, zero, suc, true, List, [], ◌∷◌, length, Option, None, Some, refl, ap, sym, subst, ◌∙◌, arith}
-use Rattle.std.specs.Prelude.{unwrap_or, if◌then◌else◌, slice_index_or}
+use Rattle.std.specs.Prelude.{unwrap_or, slice_index_or}
 use Rattle.std.specs.Option.{option_or}
 use Rattle.std.proofs.Math.Decide.{dec_lt}
 use Rattle.std.proofs.lemmas.Bool.{le-ltb, lt-ltb, ne_eqb, eq-eqb}
@@ -11,7 +11,6 @@ use Rattle.sync_topo.specs.declared.event.What.{What}
 use Rattle.sync_topo.specs.declared.event.Event.{Event}
 use Rattle.sync_topo.specs.Topology.{Topology}
 use Rattle.sync_topo.specs.Events.{IsInOrder}
-use Rattle.sync_topo.specs.Lines.{line_input}
 use Rattle.net_rules.specs.Signals.{events_before, events_at, last_word, says_up as says_input_up, signals_by, up_at}
 use Rattle.net_rules.specs.Settings.{signal_at}
 use Rattle.net_rules.specs.Walks.{Each}

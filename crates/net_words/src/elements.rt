@@ -21,11 +21,7 @@ pub enum Chooses {
 }
 
 /// The elements of a plan, by number, each as it is before it is told anything.
-pub fn new_elements(
-    alloc: Global,
-    plan: &Plan,
-    chooses: Chooses,
-) -> Result<Vec<Element>, NoMemory>
+pub fn new_elements(alloc: Global, plan: &Plan, chooses: Chooses) -> Result<Vec<Element>, NoMemory>
     ensures { IfOk result (λ elements.
         AreEach (IsNewElement (setting_of chooses plan.now) plan.now) (length plan.now.elements) elements.items) }
 {

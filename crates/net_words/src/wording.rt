@@ -17,11 +17,7 @@ use sync_topo::{Event, InputId, LineId, Part, Plan, What};
 /// Tells elements of events in their order: of all but levels.
 ///
 /// After want of memory a part of it may be told, so the tellings aren't used again. This project's own.
-pub fn tell_events(
-    plan: &Plan,
-    tellings: &mut Tellings,
-    events: &[Event],
-) -> Result<(), NoMemory>
+pub fn tell_events(plan: &Plan, tellings: &mut Tellings, events: &[Event]) -> Result<(), NoMemory>
     requires fit { All (Fits plan.now) events.now }
     requires lists { length tellings.old.changes.items ≡ length plan.now.elements }
     requires flags { length tellings.old.active.flags ≡ length plan.now.elements }
@@ -33,11 +29,7 @@ pub fn tell_events(
     Ok(())
 }
 
-fn tell_event(
-    plan: &Plan,
-    tellings: &mut Tellings,
-    what: What,
-) -> Result<(), NoMemory>
+fn tell_event(plan: &Plan, tellings: &mut Tellings, what: What) -> Result<(), NoMemory>
     requires may { MayHappen plan.now what }
     requires lists { length tellings.old.changes.items ≡ length plan.now.elements }
     requires flags { length tellings.old.active.flags ≡ length plan.now.elements }
@@ -57,12 +49,7 @@ fn tell_event(
 }
 
 // A part goes down or comes up: both lines of a link.
-fn tell_part(
-    plan: &Plan,
-    tellings: &mut Tellings,
-    part: Part,
-    up: bool,
-) -> Result<(), NoMemory>
+fn tell_part(plan: &Plan, tellings: &mut Tellings, part: Part, up: bool) -> Result<(), NoMemory>
     requires part { IsPart plan.now part }
     requires lists { length tellings.old.changes.items ≡ length plan.now.elements }
     requires flags { length tellings.old.active.flags ≡ length plan.now.elements }
@@ -70,12 +57,7 @@ fn tell_part(
 {
     match part {
         Part::Link(link) => tell_link(plan, tellings, link, up),
-        Part::Line(line) => tell_input(
-            plan,
-            tellings,
-            InputId::Line(line),
-            Saying::IsUp(up),
-        ),
+        Part::Line(line) => tell_input(plan, tellings, InputId::Line(line), Saying::IsUp(up)),
         Part::Source(source) => tell_input(
             plan,
             tellings,
@@ -85,12 +67,7 @@ fn tell_part(
     }
 }
 
-fn tell_link(
-    plan: &Plan,
-    tellings: &mut Tellings,
-    link: u32,
-    up: bool,
-) -> Result<(), NoMemory>
+fn tell_link(plan: &Plan, tellings: &mut Tellings, link: u32, up: bool) -> Result<(), NoMemory>
     requires link { link < length plan.now.links }
     requires lists { length tellings.old.changes.items ≡ length plan.now.elements }
     requires flags { length tellings.old.active.flags ≡ length plan.now.elements }

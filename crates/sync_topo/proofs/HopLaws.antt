@@ -1,5 +1,5 @@
 -- Hops by either rule of returns.
-use Rattle.std.proofs.Common.{◌≡◌, ◌<◌, ℕ, true, ◌&&◌, ◌==◌, not, refl}
+use Rattle.std.proofs.Common.{◌≡◌, ◌<◌, ℕ, true, ◌&&◌, ◌==◌, not}
 use Rattle.std.specs.Cmp.Derive.{both_true}
 use Rattle.std.proofs.lemmas.Bool.{and_parts, eqb-true, eq-eqb}
 use Rattle.sync_topo.specs.declared.returns.Returns.{Returns}
@@ -7,7 +7,7 @@ use Rattle.sync_topo.specs.declared.returns.Returns.TheVariants.{Barred, Allowed
 use Rattle.sync_topo.specs.Topology.{Topology}
 use Rattle.sync_topo.specs.Lines.{line_count, sender_of, receiver_of, is_nominated}
 use Rattle.sync_topo.specs.Bundles.{are_bundled}
-use Rattle.sync_topo.specs.Hops.{hops_any, hops_by, HopsBy}
+use Rattle.sync_topo.specs.Hops.{hops_any, HopsBy}
 use Rattle.sync_topo.proofs.LineLaws.{IsNominated-within}
 
 -- a hop by either rule is one where returns are allowed

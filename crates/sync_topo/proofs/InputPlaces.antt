@@ -1,7 +1,6 @@
 -- Where inputs stand among those of their elements.
-use Rattle.std.proofs.Common.{◌≡◌, ℕ, ◌<◌, ◌≤◌, Bool, true, false, ◌&&◌, List, [], ◌∷◌, ◌++◌, map, length, filter, get_or, Option, None, Some, position, refl, ap, sym, subst, ◌∙◌, arith, nat_lt}
-use Rattle.std.specs.Prelude.{nat_eq, if◌then◌else◌, ◌==◌}
-use Rattle.std.specs.Option.{option_or}
+use Rattle.std.proofs.Common.{◌≡◌, ℕ, Bool, true, false, ◌&&◌, List, [], ◌∷◌, ◌++◌, map, length, get_or, Option, None, Some, position, refl, ap, sym, subst, ◌∙◌, nat_lt}
+use Rattle.std.specs.Prelude.{if◌then◌else◌, ◌==◌}
 use Rattle.std.specs.List.{range_with_len, All}
 use Rattle.std.proofs.lemmas.Bool.{true≢false, eqb-true, eq-eqb, and_parts}
 use Rattle.std.proofs.lemmas.List.{append-nil}

@@ -1,7 +1,7 @@
 -- What is kept of a plan's elements when one more element, link or source comes.
-use Rattle.std.proofs.Common.{◌≡◌, ℕ, ◌+◌, ◌*◌, ◌/◌, ◌<◌, ◌≤◌, true, ◌&&◌, nat_lt, List, [], ◌∷◌, ◌++◌, length, Some, slice_get, refl, sym, ap, ◌∙◌, arith, subst, inl, inr, length-append}
-use Rattle.std.specs.Prelude.{◌≢◌, ◌⊎◌, IsTrue, if◌then◌else◌, ◌==◌, slice_index}
-use Rattle.std.proofs.lemmas.Bool.{eq-eqb, cases_lt, cases_eq, lt-ltb}
+use Rattle.std.proofs.Common.{◌≡◌, ℕ, ◌+◌, ◌*◌, ◌<◌, ◌≤◌, List, [], ◌∷◌, ◌++◌, length, Some, slice_get, refl, sym, ap, ◌∙◌, arith, subst, inl, inr, length-append}
+use Rattle.std.specs.Prelude.{◌≢◌, ◌⊎◌, IsTrue, slice_index}
+use Rattle.std.proofs.lemmas.Bool.{cases_lt, cases_eq}
 use Rattle.std.proofs.lemmas.List.{append-nil, get_or_append_left}
 use Rattle.std.proofs.Math.Seq.{get_or-append_seam}
 use Rattle.sync_topo.specs.declared.element.Element.{Element}
@@ -11,7 +11,7 @@ use Rattle.sync_topo.specs.declared.input.InputId.{InputId}
 use Rattle.sync_topo.specs.declared.input.InputId.TheVariants.{Line, Source}
 use Rattle.sync_topo.specs.declared.wiring.Wiring.{Wiring}
 use Rattle.sync_topo.specs.Topology.{Topology}
-use Rattle.sync_topo.specs.Lines.{line_count, line_input, line_id, inputs_of, lines_out, IsInput, is_nominated_input, is_same_input, place_at, element_of, element_of_source, receiver_of}
+use Rattle.sync_topo.specs.Lines.{line_input, line_id, inputs_of, IsInput, is_nominated_input, is_same_input, place_at, element_of, element_of_source, receiver_of}
 use Rattle.sync_topo.specs.Held.{held, taken}
 use Rattle.sync_topo.specs.Wired.{IsWired, IsWidened, HasLine, HasSource, kept_place}
 use Rattle.sync_topo.proofs.Lists.{slice_get-push_before, slice_get-push_last}
@@ -64,8 +64,14 @@ pub wired-link : (plan : Topology) (link : Link) (before between after : Wiring)
 wired-link plan link before between after none apart wired to_b to_a = record {
   inputs_counted = to_a.inputs_counted ∙ to_b.inputs_counted ∙ wired.inputs_counted;
   outs_counted = to_a.outs_counted ∙ to_b.outs_counted ∙ wired.outs_counted;
-  line_places_counted = omega (arith, ap length kept, length-append before.line_places.items (at_b ∷ []), length-append (before.line_places.items ++ at_b ∷ []) (at_a ∷ []),
-  wired.line_places_counted, length-append plan.links (link ∷ []));
+  line_places_counted = omega (
+    arith,
+    ap length kept,
+    length-append before.line_places.items (at_b ∷ []),
+    length-append (before.line_places.items ++ at_b ∷ []) (at_a ∷ []),
+    wired.line_places_counted,
+    length-append plan.links (link ∷ []),
+  );
   source_places_counted = ap length (to_a.source_places ∙ to_b.source_places) ∙ wired.source_places_counted;
   inputs_kept = λ e. rw (to_a.inputs e, to_b.inputs e, wired.inputs_kept e) (sym (inputs_of-link plan link e none));
   outs_kept = λ e. rw (to_a.outs e, to_b.outs e, wired.outs_kept e) (sym (lines_out-link plan link e));
@@ -147,8 +153,13 @@ wired-source plan source before after wired has_source = record {
   inputs_counted = has_source.inputs_counted ∙ wired.inputs_counted;
   outs_counted = has_source.outs_counted ∙ wired.outs_counted;
   line_places_counted = ap length has_source.line_places ∙ wired.line_places_counted;
-  source_places_counted = omega (arith, ap length has_source.source_places, length-append before.source_places.items (place ∷ []), wired.source_places_counted,
-  length-append plan.sources (source ∷ []));
+  source_places_counted = omega (
+    arith,
+    ap length has_source.source_places,
+    length-append before.source_places.items (place ∷ []),
+    wired.source_places_counted,
+    length-append plan.sources (source ∷ []),
+  );
   inputs_kept = λ e. rw (has_source.inputs e, wired.inputs_kept e) (sym (inputs_of-source plan source e));
   outs_kept = λ e. has_source.outs e ∙ wired.outs_kept e;
   places_kept = places;

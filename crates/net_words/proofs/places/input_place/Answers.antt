@@ -1,5 +1,4 @@
-use Rattle.std.proofs.Common.{ap, sym, ◌∙◌}
-use Rattle.std.specs.Prelude.{is_some}
+use Rattle.std.proofs.Common.{sym}
 use Rattle.sync_topo.proofs.InputPlaces.{not-placed}
 use Rattle.net_words.proofs.PlaceLemmas.{placed-in}
 use Rattle.net_words.proofs.places.input_place.Goals as goal

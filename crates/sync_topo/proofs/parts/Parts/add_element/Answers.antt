@@ -1,4 +1,3 @@
-use Rattle.std.proofs.Common.{◌∙◌, arith}
 use Rattle.sync_topo.specs.declared.element.Element.{Element}
 use Rattle.sync_topo.specs.Indexed.{topology}
 use Rattle.sync_topo.proofs.WiringLaws.{wired-element}

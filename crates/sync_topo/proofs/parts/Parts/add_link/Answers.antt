@@ -1,4 +1,4 @@
-use Rattle.std.proofs.Common.{◌≡◌, refl, sym, ◌∙◌, arith, length}
+use Rattle.std.proofs.Common.{◌≡◌, refl, arith, length}
 use Rattle.sync_topo.specs.declared.link.Link.{Link}
 use Rattle.sync_topo.specs.Indexed.{topology}
 use Rattle.sync_topo.proofs.WiringLaws.{wired-link}
@@ -16,6 +16,6 @@ returns-clause-indexed c =
       source_names_kept = old.source_names_kept;
       bundles_kept = rw c.in-Ok.ensures.items (c.in_ok-add-2.ensures parts.links.items c.args.link refl old.bundles_kept);
       wired = rw c.in-Ok.ensures.items
-      (wired-link (topology parts) c.args.link parts.wiring _ _ c.requires.no_sources c.requires.may_link.joins.apart old.wired
-      (rw count at c.in_ok-add_line.ensures) (rw count at c.in_ok-add_line-2.ensures));
+          (wired-link (topology parts) c.args.link parts.wiring _ _ c.requires.no_sources c.requires.may_link.joins.apart old.wired
+          (rw count at c.in_ok-add_line.ensures) (rw count at c.in_ok-add_line-2.ensures));
     }

@@ -1,4 +1,4 @@
-use Rattle.std.proofs.Common.{◌≡◌, sym, ◌∙◌, arith, length}
+use Rattle.std.proofs.Common.{◌≡◌, arith, length}
 use Rattle.sync_topo.specs.declared.source.Source.{Source}
 use Rattle.sync_topo.specs.Indexed.{topology}
 use Rattle.sync_topo.proofs.WiringLaws.{wired-source}

@@ -1,4 +1,3 @@
-use Rattle.sync_topo.specs.Indexed.{topology}
 use Rattle.sync_topo.proofs.WellFormedLemmas.{IsIndexed-empty}
 use Rattle.sync_topo.proofs.WiringLaws.{wired-empty}
 use Rattle.sync_topo.proofs.parts.Parts.new.Goals as goal
