@@ -1,20 +1,14 @@
 -- The rows of a network that stands for its plan and all events: none where one state of it stands
 -- before and after a millisecond, and else what two states show.
-use Rattle.std.proofs.Common.{◌≡◌, ◌≤◌, ◌<◌, ℕ, zero, suc, Bool, true, false, List, [], ◌∷◌, ◌++◌, length, map, filter, Option, None, Some, refl, ap, sym, subst, ◌∙◌, arith}
+use Rattle.std.proofs.Common.{◌≡◌, ◌≤◌, ◌<◌, ℕ, zero, suc, Bool, true, false, List, [], ◌∷◌, ◌++◌, length, map, filter, refl, ap, sym, subst, ◌∙◌, arith}
 use Rattle.std.specs.Prelude.{slice_index_or, nat_eq}
 use Rattle.std.specs.List.{range_with_len, list_any}
 use Rattle.std.proofs.Math.Decide.{dec_lt}
 use Rattle.std.proofs.lemmas.List.{append-nil}
-use Rattle.sync_ql.specs.declared.rules.Mode.{Mode}
-use Rattle.sync_ql.specs.declared.rules.Mode.TheVariants.{Auto, Forced, Manual}
-use Rattle.sync_ql.specs.declared.rules.ClockState.{ClockState}
-use Rattle.sync_ql.specs.declared.rules.ClockState.TheVariants.{FreeRun, Locked, Holdover}
 use Rattle.sync_ql.specs.declared.levels.NetOption.{NetOption}
 use Rattle.sync_ql.specs.declared.levels.NetOption.TheVariants.{I, II}
 use Rattle.sync_ql.specs.Messages.{is_same_option}
 use Rattle.sync_element.specs.ElementState.{ElementState}
-use Rattle.sync_topo.specs.declared.input.InputId.{InputId}
-use Rattle.sync_topo.specs.declared.input.InputId.TheVariants.{Line, Source}
 use Rattle.sync_topo.specs.declared.event.Event.{Event}
 use Rattle.sync_topo.specs.Topology.{Topology}
 use Rattle.sync_topo.proofs.Lists.{filter_range_agree}
@@ -27,27 +21,13 @@ use Rattle.sync_net.specs.Standing.{ElementStands, StandsFor}
 use Rattle.sync_net.specs.Evaluated.{AreAloneEvaluated}
 use Rattle.sync_net.proofs.QuietGap.{some_element}
 use Rattle.sync_net.proofs.StageLaws.{same-place}
+use Rattle.shown_words.proofs.SameLaws.{same-mode, same-state, same-taken}
 use Rattle.event_sim.specs.declared.limits.TheConstants.{MOST_CHANGES}
 use Rattle.event_sim.specs.declared.shown.Shown.{Shown}
-use Rattle.event_sim.specs.Rows.{is_same_mode, is_same_state, is_same_taken, is_other, shown_after, shown_by, has_changed, changed_in, row_of, rows_in, rows_until}
+use Rattle.event_sim.specs.Rows.{is_other, shown_after, shown_by, has_changed, changed_in, row_of, rows_in, rows_until}
 use Rattle.event_sim.specs.Showing.{Shows, kept_in, AreShown, AreRenewed, others_in, rows_between}
 
 -- what is shown is not other than itself
-same-mode : (mode : Mode) → is_same_mode mode mode ≡ true
-same-mode Auto = refl
-same-mode Forced = refl
-same-mode Manual = refl
-
-same-state : (state : ClockState) → is_same_state state state ≡ true
-same-state FreeRun = refl
-same-state Locked = refl
-same-state Holdover = refl
-
-same-taken : (input : Option InputId) → is_same_taken input input ≡ true
-same-taken None = refl
-same-taken (Some (Line line)) = same-place line.0
-same-taken (Some (Source source)) = same-place source
-
 same-option : (option : NetOption) → is_same_option option option ≡ true
 same-option I = refl
 same-option II = refl

@@ -1,41 +1,18 @@
 -- The rows of changes: in which milliseconds an element shows something else than in the one before,
 -- and what it shows. Modes, levels and states are after G.781; rows and milliseconds are this
 -- project's own.
-use Rattle.std.specs.Prelude.{ℕ, zero, suc, Bool, true, false, not, ◌&&◌, List, [], ◌++◌, length, map, filter, Option, None, Some}
+use Rattle.std.specs.Prelude.{ℕ, zero, suc, Bool, not, ◌&&◌, List, [], ◌++◌, length, map, filter, Some}
 use Rattle.std.specs.List.{range_with_len}
-use Rattle.sync_ql.specs.declared.rules.Mode.{Mode}
-use Rattle.sync_ql.specs.declared.rules.Mode.TheVariants.{Auto, Forced, Manual}
-use Rattle.sync_ql.specs.declared.rules.ClockState.{ClockState}
-use Rattle.sync_ql.specs.declared.rules.ClockState.TheVariants.{FreeRun, Locked, Holdover}
 use Rattle.sync_ql.specs.Messages.{is_same_level}
 use Rattle.sync_ql.specs.Moment.{Moment}
 use Rattle.sync_ql.specs.Output.{clock_level_at, mode_at, state_at}
-use Rattle.sync_topo.specs.declared.input.InputId.{InputId}
 use Rattle.sync_topo.specs.declared.event.Event.{Event}
 use Rattle.sync_topo.specs.Topology.{Topology}
 use Rattle.net_rules.specs.Signals.{signals_by}
-use Rattle.sync_topo.specs.Lines.{is_same_input}
 use Rattle.net_rules.specs.History.{settings_of, taken_by, element_past, out_at}
+use Rattle.shown_words.specs.Sameness.{is_same_mode, is_same_state, is_same_taken}
 use Rattle.event_sim.specs.declared.shown.Shown.{Shown}
 use Rattle.event_sim.specs.declared.change.Change.{Change}
-
--- two modes, two states and two inputs, or none, are the same
-abbrev pub is_same_mode : Mode → Mode → Bool
-is_same_mode Auto Auto = true
-is_same_mode Forced Forced = true
-is_same_mode Manual Manual = true
-is_same_mode a b = false
-
-abbrev pub is_same_state : ClockState → ClockState → Bool
-is_same_state FreeRun FreeRun = true
-is_same_state Locked Locked = true
-is_same_state Holdover Holdover = true
-is_same_state a b = false
-
-abbrev pub is_same_taken : Option InputId → Option InputId → Bool
-is_same_taken None None = true
-is_same_taken (Some a) (Some b) = is_same_input a b
-is_same_taken a b = false
 
 -- what is shown differs: the mode, the input that is taken, the level or the state
 unfoldable pub is_other : Shown → Shown → Bool

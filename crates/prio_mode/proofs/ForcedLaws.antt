@@ -34,7 +34,8 @@ use Rattle.net_rules.proofs.SettingLaws.{input-by, priorities-by}
 use Rattle.sync_topo.specs.declared.returns.Returns.TheVariants.{Allowed}
 use Rattle.sync_topo.specs.Hops.{hops_any}
 use Rattle.sync_topo.proofs.HopLaws.{hop-meets}
-use Rattle.prio_mode.specs.PriorityAlone.{one_level, by_priority, priority_levels, priority_settings, priority_moment, priority_taken_at, priority_taken_in}
+use Rattle.prio_mode.specs.PriorityAlone.{priority_levels, priority_settings, priority_moment, priority_taken_at, priority_taken_in}
+use Rattle.net_words.specs.NewElements.{one_level, by_priority}
 use Rattle.prio_mode.specs.ForcedLoop.{forced_on, IsForcedLoop}
 use Rattle.net_words.proofs.DistinctInputs.{place-at}
 use Rattle.net_words.proofs.PlaceLemmas.{no-place-there, stands-there}

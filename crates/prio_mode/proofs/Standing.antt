@@ -1,10 +1,6 @@
 -- What an element stands for, by what it is told, and what it shows.
-use Rattle.std.proofs.Common.{◌≡◌, ℕ, zero, suc, true, false, List, [], Option, None, Some, slice_get, refl, ap, sym, ◌∙◌}
+use Rattle.std.proofs.Common.{◌≡◌, ℕ, zero, suc, true, false, List, [], Some, slice_get, refl, ap, sym, ◌∙◌}
 use Rattle.std.specs.Prelude.{unwrap_or, if◌then◌else◌}
-use Rattle.sync_ql.specs.declared.rules.Mode.{Mode}
-use Rattle.sync_ql.specs.declared.rules.Mode.TheVariants.{Auto, Forced, Manual}
-use Rattle.sync_ql.specs.declared.rules.ClockState.{ClockState}
-use Rattle.sync_ql.specs.declared.rules.ClockState.TheVariants.{FreeRun, Locked, Holdover}
 use Rattle.sync_ql.specs.declared.rules.InputEvent.{InputEvent}
 use Rattle.sync_ql.specs.declared.rules.InputEvent.TheVariants as tell
 use Rattle.sync_ql.specs.Pasts.{past_of}
@@ -22,12 +18,13 @@ use Rattle.net_rules.specs.History.{settings_of}
 use Rattle.net_rules.specs.Settings.{signal_at}
 use Rattle.net_rules.proofs.SettingLaws.{level_until, IsSaid, told-by}
 use Rattle.net_words.specs.Words.{all_words}
-use Rattle.sync_topo.proofs.InputPlaces.{same-self}
 use Rattle.net_words.proofs.SplitWords.{word-until, past-up}
 use Rattle.net_words.proofs.WordLaws.{all-up, all-level, all-clear, all-commands}
+use Rattle.shown_words.proofs.SameLaws.{same-mode, same-state, same-taken}
 use Rattle.prio_mode.specs.declared.shown.Shown.{Shown}
-use Rattle.prio_mode.specs.PriorityAlone.{one_level, by_priority, priority_levels, priority_settings, priority_moment, priority_past}
-use Rattle.prio_mode.specs.PriorityRows.{shown_after, is_same_mode, is_same_state, is_same_taken, is_other, shown_by, row_between, change_row}
+use Rattle.prio_mode.specs.PriorityAlone.{priority_levels, priority_settings, priority_moment, priority_past}
+use Rattle.net_words.specs.NewElements.{one_level, by_priority}
+use Rattle.prio_mode.specs.PriorityRows.{shown_after, is_other, shown_by, row_between, change_row}
 use Rattle.prio_mode.specs.Running.{Shows, IsOfPast}
 
 -- the one level is what each input had before a millisecond
@@ -76,23 +73,9 @@ shown-is plan all place n element shown shows is =
     ∙ ap (λ past. shown_after plan place past) (sym is.quiet)
 
 -- nothing is other than itself
-same_mode : (mode : Mode) → is_same_mode mode mode ≡ true
-same_mode Auto = refl
-same_mode Forced = refl
-same_mode Manual = refl
-
-same_state : (state : ClockState) → is_same_state state state ≡ true
-same_state FreeRun = refl
-same_state Locked = refl
-same_state Holdover = refl
-
-same_taken : (taken : Option InputId) → is_same_taken taken taken ≡ true
-same_taken None = refl
-same_taken (Some input) = same-self input
-
 not-other : (shown : Shown) → is_other shown shown ≡ false
 unfolding is_other
-not-other shown = rw (same_mode shown.mode, same_taken shown.input, same_state shown.state) refl
+not-other shown = rw (same-mode shown.mode, same-taken shown.input, same-state shown.state) refl
 
 pub no-row : (plan : Topology) (t place : ℕ) (was shown : Shown) → was ≡ shown → row_between plan t place was shown ≡ []
 no-row plan t place was shown same =

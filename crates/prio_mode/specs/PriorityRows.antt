@@ -1,40 +1,18 @@
 -- The rows of changes of elements that choose by priority alone: in which milliseconds an element shows
 -- something else than in the one before, and what it shows. Modes and states are after G.781; rows and
 -- milliseconds are this project's own.
-use Rattle.std.specs.Prelude.{ℕ, zero, suc, Bool, true, false, not, ◌&&◌, if◌then◌else◌, List, [], ◌++◌, length, map, codes, Option, None, Some}
+use Rattle.std.specs.Prelude.{ℕ, zero, suc, Bool, not, ◌&&◌, if◌then◌else◌, List, [], ◌++◌, length, map, codes}
 use Rattle.std.specs.Fmt.{decimal}
 use Rattle.std.specs.List.{concat, range_with_len}
-use Rattle.sync_ql.specs.declared.rules.Mode.{Mode}
-use Rattle.sync_ql.specs.declared.rules.Mode.TheVariants.{Auto, Forced, Manual}
-use Rattle.sync_ql.specs.declared.rules.ClockState.{ClockState}
-use Rattle.sync_ql.specs.declared.rules.ClockState.TheVariants.{FreeRun, Locked, Holdover}
 use Rattle.sync_ql.specs.Moment.{Moment}
 use Rattle.sync_ql.specs.Output.{mode_at, state_at}
-use Rattle.sync_topo.specs.declared.input.InputId.{InputId}
 use Rattle.sync_topo.specs.declared.event.Event.{Event}
 use Rattle.sync_topo.specs.Topology.{Topology}
-use Rattle.sync_topo.specs.Lines.{element_name, input_name, is_same_input}
 use Rattle.net_rules.specs.Signals.{signals_by}
+use Rattle.shown_words.specs.Sameness.{is_same_mode, is_same_state, is_same_taken}
+use Rattle.shown_words.specs.Words.{state_word, choice_text}
 use Rattle.prio_mode.specs.declared.shown.Shown.{Shown}
 use Rattle.prio_mode.specs.PriorityAlone.{priority_settings, priority_past, priority_taken_by}
-
--- two modes, two states and two inputs, or none, are the same
-abbrev pub is_same_mode : Mode → Mode → Bool
-is_same_mode Auto Auto = true
-is_same_mode Forced Forced = true
-is_same_mode Manual Manual = true
-is_same_mode a b = false
-
-abbrev pub is_same_state : ClockState → ClockState → Bool
-is_same_state FreeRun FreeRun = true
-is_same_state Locked Locked = true
-is_same_state Holdover Holdover = true
-is_same_state a b = false
-
-abbrev pub is_same_taken : Option InputId → Option InputId → Bool
-is_same_taken None None = true
-is_same_taken (Some a) (Some b) = is_same_input a b
-is_same_taken a b = false
 
 -- what is shown differs: the mode, the input that is taken, or the state
 unfoldable pub is_other : Shown → Shown → Bool
@@ -53,31 +31,11 @@ shown_after plan element past = record {
 abbrev pub shown_by : Topology → List Event → ℕ → ℕ → Shown
 shown_by plan events element n = shown_after plan element (priority_past plan (signals_by plan events) element n)
 
--- how an element chooses, and what its clock follows
-abbrev pub mode_word : Mode → List ℕ
-mode_word Auto = codes "auto"
-mode_word Forced = codes "forced"
-mode_word Manual = codes "manual"
-
-abbrev pub state_word : ClockState → List ℕ
-state_word FreeRun = codes "freerun"
-state_word Locked = codes "locked"
-state_word Holdover = codes "holdover"
-
--- the name of the input that is taken, or none
-abbrev pub taken_name : Topology → Option InputId → List ℕ
-taken_name plan None = codes "none"
-taken_name plan (Some input) = input_name plan input
-
--- what an element chose: element,mode,input
-abbrev pub choice_text : Topology → ℕ → Shown → List ℕ
-choice_text plan element shown =
-    element_name plan element ++ codes "," ++ mode_word shown.mode ++ codes "," ++ taken_name plan shown.input
-
 -- a change: t,element,mode,input,state
 abbrev pub change_row : Topology → ℕ → ℕ → Shown → List ℕ
 change_row plan t element shown =
-    decimal t ++ codes "," ++ choice_text plan element shown ++ codes "," ++ state_word shown.state ++ codes "\n"
+    decimal t ++ codes "," ++ choice_text plan element shown.mode shown.input ++ codes "," ++ state_word shown.state
+    ++ codes "\n"
 
 -- the row of an element that shows something else now, and no row otherwise
 abbrev pub row_between : Topology → ℕ → ℕ → Shown → Shown → List ℕ

@@ -2,10 +2,10 @@
 
 ghost use Rattle.std.specs.Prelude.{◌≡◌, ◌<◌, length, option_and_then, slice_get};
 ghost use Rattle.prio_mode.specs.PriorityAlone.{priority_settings};
-ghost use Rattle.prio_mode.specs.PriorityRows.{is_other, is_same_mode, is_same_state, is_same_taken};
+ghost use Rattle.prio_mode.specs.PriorityRows.{is_other};
 ghost use Rattle.prio_mode.specs.Running.{Shows};
-ghost use Rattle.sync_topo.specs.Lines.{is_same_input};
 
+use shown_words::{is_same_mode, is_same_state, is_same_taken};
 use sync_element::Element;
 use sync_ql::rules::{ClockState, Mode};
 use sync_topo::{InputId, Plan};
@@ -49,46 +49,4 @@ pub(crate) fn is_other(was: Shown, now: Shown) -> bool
     !(is_same_mode(was.mode, now.mode)
         && is_same_taken(was.input, now.input)
         && is_same_state(was.state, now.state))
-}
-
-fn is_same_mode(one: Mode, other: Mode) -> bool
-    ensures { result ≡ is_same_mode one other }
-{
-    match (one, other) {
-        (Mode::Auto, Mode::Auto) => true,
-        (Mode::Forced, Mode::Forced) => true,
-        (Mode::Manual, Mode::Manual) => true,
-        _ => false,
-    }
-}
-
-fn is_same_state(one: ClockState, other: ClockState) -> bool
-    ensures { result ≡ is_same_state one other }
-{
-    match (one, other) {
-        (ClockState::FreeRun, ClockState::FreeRun) => true,
-        (ClockState::Locked, ClockState::Locked) => true,
-        (ClockState::Holdover, ClockState::Holdover) => true,
-        _ => false,
-    }
-}
-
-fn is_same_taken(one: Option<InputId>, other: Option<InputId>) -> bool
-    ensures { result ≡ is_same_taken one other }
-{
-    match (one, other) {
-        (Some(one), Some(other)) => is_same_input(one, other),
-        (None, None) => true,
-        _ => false,
-    }
-}
-
-fn is_same_input(one: InputId, other: InputId) -> bool
-    ensures { result ≡ is_same_input one other }
-{
-    match (one, other) {
-        (InputId::Line(one), InputId::Line(other)) => one.0 == other.0,
-        (InputId::Source(one), InputId::Source(other)) => one == other,
-        _ => false,
-    }
 }

@@ -17,7 +17,7 @@ use Rattle.sync_topo.specs.WellFormed.{IsWellFormed}
 use Rattle.net_rules.specs.Signals.{Signals, signals_by}
 use Rattle.net_rules.specs.History.{Levels, settings_of, out_at, element_past, element_state, level_at}
 use Rattle.sync_net.specs.Standing.{ElementStands}
-use Rattle.event_sim.specs.Rows.{is_same_state}
+use Rattle.shown_words.specs.Sameness.{is_same_state}
 use Rattle.sync_sweep.specs.declared.counting.States.{States}
 use Rattle.sync_sweep.specs.Sweep.{is_in, level_in, IsWorstOf}
 use Rattle.sync_sweep.specs.Counts.{one_if, IsOneMore, AreCounted}

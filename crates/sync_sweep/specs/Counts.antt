@@ -6,7 +6,7 @@ use Rattle.sync_ql.specs.declared.rules.ClockState.{ClockState}
 use Rattle.sync_ql.specs.declared.rules.ClockState.TheVariants.{FreeRun, Locked, Holdover}
 use Rattle.sync_topo.specs.declared.event.Event.{Event}
 use Rattle.sync_topo.specs.Topology.{Topology}
-use Rattle.event_sim.specs.Rows.{is_same_state}
+use Rattle.shown_words.specs.Sameness.{is_same_state}
 use Rattle.sync_sweep.specs.declared.counting.States.{States}
 use Rattle.sync_sweep.specs.Sweep.{is_in}
 

@@ -16,7 +16,7 @@ use Rattle.net_rules.specs.Walks.{Taken}
 use Rattle.net_rules.specs.Safety.{taken_in}
 use Rattle.net_rules.specs.Settled.{IsSettled}
 use Rattle.net_rules.specs.Settling.{IsSettlingBound}
-use Rattle.event_sim.specs.Rows.{is_same_state}
+use Rattle.shown_words.specs.Sameness.{is_same_state}
 use Rattle.settle_trace.specs.Loops.{AreLoops}
 use Rattle.sync_sweep.specs.declared.row.SweepRow.{SweepRow}
 

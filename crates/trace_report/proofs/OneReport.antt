@@ -1,12 +1,11 @@
 -- A plan, its events and a last millisecond have one report.
 use Rattle.std.proofs.Common.{◌≡◌, ℕ, suc, Bool, true, false, IsTrue, List, [], ◌∷◌, ◌++◌, length, Some, slice_get, refl, sym, ap, ◌∙◌, arith}
-use Rattle.std.proofs.lemmas.Option.{same_Some, none-some}
 use Rattle.sync_topo.specs.declared.event.Event.{Event}
 use Rattle.sync_topo.specs.Topology.{Topology}
 use Rattle.net_rules.specs.Signals.{signals_by}
 use Rattle.net_rules.specs.History.{out_at}
 use Rattle.net_rules.specs.Safety.{taken_in}
-use Rattle.net_rules.specs.Walks.{Taken, Each, TraceEnd, at_source, at_clock, at_loop, IsTrace}
+use Rattle.net_rules.specs.Walks.{Taken, TraceEnd, at_source, at_clock, at_loop, IsTrace}
 use Rattle.settle_trace.specs.declared.traced.End.{End}
 use Rattle.settle_trace.specs.declared.traced.End.TheVariants.{Source, OwnClock, Loop}
 use Rattle.settle_trace.specs.declared.traced.Ending.{Ending}

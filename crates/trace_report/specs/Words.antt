@@ -1,46 +1,24 @@
 -- The rows of a report, and the words in them. This project's own; the terms are those of G.781.
-use Rattle.std.specs.Prelude.{ℕ, List, ◌++◌, codes, Option, Some, None}
+use Rattle.std.specs.Prelude.{ℕ, List, ◌++◌, codes}
 use Rattle.std.specs.Fmt.{decimal}
 use Rattle.sync_ql.specs.declared.rules.Cond.{Cond}
 use Rattle.sync_ql.specs.declared.rules.Cond.TheVariants.{Good, HoldOff, Failed, Restoring}
-use Rattle.sync_ql.specs.declared.rules.Mode.{Mode}
-use Rattle.sync_ql.specs.declared.rules.Mode.TheVariants.{Auto, Forced, Manual}
-use Rattle.sync_ql.specs.declared.rules.ClockState.{ClockState}
-use Rattle.sync_ql.specs.declared.rules.ClockState.TheVariants.{FreeRun, Locked, Holdover}
 use Rattle.sync_ql.specs.Level.{name_of}
 use Rattle.sync_topo.specs.declared.input.InputId.{InputId}
 use Rattle.sync_topo.specs.Topology.{Topology}
 use Rattle.sync_topo.specs.Lines.{element_name, input_name}
+use Rattle.shown_words.specs.Words.{state_word, choice_text}
 use Rattle.event_sim.specs.declared.change.Change.{Change}
 
--- how an element chooses, and what its clock follows
-abbrev pub mode_word : Mode → List ℕ
-mode_word Auto = codes "auto"
-mode_word Forced = codes "forced"
-mode_word Manual = codes "manual"
-
-abbrev pub state_word : ClockState → List ℕ
-state_word FreeRun = codes "freerun"
-state_word Locked = codes "locked"
-state_word Holdover = codes "holdover"
-
--- the name of the input that is taken, or none
-abbrev pub taken_name : Topology → Option InputId → List ℕ
-taken_name plan None = codes "none"
-taken_name plan (Some input) = input_name plan input
-
--- what an element chose: element,mode,input
-abbrev pub choice_text : Topology → Change → List ℕ
-choice_text plan change =
-    element_name plan change.element ++ codes "," ++ mode_word change.mode ++ codes "," ++ taken_name plan change.input
-
--- and what it has of that: level,state
+-- what an element has of what it chose: level,state
 abbrev pub level_text : Change → List ℕ
 level_text change = name_of change.level ++ codes "," ++ state_word change.state
 
 -- a change: t,element,mode,input,level,state
 abbrev pub change_row : Topology → Change → List ℕ
-change_row plan change = decimal change.at ++ codes "," ++ choice_text plan change ++ codes "," ++ level_text change ++ codes "\n"
+change_row plan change =
+    decimal change.at ++ codes "," ++ choice_text plan change.element change.mode change.input ++ codes ","
+    ++ level_text change ++ codes "\n"
 
 -- the condition of an input, and how many milliseconds are left of it: 0 where it doesn't end by itself
 abbrev pub condition_word : Cond → List ℕ

@@ -1,18 +1,17 @@
 //! The changes, each a row.
 
-ghost use Rattle.std.specs.Prelude.{◌≡◌, ◌++◌, ◌<◌, length, IfSome, OnOk};
+ghost use Rattle.std.specs.Prelude.{◌≡◌, ◌++◌, OnOk};
 ghost use Rattle.std.specs.List.{All};
-ghost use Rattle.sync_topo.specs.Lines.{IsInput};
 ghost use Rattle.event_sim.specs.Changes.{IsChangeOf};
-ghost use Rattle.trace_report.specs.Words.{change_row, choice_text, level_text, taken_name};
+ghost use Rattle.trace_report.specs.Words.{change_row, level_text};
 ghost use Rattle.trace_report.specs.Report.{changes_part};
 
-use crate::words::{mode_word, state_word};
 use event_sim::Change;
+use shown_words::{put_choice, state_word};
 use std::alloc::Global;
 use sync_ql::name_of;
 use sync_text::{NoMemory, Text};
-use sync_topo::{InputId, Plan};
+use sync_topo::Plan;
 
 // Puts all changes.
 pub fn put_changes(
@@ -47,22 +46,10 @@ pub fn put_change(
 {
     text.put_number(change.at)?;
     text.put(b",")?;
-    put_choice(alloc, text, plan, change)?;
+    put_choice(alloc, text, plan, change.element, change.mode, change.input)?;
     text.put(b",")?;
     put_level(text, change)?;
     text.put(b"\n")
-}
-
-// Puts what the element chose.
-fn put_choice(alloc: Global, text: &mut Text, plan: &Plan, change: &Change) -> Result<(), NoMemory>
-    requires of_plan { IsChangeOf plan.now change.now }
-    ensures put { OnOk result (text.new ≡ text.old ++ choice_text plan.now change.now) }
-{
-    text.put(plan.element(change.element).name.bytes())?;
-    text.put(b",")?;
-    text.put(mode_word(change.mode))?;
-    text.put(b",")?;
-    put_taken(alloc, text, plan, change.input)
 }
 
 // Puts what it has of that.
@@ -72,20 +59,4 @@ fn put_level(text: &mut Text, change: &Change) -> Result<(), NoMemory>
     text.put(name_of(change.level).as_bytes())?;
     text.put(b",")?;
     text.put(state_word(change.state))
-}
-
-// Puts the name of the input that is taken, or that none is.
-fn put_taken(
-    alloc: Global,
-    text: &mut Text,
-    plan: &Plan,
-    input: Option<InputId>,
-) -> Result<(), NoMemory>
-    requires within { IfSome input (IsInput plan.now) }
-    ensures put { OnOk result (text.new ≡ text.old ++ taken_name plan.now input) }
-{
-    match input {
-        Some(input) => plan.put_input_name(alloc, text, input),
-        None => text.put(b"none"),
-    }
 }

@@ -1,31 +1,9 @@
 //! The words of a report.
 
 ghost use Rattle.std.specs.Prelude.{◌≡◌};
-ghost use Rattle.trace_report.specs.Words.{mode_word, state_word, condition_word, left_of};
+ghost use Rattle.trace_report.specs.Words.{condition_word, left_of};
 
-use sync_ql::rules::{ClockState, Cond, Mode};
-
-// How an element chooses.
-pub fn mode_word(mode: Mode) -> &'static [u8]
-    ensures { result.now ≡ mode_word mode }
-{
-    match mode {
-        Mode::Auto => b"auto",
-        Mode::Forced => b"forced",
-        Mode::Manual => b"manual",
-    }
-}
-
-// What an element's clock follows.
-pub fn state_word(state: ClockState) -> &'static [u8]
-    ensures { result.now ≡ state_word state }
-{
-    match state {
-        ClockState::FreeRun => b"freerun",
-        ClockState::Locked => b"locked",
-        ClockState::Holdover => b"holdover",
-    }
-}
+use sync_ql::rules::Cond;
 
 // The condition of an input.
 pub fn condition_word(condition: Cond) -> &'static [u8]

@@ -1,4 +1,4 @@
-use Rattle.std.proofs.Common.{◌≡◌, ◌++◌, map, ap, refl, ◌∙◌}
+use Rattle.std.proofs.Common.{◌++◌, map, ap, refl, ◌∙◌}
 use Rattle.settle_trace.specs.Traces.{numbers}
 use Rattle.trace_report.specs.LastParts.{traces_part, loops_part, settled_part}
 use Rattle.trace_report.proofs.ReportLaws.{three-parts}

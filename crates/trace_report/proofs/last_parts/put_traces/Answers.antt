@@ -1,8 +1,7 @@
-use Rattle.std.proofs.Common.{◌≡◌, ◌<◌, ◌++◌, [], length, ap, sym, ◌∙◌, arith, get_or}
-use Rattle.std.specs.Prelude.{codes, Some, slice_get}
+use Rattle.std.proofs.Common.{◌<◌, ◌++◌, [], length, ap, sym, ◌∙◌, arith}
+use Rattle.std.specs.Prelude.{codes}
 use Rattle.std.specs.Option.{option_map_or}
 use Rattle.std.proofs.lemmas.Option.{slice_get-get_or}
-use Rattle.settle_trace.specs.declared.traced.Ending.{Ending}
 use Rattle.trace_report.specs.LastParts.{trace_row, trace_row_of}
 use Rattle.trace_report.proofs.ReportLaws.{one-number}
 use Rattle.trace_report.proofs.last_parts.put_traces.Goals as goal

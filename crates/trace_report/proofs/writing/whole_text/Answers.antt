@@ -1,8 +1,6 @@
-use Rattle.std.proofs.Common.{◌≡◌, ◌+◌, ◌++◌, ℕ, suc, List, ap, subst, sym, ◌∙◌, refl, arith}
-use Rattle.sync_topo.specs.Topology.{Topology}
+use Rattle.std.proofs.Common.{◌≡◌, ◌+◌, ◌++◌, ℕ, suc, ap, subst, sym, ◌∙◌, arith}
 use Rattle.sync_net.specs.NetState.{NetState}
 use Rattle.sync_net.specs.Standing as net
-use Rattle.event_sim.specs.declared.change.Change.{Change}
 use Rattle.event_sim.specs.declared.change.Watch.{Watch}
 use Rattle.event_sim.specs.Rows.{rows_until}
 use Rattle.event_sim.specs.SimState.{first_after}

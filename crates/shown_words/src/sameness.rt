@@ -1,0 +1,60 @@
+//! Whether two elements show the same.
+
+ghost use Rattle.std.specs.Prelude.{◌≡◌};
+ghost use Rattle.sync_topo.specs.Lines.{is_same_input};
+ghost use Rattle.shown_words.specs.Sameness.{is_same_mode, is_same_state, is_same_taken};
+
+use sync_ql::rules::{ClockState, Mode};
+use sync_topo::InputId;
+
+/// Whether two modes are the same.
+///
+/// This project's own.
+pub fn is_same_mode(one: Mode, other: Mode) -> bool
+    ensures { result ≡ is_same_mode one other }
+{
+    match (one, other) {
+        (Mode::Auto, Mode::Auto) => true,
+        (Mode::Forced, Mode::Forced) => true,
+        (Mode::Manual, Mode::Manual) => true,
+        _ => false,
+    }
+}
+
+/// Whether two states of a clock are the same.
+///
+/// This project's own.
+pub fn is_same_state(one: ClockState, other: ClockState) -> bool
+    ensures { result ≡ is_same_state one other }
+{
+    match (one, other) {
+        (ClockState::FreeRun, ClockState::FreeRun) => true,
+        (ClockState::Locked, ClockState::Locked) => true,
+        (ClockState::Holdover, ClockState::Holdover) => true,
+        _ => false,
+    }
+}
+
+/// Whether two elements take inputs that are the same, or both take none.
+///
+/// This project's own.
+pub fn is_same_taken(one: Option<InputId>, other: Option<InputId>) -> bool
+    ensures { result ≡ is_same_taken one other }
+{
+    match (one, other) {
+        (Some(one), Some(other)) => is_same_input(one, other),
+        (None, None) => true,
+        _ => false,
+    }
+}
+
+// Whether two inputs are the same.
+fn is_same_input(one: InputId, other: InputId) -> bool
+    ensures { result ≡ is_same_input one other }
+{
+    match (one, other) {
+        (InputId::Line(one), InputId::Line(other)) => one.0 == other.0,
+        (InputId::Source(one), InputId::Source(other)) => one == other,
+        _ => false,
+    }
+}

@@ -1,0 +1,76 @@
+//! The words for what an element shows.
+
+ghost use Rattle.std.specs.Prelude.{◌≡◌, ◌++◌, ◌<◌, length, IfSome, OnOk};
+ghost use Rattle.sync_topo.specs.Lines.{IsInput};
+ghost use Rattle.shown_words.specs.Words.{mode_word, state_word, taken_name, choice_text};
+
+use std::alloc::Global;
+use sync_ql::rules::{ClockState, Mode};
+use sync_text::{NoMemory, Text};
+use sync_topo::{InputId, Plan};
+
+/// How an element chooses, as a word.
+///
+/// This project's own; the terms are those of G.781.
+pub fn mode_word(mode: Mode) -> &'static [u8]
+    ensures { result.now ≡ mode_word mode }
+{
+    match mode {
+        Mode::Auto => b"auto",
+        Mode::Forced => b"forced",
+        Mode::Manual => b"manual",
+    }
+}
+
+/// What an element's clock follows, as a word.
+///
+/// This project's own; the terms are those of G.781.
+pub fn state_word(state: ClockState) -> &'static [u8]
+    ensures { result.now ≡ state_word state }
+{
+    match state {
+        ClockState::FreeRun => b"freerun",
+        ClockState::Locked => b"locked",
+        ClockState::Holdover => b"holdover",
+    }
+}
+
+/// Puts what an element of a plan chose: its name, its mode, and the name of the input that it takes, or
+/// that it takes none.
+///
+/// `NoMemory` comes for want of memory alone; a part may then stand at the end, so the text isn't used
+/// again. This project's own.
+pub fn put_choice(
+    alloc: Global,
+    text: &mut Text,
+    plan: &Plan,
+    element: u32,
+    mode: Mode,
+    taken: Option<InputId>,
+) -> Result<(), NoMemory>
+    requires element { element < length plan.now.elements }
+    requires taken { IfSome taken (IsInput plan.now) }
+    ensures put { OnOk result (text.new ≡ text.old ++ choice_text plan.now element mode taken) }
+{
+    text.put(plan.element(element).name.bytes())?;
+    text.put(b",")?;
+    text.put(mode_word(mode))?;
+    text.put(b",")?;
+    put_taken(alloc, text, plan, taken)
+}
+
+// Puts the name of the input that is taken, or that none is.
+fn put_taken(
+    alloc: Global,
+    text: &mut Text,
+    plan: &Plan,
+    taken: Option<InputId>,
+) -> Result<(), NoMemory>
+    requires within { IfSome taken (IsInput plan.now) }
+    ensures put { OnOk result (text.new ≡ text.old ++ taken_name plan.now taken) }
+{
+    match taken {
+        Some(input) => plan.put_input_name(alloc, text, input),
+        None => text.put(b"none"),
+    }
+}
