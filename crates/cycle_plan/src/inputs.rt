@@ -4,8 +4,8 @@ ghost use Rattle.sync_topo.specs.Lines.{line_count, inputs_of};
 ghost use Rattle.sync_topo.specs.WellFormed.{IsWellFormed};
 ghost use Rattle.cycle_plan.specs.Inputs.{line_at, AreWithin, is_open, is_other, IsWatch, AreFirstOpen};
 
-use rank_cert::Cert;
 use crate::numbers::number_in;
+use rank_cert::Cert;
 use sync_topo::{InputId, LineId, Plan, Returns};
 
 /// How far an element's inputs are known to have ranks.

@@ -9,8 +9,8 @@ ghost use Rattle.cycle_plan.specs.Tops.{rank_after};
 ghost use Rattle.cycle_plan.specs.Rings.{IsDone};
 ghost use Rattle.cycle_plan.specs.Peeling.{IsRanking, IsPeeling, IsPeeled, IsMore, IsNext, IsSettled, AreKept, IsWatched, is_among, IsAmong, AreFree, IsTopOf};
 
-use crate::numbers::{number_in, number_out};
 use crate::inputs::{Watch, first_open, inputs_of, line_at};
+use crate::numbers::{number_in, number_out};
 use crate::top::{Top, top_of};
 use rank_cert::Cert;
 use std::alloc::Global;
@@ -189,12 +189,7 @@ impl Ranking {
     }
 
     /// Ranks the lines out of an element that no line without a rank holds back.
-    fn settle(
-        &mut self,
-        returns: Returns,
-        plan: &Plan,
-        element: u32,
-    ) -> Result<(), NoMemory>
+    fn settle(&mut self, returns: Returns, plan: &Plan, element: u32) -> Result<(), NoMemory>
         requires peeling { IsPeeling returns plan.now self.old }
         requires within { element < length plan.now.elements }
         ensures more { OnOk result (IsMore returns plan.now self.old self.new) }
@@ -213,12 +208,7 @@ impl Ranking {
         if watch.back {
             return Ok(());
         }
-        self.give_all(
-            returns,
-            plan,
-            element,
-            Some(number_in(returns, plan, last)),
-        )?;
+        self.give_all(returns, plan, element, Some(number_in(returns, plan, last)))?;
         self.watches[element as usize].back = true;
         Ok(())
     }

@@ -5,8 +5,8 @@ ghost use Rattle.rank_cert.specs.Ranks.{rank_at};
 ghost use Rattle.sync_topo.specs.Hops.{hops_by};
 ghost use Rattle.cycle_plan.specs.Rings.{IsLeft, IsDone, IsLowOn, HasRound, IsLowest, IsWalked, numbers};
 
-use crate::numbers::{number_in, number_out};
 use crate::inputs::{first_open, inputs_of, line_at};
+use crate::numbers::{number_in, number_out};
 use crate::ranking::Ranking;
 use std::alloc::Global;
 use sync_text::{NoMemory, Rows};

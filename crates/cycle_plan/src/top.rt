@@ -3,8 +3,8 @@ ghost use Rattle.sync_topo.specs.Lines.{line_count};
 ghost use Rattle.cycle_plan.specs.Inputs.{AreWithin};
 ghost use Rattle.cycle_plan.specs.Tops.{AreSmall, IsTop, raised, rank_after};
 
-use crate::numbers::number_in;
 use crate::inputs::line_at;
+use crate::numbers::number_in;
 use rank_cert::Cert;
 use sync_topo::{InputId, Plan, Returns};
 

@@ -114,7 +114,6 @@ module _ (plan : Topology) (element i : ℕ) (input : InputId) (at : slice_get (
       ∙ ap (option_or (all-named-level input sources events)) (level-level sources (named_source event.what))
       ∙ more-named input sources event events
 
-
 pub levels-commands : (plan : Topology) (element : ℕ) (sources : List SourceSignal) (events : List Event) → commands_in (all_level_words plan sources events element) ≡ []
 levels-commands plan element sources [] = refl
 levels-commands plan element sources (event ∷ events) =

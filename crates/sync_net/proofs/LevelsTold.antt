@@ -49,7 +49,6 @@ levels-told plan sources mid all rest event before now after same so_far told = 
     words : (element : ℕ) → level_words plan mid (named_source event.what) element ≡ level_words plan sources (named_source event.what) element
     words element = same-words plan mid sources (named_source event.what) element same
 
-
 settle-more : (here later : Bool) (now after : SourceSignal) → settled after ≡ settled now → after ≡ settle_if here now → settle_if later after ≡ settle_if (here || later) now
 settle-more true true now after same is = same
 settle-more true false now after same is = is

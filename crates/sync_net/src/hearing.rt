@@ -90,15 +90,7 @@ pub fn hear_lines(
 {
     for place in called.listed() {
         let signal = signal_of(signals, *place);
-        hear(
-            plan,
-            LineId(*place),
-            signal,
-            lines,
-            heards,
-            tellings,
-            now,
-        )?;
+        hear(plan, LineId(*place), signal, lines, heards, tellings, now)?;
     }
     Ok(())
 }
