@@ -21,7 +21,7 @@ use Rattle.shown_words.specs.Sameness.{is_same_state}
 use Rattle.sync_sweep.specs.declared.counting.States.{States}
 use Rattle.sync_sweep.specs.Sweep.{is_in, level_in, IsWorstOf}
 use Rattle.sync_sweep.specs.Counts.{one_if, IsOneMore, AreCounted}
-use Rattle.sync_sweep.proofs.Numbers.{range_more}
+use Rattle.sync_text.proofs.Ranges.{range_more}
 
 -- what an element's accessors say after any past is what the rules say in the millisecond of its network's last step
 module _ (plan : Topology) (signals : Signals) (out : Levels) (place next : ℕ) (element : ElementState) (stepped : 0 < next) (is : ElementStands plan signals out place next element) where

@@ -42,7 +42,7 @@ not-greater P one other first second = elim first.reached [
   | inr is ↦ second.most one is
 ]
 
-one-greatest : (P : ℕ → Type 0) (one other : ℕ) → IsGreatest P one → IsGreatest P other → one ≡ other
+pub one-greatest : (P : ℕ → Type 0) (one other : ℕ) → IsGreatest P one → IsGreatest P other → one ≡ other
 one-greatest P one other first second = omega (arith, not-greater P one other first second, not-greater P other one second first)
 
 -- a plan has one settling bound after a millisecond

@@ -1,3 +1,4 @@
 pub mod Decimals
 pub mod Ranges
 pub mod Options
+pub mod PutRows

@@ -1,8 +1,7 @@
 -- What stands behind the rows of a report.
-use Rattle.std.proofs.Common.{◌≡◌, ◌<◌, ◌+◌, ◌-◌, ℕ, suc, List, [], ◌∷◌, ◌++◌, length, map, take, Some, slice_get, refl, sym, ap, ◌∙◌, arith}
+use Rattle.std.proofs.Common.{◌≡◌, ◌<◌, ◌+◌, ◌-◌, ℕ, suc, List, [], ◌∷◌, ◌++◌, length, map, Some, slice_get, sym, ap, ◌∙◌, arith}
 use Rattle.std.specs.List.{concat, range_with_len}
-use Rattle.std.proofs.Math.ListN.{get_or}
-use Rattle.std.proofs.lemmas.List.{length-map, append_assoc, append-nil, map_more}
+use Rattle.std.proofs.lemmas.List.{length-map, append_assoc, append-nil}
 use Rattle.std.proofs.lemmas.List.Folds.{concat-append}
 use Rattle.std.proofs.lemmas.List.FromFn.{map-range_with_len_more}
 use Rattle.sync_ql.specs.declared.rules.Cond.{Cond}
@@ -66,14 +65,6 @@ condition-now plan signals out e until place count passed input element told at 
     after : until + 1 ≡ suc until
     after = omega arith
 
--- one row more
-pub one-row : {A : Type 0} (f : A → List ℕ) (xs : List A) (i : ℕ) (other : A) (old before row : List ℕ) → i < length xs
-    → before ≡ old ++ concat (map f (take i xs)) → row ≡ f (get_or xs i other) → before ++ row ≡ old ++ concat (map f (take (i + 1) xs))
-one-row f xs i other old before row within so_far is =
-    let rows : List ℕ = concat (map f (take i xs)) in
-    ap (λ front. front ++ row) so_far ∙ append_assoc old rows row ∙ ap (λ r. old ++ (rows ++ r)) (is ∙ sym (append-nil (f (get_or xs i other))))
-    ∙ ap (λ r. old ++ r) (sym (ap concat (map_more f xs i other within) ∙ concat-append (map f (take i xs)) (f (get_or xs i other) ∷ [])))
-
 -- the rows of one number more
 pub one-number : (f : ℕ → List ℕ) (n : ℕ) (old before row : List ℕ) → before ≡ old ++ concat (map f (range_with_len 0 n))
     → row ≡ f n → before ++ row ≡ old ++ concat (map f (range_with_len 0 (n + 1)))
@@ -81,11 +72,6 @@ one-number f n old before row so_far is =
     let rows : List ℕ = concat (map f (range_with_len 0 n)) in
     ap (λ front. front ++ row) so_far ∙ append_assoc old rows row ∙ ap (λ r. old ++ (rows ++ r)) (is ∙ sym (append-nil (f n)))
     ∙ ap (λ r. old ++ r) (sym (ap concat (map-range_with_len_more f 0 n n (omega arith)) ∙ concat-append (map f (range_with_len 0 n)) (f n ∷ [])))
-
--- a row of what is made of an item
-pub map-map : {A B C : Type 0} (g : B → C) (f : A → B) (xs : List A) → map (λ x. g (f x)) xs ≡ map g (map f xs)
-map-map g f [] = refl
-map-map g f (x ∷ xs) = ap (λ rest. g (f x) ∷ rest) (map-map g f xs)
 
 -- three texts put one after another
 pub three-parts : (old one two three first second third : List ℕ) → one ≡ old ++ first → two ≡ one ++ second → three ≡ two ++ third

@@ -1,6 +1,6 @@
 use Rattle.std.proofs.Common.{◌<◌, ℕ, length, get_or, ap, ◌∙◌, arith}
 use Rattle.sync_sweep.specs.SweepText.{head_text, row_text}
-use Rattle.sync_sweep.proofs.TableLemmas.{one-row}
+use Rattle.sync_text.proofs.PutRows.{one-row}
 use Rattle.sync_sweep.proofs.table.sweep_text.Goals as goal
 
 pub loop-row-preserved : goal.loop-row-preserved

@@ -1,7 +1,7 @@
 use Rattle.std.proofs.Common.{◌++◌, ap, ◌∙◌}
 use Rattle.std.specs.Prelude.{codes}
 use Rattle.trace_report.specs.Words.{change_row}
-use Rattle.trace_report.proofs.ReportLaws.{one-row}
+use Rattle.sync_text.proofs.PutRows.{one-row}
 use Rattle.trace_report.proofs.changes.put_changes.Goals as goal
 
 pub loop-change-preserved : goal.loop-change-preserved

@@ -6,7 +6,8 @@ use Rattle.net_rules.specs.Signals.{signals_by}
 use Rattle.net_rules.specs.History.{out_at}
 use Rattle.trace_report.specs.Words.{input_row}
 use Rattle.trace_report.specs.Report.{conditions_at}
-use Rattle.trace_report.proofs.ReportLaws.{inputs-count, condition-now, one-row}
+use Rattle.sync_text.proofs.PutRows.{one-row}
+use Rattle.trace_report.proofs.ReportLaws.{inputs-count, condition-now}
 use Rattle.trace_report.proofs.inputs.put_element.Goals as goal
 
 pub passed_until-passed-requires : goal.passed_until-passed-requires

@@ -5,7 +5,8 @@ use Rattle.std.proofs.lemmas.List.{append_assoc, take_all}
 use Rattle.sync_topo.specs.declared.input.LineId.{LineId}
 use Rattle.settle_trace.specs.Traces.{numbers}
 use Rattle.trace_report.specs.LastParts.{walk_row}
-use Rattle.trace_report.proofs.ReportLaws.{one-row, map-map}
+use Rattle.std.proofs.lemmas.Simd.{map-map}
+use Rattle.sync_text.proofs.PutRows.{one-row}
 use Rattle.trace_report.proofs.last_parts.put_loops.Goals as goal
 
 pub loop-walk-preserved : goal.loop-walk-preserved
@@ -20,6 +21,6 @@ returns c = record {
   put =
       c.loop-walk.invariant
       ∙ ap (λ walks. c.args.text.now ++ codes "loops\n" ++ concat (map (λ (walk : List LineId). walk_row c.args.plan.now (numbers walk)) walks)) (take_all c.loop-walk.walk-index c.args.walks.now c.loop-walk-test.false)
-      ∙ ap (λ rows. c.args.text.now ++ codes "loops\n" ++ concat rows) (map-map (walk_row c.args.plan.now) numbers c.args.walks.now)
+      ∙ ap (λ rows. c.args.text.now ++ codes "loops\n" ++ concat rows) (sym (map-map (walk_row c.args.plan.now) numbers c.args.walks.now))
       ∙ append_assoc c.args.text.now (codes "loops\n") (concat (map (walk_row c.args.plan.now) (map numbers c.args.walks.now)));
 }

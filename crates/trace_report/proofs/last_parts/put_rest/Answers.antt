@@ -4,7 +4,8 @@ use Rattle.std.specs.List.{concat}
 use Rattle.std.proofs.lemmas.List.{take_all}
 use Rattle.sync_topo.specs.declared.input.LineId.{LineId}
 use Rattle.sync_topo.specs.Lines.{line_name}
-use Rattle.trace_report.proofs.ReportLaws.{one-row, map-map}
+use Rattle.std.proofs.lemmas.Simd.{map-map}
+use Rattle.sync_text.proofs.PutRows.{one-row}
 use Rattle.trace_report.proofs.last_parts.put_rest.Goals as goal
 
 pub loop-line-preserved : goal.loop-line-preserved
@@ -18,5 +19,5 @@ returns c = record {
   put =
       c.loop-line.invariant
       ∙ ap (λ lines. c.args.text.now ++ concat (map (λ (line : LineId). codes " " ++ line_name c.args.plan.now line.0) lines)) (take_all c.loop-line.line-index c.args.rest.now c.loop-line-test.false)
-      ∙ ap (λ rows. c.args.text.now ++ concat rows) (map-map (λ line. codes " " ++ line_name c.args.plan.now line) (λ (line : LineId). line.0) c.args.rest.now);
+      ∙ ap (λ rows. c.args.text.now ++ concat rows) (sym (map-map (λ line. codes " " ++ line_name c.args.plan.now line) (λ (line : LineId). line.0) c.args.rest.now));
 }
