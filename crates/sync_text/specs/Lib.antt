@@ -1,3 +1,4 @@
 pub mod Number
 pub mod Gives
+pub mod Chain
 pub mod Examples
