@@ -11,7 +11,8 @@ use Rattle.capture_text.specs.declared.error.CaptureErr.{CaptureErr}
 use Rattle.capture_text.specs.Lines.{lines_of}
 use Rattle.capture_text.specs.Row.{row_of}
 use Rattle.capture_text.specs.Reading.{pdu_of}
-use Rattle.capture_text.specs.Capture.{◌>>=◌, carried_at, said_at, as_line, row_of_line, frame_of_line, row_in_form, text_of_lines}
+use Rattle.sync_text.specs.Chain.{◌>>=◌}
+use Rattle.capture_text.specs.Capture.{carried_at, said_at, as_line, row_of_line, frame_of_line, row_in_form, text_of_lines}
 use Rattle.capture_text.proofs.ReadingLemmas.{row_of_pdu}
 use Rattle.capture_text.proofs.FrameLemmas.{IsSendable, sendable, decode_of-digits, reading_of-written, some_digits, no_line_feeds, no_last_return}
 

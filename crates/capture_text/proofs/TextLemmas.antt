@@ -2,7 +2,8 @@
 use Rattle.std.proofs.Common.{◌≡◌, ℕ, ◌+◌, List, [], ◌∷◌, ◌++◌, Result, Ok, Err, refl, sym, ap, append_assoc, append-nil, ◌∙◌}
 use Rattle.capture_text.specs.declared.error.CaptureErr.{CaptureErr}
 use Rattle.capture_text.specs.declared.error.CaptureErr.TheVariants.{Hex, Frame, Row, NoMemory}
-use Rattle.capture_text.specs.Capture.{◌>>=◌, text_of_lines}
+use Rattle.sync_text.specs.Chain.{◌>>=◌}
+use Rattle.capture_text.specs.Capture.{text_of_lines}
 use Rattle.capture_text.specs.Gives.{Refuses}
 use Rattle.capture_text.specs.Steps.{with_front}
 

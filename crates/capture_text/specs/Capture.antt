@@ -9,15 +9,10 @@ use Rattle.esmc_frame.specs.Frame.{written_frame}
 use Rattle.esmc_frame.specs.Reading.{reading_of}
 use Rattle.capture_text.specs.declared.error.CaptureErr.{CaptureErr}
 use Rattle.capture_text.specs.declared.error.CaptureErr.TheVariants as refusal
+use Rattle.sync_text.specs.Chain.{◌>>=◌}
 use Rattle.capture_text.specs.Lines.{lines_of}
 use Rattle.capture_text.specs.Row.{row_of}
 use Rattle.capture_text.specs.Reading.{pdu_of}
-
--- goes on with the value, and ends with a refusal
-infixl 10 ◌>>=◌
-abbrev pub ◌>>=◌ : {A B : Type 0} → Result A CaptureErr → (A → Result B CaptureErr) → Result B CaptureErr
-Ok value >>= next = next value
-Err refused >>= next = Err refused
 
 -- the octets that line n gives as hexadecimal digits
 abbrev pub octets_at : ℕ → Result (List ℕ) FromHexError → Result (List ℕ) CaptureErr

@@ -12,7 +12,7 @@ use Rattle.sync_topo.specs.declared.place.Place.{Place}
 use Rattle.sync_topo.specs.declared.place.Section.TheVariants.{Elements, Links, Sources}
 use Rattle.plan_file.specs.declared.version.Version.{Version}
 use Rattle.plan_file.specs.declared.version.Version.TheVariants.{One, Two}
-use Rattle.plan_file.specs.Chain.{◌>>=◌, unless}
+use Rattle.sync_text.specs.Chain.{◌>>=◌, unless}
 use Rattle.plan_file.specs.declared.error.PlanFileErr.{PlanFileErr}
 use Rattle.plan_file.specs.declared.error.PlanFileErr.TheVariants.{Key as WrongKey, Kind as WrongKind}
 use Rattle.plan_file.specs.Format.{Key, keys_of, is_text, is_integer}

@@ -5,7 +5,7 @@ use Rattle.sync_ql.specs.declared.levels.NetOption.{NetOption}
 use Rattle.sync_topo.specs.declared.place.Place.{Place}
 use Rattle.sync_topo.specs.declared.place.Section.TheVariants.{Head}
 use Rattle.plan_file.specs.declared.version.Version.{Version}
-use Rattle.plan_file.specs.Chain.{◌>>=◌, unless}
+use Rattle.sync_text.specs.Chain.{◌>>=◌, unless}
 use Rattle.plan_file.specs.declared.error.PlanFileErr.{PlanFileErr}
 use Rattle.plan_file.specs.Format.{keys_of, version_of, is_version, is_option, is_array}
 use Rattle.plan_file.specs.Rules.{keeps_kinds, refusal_of}

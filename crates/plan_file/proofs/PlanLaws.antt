@@ -10,7 +10,7 @@ use Rattle.sync_topo.specs.PlanRows.{plan_of_rows}
 use Rattle.sync_topo.specs.Topology.{Topology}
 use Rattle.plan_file.specs.declared.error.PlanFileErr.{PlanFileErr}
 use Rattle.plan_file.specs.declared.error.PlanFileErr.TheVariants.{Syntax, Key as WrongKey, Kind as WrongKind, Plan, NoMemory}
-use Rattle.plan_file.specs.Chain.{◌>>=◌, found, unless}
+use Rattle.sync_text.specs.Chain.{◌>>=◌, found, unless}
 use Rattle.plan_file.specs.Format.{keys_of, version_of}
 use Rattle.plan_file.specs.declared.version.Version.{Version}
 use Rattle.plan_file.specs.Rules.{has_only, has_needed, keeps_kinds, refusal_of, refusal_at, value_at, IsFirstBroken, KeepsRules}

@@ -10,7 +10,7 @@ use Rattle.plan_file.specs.declared.version.Version.{Version}
 use Rattle.plan_file.specs.declared.version.Version.TheVariants.{One}
 use Rattle.plan_file.specs.Format.{keys_of, version_of}
 use Rattle.plan_file.specs.declared.error.PlanFileErr.{PlanFileErr}
-use Rattle.plan_file.specs.Chain.{◌>>=◌, unless}
+use Rattle.sync_text.specs.Chain.{◌>>=◌, unless}
 use Rattle.plan_file.specs.Rules.{refusal_of, entries_of}
 use Rattle.plan_file.specs.Rows.{first_from, element_row, link_row, source_row, said_rows, rows_of_document}
 use Rattle.plan_file.specs.Steps.{rows_from, head_said}

@@ -1,6 +1,5 @@
 pub mod Format
 pub mod Rules
-pub mod Chain
 pub mod Rows
 pub mod PlanText
 pub mod IsPlanText

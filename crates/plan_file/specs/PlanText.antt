@@ -9,7 +9,7 @@ use Rattle.sync_topo.specs.PlanRows.{plan_of_rows}
 use Rattle.sync_topo.specs.Topology.{Topology}
 use Rattle.plan_file.specs.declared.error.PlanFileErr.{PlanFileErr}
 use Rattle.plan_file.specs.declared.error.PlanFileErr.TheVariants.{Syntax, Plan}
-use Rattle.plan_file.specs.Chain.{◌>>=◌, found}
+use Rattle.sync_text.specs.Chain.{◌>>=◌, found}
 use Rattle.plan_file.specs.Rules.{KeepsRules}
 use Rattle.plan_file.specs.Rows.{said_rows, rows_of_document}
 

@@ -13,7 +13,7 @@ use Rattle.sync_topo.specs.declared.place.Section.TheVariants.{Head, Elements, L
 use Rattle.plan_file.specs.declared.error.PlanFileErr.{PlanFileErr}
 use Rattle.plan_file.specs.declared.version.Version.{Version}
 use Rattle.plan_file.specs.declared.version.Version.TheVariants.{One, Two}
-use Rattle.plan_file.specs.Chain.{unless}
+use Rattle.sync_text.specs.Chain.{unless}
 use Rattle.plan_file.specs.Format.{option_of, version_of}
 use Rattle.plan_file.specs.Rules.{entries_of, refusal_of}
 

@@ -13,7 +13,7 @@ use Rattle.sync_ql.specs.declared.levels.NetOption.{NetOption}
 use Rattle.plan_file.specs.declared.head.Head.{Head}
 use Rattle.plan_file.specs.declared.version.Version.{Version}
 use Rattle.plan_file.specs.declared.version.Version.TheVariants.{One, Two}
-use Rattle.plan_file.specs.Chain.{◌>>=◌}
+use Rattle.sync_text.specs.Chain.{◌>>=◌}
 use Rattle.plan_file.specs.Format.{is_version, is_text, version_of}
 use Rattle.plan_file.specs.Rules.{data_of}
 use Rattle.plan_file.specs.Rows.{network_option, text_at, row_at}

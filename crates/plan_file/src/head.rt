@@ -4,7 +4,7 @@ ghost use Rattle.std.specs.Prelude.{◌≡◌, map, codes};
 ghost use Rattle.toml.specs.Data.{table, integer};
 ghost use Rattle.toml.specs.View.{view, table_view};
 ghost use Rattle.sync_topo.specs.declared.place.Section.TheVariants as section;
-ghost use Rattle.plan_file.specs.Chain.{unless};
+ghost use Rattle.sync_text.specs.Chain.{unless};
 ghost use Rattle.plan_file.specs.Format.{is_option, option_of, version_of, version_said};
 ghost use Rattle.plan_file.specs.Rules.{refusal_of};
 ghost use Rattle.plan_file.specs.Rows.{network_option};

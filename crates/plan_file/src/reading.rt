@@ -10,7 +10,7 @@ ghost use Rattle.plan_file.specs.declared.error.PlanFileErr.TheVariants as refus
 ghost use Rattle.toml.specs.Data.{Members};
 ghost use Rattle.plan_file.specs.declared.version.Version.TheVariants.{One, Two};
 ghost use Rattle.plan_file.specs.Rows.{NamesNoBundle, rows_in};
-ghost use Rattle.plan_file.specs.Chain.{found};
+ghost use Rattle.sync_text.specs.Chain.{found};
 ghost use Rattle.plan_file.specs.Rules.{IsFirstBroken};
 ghost use Rattle.plan_file.specs.PlanText.{document_of, rows_in_file, plan_of, OfDocument, GivesRows};
 ghost use Rattle.plan_file.specs.Gives.{Gives, GivesBy, RefusesWhere};

@@ -12,7 +12,7 @@ use Rattle.sync_topo.proofs.Accepted.{accepted-well_formed}
 use Rattle.net_rules.specs.Safety.{IsLoopFree}
 use Rattle.net_rules.proofs.FinalLaws.{loop_free}
 use Rattle.plan_file.specs.declared.error.PlanFileErr.{PlanFileErr}
-use Rattle.plan_file.specs.Chain.{◌>>=◌}
+use Rattle.sync_text.specs.Chain.{◌>>=◌}
 use Rattle.plan_file.specs.PlanText.{rows_in_file, of_rows, plan_of}
 use Rattle.rank_cert.specs.declared.error.CertErr.{CertErr}
 use Rattle.rank_cert.specs.Ranks.{Ranks, rank_of}

@@ -1,24 +1,15 @@
 -- A trial of a plan has one text.
-use Rattle.std.proofs.Common.{◌≡◌, ◌≤◌, ℕ, suc, Bool, true, false, List, refl, sym, ap, ◌∙◌, inl, inr, arith}
+use Rattle.std.proofs.Common.{◌≡◌, ℕ, suc, Bool, true, false, List, refl, sym, ap, ◌∙◌, inl, inr, arith}
 use Rattle.std.specs.Prelude.{◌↔◌, IsTrue}
 use Rattle.sync_topo.specs.declared.event.Event.{Event}
 use Rattle.sync_topo.specs.Topology.{Topology}
-use Rattle.net_rules.specs.Settling.{IsGreatest, IsRank}
+use Rattle.net_rules.specs.Settling.{IsRank}
 use Rattle.event_sim.specs.declared.change.Change.{Change}
 use Rattle.event_sim.specs.Rows.{rows_until}
 use Rattle.sync_top.specs.declared.trial.TheConstants.{LAST}
 use Rattle.sync_top.specs.Forms.Trial.{AreReportRows, IsTrialText, IsSettledAt, trial_events, trial_text}
+use Rattle.sync_sweep.proofs.OneSweep.{one-greatest}
 use Rattle.sync_top.proofs.LastFits.{one_last}
-
--- there is one greatest number of a kind
-not_greater : (P : ℕ → Type 0) (one other : ℕ) → IsGreatest P one → IsGreatest P other → one ≤ other
-not_greater P one other first second = elim first.reached [
-  | inl zero ↦ omega (arith, zero)
-  | inr is ↦ second.most one is
-]
-
-one_greatest : (P : ℕ → Type 0) (one other : ℕ) → IsGreatest P one → IsGreatest P other → one ≡ other
-one_greatest P one other first second = omega (arith, not_greater P one other first second, not_greater P other one second first)
 
 -- a run has one list of rows that its report has
 one_rows : (plan : Topology) (events : List Event) (until : ℕ) (rows others : List Change) → AreReportRows plan events until rows
@@ -43,7 +34,7 @@ one_test P false true first second = first.1 (second.0 refl)
 
 pub one_trial_text : (n : ℕ) (plan : Topology) (text another : List ℕ) → IsTrialText n plan text → IsTrialText n plan another → text ≡ another
 one_trial_text n plan text another first second =
-    let top = one_greatest (IsRank plan) first.top second.top first.greatest second.greatest in
+    let top = one-greatest (IsRank plan) first.top second.top first.greatest second.greatest in
     let rows = one_rows plan trial_events LAST first.rows second.rows first.are_rows second.are_rows in
     let settled = one_test (IsSettledAt plan trial_events LAST) first.settled second.settled first.is_settled second.is_settled in
     first.is

@@ -6,10 +6,11 @@ use Rattle.std.specs.List.{range_with_len, All}
 use Rattle.std.proofs.Common.{get_or}
 use Rattle.std.proofs.lemmas.List.Elements.{All-head, All-tail}
 use Rattle.std.proofs.lemmas.Bool.{cases_eq, eq-eqb, ne_eqb, eqb-true, true≢false, and_parts, false_from_ne_true}
-use Rattle.std.proofs.lemmas.List.{length-set, length-replicate, map-id}
+use Rattle.std.proofs.lemmas.List.{length-set, length-replicate}
 use Rattle.std.proofs.lemmas.List.Folds.{find-append}
-use Rattle.std.proofs.lemmas.List.FromFn.{map-range_with_len_more}
 use Rattle.std.proofs.lemmas.Option.{none-some, same_Some, slice_get_read, slice_get-get_or}
+use Rattle.sync_text.proofs.Options.{option_or-none}
+use Rattle.sync_text.proofs.Ranges.{range_more}
 use Rattle.sync_topo.specs.declared.input.InputId.{InputId}
 use Rattle.sync_topo.specs.declared.input.InputId.TheVariants.{Line, Source}
 use Rattle.sync_topo.specs.declared.input.LineId.{LineId}
@@ -31,15 +32,8 @@ first-own plan element = first-inputs (lines_into plan element) (sources_at plan
 
 -- ---- the lines from elements with one less
 
-range-more : (n : ℕ) → range_with_len 0 (n + 1) ≡ range_with_len 0 n ++ n ∷ []
-range-more n = let here : 0 + n ≡ n = omega arith in simp map-id at (map-range_with_len_more (λ (x : ℕ). x) 0 n n here)
-
 find-more : (p : ℕ → Bool) (n : ℕ) → find p (range_with_len 0 (n + 1)) ≡ option_or (find p (range_with_len 0 n)) (if p n then Some n else None)
-find-more p n = ap (find p) (range-more n) ∙ find-append p (range_with_len 0 n) (n ∷ [])
-
-or-none : (o : Option ℕ) → option_or o None ≡ o
-or-none None = refl
-or-none (Some x) = refl
+find-more p n = ap (find p) (range_more n) ∙ find-append p (range_with_len 0 n) (n ∷ [])
 
 or-some : (o : Option ℕ) (x : ℕ) (p : Option ℕ) → o ≡ Some x → option_or o p ≡ o
 or-some None x p is = absurd (none-some x is)
@@ -47,7 +41,7 @@ or-some (Some y) x p is = refl
 
 -- a line that doesn't lead on leaves the first as it was
 find-not : (p : ℕ → Bool) (n : ℕ) → p n ≡ false → find p (range_with_len 0 (n + 1)) ≡ find p (range_with_len 0 n)
-find-not p n never = find-more p n ∙ rw never (or-none (find p (range_with_len 0 n)))
+find-not p n never = find-more p n ∙ rw never (option_or-none (find p (range_with_len 0 n)))
 
 -- so does one after the first
 find-later : (p : ℕ → Bool) (n first : ℕ) → find p (range_with_len 0 n) ≡ Some first → find p (range_with_len 0 (n + 1)) ≡ find p (range_with_len 0 n)

@@ -9,7 +9,7 @@ use Rattle.sync_topo.specs.declared.place.Section.TheVariants.{Head, Elements, L
 use Rattle.sync_topo.specs.Refusal.{refusal_number, refused_place}
 use Rattle.plan_file.specs.declared.error.PlanFileErr.{PlanFileErr}
 use Rattle.plan_file.specs.declared.error.PlanFileErr.TheVariants as plan
-use Rattle.plan_file.specs.Chain.{◌>>=◌}
+use Rattle.sync_text.specs.Chain.{◌>>=◌}
 use Rattle.plan_file.specs.PlanText.{plan_of}
 use Rattle.sync_top.specs.declared.status.Status.{Status}
 use Rattle.sync_top.specs.declared.status.Status.TheVariants.{Done, BadPlan, TooLong}

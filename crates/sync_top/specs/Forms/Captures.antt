@@ -1,7 +1,7 @@
 -- The answers to `decode` and `encode`, and to `pcap-decode` and `pcap-encode`.
 use Rattle.std.specs.Prelude.{ℕ, List, [], ◌++◌, codes, Result, Ok, Err}
 use Rattle.sync_edge.specs.Contents.{Contents}
-use Rattle.plan_file.specs.Chain.{◌>>=◌}
+use Rattle.sync_text.specs.Chain.{◌>>=◌}
 use Rattle.sync_top.specs.declared.status.Status.{Status}
 use Rattle.sync_top.specs.declared.status.Status.TheVariants.{BadFrames}
 use Rattle.std.specs.Fmt.{decimal}

@@ -5,7 +5,7 @@ use Rattle.sync_topo.specs.Topology.{Topology}
 use Rattle.sync_topo.specs.Lines.{line_name}
 use Rattle.sync_topo.specs.Hops.{hops}
 use Rattle.sync_topo.specs.Ranks.{HopTest, Rises}
-use Rattle.plan_file.specs.Chain.{◌>>=◌}
+use Rattle.sync_text.specs.Chain.{◌>>=◌}
 use Rattle.sync_top.specs.declared.status.Status.{Status}
 use Rattle.sync_top.specs.declared.status.Status.TheVariants.{Done, Refuted, BadCert}
 use Rattle.std.specs.Fmt.{decimal}

@@ -3,7 +3,7 @@ use Rattle.std.specs.Prelude.{◌≡◌, ℕ, suc, ◌≤◌, List, [], ◌++◌
 use Rattle.std.specs.Fmt.{decimal}
 use Rattle.sync_edge.specs.Contents.{Contents}
 use Rattle.sync_topo.specs.declared.event.Event.{Event}
-use Rattle.plan_file.specs.Chain.{◌>>=◌}
+use Rattle.sync_text.specs.Chain.{◌>>=◌}
 use Rattle.sync_topo.specs.Topology.{Topology}
 use Rattle.event_file.specs.declared.error.EventErr.{EventErr}
 use Rattle.event_file.specs.declared.error.EventErr.TheVariants as refusal
