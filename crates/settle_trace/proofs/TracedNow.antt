@@ -6,12 +6,12 @@ use Rattle.sync_topo.specs.Topology.{Topology}
 use Rattle.sync_topo.specs.Lines.{receiver_of}
 use Rattle.net_rules.specs.Walks.{Taken, Each, IsTaken, IsClosedWalk, IsFacingPair, TraceEnd, IsTrace}
 use Rattle.net_rules.proofs.Lists.{Each-map}
-use Rattle.settle_trace.specs.Loops.{IsLoop, AreLoops}
+use Rattle.closed_walks.specs.Loops.{IsLoop, AreLoops}
 use Rattle.sync_net.specs.NetState.{NetState}
 use Rattle.sync_net.specs.Standing.{StandsFor}
 use Rattle.settle_trace.specs.Now.{taken_now}
-use Rattle.settle_trace.specs.Taking.{taken_in_list}
-use Rattle.settle_trace.proofs.FollowLaws.{same-trace}
+use Rattle.closed_walks.specs.Taking.{taken_in_list}
+use Rattle.closed_walks.proofs.FollowLaws.{same-trace}
 
 pub trace-now : (net : NetState) (plan : Topology) (inputs items : List (Option InputId)) (element : ℕ) (lines : List ℕ) (end : TraceEnd)
     → plan ≡ net.plan → inputs ≡ items

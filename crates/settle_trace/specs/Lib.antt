@@ -1,9 +1,2 @@
 pub mod Now
 pub mod Resting
-pub mod Taking
-pub mod Traces
-pub mod Following
-pub mod Known
-pub mod Loops
-pub mod Listing
-pub mod Within

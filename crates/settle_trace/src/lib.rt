@@ -10,19 +10,15 @@
 //! closed walks are this project's own.
 #![tactic(auto)]
 
-mod endings;
-mod following;
 mod lines;
-mod listing;
 mod looping;
 mod settling;
 mod taking;
-mod traced;
 mod tracing;
 mod tracings;
 
+pub use closed_walks::{End, Ending, Traced, Walk};
 pub use looping::loops;
 pub use settling::settled;
-pub use traced::{End, Ending, Traced, Walk};
 pub use tracing::trace;
 pub use tracings::traces;

@@ -7,13 +7,12 @@ ghost use Rattle.sync_topo.specs.Hops.{IsRising};
 ghost use Rattle.net_rules.specs.Walks.{Each, IsFacingPair};
 ghost use Rattle.sync_net.specs.Standing.{StandsFor};
 ghost use Rattle.settle_trace.specs.Now.{taken_now};
-ghost use Rattle.settle_trace.specs.Traces.{numbers};
-ghost use Rattle.settle_trace.specs.Loops.{AreLoops};
-ghost use Rattle.settle_trace.specs.Within.{AreLinesOf};
+ghost use Rattle.closed_walks.specs.Traces.{numbers};
+ghost use Rattle.closed_walks.specs.Loops.{AreLoops};
+ghost use Rattle.closed_walks.specs.Within.{AreLinesOf};
 
-use crate::listing::walks_of;
 use crate::taking::taken_inputs;
-use crate::traced::Walk;
+use closed_walks::{Walk, walks_of};
 use std::alloc::Global;
 use sync_net::Net;
 use sync_text::{NoMemory, Rows};

@@ -6,7 +6,7 @@ ghost use Rattle.sync_topo.specs.declared.event.Event.{Event};
 ghost use Rattle.net_rules.specs.Inputs.{IsInputOf};
 ghost use Rattle.sync_net.specs.Standing.{StandsFor};
 ghost use Rattle.settle_trace.specs.Now.{taken_now};
-ghost use Rattle.settle_trace.specs.Taking.{taken_in_list, AreTaken};
+ghost use Rattle.closed_walks.specs.Taking.{taken_in_list, AreTaken};
 
 use std::alloc::Global;
 use sync_net::Net;

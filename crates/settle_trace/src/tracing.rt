@@ -9,12 +9,11 @@ ghost use Rattle.net_rules.specs.Walks.{IsTrace};
 ghost use Rattle.sync_net.specs.Standing.{StandsFor};
 ghost use Rattle.settle_trace.specs.Now.{now_of, signals_of, out_of, taken_now, IsSettledNow};
 ghost use Rattle.sync_topo.specs.WellFormed.{IsWellFormed};
-ghost use Rattle.settle_trace.specs.Taking.{taken_in_list, AreTaken};
-ghost use Rattle.settle_trace.specs.Traces.{end_of, numbers};
+ghost use Rattle.closed_walks.specs.Taking.{taken_in_list, AreTaken};
+ghost use Rattle.closed_walks.specs.Traces.{end_of, numbers};
 
-use crate::following::{follow, no_marks};
 use crate::taking::taken_inputs;
-use crate::traced::Traced;
+use closed_walks::{Traced, follow, no_marks};
 use std::alloc::Global;
 use sync_net::Net;
 use sync_text::NoMemory;

@@ -4,14 +4,13 @@ ghost use Rattle.std.specs.Prelude.{◌≡◌, ◌<◌, ℕ, false, List, length
 ghost use Rattle.std.specs.List.{All};
 ghost use Rattle.sync_topo.specs.declared.event.Event.{Event};
 ghost use Rattle.sync_net.specs.Standing.{StandsFor};
-ghost use Rattle.settle_trace.specs.declared.traced.Ending.{Ending};
+ghost use Rattle.closed_walks.specs.declared.traced.Ending.{Ending};
 ghost use Rattle.settle_trace.specs.Now.{taken_now};
-ghost use Rattle.settle_trace.specs.Traces.{EndsSo};
-ghost use Rattle.settle_trace.specs.Within.{IsEndOf};
+ghost use Rattle.closed_walks.specs.Traces.{EndsSo};
+ghost use Rattle.closed_walks.specs.Within.{IsEndOf};
 
-use crate::endings::endings_of;
 use crate::taking::taken_inputs;
-use crate::traced::Ending;
+use closed_walks::{Ending, endings_of};
 use std::alloc::Global;
 use sync_net::Net;
 use sync_text::{NoMemory, Rows};

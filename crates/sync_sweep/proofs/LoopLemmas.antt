@@ -6,7 +6,7 @@ use Rattle.sync_topo.specs.Lines.{line_count, line_input, receiver_of}
 use Rattle.net_rules.specs.Inputs.{IsInputOf}
 use Rattle.net_rules.specs.Walks.{Taken, Each, IsClosedWalk}
 use Rattle.net_rules.proofs.Lists.{Each-map}
-use Rattle.settle_trace.specs.Loops.{first_line, IsLoop, AreInOrder, AreLoops}
+use Rattle.closed_walks.specs.Loops.{first_line, IsLoop, AreInOrder, AreLoops}
 
 -- first lines that rise, from one number up to but not at another
 rising-few : (n from : ℕ) (walks : List (List ℕ)) → Each (λ walk. from ≤ first_line walk) walks → Each (λ walk. first_line walk < n) walks → AreInOrder walks

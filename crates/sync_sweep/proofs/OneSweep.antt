@@ -10,7 +10,7 @@ use Rattle.sync_topo.specs.declared.event.Event.{Event}
 use Rattle.sync_topo.specs.Topology.{Topology}
 use Rattle.net_rules.specs.Walks.{Taken}
 use Rattle.net_rules.specs.Settling.{IsGreatest, IsDelay, IsRank, IsWait, IsSettlingBound, settled_from}
-use Rattle.settle_trace.proofs.OneList.{one-loops}
+use Rattle.closed_walks.proofs.OneList.{one-loops}
 use Rattle.sync_sweep.specs.declared.row.SweepRow.{SweepRow}
 use Rattle.sync_sweep.specs.Sweep.{IsWorstOf, AreSoManyLoops, IsSweepRow, AreRows, AreSweepRows}
 

@@ -9,7 +9,7 @@ use Rattle.sync_topo.specs.Ranks.{IsLeastRank}
 use Rattle.net_rules.specs.Walks.{Taken, IsClosedWalk}
 use Rattle.net_rules.specs.Settling.{IsSettlingBound}
 use Rattle.net_rules.proofs.Backs.{hop-nominated, hop-nominates}
-use Rattle.settle_trace.specs.Loops.{IsLoop}
+use Rattle.closed_walks.specs.Loops.{IsLoop}
 use Rattle.sync_sweep.specs.Sweep.{AreSoManyLoops}
 
 -- the least ranks as a function, 0 where a line isn't nominated

@@ -17,7 +17,7 @@ use Rattle.net_rules.specs.Safety.{taken_in}
 use Rattle.net_rules.specs.Settled.{IsSettled}
 use Rattle.net_rules.specs.Settling.{IsSettlingBound}
 use Rattle.shown_words.specs.Sameness.{is_same_state}
-use Rattle.settle_trace.specs.Loops.{AreLoops}
+use Rattle.closed_walks.specs.Loops.{AreLoops}
 use Rattle.sync_sweep.specs.declared.row.SweepRow.{SweepRow}
 
 -- all events of the run of a link: it goes down in a millisecond, and nothing else happens

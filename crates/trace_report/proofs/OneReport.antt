@@ -6,11 +6,11 @@ use Rattle.net_rules.specs.Signals.{signals_by}
 use Rattle.net_rules.specs.History.{out_at}
 use Rattle.net_rules.specs.Safety.{taken_in}
 use Rattle.net_rules.specs.Walks.{Taken, TraceEnd, at_source, at_clock, at_loop, IsTrace}
-use Rattle.settle_trace.specs.declared.traced.End.{End}
-use Rattle.settle_trace.specs.declared.traced.End.TheVariants.{Source, OwnClock, Loop}
-use Rattle.settle_trace.specs.declared.traced.Ending.{Ending}
-use Rattle.settle_trace.specs.Traces.{end_of, EndsSo}
-use Rattle.settle_trace.proofs.OneList.{one-loops}
+use Rattle.closed_walks.specs.declared.traced.End.{End}
+use Rattle.closed_walks.specs.declared.traced.End.TheVariants.{Source, OwnClock, Loop}
+use Rattle.closed_walks.specs.declared.traced.Ending.{Ending}
+use Rattle.closed_walks.specs.Traces.{end_of, EndsSo}
+use Rattle.closed_walks.proofs.OneList.{one-loops}
 use Rattle.event_sim.specs.Rows.{rows_until}
 use Rattle.trace_report.specs.LastParts.{AreEndings, AreLastParts, traces_part, loops_part, settled_part}
 use Rattle.trace_report.specs.Report.{IsWholeReport, changes_part, inputs_part, conditions_at}

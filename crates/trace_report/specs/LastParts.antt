@@ -12,11 +12,11 @@ use Rattle.net_rules.specs.History.{out_at}
 use Rattle.net_rules.specs.Walks.{Taken}
 use Rattle.net_rules.specs.Safety.{taken_in}
 use Rattle.net_rules.specs.Settled.{IsSettled}
-use Rattle.settle_trace.specs.declared.traced.End.{End}
-use Rattle.settle_trace.specs.declared.traced.End.TheVariants.{Source, OwnClock, Loop}
-use Rattle.settle_trace.specs.declared.traced.Ending.{Ending}
-use Rattle.settle_trace.specs.Traces.{EndsSo}
-use Rattle.settle_trace.specs.Loops.{AreLoops}
+use Rattle.closed_walks.specs.declared.traced.End.{End}
+use Rattle.closed_walks.specs.declared.traced.End.TheVariants.{Source, OwnClock, Loop}
+use Rattle.closed_walks.specs.declared.traced.Ending.{Ending}
+use Rattle.closed_walks.specs.Traces.{EndsSo}
+use Rattle.closed_walks.specs.Loops.{AreLoops}
 
 -- where a trace ends: the kind, and the name of the source or element
 abbrev pub end_word : End → List ℕ

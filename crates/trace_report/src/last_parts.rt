@@ -6,8 +6,8 @@ ghost use Rattle.sync_topo.specs.declared.event.Event.{Event};
 ghost use Rattle.sync_topo.specs.Lines.{line_count, line_name};
 ghost use Rattle.sync_net.specs.Standing.{StandsFor};
 ghost use Rattle.settle_trace.specs.Now.{now_of};
-ghost use Rattle.settle_trace.specs.Traces.{numbers};
-ghost use Rattle.settle_trace.specs.Within.{IsEndOf, AreLinesOf};
+ghost use Rattle.closed_walks.specs.Traces.{numbers};
+ghost use Rattle.closed_walks.specs.Within.{IsEndOf, AreLinesOf};
 ghost use Rattle.trace_report.specs.Report.{inputs_part, conditions_at};
 ghost use Rattle.trace_report.specs.LastParts.{AreLastParts, end_name, end_word, loops_part, rest_text, settled_part, trace_row, traces_part, walk_row};
 

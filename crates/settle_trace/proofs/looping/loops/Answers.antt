@@ -1,4 +1,4 @@
-use Rattle.std.proofs.Common.{ℕ, List, map, IfOk, subst, sym}
+use Rattle.std.proofs.Common.{ℕ, List, map, IfOk, subst}
 use Rattle.std.specs.List.{All}
 use Rattle.std.proofs.lemmas.Result.{IfOk-weaker}
 use Rattle.sync_topo.specs.declared.event.Event.{Event}
@@ -7,12 +7,11 @@ use Rattle.sync_topo.specs.WellFormed.{IsWellFormed}
 use Rattle.net_rules.specs.Walks.{Each, IsFacingPair}
 use Rattle.sync_net.specs.Standing.{StandsFor}
 use Rattle.settle_trace.specs.Now.{now_of, signals_of, out_of, taken_now}
-use Rattle.settle_trace.specs.Taking.{taken_in_list, AreTaken}
-use Rattle.settle_trace.specs.Within.{AreLinesOf}
-use Rattle.settle_trace.specs.Traces.{numbers}
-use Rattle.settle_trace.specs.Loops.{AreLoops}
+use Rattle.closed_walks.specs.Taking.{taken_in_list}
+use Rattle.closed_walks.specs.Within.{AreLinesOf}
+use Rattle.closed_walks.specs.Traces.{numbers}
+use Rattle.closed_walks.specs.Loops.{AreLoops}
 use Rattle.settle_trace.proofs.TracedNow.{loops-now, loops-facing}
-use Rattle.settle_trace.proofs.WithinLaws.{walks-answered}
 use Rattle.settle_trace.proofs.looping.loops.Goals as goal
 
 pub returns-clause-exact : goal.returns-clause-exact
@@ -40,9 +39,4 @@ returns-clause-facing c =
     c.walks_of.ensures.loops
 
 pub returns-clause-of_plan : goal.returns-clause-of_plan
-returns-clause-of_plan c =
-    let net = c.args.net.now in
-    let taken = subst (AreTaken net.plan) (sym c.as_slice.ensures.value) c.in_ok-taken.ensures.taken in
-    subst (λ plan. IfOk c.walks_of.result (All (AreLinesOf plan))) c.plan.ensures
-    (walks-answered c.plan.result.now c.as_slice.result.now c.walks_of.result
-    (subst (λ plan. AreTaken plan c.as_slice.result.now) (sym c.plan.ensures) taken) c.walks_of.ensures.loops)
+returns-clause-of_plan c = subst (λ plan. IfOk c.walks_of.result (All (AreLinesOf plan))) c.plan.ensures c.walks_of.ensures.of_plan

@@ -3,7 +3,7 @@ use Rattle.sync_topo.specs.declared.event.Event.{Event}
 use Rattle.net_rules.specs.Inputs.{IsInputOf}
 use Rattle.sync_net.specs.Standing.{StandsFor}
 use Rattle.settle_trace.specs.Now.{taken_now}
-use Rattle.settle_trace.specs.Taking.{taken_in_list}
+use Rattle.closed_walks.specs.Taking.{taken_in_list}
 use Rattle.settle_trace.proofs.taking.taken_inputs.Given as goal
 
 -- the elements behind have what they take

@@ -7,10 +7,10 @@ use Rattle.net_rules.specs.History.{level_at}
 use Rattle.net_rules.specs.Safety.{IsEndLevel}
 use Rattle.net_rules.specs.Walks.{IsTrace}
 use Rattle.sync_net.specs.Standing.{StandsFor}
-use Rattle.settle_trace.specs.declared.traced.Traced.{Traced}
+use Rattle.closed_walks.specs.declared.traced.Traced.{Traced}
 use Rattle.settle_trace.specs.Now.{now_of, signals_of, out_of, taken_now, IsSettledNow}
-use Rattle.settle_trace.specs.Taking.{taken_in_list}
-use Rattle.settle_trace.specs.Traces.{end_of, numbers}
+use Rattle.closed_walks.specs.Taking.{taken_in_list}
+use Rattle.closed_walks.specs.Traces.{end_of, numbers}
 use Rattle.settle_trace.proofs.TracedNow.{trace-now}
 use Rattle.settle_trace.proofs.tracing.trace.Goals as goal
 

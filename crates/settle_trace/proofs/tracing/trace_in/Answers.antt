@@ -1,6 +1,6 @@
 use Rattle.std.proofs.Common.{[], sym, subst, ◌∙◌}
-use Rattle.settle_trace.specs.Following.{AreMet}
-use Rattle.settle_trace.proofs.FollowLaws.{none-met}
+use Rattle.closed_walks.specs.Following.{AreMet}
+use Rattle.closed_walks.proofs.FollowLaws.{none-met}
 use Rattle.settle_trace.proofs.tracing.trace_in.Goals as goal
 
 pub returns-clause-exact : goal.returns-clause-exact

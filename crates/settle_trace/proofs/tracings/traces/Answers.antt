@@ -4,13 +4,13 @@ use Rattle.std.specs.Prelude.{Some, slice_get}
 use Rattle.std.proofs.lemmas.Result.{IfOk-weaker}
 use Rattle.sync_topo.specs.declared.event.Event.{Event}
 use Rattle.sync_net.specs.Standing.{StandsFor}
-use Rattle.settle_trace.specs.declared.traced.Ending.{Ending}
+use Rattle.closed_walks.specs.declared.traced.Ending.{Ending}
 use Rattle.settle_trace.specs.Now.{taken_now}
-use Rattle.settle_trace.specs.Taking.{taken_in_list, AreTaken}
-use Rattle.settle_trace.specs.Within.{IsEndOf}
-use Rattle.settle_trace.specs.Traces.{end_of, EndsSo}
+use Rattle.closed_walks.specs.Taking.{taken_in_list, AreTaken}
+use Rattle.closed_walks.specs.Within.{IsEndOf}
+use Rattle.closed_walks.specs.Traces.{end_of, EndsSo}
 use Rattle.settle_trace.proofs.TracedNow.{trace-now}
-use Rattle.settle_trace.proofs.WithinLaws.{ends-answered}
+use Rattle.closed_walks.proofs.WithinLaws.{ends-answered}
 use Rattle.settle_trace.proofs.tracings.traces.Goals as goal
 
 pub returns-clause-exact : goal.returns-clause-exact

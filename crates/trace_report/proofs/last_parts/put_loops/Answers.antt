@@ -3,7 +3,7 @@ use Rattle.std.specs.Prelude.{codes}
 use Rattle.std.specs.List.{concat}
 use Rattle.std.proofs.lemmas.List.{append_assoc, take_all}
 use Rattle.sync_topo.specs.declared.input.LineId.{LineId}
-use Rattle.settle_trace.specs.Traces.{numbers}
+use Rattle.closed_walks.specs.Traces.{numbers}
 use Rattle.trace_report.specs.LastParts.{walk_row}
 use Rattle.std.proofs.lemmas.Simd.{map-map}
 use Rattle.sync_text.proofs.PutRows.{one-row}

@@ -1,7 +1,7 @@
 use Rattle.std.proofs.Common.{◌≡◌, ◌++◌, map, take}
 use Rattle.std.specs.Prelude.{codes}
 use Rattle.std.specs.List.{concat}
-use Rattle.settle_trace.specs.Traces.{numbers}
+use Rattle.closed_walks.specs.Traces.{numbers}
 use Rattle.trace_report.specs.LastParts.{walk_row}
 use Rattle.trace_report.proofs.last_parts.put_loops.Given as goal
 

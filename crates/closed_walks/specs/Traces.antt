@@ -1,0 +1,23 @@
+-- Traces as they are answered.
+use Rattle.std.specs.Prelude.{◌≡◌, ℕ, List, length, map}
+use Rattle.sync_topo.specs.declared.input.LineId.{LineId}
+use Rattle.sync_topo.specs.Topology.{Topology}
+use Rattle.net_rules.specs.Walks.{Taken, TraceEnd, at_source, at_clock, at_loop, IsTrace}
+use Rattle.closed_walks.specs.declared.traced.Ending.{Ending}
+use Rattle.closed_walks.specs.declared.traced.End.{End}
+use Rattle.closed_walks.specs.declared.traced.End.TheVariants.{Source, OwnClock, Loop}
+
+-- the end that is meant
+abbrev pub end_of : End → TraceEnd
+end_of (Source source) = at_source source
+end_of (OwnClock element) = at_clock element
+end_of (Loop element) = at_loop element
+
+-- the lines' numbers
+abbrev pub numbers : List LineId → List ℕ
+numbers lines = map (λ line. line.0) lines
+
+-- the trace of an element has so many lines, and ends so
+abbrev pub EndsSo : Topology → Taken → ℕ → Ending → Type 0
+EndsSo plan taken element ending =
+    (lines : List ℕ) × (length lines ≡ ending.lines) × IsTrace plan taken element lines (end_of ending.end)
