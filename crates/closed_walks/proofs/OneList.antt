@@ -1,5 +1,5 @@
 -- There is one list of all closed walks.
-use Rattle.std.proofs.Common.{◌≡◌, ◌<◌, ◌⊎◌, ℕ, List, [], ◌∷◌, refl, sym, ap, ◌∙◌, inl, inr, arith}
+use Rattle.std.proofs.Common.{◌≡◌, ◌<◌, ℕ, List, [], ◌∷◌, refl, sym, ap, ◌∙◌, inl, inr, arith}
 use Rattle.sync_topo.specs.Topology.{Topology}
 use Rattle.net_rules.specs.Walks.{Taken, Each}
 use Rattle.closed_walks.specs.Loops.{IsLoop, IsListed, AreInOrder, AreLoops, first_line}

@@ -1,5 +1,5 @@
 -- What is answered is of the plan.
-use Rattle.std.proofs.Common.{◌≡◌, ◌<◌, ℕ, zero, suc, List, [], ◌∷◌, length, map, Option, None, Some, IfSome, Result, Ok, Err, IfOk, get_or, subst, sym, ap, ◌∙◌, arith}
+use Rattle.std.proofs.Common.{◌≡◌, ◌<◌, ℕ, zero, suc, List, [], ◌∷◌, length, map, Option, Some, IfSome, Result, Ok, Err, IfOk, get_or, subst, sym, arith}
 use Rattle.std.specs.Prelude.{slice_get}
 use Rattle.std.specs.List.{All}
 use Rattle.std.proofs.lemmas.Option.{slice_get-get_or}
@@ -7,16 +7,16 @@ use Rattle.sync_topo.specs.declared.input.InputId.{InputId}
 use Rattle.sync_text.specs.declared.errors.NoMemory.{NoMemory}
 use Rattle.sync_topo.specs.declared.input.LineId.{LineId}
 use Rattle.sync_topo.specs.Topology.{Topology}
-use Rattle.sync_topo.specs.Lines.{line_input, line_count, sender_of, receiver_of}
+use Rattle.sync_topo.specs.Lines.{sender_of, receiver_of}
 use Rattle.sync_topo.specs.WellFormed.{IsWellFormed}
 use Rattle.net_rules.specs.Inputs.{IsInputOf}
-use Rattle.net_rules.specs.Walks.{Taken, Each, IsTaken, IsClosedWalk, TraceEnd, at_source, at_clock, at_loop, IsTraceAfter}
+use Rattle.net_rules.specs.Walks.{Each, IsTaken, IsClosedWalk, TraceEnd, at_source, at_clock, at_loop, IsTraceAfter}
 use Rattle.closed_walks.specs.declared.traced.End.{End}
 use Rattle.closed_walks.specs.declared.traced.End.TheVariants.{Source, OwnClock, Loop}
 use Rattle.closed_walks.specs.declared.traced.Ending.{Ending}
 use Rattle.closed_walks.specs.Taking.{taken_in_list, AreTaken}
 use Rattle.closed_walks.specs.Traces.{end_of, numbers, EndsSo}
-use Rattle.closed_walks.specs.Loops.{IsLoop, AreLoops}
+use Rattle.closed_walks.specs.Loops.{IsLoop}
 use Rattle.closed_walks.specs.Within.{IsEndOf, AreLinesOf}
 use Rattle.closed_walks.proofs.KnownLaws.{taken-line, taken-within}
 

@@ -5,3 +5,4 @@ pub mod Known
 pub mod Loops
 pub mod Listing
 pub mod Within
+pub mod WalkText

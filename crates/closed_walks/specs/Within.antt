@@ -1,5 +1,5 @@
 -- What is answered is of the plan.
-use Rattle.std.specs.Prelude.{◌<◌, ℕ, List, length, slice_get, Some}
+use Rattle.std.specs.Prelude.{◌<◌, List, length}
 use Rattle.std.specs.List.{All}
 use Rattle.sync_topo.specs.declared.input.LineId.{LineId}
 use Rattle.sync_topo.specs.Topology.{Topology}

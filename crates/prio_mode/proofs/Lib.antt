@@ -6,7 +6,6 @@ pub mod Visiting
 pub mod Turning
 pub mod Advancing
 pub mod NewRuns
-pub mod BackLoops
 pub mod Reporting
 pub mod OneReport
 pub mod RingLaws

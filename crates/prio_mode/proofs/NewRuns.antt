@@ -1,31 +1,17 @@
 -- A run before its first millisecond.
-use Rattle.std.proofs.Common.{◌≡◌, ◌≤◌, ◌<◌, ◌+◌, ℕ, false, List, [], ◌∷◌, ◌++◌, length, map, replicate, None, Some, slice_get, refl, ap, sym, subst, ◌∙◌, inl, inr, arith}
+use Rattle.std.proofs.Common.{◌≡◌, ◌<◌, ◌+◌, ℕ, false, List, [], ◌∷◌, ◌++◌, length, replicate, ap, sym, subst, ◌∙◌, inl, inr, arith}
 use Rattle.std.specs.Prelude.{slice_index_or}
-use Rattle.std.specs.List.{All}
 use Rattle.std.proofs.Math.Decide.{dec_lt}
-use Rattle.std.proofs.lemmas.Bool.{ltb-true, cases_lt}
+use Rattle.std.proofs.lemmas.Bool.{cases_lt}
 use Rattle.std.proofs.Math.ListN.{get_or-append}
 use Rattle.std.proofs.Math.Seq.{get_or-append_seam}
 use Rattle.std.proofs.lemmas.List.{length-append, get_or-replicate, length-replicate, get_or_past}
-use Rattle.std.proofs.lemmas.List.Elements.{All-map, All-nil, All-cons}
-use Rattle.sync_ql.specs.declared.levels.NetOption.{NetOption}
-use Rattle.sync_ql.specs.declared.levels.NetOption.TheVariants.{I, II}
-use Rattle.sync_ql.specs.declared.levels.Level.{Level}
-use Rattle.sync_ql.specs.Told.{IsOfOption}
 use Rattle.agenda.specs.Marked.{none_marked}
-use Rattle.sync_element.specs.declared.config.InputConfig.{InputConfig}
-use Rattle.sync_element.specs.Configured as configured
 use Rattle.sync_element.specs.ElementState.{ElementState}
 use Rattle.sync_element.proofs.ElementSteps.{new-in_time, stands-new}
-use Rattle.sync_topo.specs.declared.element.Element as elements
 use Rattle.sync_topo.specs.declared.event.Event.{Event}
 use Rattle.sync_topo.specs.Topology.{Topology}
-use Rattle.sync_topo.specs.Lines.{inputs_of}
 use Rattle.net_rules.specs.Signals.{signals_by}
-use Rattle.net_rules.specs.Inputs.{IsInputOf}
-use Rattle.net_rules.specs.Walks.{Each}
-use Rattle.net_rules.proofs.Lists.{Each-map}
-use Rattle.net_rules.proofs.InputLaws.{inputs-are}
 use Rattle.net_words.specs.NewElements.{AreEach, IsNewElement, by_priority}
 use Rattle.prio_mode.specs.declared.shown.Shown.{Shown}
 use Rattle.prio_mode.specs.declared.running.Run.{Run}

@@ -5,9 +5,7 @@ pub mod PriorityRanked
 pub mod ForcedLoop
 pub mod ForcedText
 pub mod PriorityRows
-pub mod Loops
 pub mod PriorityReport
-pub mod GoingBack
 pub mod Running
 pub mod Configured
 pub mod EventTimes

@@ -3,9 +3,10 @@ use Rattle.std.specs.Prelude.{◌≡◌, ℕ, suc, List, ◌++◌, codes}
 use Rattle.sync_topo.specs.declared.event.Event.{Event}
 use Rattle.sync_topo.specs.Topology.{Topology}
 use Rattle.net_rules.specs.Signals.{signals_by}
+use Rattle.closed_walks.specs.Loops.{AreLoops}
+use Rattle.closed_walks.specs.WalkText.{walk_rows}
 use Rattle.prio_mode.specs.PriorityAlone.{priority_taken_in}
 use Rattle.prio_mode.specs.PriorityRows.{rows_until}
-use Rattle.prio_mode.specs.Loops.{AreLoops, walk_rows}
 
 -- the rows of all changes up to and with a millisecond, and the closed walks in it
 pub record IsPriorityReport (plan : Topology) (events : List Event) (until : ℕ) (text : List ℕ) : Type 0 where

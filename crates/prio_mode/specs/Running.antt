@@ -1,5 +1,5 @@
 -- Private to this crate: what a run keeps, and how far it has come.
-use Rattle.std.specs.Prelude.{◌≡◌, ◌≢◌, ◌≤◌, ◌<◌, ◌+◌, ℕ, suc, false, List, [], ◌++◌, length, slice_index_or, IfSome}
+use Rattle.std.specs.Prelude.{◌≡◌, ◌≢◌, ◌≤◌, ◌<◌, ◌+◌, ℕ, suc, false, List, [], ◌++◌, length, map, slice_index_or, Option, IfSome}
 use Rattle.sync_ql.specs.declared.rules.InputEvent.{InputEvent}
 use Rattle.sync_ql.specs.Moment.{Moment}
 use Rattle.sync_ql.specs.Told.{moments_until}
@@ -7,6 +7,7 @@ use Rattle.sync_element.specs.ElementState.{ElementState, IsInTime}
 use Rattle.sync_element.specs.StandsAfter.{StandsAfter}
 use Rattle.sync_element.specs.StandsFor as Element
 use Rattle.sync_topo.specs.declared.event.Event.{Event}
+use Rattle.sync_topo.specs.declared.input.InputId.{InputId}
 use Rattle.sync_topo.specs.Topology.{Topology}
 use Rattle.sync_topo.specs.Lines.{IsInput}
 use Rattle.sync_topo.specs.Events.{IsEventList}
@@ -42,6 +43,10 @@ element_in run place other = slice_index_or run.elements.items place other
 
 abbrev pub shown_in : Run → ℕ → Shown → Shown
 shown_in run place other = slice_index_or run.shown.items place other
+
+-- the inputs that elements take, by what they show
+abbrev pub inputs_shown : List Shown → List (Option InputId)
+inputs_shown shown = map (λ (one : Shown). one.input) shown
 
 -- each list has one entry for each element
 pub record AreCounted (plan : Topology) (run : Run) : Type 0 where

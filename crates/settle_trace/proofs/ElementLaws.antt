@@ -1,26 +1,20 @@
 -- Whether the inputs of an element are steady, by what it answers.
-use Rattle.std.proofs.Common.{◌≡◌, ◌<◌, ℕ, zero, suc, ◌-◌, Bool, true, false, not, List, [], ◌∷◌, length, slice_get, None, Some, IsNone, refl, ap, sym, subst, ◌∙◌, inl, inr, arith}
+use Rattle.std.proofs.Common.{◌≡◌, ◌<◌, ℕ, suc, ◌-◌, Bool, true, false, not, List, length, None, IsNone, refl, ap, sym, subst, ◌∙◌, inl, inr, arith}
 use Rattle.std.specs.Prelude.{IsTrue, ◌↔◌}
-use Rattle.std.proofs.lemmas.List.{length-map}
 use Rattle.std.proofs.lemmas.Bool.{true≢false}
 use Rattle.std.proofs.lemmas.Option.{none-some, slice_get_within, slice_get_cases}
 use Rattle.sync_ql.specs.Condition.{is_up, failed_at, left_at, condition_of, condition_at}
-use Rattle.sync_ql.specs.Moment.{Moment, Settings, signals_of}
-use Rattle.sync_ql.specs.Told.{quiet_moments}
+use Rattle.sync_ql.specs.Moment.{Moment, signals_of}
 use Rattle.sync_ql.specs.Quiet.{IsElementDue}
-use Rattle.sync_ql.proofs.Delivered.{length-past_of}
-use Rattle.sync_ql.proofs.QuietMoments.{input_of-moment_after}
 use Rattle.sync_element.specs.ElementState.{ElementState}
 use Rattle.sync_element.specs.StandsFor as Element
 use Rattle.sync_element.specs.Due.{left_of, left_in, NoneEnds}
-use Rattle.sync_topo.specs.declared.input.InputId.{InputId}
 use Rattle.sync_topo.specs.Topology.{Topology}
-use Rattle.sync_topo.specs.Lines.{inputs_of, input_priority}
+use Rattle.sync_topo.specs.Lines.{inputs_of}
 use Rattle.net_rules.specs.Signals.{Signals}
-use Rattle.net_rules.specs.History.{Levels, settings_of, heard, moment_at, element_past, failed_by}
+use Rattle.net_rules.specs.History.{Levels, settings_of, element_past}
 use Rattle.net_rules.specs.Settled.{IsSteady}
-use Rattle.net_rules.specs.Walks.{Each}
-use Rattle.net_rules.proofs.NetLaws.{signals-at, failed-at, many-inputs}
+use Rattle.net_rules.proofs.NetLaws.{many-inputs}
 use Rattle.net_rules.proofs.Lists.{each-at}
 use Rattle.sync_net.specs.Standing.{ElementStands}
 use Rattle.sync_net.proofs.SteadyElements.{each-by, up-now, failed-now}

@@ -1,22 +1,18 @@
 -- A millisecond is settled where all inputs are steady and all lines settled, and what follows.
-use Rattle.std.proofs.Common.{◌≡◌, ◌<◌, ◌-◌, ◌+◌, ℕ, zero, suc, false, length, Option, None, Some, ap, sym, subst, ◌∙◌, inl, inr, arith, refl}
+use Rattle.std.proofs.Common.{◌≡◌, ◌<◌, ◌-◌, ◌+◌, ℕ, zero, suc, false, Option, None, Some, ap, sym, subst, ◌∙◌, arith}
 use Rattle.std.specs.Prelude.{IsTrue, nat_eq, if◌then◌else◌}
 use Rattle.std.proofs.Math.Decide.{dec_lt}
 use Rattle.std.proofs.lemmas.Option.{none-some, same_Some}
 use Rattle.std.proofs.lemmas.Bool.{ne_eqb}
-use Rattle.std.proofs.lemmas.Option.{slice_get_cases}
 use Rattle.sync_topo.specs.declared.input.InputId.{InputId}
-use Rattle.sync_topo.specs.declared.input.InputId.TheVariants.{Line, Source}
 use Rattle.sync_topo.specs.Topology.{Topology}
-use Rattle.sync_topo.specs.Lines.{IsInput, IsNominated, is_nominated_input, inputs_of, element_of}
-use Rattle.sync_topo.specs.WellFormed.{IsWellFormed}
+use Rattle.sync_topo.specs.Lines.{IsInput, IsNominated, is_nominated_input, inputs_of}
 use Rattle.net_rules.specs.Signals.{Signals}
 use Rattle.net_rules.specs.Inputs.{IsInputOf}
 use Rattle.net_rules.proofs.Lists.{Each-map}
 use Rattle.net_rules.specs.History.{Levels}
 use Rattle.net_rules.specs.Settled.{IsSteady, IsSettledByNews}
-use Rattle.net_rules.proofs.InputLaws.{inputs-are, each-input}
-use Rattle.net_rules.proofs.PlanLaws.{receiver-within}
+use Rattle.net_rules.proofs.InputLaws.{inputs-are}
 use Rattle.settle_trace.specs.Resting.{IsLineSettled, AreSteady}
 
 -- the last of so many milliseconds

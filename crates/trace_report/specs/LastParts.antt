@@ -1,12 +1,12 @@
 -- The last parts of a report: whence each element has its timing, which loops stand, and whether the
 -- last millisecond is settled. This project's own.
-use Rattle.std.specs.Prelude.{◌≡◌, ◌↔◌, ℕ, Bool, true, false, IsTrue, List, [], ◌∷◌, ◌++◌, length, map, codes, Some, slice_get}
+use Rattle.std.specs.Prelude.{◌≡◌, ◌↔◌, ℕ, Bool, true, false, IsTrue, List, [], ◌++◌, length, map, codes, Some, slice_get}
 use Rattle.std.specs.List.{range_with_len, concat}
 use Rattle.std.specs.Option.{option_map_or}
 use Rattle.std.specs.Fmt.{decimal}
 use Rattle.sync_topo.specs.declared.event.Event.{Event}
 use Rattle.sync_topo.specs.Topology.{Topology}
-use Rattle.sync_topo.specs.Lines.{element_name, source_name, line_name}
+use Rattle.sync_topo.specs.Lines.{element_name, source_name}
 use Rattle.net_rules.specs.Signals.{signals_by}
 use Rattle.net_rules.specs.History.{out_at}
 use Rattle.net_rules.specs.Walks.{Taken}
@@ -17,6 +17,7 @@ use Rattle.closed_walks.specs.declared.traced.End.TheVariants.{Source, OwnClock,
 use Rattle.closed_walks.specs.declared.traced.Ending.{Ending}
 use Rattle.closed_walks.specs.Traces.{EndsSo}
 use Rattle.closed_walks.specs.Loops.{AreLoops}
+use Rattle.closed_walks.specs.WalkText.{walk_rows}
 
 -- where a trace ends: the kind, and the name of the source or element
 abbrev pub end_word : End → List ℕ
@@ -41,16 +42,9 @@ trace_row_of plan endings element = option_map_or (trace_row plan element) (slic
 abbrev pub traces_part : Topology → List Ending → List ℕ
 traces_part plan endings = codes "traces\n" ++ concat (map (trace_row_of plan endings) (range_with_len 0 (length endings)))
 
--- the lines of a walk, with a blank between any two
-abbrev pub rest_text : Topology → List ℕ → List ℕ
-rest_text plan lines = concat (map (λ line. codes " " ++ line_name plan line) lines)
-
-abbrev pub walk_row : Topology → List ℕ → List ℕ
-walk_row plan [] = codes "\n"
-walk_row plan (first ∷ rest) = line_name plan first ++ rest_text plan rest ++ codes "\n"
-
+-- the rows of the closed walks
 abbrev pub loops_part : Topology → List (List ℕ) → List ℕ
-loops_part plan walks = codes "loops\n" ++ concat (map (walk_row plan) walks)
+loops_part plan walks = codes "loops\n" ++ walk_rows plan walks
 
 -- whether the millisecond is settled
 abbrev pub settled_part : Bool → List ℕ

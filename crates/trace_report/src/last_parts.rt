@@ -1,22 +1,22 @@
 //! Whence each element has its timing, which loops stand, and whether the network is settled.
 
-ghost use Rattle.std.specs.Prelude.{◌≡◌, ◌<◌, ◌+◌, ◌++◌, ℕ, false, List, length, map, codes, OnOk, OnErr};
+ghost use Rattle.std.specs.Prelude.{◌≡◌, ◌<◌, ◌+◌, ◌++◌, ℕ, false, List, length, map, OnOk, OnErr};
 ghost use Rattle.std.specs.List.{All};
 ghost use Rattle.sync_topo.specs.declared.event.Event.{Event};
-ghost use Rattle.sync_topo.specs.Lines.{line_count, line_name};
 ghost use Rattle.sync_net.specs.Standing.{StandsFor};
 ghost use Rattle.settle_trace.specs.Now.{now_of};
 ghost use Rattle.closed_walks.specs.Traces.{numbers};
 ghost use Rattle.closed_walks.specs.Within.{IsEndOf, AreLinesOf};
 ghost use Rattle.trace_report.specs.Report.{inputs_part, conditions_at};
-ghost use Rattle.trace_report.specs.LastParts.{AreLastParts, end_name, end_word, loops_part, rest_text, settled_part, trace_row, traces_part, walk_row};
+ghost use Rattle.trace_report.specs.LastParts.{AreLastParts, end_name, end_word, loops_part, settled_part, trace_row, traces_part};
 
 use crate::inputs::put_inputs;
+use closed_walks::put_walks;
 use settle_trace::{End, Ending, Walk, loops, settled, traces};
 use std::alloc::Global;
 use sync_net::Net;
 use sync_text::{NoMemory, Text};
-use sync_topo::{InputId, LineId, Plan};
+use sync_topo::Plan;
 
 // Puts how the network stands in the millisecond of its last step.
 pub fn put_end(alloc: Global, text: &mut Text, net: &Net<'_>, until: u64) -> Result<(), NoMemory>
@@ -104,42 +104,7 @@ fn put_loops(alloc: Global, text: &mut Text, plan: &Plan, walks: &[Walk]) -> Res
     ensures put { OnOk result (text.new ≡ text.old ++ loops_part plan.now (map numbers walks.now)) }
 {
     text.put(b"loops\n")?;
-    for walk in walks {
-        put_walk(alloc, text, plan, walk.as_slice())?;
-    }
-    Ok(())
-}
-
-// Puts one closed walk.
-fn put_walk(alloc: Global, text: &mut Text, plan: &Plan, lines: &[LineId]) -> Result<(), NoMemory>
-    requires of_plan { AreLinesOf plan.now lines.now }
-    ensures put { OnOk result (text.new ≡ text.old ++ walk_row plan.now (numbers lines.now)) }
-{
-    if let Some((first, rest)) = lines.split_first() {
-        plan.put_input_name(alloc, text, InputId::Line(*first))?;
-        put_rest(alloc, text, plan, rest)?;
-    }
-    text.put(b"\n")
-}
-
-// Puts the lines of a closed walk after its first.
-fn put_rest(alloc: Global, text: &mut Text, plan: &Plan, rest: &[LineId]) -> Result<(), NoMemory>
-    requires of_plan { AreLinesOf plan.now rest.now }
-    ensures put { OnOk result (text.new ≡ text.old ++ rest_text plan.now (numbers rest.now)) }
-{
-    for line in rest {
-        put_line(alloc, text, plan, *line)?;
-    }
-    Ok(())
-}
-
-// Puts a blank and a line.
-fn put_line(alloc: Global, text: &mut Text, plan: &Plan, line: LineId) -> Result<(), NoMemory>
-    requires of_plan { line.0 < line_count plan.now }
-    ensures put { OnOk result (text.new ≡ text.old ++ (codes " " ++ line_name plan.now line.0)) }
-{
-    text.put(b" ")?;
-    plan.put_input_name(alloc, text, InputId::Line(line))
+    put_walks(alloc, text, plan, walks)
 }
 
 /// Puts the line on whether a network is settled.

@@ -1,13 +1,16 @@
 use Rattle.std.proofs.Common.{◌++◌, ◌∙◌, ap, sym, subst}
 use Rattle.std.specs.Prelude.{codes}
-use Rattle.prio_mode.specs.GoingBack.{TakeOwn}
+use Rattle.closed_walks.specs.Taking.{AreTaken}
+use Rattle.prio_mode.specs.Running.{inputs_shown}
 use Rattle.prio_mode.proofs.Reporting.{take-own, reported}
 use Rattle.prio_mode.proofs.simulating.prio_sim.Goals as goal
 
-pub put_loops-requires-clause-own : goal.put_loops-requires-clause-own
-put_loops-requires-clause-own c =
-    subst (TakeOwn c.args.plan.now) (sym c.as_slice.ensures.value)
-    (take-own c.args.plan.now c.args.events.now c.args.until c.advance.new.self c.elements-elements.ensures.well_formed c.in_ok-advance.ensures.run c.in_ok-advance.ensures.stands)
+pub put_loops-requires : goal.put_loops-requires
+put_loops-requires c = record {
+  taken =
+      subst (λ shown. AreTaken c.args.plan.now (inputs_shown shown)) (sym c.as_slice.ensures.value)
+      (take-own c.args.plan.now c.args.events.now c.args.until c.advance.new.self c.elements-elements.ensures.well_formed c.in_ok-advance.ensures.run c.in_ok-advance.ensures.stands);
+}
 
 pub returns : goal.returns
 returns c =

@@ -1,4 +1,4 @@
-use Rattle.std.proofs.Common.{◌++◌, map, ap, ◌∙◌, refl}
+use Rattle.std.proofs.Common.{◌++◌, map, ap, sym, ◌∙◌, refl}
 use Rattle.std.specs.Prelude.{codes}
 use Rattle.std.specs.List.{concat}
 use Rattle.std.proofs.lemmas.List.{take_all}
@@ -6,7 +6,7 @@ use Rattle.sync_topo.specs.declared.input.LineId.{LineId}
 use Rattle.sync_topo.specs.Lines.{line_name}
 use Rattle.std.proofs.lemmas.Simd.{map-map}
 use Rattle.sync_text.proofs.PutRows.{one-row}
-use Rattle.trace_report.proofs.last_parts.put_rest.Goals as goal
+use Rattle.closed_walks.proofs.walk_text.put_rest.Goals as goal
 
 pub loop-line-preserved : goal.loop-line-preserved
 loop-line-preserved c =

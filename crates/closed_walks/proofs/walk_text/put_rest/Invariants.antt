@@ -2,7 +2,7 @@ use Rattle.std.proofs.Common.{◌≡◌, ◌++◌, map, take}
 use Rattle.std.specs.Prelude.{codes}
 use Rattle.std.specs.List.{concat}
 use Rattle.sync_topo.specs.Lines.{line_name}
-use Rattle.trace_report.proofs.last_parts.put_rest.Given as goal
+use Rattle.closed_walks.proofs.walk_text.put_rest.Given as goal
 
 -- the lines so far
 abbrev pub invariant-loop-line : goal.invariant-loop-line
