@@ -170,8 +170,8 @@ fn resolve(
 
 /// How the trace of each element ends, by the element's number: of how many lines it is, and where.
 ///
-/// It takes time by the number of elements and lines of the plan, however long the traces are. `NoMemory`
-/// comes for want of memory alone. This project's own.
+/// It takes time by the number of elements and lines of the plan, however long the traces are.
+/// `NoMemory` comes for want of memory alone. This project's own.
 pub fn endings_of(
     alloc: Global,
     plan: &Plan,

@@ -1,4 +1,5 @@
-//! Whence elements have their timing, and which closed walks stand, by what each takes in one millisecond.
+//! Whence elements have their timing, and which closed walks stand, by what each takes in one
+//! millisecond.
 //!
 //! | who asks | what |
 //! |---|---|
@@ -6,13 +7,13 @@
 //! | how the traces of all elements end | [`endings_of`] |
 //! | which closed walks stand | [`walks_of`], and as text [`put_walks`] |
 //!
-//! Each is told what the elements of a plan take, as a list by the number of the element (`Taking`), and
-//! knows no network: those that run one, by whatever rules, share it. Contracts say of a trace that it is
-//! one of net_rules' (`Traces`), and of the closed walks that they are all, each once (`Loops`); their rows
-//! are `WalkText`'s.
+//! Each is told what the elements of a plan take, as a list by the number of the element
+//! (`Taking`), and knows no network: those that run one, by whatever rules, share it. Contracts say
+//! of a trace that it is one of net_rules' (`Traces`), and of the closed walks that they are all,
+//! each once (`Loops`); their rows are `WalkText`'s.
 //!
-//! After ITU-T G.781 and G.803, that timing must not go round; traces and closed walks are this project's
-//! own. The tests are those of the crates above.
+//! After ITU-T G.781 and G.803, that timing must not go round; traces and closed walks are this
+//! project's own. The tests are those of the crates above.
 #![tactic(auto)]
 
 mod endings;

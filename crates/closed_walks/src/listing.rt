@@ -150,8 +150,8 @@ fn list_from(
 
 /// All closed walks of what is taken, each once and from its lowest line, in the order of these.
 ///
-/// It takes time by the number of elements and lines of the plan. `NoMemory` comes for want of memory
-/// alone. The order is this project's own.
+/// It takes time by the number of elements and lines of the plan. `NoMemory` comes for want of
+/// memory alone. The order is this project's own.
 pub fn walks_of(
     alloc: Global,
     plan: &Plan,

@@ -22,7 +22,8 @@ pub(crate) fn put_loops(
     shown: &[Shown],
 ) -> Result<(), NoMemory>
     requires taken { AreTaken plan.now (inputs_shown shown.now) }
-    ensures { OnOk result ((walks : List (List ℕ)) × AreLoops plan.now (taken_in_list (inputs_shown shown.now)) walks
+    ensures { OnOk result ((walks : List (List ℕ))
+        × AreLoops plan.now (taken_in_list (inputs_shown shown.now)) walks
         × (text.new ≡ text.old ++ walk_rows plan.now walks)) }
 {
     let taken = taken_inputs(alloc, shown)?;
