@@ -6,8 +6,8 @@ ghost use Rattle.sync_topo.specs.Lines.{is_same_input};
 ghost use Rattle.node_replay.specs.Telling.{place_in, word_of, row_word, told_from, all_told};
 
 use crate::inputs::InputKept;
-use node_file::{NodeRow, NodeWord};
 use net_words::Told;
+use node_file::{NodeRow, NodeWord};
 use sync_ql::limits::MOST_INPUTS;
 use sync_ql::rules::{Cmd, InputEvent};
 use sync_text::NoMemory;
