@@ -1,0 +1,154 @@
+"""A run over time, from its changes: which closed walks stood from when to when, and what each element went without.
+
+Times are milliseconds. A closed walk of two lines of one link or bundle is a pair, two elements that face each other for a
+moment; any other is a timing loop.
+"""
+
+from __future__ import annotations
+
+from collections.abc import Iterable, Iterator
+from dataclasses import dataclass
+from itertools import groupby
+
+from murdjohe import moments
+from murdjohe.levels import LEVELS
+from murdjohe.reports import Change, Loop
+from murdjohe.wiring import Wiring
+
+
+@dataclass(frozen=True)
+class Walk:
+    """A closed walk that stood from one millisecond up to another, in which it doesn't any more; None where it stands on."""
+
+    lines: Loop
+    start: int
+    stop: int | None
+    is_pair: bool
+
+
+@dataclass(frozen=True)
+class Loss:
+    """What an element went without: milliseconds below its best level since it first had that, the worst level in them, and
+    milliseconds since it first followed a source in which it followed none."""
+
+    element: str
+    best: str
+    below: int
+    worst: str
+    unfed: int
+
+
+def by_time(changes: Iterable[Change]) -> Iterator[tuple[int, list[Change]]]:
+    """The changes of each millisecond that has some."""
+    for at, rows in groupby(changes, key=lambda change: change.at):
+        yield at, list(rows)
+
+
+class Network:
+    """What each element takes while a run goes by, who takes from whom, and who follows a source."""
+
+    def __init__(self, wiring: Wiring) -> None:
+        self.wiring = wiring
+        self.taken: dict[str, str] = {}
+        self.takers: dict[str, set[str]] = {name: set() for name in wiring.elements}
+        self.fed: set[str] = set()
+
+    def sender(self, element: str) -> str | None:
+        """The element from which this one takes its timing, if from one."""
+        line = self.wiring.lines.get(self.taken.get(element, ""))
+        return line.sender if line else None
+
+    def moved(self, rows: list[Change]) -> list[str]:
+        """Takes over the changes of a millisecond, and gives the elements that take something else by them."""
+        found = [row for row in rows if row.input != self.taken.get(row.element)]
+        for row in found:
+            if before := self.sender(row.element):
+                self.takers[before].discard(row.element)
+            self.taken.pop(row.element, None)
+            if row.input is not None:
+                self.taken[row.element] = row.input
+            if after := self.sender(row.element):
+                self.takers[after].add(row.element)
+        return [row.element for row in found]
+
+    def behind(self, elements: list[str]) -> set[str]:
+        """These elements, and all that take their timing through them."""
+        found, todo = set(elements), list(elements)
+        while todo:
+            more = self.takers[todo.pop()] - found
+            found |= more
+            todo.extend(more)
+        return found
+
+    def refed(self, elements: list[str]) -> set[str]:
+        """Finds out anew who behind these elements follows a source, and gives those for whom that is different."""
+        touched = self.behind(elements)
+        before = self.fed & touched
+        self.fed -= touched
+        fed = [name for name in touched if self.is_fed(name, touched)]
+        self.fed |= self.behind(fed)
+        return before ^ (self.fed & touched)
+
+    def is_fed(self, name: str, touched: set[str]) -> bool:
+        """Whether an element takes a source, or takes from one that isn't touched and follows a source."""
+        sender = self.sender(name)
+        if sender is None:
+            return name in self.taken
+        return sender not in touched and sender in self.fed
+
+
+def walks_of(wiring: Wiring, changes: Iterable[Change]) -> list[Walk]:
+    """All closed walks that stand at some time, by when they begin."""
+    network = Network(wiring)
+    on: dict[str, Loop] = {}
+    since: dict[Loop, int] = {}
+    found: list[Walk] = []
+    for at, rows in by_time(changes):
+        moved = network.moved(rows)
+        for walk in {on[name] for name in moved if name in on}:
+            found.append(Walk(walk, since.pop(walk), at, moments.is_pair(wiring, walk)))
+            for line in walk:
+                del on[wiring.lines[line].receiver]
+        for name in moved:
+            if name not in on and (walk := moments.walk_through(wiring, network.taken, name) or ()):
+                since[walk] = at
+                on |= {wiring.lines[line].receiver: walk for line in walk}
+    found += [Walk(walk, at, None, moments.is_pair(wiring, walk)) for walk, at in since.items()]
+    return sorted(found, key=lambda walk: (walk.start, wiring.lines[walk.lines[0]].number))
+
+
+def unfed_of(wiring: Wiring, changes: Iterable[Change], end: int) -> dict[str, int]:
+    """For how long each element followed no source, after it first did."""
+    network = Network(wiring)
+    lost: dict[str, int] = {}
+    total = dict.fromkeys(wiring.elements, 0)
+    for at, rows in by_time(changes):
+        for name in network.refed(network.moved(rows)):
+            if name not in network.fed:
+                lost[name] = at
+            elif name in lost:
+                total[name] += at - lost.pop(name)
+    for name, at in lost.items():
+        total[name] += end - at
+    return total
+
+
+def below(own: list[Change], option: str, end: int) -> tuple[str, int, str]:
+    """The best level of an element, for how long it had a worse one since it first had that, and the worst of these."""
+    order = {level: place for place, level in enumerate(LEVELS[option])}
+    best = min((row.level or "" for row in own), key=lambda level: order[level])
+    first = next(place for place, row in enumerate(own) if row.level == best)
+    after = own[first:]
+    spans = zip(after, [*(row.at for row in after[1:]), end])
+    worse = [(stop - row.at, row.level or "") for row, stop in spans if row.level != best]
+    worst = max((level for _, level in worse), key=lambda level: order[level], default=best)
+    return best, sum(length for length, _ in worse), worst
+
+
+def losses_of(wiring: Wiring, option: str, changes: tuple[Change, ...], end: int) -> list[Loss]:
+    """What each element went without, up to the end of a run, in the order of the plan."""
+    its: dict[str, list[Change]] = {name: [row] for name, row in moments.shown_first(wiring).items()}
+    for row in changes:
+        its[row.element].append(row)
+    unfed = unfed_of(wiring, changes, end)
+    return [Loss(name, *below(rows, option, end), unfed[name]) for name, rows in its.items()]
