@@ -29,6 +29,7 @@ OWN = {
     "apply": ("apply", FILES, "takes the priorities of one plan into another, spelling kept"),
     "draw": ("draw", FILES, "draws a plan, with the levels and selections of a report"),
     "timeline": ("timeline", FILES, "draws what changes in a report, over time"),
+    "report": ("report", FILES, "writes a page that shows a run, for any browser"),
     "explain": ("explain", FILES, "says in a sentence what the program's own answer means"),
     "help": ("help", ABOUT, "says more of a command, or of plan, tables, events, levels .."),
     "completion": ("completion", ABOUT, "prints the completion for bash, zsh or fish"),

@@ -12,6 +12,7 @@ from murdjohe.wrong import Wrong
 
 LAYERED, MAP = "layered", "map"
 BOX = (1.0, 0.42)  # inches, the room of an element before the picture is brought to its page
+MOST, GAP = 1.5, 1.25  # the largest boxes, and how far apart their middles are at least, in boxes
 MANY = 400  # elements from which on a map is made by `sfdp`, in seconds, and not by `neato`, in minutes
 ELEMENT, SOURCE = "element", "source"
 Key = tuple[str, str]  # the kind of a thing and its name
@@ -140,3 +141,18 @@ def layout_of(tables: dict[str, Any], layout: str | None, places: str | None) ->
     if places is not None:
         return placed(tables, places)
     return laid_out(tables, layout or (MAP if has_rings(tables) else LAYERED))
+
+
+def room_of(spots: list[tuple[float, float]]) -> float:
+    """How large boxes may be, of their whole size, so that none comes too near to another; at most half as large again."""
+    import numpy
+
+    if len(spots) < 2:
+        return MOST
+    places = numpy.array(spots)
+    least = MOST
+    for number, (x, y) in enumerate(spots[1:], start=1):
+        before = numpy.abs(places[:number] - (x, y))
+        gaps = numpy.maximum(before[:, 0] / (BOX[0] * GAP), before[:, 1] / (BOX[1] * GAP * 1.6))
+        least = min(least, float(gaps.min()))
+    return max(least, 0.02)

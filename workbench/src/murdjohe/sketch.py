@@ -16,24 +16,8 @@ PAGES = ((30, (11.7, 8.3)), (320, (16.5, 11.7)), (100_000, (33.1, 23.4)))
 MARGIN, HEAD, FOOT = 0.35, 0.5, 0.75  # inches round the picture, above it for the title, below it for the legend
 FONT = 9.0  # points, where boxes have their whole size
 SETTINGS = {"svg.fonttype": "none", "svg.hashsalt": "murdjohe", "hatch.linewidth": 0.8, "font.family": "sans-serif"}
-MOST, GAP = 1.5, 1.25  # the largest boxes, and how far apart their middles are at least, in boxes
 APART = 0.09  # inches between links that join the same elements
 DASHED, WAITING = (0, (4, 3)), (0, (6, 2, 1, 2))
-
-
-def room_of(spots: list[Point]) -> float:
-    """How large boxes may be, of their whole size, so that none comes too near to another; at most half as large again."""
-    import numpy
-
-    if len(spots) < 2:
-        return MOST
-    places = numpy.array(spots)
-    least = MOST
-    for number, (x, y) in enumerate(spots[1:], start=1):
-        before = numpy.abs(places[:number] - (x, y))
-        gaps = numpy.maximum(before[:, 0] / (BOX[0] * GAP), before[:, 1] / (BOX[1] * GAP * 1.6))
-        least = min(least, float(gaps.min()))
-    return max(least, 0.02)
 
 
 class Page:
@@ -52,7 +36,7 @@ class Page:
         self.left = MARGIN + (self.room[0] - layout.width * across) / 2
         self.low = MARGIN + FOOT + (self.room[1] - layout.height * up) / 2
         self.spots = {key: (self.left + x * across, self.low + y * up) for key, (x, y) in layout.spots.items()}
-        self.scale = room_of(list(self.spots.values()))
+        self.scale = places.room_of(list(self.spots.values()))
         self.font = FONT * self.scale
         self.box = (BOX[0] * self.scale, BOX[1] * self.scale)
         self.size = width, height
