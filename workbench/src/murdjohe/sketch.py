@@ -81,7 +81,8 @@ def before(page: Page, start: Point, end: Point) -> Point:
 def beside(page: Page, start: Point, end: Point, share: float) -> Point:
     """A point a little beside the way from one to another."""
     (x, y), across, up = between(start, end, share), end[0] - start[0], end[1] - start[1]
-    aside = page.font * 0.011 / max((across**2 + up**2) ** 0.5, 1e-9) * (1 if across >= 0 else -1)
+    steep = 1.0 + 1.6 * abs(up) / max(abs(across) + abs(up), 1e-9)  # (names are wider than high)
+    aside = page.font * 0.011 * steep / max((across**2 + up**2) ** 0.5, 1e-9) * (1 if across >= 0 else -1)
     return x - up * aside, y + across * aside
 
 
@@ -105,25 +106,26 @@ def arrow(page: Page, start: Point, end: Point, colour: str, width: float, **how
     page.axes.annotate("", xy=end, xytext=start, arrowprops=style | how, zorder=3)
 
 
-def drawn_line(page: Page, view: View, line: Line, start: Point, end: Point) -> None:
-    """A line that may be taken: its arrow, thick where it is taken, red where it is on a closed walk, and its priority."""
-    word = view.red.get(line.name)
+def drawn_lines(page: Page, view: View, lines: list[Line], start: Point, end: Point) -> None:
+    """The lines of a cable into one of its ends: an arrow, thick where one is taken, red on a closed walk, and their priorities."""
+    word = next((view.red[line.name] for line in lines if line.name in view.red), None)
     if word:
         arrow(page, start, end, colours.LOOP, 3 * page.scale + 0.8)
         paper = {"facecolor": "white", "edgecolor": colours.LOOP, "pad": 1.2}
         page.write(between(start, end, 0.5), word, color=colours.LOOP, weight="bold", bbox=paper, zorder=7)
-    elif view.taken(line.receiver) == line.name:
+    elif any(view.taken(line.receiver) == line.name for line in lines):
         arrow(page, start, end, colours.DARK, 2.2 * page.scale + 0.4)
     else:
         arrow(page, between(start, end, 0.8), end, colours.GREY, 0.8)
     if view.has_words:
-        rank = f" r{view.ranks[line.name]}" if line.name in view.ranks else ""
+        ranks = [f" r{view.ranks[line.name]}" if line.name in view.ranks else "" for line in lines]
+        words = ", ".join(f"{line.priority}{rank}" for line, rank in zip(lines, ranks))
         text = {
             "color": colours.DARK,
             "fontsize": page.font * 0.72,
             "bbox": {"facecolor": "white", "lw": 0, "pad": 0.6},
         }
-        page.write(before(page, start, end), f"{line.priority}{rank}", **text)
+        page.write(before(page, start, end), words, **text)
 
 
 def drawn_cable(page: Page, view: View, lines: list[Line], aside: float) -> None:
@@ -136,9 +138,10 @@ def drawn_cable(page: Page, view: View, lines: list[Line], aside: float) -> None
         band = {"color": colours.PALE, "linewidth": 9 * page.scale, "zorder": 1, "solid_capstyle": "butt"}
         page.axes.plot(*zip(start, end), **band)
     page.axes.plot(*zip(start, end), **cable_style(view, lines))
-    for line in lines:
-        if line.priority:
-            drawn_line(page, view, line, *((start, end) if line.sender == first.sender else (end, start)))
+    for receiver, way in ((first.receiver, (start, end)), (first.sender, (end, start))):
+        own = [line for line in lines if line.priority and line.receiver == receiver]
+        if own:
+            drawn_lines(page, view, own, *way)
     is_cut = any(line.name in view.down for line in lines)
     name = f"{first.bundle[1]}: {len(links)} links" if len(links) > 1 else first.link
     if view.has_words or is_cut:

@@ -112,6 +112,7 @@ export class Picture {
     pen.fillStyle = "#ffffff";
     pen.fillRect(0, 0, this.width, this.height);
     this.size = this.boxSize;
+    this.thick = Math.min(2.2, 1.05 + this.size[1] / 12);
     this.spots = this.network.elements.map(element => this.spot(element));
     this.strokes = new Map();
     this.heads = new Map();
@@ -159,7 +160,7 @@ export class Picture {
       const line = lines[number];
       const [from, to] = line.sender === cable.sender ? [start, end] : [end, start];
       if (run.closed.has(number)) this.addClosed(from, to, middle, run.closed.get(number));
-      else if (run.input[line.receiver] === number) this.arrow(from, to, way.has(number) ? BLUE : DARK, way.has(number) ? 3.5 : 2.2);
+      else if (run.input[line.receiver] === number) this.arrow(from, to, way.has(number) ? BLUE : DARK, way.has(number) ? this.thick + 1.3 : this.thick);
       else if (line.priority && this.size[1] > 9) this.arrow(from, to, GREY, 0.8);
     }
     if (isDown) this.words.push([...middle, "✕", 12, DARK, PAPER]);
@@ -245,7 +246,7 @@ export class Picture {
   addSourceArrow(run, source, number) {
     const isTaken = run.input[source.at] === this.network.lines.length + number;
     const here = this.spot(source), there = this.spots[source.at];
-    if (source.priority) this.arrow(here, this.leaving(there, here), isTaken ? DARK : GREY, isTaken ? 2.2 : 0.8);
+    if (source.priority) this.arrow(here, this.leaving(there, here), isTaken ? DARK : GREY, isTaken ? this.thick : 0.8);
   }
 
   drawSource(run, source, number) {
