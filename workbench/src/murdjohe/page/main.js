@@ -6,6 +6,8 @@ import { List, caseRows, elementRows, made, updateElements } from "./tables.js";
 /** The place in the document of a name. */
 const part = name => document.getElementById(name);
 
+const PRINTED = 60;  // elements that are printed even where they lost nothing
+
 class Page {
   constructor(data) {
     this.data = data;
@@ -16,6 +18,8 @@ class Page {
     this.list = new List(part("list"), at => this.goTo(this.run.moments.indexOf(at)));
     this.rows = elementRows(this.network, data.losses, number => this.select(number));
     part("elements").replaceChildren(...this.rows);
+    part("elements").classList.toggle("many", this.rows.length > PRINTED);
+    part("events").replaceChildren(...data.events.slice(0, PRINTED * 5).map(event => made("li", "", `${clock(event.at, data.start)}  ${event.text}`)));
     this.fillCases();
     this.fillKeys();
     this.listen();
