@@ -8,8 +8,10 @@ from pathlib import Path
 import pytest
 from conftest import EXAMPLES, murdjohe, started
 
-from murdjohe import bands, drawing
+from murdjohe import bands, drawing, strips
 from murdjohe.bands import Band, Row
+from murdjohe.commands import timeline
+from murdjohe.strips import Red
 
 PLANS = sorted(EXAMPLES.glob("*/*.toml"))
 REPORTS = sorted(
@@ -117,6 +119,32 @@ def test_a_picture_from_a_millisecond_on() -> None:
     assert bands.bands_of(later, ["B", "A"], 90) == {
         "A": [Band(20, 50, "S", "QL-PRC", "locked"), Band(50, 90, "none", "QL-SEC", "holdover")]
     }
+
+
+def test_loops_at_the_end_of_a_report_stand_since_the_same_millisecond_without_its_plan() -> None:
+    ring = [str(EXAMPLES / "ring" / name) for name in ("report", "plan.toml")]
+    alone, whole = timeline.red_of(ring[0], None, 120_000), timeline.red_of(ring[0], ring[1], 120_000)
+    assert alone == whole == [Red(name, 3, 120_000, strips.LOOP) for name in "BCA"]
+    assert timeline.within(whole, 5, 90) == [Red(name, 5, 90, strips.LOOP) for name in "BCA"]
+    assert timeline.within(whole, 0, 3) == []
+
+
+@pytest.mark.parametrize(
+    ("walk", "word"),
+    [(("L1>B", "L1>A"), strips.PAIR), (("L1>B", "L2>A"), strips.CLOSED), (("L1>B", "L2>C", "L3>A"), strips.LOOP)],
+)
+def test_what_a_walk_is_by_its_names(walk: tuple[str, ...], word: str) -> None:
+    assert timeline.word_of(walk) == word
+
+
+def test_times_in_minutes() -> None:
+    assert [bands.minutes(at) for at in (0, 61_000, 60_302, 3_723_004)] == [
+        "00:00",
+        "01:01",
+        "01:00.302",
+        "1:02:03.004",
+    ]
+    assert [bands.length_of(span) for span in (300, 4_990, 60_000, 299_700)] == ["300 ms", "4.99 s", "1 min", "5.0 min"]
 
 
 def test_long_times_are_folded() -> None:

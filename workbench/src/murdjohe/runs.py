@@ -68,16 +68,21 @@ def usual_end(events: EventFile) -> int:
     return min(report_end, forms.DAY_MS)
 
 
+def is_settled(plan: PlanFile, events: EventFile, until: int) -> bool:
+    """Whether the network is settled at a millisecond, by the program."""
+    return report_text(plan, events, until).endswith(b"\nsettled yes\n")
+
+
 def settled_from(plan: PlanFile, events: EventFile, until: int) -> int | None:
     """From which millisecond after the last event on the network is settled, by the program; None where it isn't at `until`.
 
     Nothing changes any more in a settled network that is told nothing, so the first such millisecond is found by halves.
     """
-    if not report_of(plan, events, until).is_settled:
+    if not is_settled(plan, events, until):
         return None
     low = max((event.at for event in events.events if event.at <= until), default=0)
     high = until
     while low < high:
         middle = (low + high) // 2
-        low, high = (low, middle) if report_of(plan, events, middle).is_settled else (middle + 1, high)
+        low, high = (low, middle) if is_settled(plan, events, middle) else (middle + 1, high)
     return low

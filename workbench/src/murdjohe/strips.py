@@ -13,22 +13,24 @@ from murdjohe.moments import Event
 HATCHES = {"holdover": "///", "freerun": "xxx", "forced": "..", "manual": "oo"}  # of states and of switches
 HIGH = 40  # elements from which on the times are written above too
 FOOT = 1.45  # inches below the strips, for times and the legend
+LOOP, PAIR, CLOSED = "LOOP", "PAIR", "CLOSED"  # closed is a walk of which only a plan tells whether it is of one bundle
+MEANINGS = {LOOP: "TIMING LOOP", PAIR: "pair, facing one another", CLOSED: "closed walk, by another link"}
 LABELLED = 60  # events that are written beside their marks
 SETTINGS = {"svg.fonttype": "none", "svg.hashsalt": "murdjohe", "hatch.linewidth": 0.6}  # (no number by chance)
 
 
 @dataclass(frozen=True)
 class Red:
-    """A closed walk at an element, from one millisecond to another; a pair, or else a timing loop."""
+    """A closed walk at an element, from one millisecond to another, and the word for it."""
 
     element: str
     start: int
     stop: int
-    is_pair: bool
+    word: str
 
     @property
     def colour(self) -> str:
-        return colours.PAIR if self.is_pair else colours.LOOP
+        return colours.PAIR if self.word == PAIR else colours.LOOP
 
 
 @dataclass(frozen=True)
@@ -92,10 +94,9 @@ class Strips:
         row = list(self.its).index(red.element)
         left, right = self.places[red.start], self.places[red.stop]
         self.axes.barh(row + 0.3, right - left, left=left, height=0.24, color=red.colour, linewidth=0, zorder=4)
-        word = "PAIR" if red.is_pair else "LOOP"
         if right - left > self.width * 0.03:
             text = {"ha": "center", "va": "center", "fontsize": 6, "color": "white", "weight": "bold", "zorder": 5}
-            self.axes.text((left + right) / 2, row + 0.3, word, **text)
+            self.axes.text((left + right) / 2, row + 0.3, red.word, **text)
 
     def drawn_events(self) -> None:
         """Events as marks: a line through all strips, and above it what happens."""
@@ -144,8 +145,8 @@ class Strips:
             for word, hatch in HATCHES.items()
             if word in there
         ]
-        words = {one.colour: "pair, facing one another" if one.is_pair else "TIMING LOOP" for one in red}
-        keys += [Patch(facecolor=colour, label=word) for colour, word in words.items()]
+        words = {one.word: one.colour for one in red}
+        keys += [Patch(facecolor=colour, label=MEANINGS[word]) for word, colour in words.items()]
         self.figure.legend(handles=keys, loc="lower center", ncols=8, fontsize=8, frameon=False, borderaxespad=0.2)
 
 

@@ -4,24 +4,29 @@ from __future__ import annotations
 
 import click
 
-from murdjohe import bands, core, drawing, files, progress, runs, spans, views, wiring
+from murdjohe import bands, core, drawing, files, progress, runs, spans, strips, views, wiring
 from murdjohe.commands.common import Milliseconds
-from murdjohe.reports import Report
+from murdjohe.reports import Loop, Report
 from murdjohe.strips import Red, Timeline
 from murdjohe.wrong import Wrong
 
 ENDINGS = ("svg", "png", "pdf")
 
 
+def word_of(walk: Loop) -> str:
+    """What a closed walk is, as far as its names tell: two lines of other links may be of one bundle."""
+    if len(walk) > 2:
+        return strips.LOOP
+    return strips.PAIR if walk[0].partition(">")[0] == walk[1].partition(">")[0] else strips.CLOSED
+
+
 def standing(report: Report, end: int) -> list[Red]:
     """The closed walks that stand at the end of a report: each since the last of its elements took its line."""
     found = []
     for walk in report.loops:
-        taken = {change.element: change for change in report.changes if change.input in walk}
         names = [line.rpartition(">")[2] for line in walk]
-        start = max((since(report, name) for name in names if name in taken), default=0)
-        is_pair = len(walk) == 2 and walk[0].partition(">")[0] == walk[1].partition(">")[0]
-        found += [Red(name, start, end, is_pair) for name in names]
+        start = max(since(report, name) for name in names)
+        found += [Red(name, start, end, word_of(walk)) for name in names]
     return found
 
 
@@ -43,7 +48,12 @@ def red_of(path: str, plan: str | None, end: int) -> list[Red]:
     wired = wiring.wiring_of(drawing.read_plan(plan))
     report = views.of_this_plan(path, views.read_report(path), wired)
     return [
-        Red(wired.lines[line].receiver, walk.start, end if walk.stop is None else walk.stop, walk.is_pair)
+        Red(
+            wired.lines[line].receiver,
+            walk.start,
+            end if walk.stop is None else walk.stop,
+            strips.PAIR if walk.is_pair else strips.LOOP,
+        )
         for walk in spans.walks_of(wired, report.changes)
         for line in walk.lines
     ]
@@ -52,7 +62,7 @@ def red_of(path: str, plan: str | None, end: int) -> list[Red]:
 def within(red: list[Red], start: int, end: int) -> list[Red]:
     """The closed walks as far as they stand between two milliseconds."""
     return [
-        Red(one.element, max(one.start, start), min(one.stop, end), one.is_pair)
+        Red(one.element, max(one.start, start), min(one.stop, end), one.word)
         for one in red
         if one.stop > start and one.start < end
     ]
@@ -103,8 +113,6 @@ def timeline(
     marks = tuple(one for one in (runs.read_events(events).events if events else ()) if rows[0].at <= one.at <= end)
     title = f"{plan or report}" + (f", {events}" if events else "") + f", up to {bands.minutes(end)}"
     with progress.watched("timeline"):
-        from murdjohe import strips
-
         data = strips.picture(Timeline(title, rows, order, marks, red, end, fold), ending)
     files.written(output, data)
     return core.DONE
