@@ -105,7 +105,7 @@ def test_walks_and_losses_of_random_runs_millisecond_by_millisecond(number: int)
     walks = spans.walks_of(its, rows)
     for at, found in standing(its, report, times).items():
         assert found == {walk.lines for walk in walks if walk.start <= at and (walk.stop is None or at < walk.stop)}
-    end = times[-1] + 7
+    end = max(times, default=0) + 7
     order = levels.LEVELS[option].index
     for loss in spans.losses_of(its, option, rows, end):
         shown = [(at, moments.shown_at(its, rows, at)) for at in times]

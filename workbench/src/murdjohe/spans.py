@@ -81,20 +81,27 @@ class Network:
         return found
 
     def refed(self, elements: list[str]) -> set[str]:
-        """Finds out anew who behind these elements follows a source, and gives those for whom that is different."""
-        touched = self.behind(elements)
-        before = self.fed & touched
-        self.fed -= touched
-        fed = [name for name in touched if self.is_fed(name, touched)]
-        self.fed |= self.behind(fed)
-        return before ^ (self.fed & touched)
+        """Finds out anew who follows a source after these have moved, and gives those for whom that is different.
 
-    def is_fed(self, name: str, touched: set[str]) -> bool:
-        """Whether an element takes a source, or takes from one that isn't touched and follows a source."""
-        sender = self.sender(name)
-        if sender is None:
-            return name in self.taken
-        return sender not in touched and sender in self.fed
+        Whoever takes his timing through an element follows a source just where that one does.
+        """
+        different: set[str] = set()
+        for name in elements:
+            is_fed = self.reaches_source(name)
+            if is_fed != (name in self.fed):
+                behind = self.behind([name])
+                others = behind - self.fed if is_fed else behind & self.fed
+                self.fed.symmetric_difference_update(others)
+                different |= others
+        return different
+
+    def reaches_source(self, element: str) -> bool:
+        """Whether what is taken leads from an element back to a source."""
+        met: set[str] = set()
+        while element not in met and (sender := self.sender(element)) is not None:
+            met.add(element)
+            element = sender
+        return element not in met and element in self.taken
 
 
 def walks_of(wiring: Wiring, changes: Iterable[Change]) -> list[Walk]:
