@@ -4,6 +4,7 @@ from __future__ import annotations
 
 import csv
 import io
+import itertools
 import json
 import random
 from pathlib import Path
@@ -95,32 +96,63 @@ def standing(its: Wiring, report: Report, times: list[int]) -> dict[int, set[tup
     return {at: set(moments.loops_of(its, moments.taken_of(moments.shown_at(its, report.changes, at)))) for at in times}
 
 
-@settings(max_examples=max(20, CASES // 2), deadline=None)
-@given(st.integers(0, 10**9))
-def test_walks_and_losses_of_random_runs_millisecond_by_millisecond(number: int) -> None:
-    its, option, _, _, report = random_run(number)
-    rows = report.changes[:300]
-    report = Report(rows, (), (), (), None, None)
-    times = sorted({row.at for row in rows})
-    walks = spans.walks_of(its, rows)
-    for at, found in standing(its, report, times).items():
+def check_walks(its: Wiring, report: Report) -> None:
+    """That the walks are those of each millisecond by itself."""
+    walks = spans.walks_of(its, report.changes)
+    for at, found in standing(its, report, sorted({row.at for row in report.changes})).items():
         assert found == {walk.lines for walk in walks if walk.start <= at and (walk.stop is None or at < walk.stop)}
+
+
+def check_losses(its: Wiring, option: str, report: Report) -> None:
+    """That each element's losses are the sums of what each span of the run by itself says."""
+    times = sorted({row.at for row in report.changes})
     end = max(times, default=0) + 7
     order = levels.LEVELS[option].index
-    for loss in spans.losses_of(its, option, rows, end):
-        shown = [(at, moments.shown_at(its, rows, at)) for at in times]
-        own = [(-1, its.own[loss.element]), *((at, one[loss.element].level or "") for at, one in shown)]
+    moments_shown = [(at, moments.shown_at(its, report.changes, at)) for at in times]
+    ends = [(at, moments.traces_of(its, moments.taken_of(one))) for at, one in moments_shown]
+    for loss in spans.losses_of(its, option, report.changes, end):
+        own = [(-1, its.own[loss.element]), *((at, one[loss.element].level or "") for at, one in moments_shown)]
         assert loss.best == min((level for _, level in own), key=order)
         first = next(at for at, level in own if level == loss.best)
         after = [(max(at, 0), level) for at, level in own if at >= first]
-        stops = [*(at for at, _ in after[1:]), end]
-        spells = [(stop - at, level) for (at, level), stop in zip(after, stops)]
+        spells = [(stop - at, level) for (at, level), stop in zip(after, [*(at for at, _ in after[1:]), end])]
         assert loss.below == sum(length for length, level in spells if level != loss.best)
-        ends = [(at, moments.traces_of(its, moments.taken_of(one))[loss.element].kind) for at, one in shown]
-        fed = [at for at, kind in ends if kind == "source"]
-        late = [(at, kind) for at, kind in ends if fed and at >= fed[0]]
+        kinds = [(at, traces[loss.element].kind == "source") for at, traces in ends]
+        late = kinds[next((place for place, (_, is_fed) in enumerate(kinds) if is_fed), len(kinds)) :]
         gaps = zip(late, [*(at for at, _ in late[1:]), end])
-        assert loss.unfed == sum(stop - at for (at, kind), stop in gaps if kind != "source")
+        assert loss.unfed == sum(stop - at for (at, is_fed), stop in gaps if not is_fed)
+
+
+@settings(max_examples=max(20, CASES // 2))
+@given(st.integers(0, 10**9))
+def test_walks_and_losses_of_random_runs_millisecond_by_millisecond(number: int) -> None:
+    its, option, _, _, report = random_run(number)
+    report = Report(report.changes[:300], (), (), (), None, None)
+    check_walks(its, report)
+    check_losses(its, option, report)
+
+
+@settings(max_examples=max(200, CASES))
+@given(st.integers(0, 10**9))
+def test_walks_and_losses_of_any_changes(number: int) -> None:
+    chance = random.Random(number)
+    names = "ABCDEF"
+    links = [
+        {"name": f"{a}{b}", "a": a, "b": b, "priority_a": 1, "priority_b": 1}
+        for a, b in itertools.combinations(names, 2)
+    ]
+    elements, sources = [{"name": name} for name in names], [{"name": f"S{name}", "at": name} for name in names[:2]]
+    its = wiring.wiring_of({"element": elements, "link": links, "source": sources})
+    inputs = {name: [one for one in (*its.lines, *its.sources) if its.element_of(one) == name] for name in names}
+    rows = []
+    for at in sorted(chance.randrange(40) for _ in range(20)):
+        for name in sorted(chance.sample(names, chance.randint(1, 4))):
+            level = chance.choice(levels.LEVELS["I"])
+            rows.append(Change(at, name, "auto", chance.choice([None, *inputs[name]]), level, "locked"))
+    changes = tuple({(row.at, row.element): row for row in rows}.values())
+    report = Report(tuple(sorted(changes, key=lambda row: row.at)), (), (), (), None, None)
+    check_walks(its, report)
+    check_losses(its, "I", report)
 
 
 @settings(max_examples=max(30, CASES))
