@@ -197,8 +197,8 @@ def drawn_element(page: Page, view: View, element: dict[str, Any]) -> None:
     page.axes.add_patch(FancyBboxPatch((x - width / 2, y - height / 2), width, height, boxstyle=shape, **outline))
     paper = {"bbox": {"facecolor": fill, "lw": 0, "pad": 0.5}} if is_hatched else {}
     for row, text in enumerate([name, *said]):
-        share = 0.7 if not said else 0.42 if row == 0 else 0.5 / (len(said) + 0.6)
-        at = x, y + height * (0.0 if not said else 0.22 if row == 0 else 0.1 - 0.3 * row / len(said))
+        share = 0.7 if not said else 0.4 if row == 0 else 0.31 if len(said) == 1 else 0.2
+        at = x, y + height * (0.0 if not said else 0.24 if row == 0 else -0.2 if len(said) == 1 else 0.13 - 0.23 * row)
         size = page.fitting(text, share)
         page.write(at, text, fontsize=size, weight="normal" if row else "bold", color=colours.ink(fill), **paper)
 
@@ -280,7 +280,9 @@ def picture(view: View, layout: Layout, ending: str) -> bytes:
         drawn_source(page, view, source)
     for element in view.tables.get("element", []):
         drawn_element(page, view, element)
-    page.write((MARGIN, page.size[1] - 0.35), view.title, ha="left", fontsize=page.size[0] * 0.95, weight="bold")
+    page.write(
+        (MARGIN, page.size[1] - 0.35), view.title, ha="left", fontsize=max(10, page.size[0] * 0.95), weight="bold"
+    )
     drawn_legend(page, view)
     data = io.BytesIO()
     about = {"svg": {"Date": None}, "pdf": {"CreationDate": None}}.get(ending)
