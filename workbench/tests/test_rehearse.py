@@ -196,10 +196,10 @@ def test_the_table_of_commands() -> None:
 
 
 def test_settled_from_is_the_first_such_millisecond() -> None:
-    for name in ("ladder", "metro-ring", "bundle"):
+    for name in ("ladder", "metro-ring", "bundle", "mesh", "option-two"):
         plan = plan_file.read(str(EXAMPLES / name / "plan.toml"))
         events = runs.read_events(str(EXAMPLES / name / "events.csv"))
-        found = runs.settled_from(plan, events, 1_200_000)
+        found = runs.settled_from(plan, events, runs.report_of(plan, events, 1_200_000), 1_200_000)
         assert found and runs.report_of(plan, events, found).is_settled
         assert not runs.report_of(plan, events, found - 1).is_settled
 

@@ -64,7 +64,7 @@ def rehearsed(plan: PlanFile, file: EventFile, until: int) -> Rehearsal:
         switching.commands_of(wired, wiring.nominated_of(plan.tables), events),
         spans.walks_of(wired, report.changes),
         spans.losses_of(wired, plan.plan.option, report.changes, end),
-        runs.settled_from(plan, file, until) if report.is_settled else None,
+        runs.settled_from(plan, file, report, until),
     )
 
 

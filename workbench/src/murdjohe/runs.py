@@ -12,6 +12,7 @@ from murdjohe.reports import Report
 from murdjohe.wrong import Wrong, reason
 
 NO_EVENTS = b"at,what,target,value\n"
+NEAR = (0, 1, 10, 100, 1000)  # milliseconds after the last change in which a network is likely to be settled
 AFTER = 1_200_000  # milliseconds that a run goes on after its last event: longer than every hold-off and wait
 
 
@@ -73,15 +74,22 @@ def is_settled(plan: PlanFile, events: EventFile, until: int) -> bool:
     return report_text(plan, events, until).endswith(b"\nsettled yes\n")
 
 
-def settled_from(plan: PlanFile, events: EventFile, until: int) -> int | None:
+def settled_from(plan: PlanFile, events: EventFile, report: Report, until: int) -> int | None:
     """From which millisecond after the last event on the network is settled, by the program; None where it isn't at `until`.
 
-    Nothing changes any more in a settled network that is told nothing, so the first such millisecond is found by halves.
+    Nothing changes any more in a settled network that is told nothing. So there is one first such millisecond, not before the
+    last change; it is looked for near that, and then by halves.
     """
-    if not is_settled(plan, events, until):
+    if not report.is_settled:
         return None
     low = max((event.at for event in events.events if event.at <= until), default=0)
+    low = max([low, *(change.at for change in report.changes[-1:])])
     high = until
+    for middle in (low + step for step in NEAR if low + step < until):
+        if is_settled(plan, events, middle):
+            high = middle
+            break
+        low = middle + 1
     while low < high:
         middle = (low + high) // 2
         low, high = (low, middle) if is_settled(plan, events, middle) else (middle + 1, high)
