@@ -163,7 +163,7 @@ def test_a_screen_reader_has_names_and_a_status(browser: Any, works: str) -> Non
     assert browser.find_element("id", "said").get_attribute("role") == "status"
     assert browser.find_element("id", "slider").get_attribute("aria-valuetext") == said(browser, "time")
     assert browser.execute_script("return document.documentElement.lang") == "en"
-    assert len(browser.find_elements("css selector", "[role=columnheader]")) == 7
+    assert len(browser.find_elements("css selector", "[role=columnheader]")) == 8
 
 
 def test_a_loop_is_red_and_said(browser: Any, folder: Path) -> None:
@@ -206,7 +206,7 @@ def large_page(folder: Path) -> str:
         name, level = chance.choice(wired.elements), chance.choice(["QL-PRC", "QL-SSU-A", "QL-SEC"])
         rows.append(Change(time, name, "auto", chance.choice(inputs[name]), level, "locked"))
     report = Report(tuple(rows), (), (), (), True, None)
-    losses = [spans.Loss(name, "QL-PRC", 5, "QL-SEC", 7) for name in wired.elements]
+    losses = [spans.Loss(name, "QL-PRC", 5, "QL-SEC", 7, 3) for name in wired.elements]
     events = tuple(Event(at, "down", "S1", "") for at in range(1000, time, 5000))
     found = rehearsals.Rehearsal(time + 1000, wired, events, 0, report, [], [], losses, time)
     layout = places.layout_of(plan.tables, None, None)

@@ -117,10 +117,12 @@ def check_losses(its: Wiring, option: str, report: Report) -> None:
         after = [(max(at, 0), level) for at, level in own if at >= first]
         spells = [(stop - at, level) for (at, level), stop in zip(after, [*(at for at, _ in after[1:]), end])]
         assert loss.below == sum(length for length, level in spells if level != loss.best)
+        lost = [at for (at, level), (length, _) in zip(after, spells) if level != loss.best and length]
         kinds = [(at, traces[loss.element].kind == "source") for at, traces in ends]
         late = kinds[next((place for place, (_, is_fed) in enumerate(kinds) if is_fed), len(kinds)) :]
-        gaps = zip(late, [*(at for at, _ in late[1:]), end])
-        assert loss.unfed == sum(stop - at for (at, is_fed), stop in gaps if not is_fed)
+        gaps = [(at, stop) for (at, is_fed), stop in zip(late, [*(at for at, _ in late[1:]), end]) if not is_fed]
+        assert loss.unfed == sum(stop - at for at, stop in gaps)
+        assert loss.since == min(lost + [at for at, _ in gaps], default=None)
 
 
 @settings(max_examples=max(20, CASES // 2))

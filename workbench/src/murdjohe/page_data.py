@@ -7,7 +7,7 @@ from concurrent.futures import ThreadPoolExecutor
 from dataclasses import dataclass
 from typing import Any
 
-from murdjohe import api, colours, moments, places, reports, runs, spans, wiring
+from murdjohe import api, colours, moments, places, reports, runs, wiring
 from murdjohe.levels import LEVELS
 from murdjohe.moments import Event
 from murdjohe.places import ELEMENT, SOURCE, Layout
@@ -15,6 +15,7 @@ from murdjohe.plan_file import PlanFile
 from murdjohe.rehearsals import Rehearsal, event_text, reasons
 from murdjohe.reports import Change, Cut
 from murdjohe.runs import EventFile
+from murdjohe.spans import Loss
 from murdjohe.wiring import Wiring
 from murdjohe.wrong import Wrong
 
@@ -155,9 +156,10 @@ def cases_of(plan: PlanFile, wired: Wiring) -> list[dict[str, Any]]:
         return list(workers.map(lambda cut: case_of(plan, wired, cut), sweep.rows))
 
 
-def losses_of(losses: list[spans.Loss]) -> list[dict[str, Any]]:
-    """What each element went without."""
-    return [{"best": loss.best, "below": loss.below, "worst": loss.worst, "unfed": loss.unfed} for loss in losses]
+def losses_of(losses: list[Loss]) -> list[dict[str, Any]]:
+    """What each element went without, and when first."""
+    keys = ("best", "below", "worst", "unfed", "since")
+    return [{key: getattr(loss, key) for key in keys} for loss in losses]
 
 
 def data_of(plan: PlanFile, found: Rehearsal, layout: Layout, start: int, title: str, has_cuts: bool) -> dict[str, Any]:

@@ -170,11 +170,12 @@ def walks_text(found: Rehearsal, start: int) -> list[str]:
     return said + [f"  {walk_text(found, walks, start)}" for walks in its.values()]
 
 
-def loss_text(loss: Loss) -> str:
+def loss_text(loss: Loss, start: int) -> str:
     """What an element goes without."""
     said = [f"{seconds(loss.below)} below {loss.best}, worst {loss.worst}"] if loss.below else []
     said += [f"{seconds(loss.unfed)} without a source"] if loss.unfed else []
-    return f"  {loss.element}: {'; '.join(said)}"
+    first = clock(loss.since, start) if loss.since is not None else ""
+    return f"  {first}  {loss.element}: {'; '.join(said)}"
 
 
 def ending_text(found: Rehearsal, start: int) -> list[str]:
@@ -200,8 +201,12 @@ def text_of(found: Rehearsal, start: int, has_all: bool) -> list[str]:
         said.append(f"  {clock(one.at, start)}  {one.word} {one.input}: {one.why}")
     said += walks_text(found, start)
     lost = [loss for loss in found.losses if loss.below or loss.unfed]
-    said.append("losses:" if lost else "nobody who has a source loses it, or falls below the best level")
-    return said + [loss_text(loss) for loss in lost] + ending_text(found, start)
+    said.append(
+        "losses, from when on and how long in all:"
+        if lost
+        else "nobody who has a source loses it, or falls below the best level"
+    )
+    return said + [loss_text(loss, start) for loss in lost] + ending_text(found, start)
 
 
 def as_data(found: Rehearsal, start: int) -> dict[str, Any]:

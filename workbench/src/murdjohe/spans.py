@@ -29,13 +29,15 @@ class Walk:
 @dataclass(frozen=True)
 class Loss:
     """What an element went without: milliseconds below its best level since it first had that, the worst level in them, and
-    milliseconds since it first followed a source in which it followed none."""
+    milliseconds since it first followed a source in which it followed none; and when the first of these was, if there is one.
+    """
 
     element: str
     best: str
     below: int
     worst: str
     unfed: int
+    since: int | None
 
 
 def by_time(changes: Iterable[Change]) -> Iterator[tuple[int, list[Change]]]:
@@ -124,32 +126,33 @@ def walks_of(wiring: Wiring, changes: Iterable[Change]) -> list[Walk]:
     return sorted(found, key=lambda walk: (walk.start, wiring.lines[walk.lines[0]].number))
 
 
-def unfed_of(wiring: Wiring, changes: Iterable[Change], end: int) -> dict[str, int]:
-    """For how long each element followed no source, after it first did."""
+def gaps_of(wiring: Wiring, changes: Iterable[Change], end: int) -> dict[str, list[tuple[int, int]]]:
+    """From when to when each element followed no source, after it first did."""
     network = Network(wiring)
     lost: dict[str, int] = {}
-    total = dict.fromkeys(wiring.elements, 0)
+    found: dict[str, list[tuple[int, int]]] = {name: [] for name in wiring.elements}
     for at, rows in by_time(changes):
         for name in network.refed(network.moved(rows)):
             if name not in network.fed:
                 lost[name] = at
             elif name in lost:
-                total[name] += at - lost.pop(name)
+                found[name].append((lost.pop(name), at))
     for name, at in lost.items():
-        total[name] += end - at
-    return total
+        found[name].append((at, end))
+    return found
 
 
-def below(own: list[Change], option: str, end: int) -> tuple[str, int, str]:
-    """The best level of an element, for how long it had a worse one since it first had that, and the worst of these."""
+def loss_of(own: list[Change], option: str, end: int, gaps: list[tuple[int, int]]) -> Loss:
+    """What an element went without, by what it shows and by when it followed no source."""
     order = {level: place for place, level in enumerate(LEVELS[option])}
     best = min((row.level or "" for row in own), key=lambda level: order[level])
-    first = next(place for place, row in enumerate(own) if row.level == best)
-    after = own[first:]
+    after = own[next(place for place, row in enumerate(own) if row.level == best) :]
     spans = zip(after, [*(row.at for row in after[1:]), end])
-    worse = [(stop - row.at, row.level or "") for row, stop in spans if row.level != best]
-    worst = max((level for _, level in worse), key=lambda level: order[level], default=best)
-    return best, sum(length for length, _ in worse), worst
+    worse = [(row.at, stop, row.level or "") for row, stop in spans if row.level != best and row.at < stop]
+    worst = max((level for _, _, level in worse), key=lambda level: order[level], default=best)
+    since = min([start for start, _, _ in worse] + [start for start, stop in gaps if start < stop], default=None)
+    below = sum(stop - start for start, stop, _ in worse)
+    return Loss(own[0].element, best, below, worst, sum(stop - start for start, stop in gaps), since)
 
 
 def losses_of(wiring: Wiring, option: str, changes: tuple[Change, ...], end: int) -> list[Loss]:
@@ -157,5 +160,5 @@ def losses_of(wiring: Wiring, option: str, changes: tuple[Change, ...], end: int
     its: dict[str, list[Change]] = {name: [row] for name, row in moments.shown_first(wiring).items()}
     for row in changes:
         its[row.element].append(row)
-    unfed = unfed_of(wiring, changes, end)
-    return [Loss(name, *below(rows, option, end), unfed[name]) for name, rows in its.items()]
+    gaps = gaps_of(wiring, changes, end)
+    return [loss_of(rows, option, end, gaps[name]) for name, rows in its.items()]

@@ -47,8 +47,8 @@ def rehearse(
     """Shows works as they will go: events and what changes by them, in one list with times of day.
 
     An event stands behind a star. Below the list stand the commands that are rejected, and why; pairs, two elements that take
-    from one another for a moment, and timing loops, from when to when; for each element how long it is below its best level
-    since it first had that, and how long it follows no source; and from when on the network is settled.
+    from one another for a moment, and timing loops, from when to when; for each element since when and how long it is below its
+    best level, once it has had that, or follows no source; and from when on the network is settled.
 
     Changes, levels and whether it is settled are the program's, by `sim`, which is run to several milliseconds. Whether a
     command is rejected, and which walks stand between, follow from these and from the table of commands; why an input that is

@@ -16,7 +16,7 @@ class Page {
     this.main = new Run(this.network, data.changes, data.events, data.until);
     this.picture = new Picture(part("picture"), this.network);
     this.list = new List(part("list"), at => this.goTo(this.run.moments.indexOf(at)));
-    this.rows = elementRows(this.network, data.losses, number => this.select(number));
+    this.rows = elementRows(this.network, data.losses, data.start, number => this.select(number));
     part("elements").replaceChildren(...this.rows);
     part("elements").classList.toggle("many", this.rows.length > PRINTED);
     part("events").replaceChildren(...data.events.slice(0, PRINTED * 5).map(event => made("li", "", `${clock(event.at, data.start)}  ${event.text}`)));

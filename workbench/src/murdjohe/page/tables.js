@@ -72,7 +72,7 @@ export class List {
 }
 
 /** The table of elements, with what each went without. */
-export function elementRows(network, losses, onSelect) {
+export function elementRows(network, losses, start, onSelect) {
   const seconds = span => span ? `${(span / 1000).toFixed(3)} s` : "";
   return network.elements.map((element, number) => {
     const row = made("tr"), loss = losses[number];
@@ -85,7 +85,7 @@ export function elementRows(network, losses, onSelect) {
     const name = cell();
     const button = name.appendChild(made("button", "name", element.name));
     button.addEventListener("click", () => onSelect(number));
-    for (const text of [" ", " ", loss.best, seconds(loss.below), loss.below ? loss.worst : "", seconds(loss.unfed)]) cell(text);
+    for (const text of [" ", " ", loss.best, seconds(loss.below), loss.below ? loss.worst : "", seconds(loss.unfed), loss.since === null ? "" : clock(loss.since, start)]) cell(text);
     if (loss.below || loss.unfed) row.classList.add("lost");
     return row;
   });
