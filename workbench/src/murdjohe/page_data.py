@@ -22,6 +22,13 @@ from murdjohe.wrong import Wrong
 MODES = {"auto": 0, "forced": 1, "manual": 2}
 STATES = {"locked": 0, "holdover": 1, "freerun": 2}
 CUT_AT, CUT_UNTIL = 60_000, 400_000  # when a link goes down in a case, and when the network is looked at
+SIGNS = {
+    "loop": colours.LOOP,
+    "pair": colours.PAIR,
+    "dark": colours.DARK,
+    "grey": colours.GREY,
+    "pale": colours.PALE,
+}
 MOST_CELLS = 200_000  # elements of all cases together
 HEADS = ("link", "settled", "locked", "holdover", "free-running", "loops", "worst")
 
@@ -105,7 +112,7 @@ def network_of(plan: PlanFile, wired: Wiring, layout: Layout, used: set[str]) ->
     size = {"width": round(layout.width, 2), "height": round(layout.height, 2), "box": places.BOX}
     scale = round(places.room_of(list(layout.spots.values())), 4)
     rows = {"elements": elements, "lines": lines, "sources": sources}
-    return {**rows, **size, "scale": scale, "levels": levels_of(plan.plan.option, used)}
+    return {**rows, **size, "scale": scale, "levels": levels_of(plan.plan.option, used), "signs": SIGNS}
 
 
 def events_of(wired: Wiring, numbers: Numbers, events: tuple[Event, ...], why: dict[Any, str]) -> list[dict[str, Any]]:

@@ -10,7 +10,7 @@ from pathlib import Path
 from typing import Any
 
 import murdjohe
-from murdjohe import core, page_data
+from murdjohe import colours, core, page_data
 from murdjohe.plan_file import PlanFile
 from murdjohe.rehearsals import Rehearsal, clock
 from murdjohe.remarks import plural
@@ -83,6 +83,7 @@ def page(title: str, data: dict[str, Any], its_facts: list[tuple[str, str]]) -> 
     filled = {
         "title": html.escape(title),
         "css": part("page.css"),
+        "loop": colours.LOOP,
         "case_heads": "".join(f'<th scope="col">{head}</th>' for head in page_data.HEADS),
         "facts": "\n".join(rows),
         "data": as_json(data),

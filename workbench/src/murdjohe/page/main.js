@@ -19,7 +19,9 @@ class Page {
     this.rows = elementRows(this.network, data.losses, data.start, number => this.select(number));
     part("elements").replaceChildren(...this.rows);
     part("elements").classList.toggle("many", this.rows.length > PRINTED);
-    part("events").replaceChildren(...data.events.slice(0, PRINTED * 5).map(event => made("li", "", `${clock(event.at, data.start)}  ${event.text}`)));
+    const printed = data.events.slice(0, PRINTED * 5);
+    const text = event => `${clock(event.at, data.start)}  ${event.text}`;
+    part("events").replaceChildren(...printed.map(event => made("li", "", text(event))));
     this.fillCases();
     this.fillKeys();
     this.listen();
@@ -63,8 +65,15 @@ class Page {
     words.push(unfed ? `${unfed} follow no source` : "all follow a source");
     part("said").textContent = words.join("; ");
     part("said").classList.toggle("loop", loops > 0);
-    part("chosen").textContent = this.selected < 0 ? "Nothing is selected: click an element, or its name in the table." : this.run.sentence(this.selected);
-    part("way").replaceChildren(...(this.selected < 0 ? [] : this.run.wayOf(this.selected).lines.map(line => made("li", "", this.run.inputName(line)))));
+    this.tellChosen();
+  }
+
+  /** Says what the selected element shows, and the lines by which its timing comes. */
+  tellChosen() {
+    const none = "Nothing is selected: click an element, or its name in the table.";
+    const lines = this.selected < 0 ? [] : this.run.wayOf(this.selected).lines;
+    part("chosen").textContent = this.selected < 0 ? none : this.run.sentence(this.selected);
+    part("way").replaceChildren(...lines.map(line => made("li", "", this.run.inputName(line))));
   }
 
   select(number) {
@@ -86,7 +95,8 @@ class Page {
 
   fillCases() {
     part("cases-part").hidden = !this.data.cases.length;
-    part("cases").replaceChildren(...caseRows(this.network, this.data.cases, (number, element) => this.showCase(number, element)));
+    const rows = caseRows(this.network, this.data.cases, (number, element) => this.showCase(number, element));
+    part("cases").replaceChildren(...rows);
   }
 
   /** What the colours mean. */
@@ -103,7 +113,8 @@ class Page {
   listen() {
     part("slider").addEventListener("input", event => this.goTo(Number(event.target.value)));
     part("back").addEventListener("click", () => this.show(this.main, this.data.title, this.data.first));
-    for (const [name, step] of [["earlier", -1], ["later", 1]]) part(name).addEventListener("click", () => this.goTo(this.run.moment + step));
+    part("earlier").addEventListener("click", () => this.goTo(this.run.moment - 1));
+    part("later").addEventListener("click", () => this.goTo(this.run.moment + 1));
     document.addEventListener("keydown", event => this.key(event));
     this.listenToPicture(part("picture"));
     window.addEventListener("resize", () => { this.picture.resize(); this.paint(); });
@@ -116,19 +127,26 @@ class Page {
     const steps = {ArrowLeft: -1, ArrowRight: 1, Home: -last, End: last};
     if (event.key in steps) { this.goTo(this.run.moment + steps[event.key]); event.preventDefault(); }
     if (event.key === "Escape") this.select(-1);
-    if (event.key === "+" || event.key === "-") { this.picture.zoomBy(event.key === "+" ? 1.3 : 1 / 1.3, this.picture.width / 2, this.picture.height / 2); this.paint(); }
-    if (event.key === "0") { this.picture.view = {x: 0, y: 0, zoom: 1}; this.paint(); }
+    const zooms = {"+": 1.3, "-": 1 / 1.3};
+    if (event.key in zooms) this.picture.zoomBy(zooms[event.key], this.picture.width / 2, this.picture.height / 2);
+    if (event.key === "0") this.picture.view = {x: 0, y: 0, zoom: 1};
+    if (event.key in zooms || event.key === "0") this.paint();
   }
 
   listenToPicture(canvas) {
     let grip = null;
-    canvas.addEventListener("click", event => { if (!this.moved) this.select(this.picture.elementAt(event.offsetX, event.offsetY)); });
+    canvas.addEventListener("click", event => {
+      if (!this.moved) this.select(this.picture.elementAt(event.offsetX, event.offsetY));
+    });
     canvas.addEventListener("wheel", event => {
       event.preventDefault();
       this.picture.zoomBy(event.deltaY < 0 ? 1.15 : 1 / 1.15, event.offsetX, event.offsetY);
       this.paint();
     }, {passive: false});
-    canvas.addEventListener("pointerdown", event => { grip = [event.offsetX, event.offsetY]; this.moved = false; });
+    canvas.addEventListener("pointerdown", event => {
+      grip = [event.offsetX, event.offsetY];
+      this.moved = false;
+    });
     canvas.addEventListener("pointerup", () => { grip = null; });
     canvas.addEventListener("pointermove", event => {
       if (grip) {

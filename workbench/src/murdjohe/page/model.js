@@ -131,8 +131,9 @@ export class Run {
 
   /** The name of an input. */
   inputName(input) {
-    const lines = this.network.lines;
-    return input < 0 ? "none" : input < lines.length ? lines[input].name : this.network.sources[input - lines.length].name;
+    const {lines, sources} = this.network;
+    if (input < 0) return "none";
+    return input < lines.length ? lines[input].name : sources[input - lines.length].name;
   }
 
   /** Whether an element follows a source. */
@@ -160,6 +161,7 @@ export class Run {
     const input = this.input[element] < 0 ? "takes nothing" : `takes ${this.inputName(this.input[element])}`;
     const {lines, end} = this.wayOf(element);
     const way = lines.length ? `over ${lines.length} line${lines.length > 1 ? "s" : ""} from ${end}` : `from ${end}`;
-    return `${its.name}: ${this.network.levels[this.level[element]].name}, ${STATES[this.state[element]]}${mode}; ${input}, timing ${way}`;
+    const level = this.network.levels[this.level[element]].name;
+    return `${its.name}: ${level}, ${STATES[this.state[element]]}${mode}; ${input}, timing ${way}`;
   }
 }

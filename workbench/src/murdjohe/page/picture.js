@@ -1,6 +1,6 @@
 // The network on a canvas: boxes coloured by level, what is taken as thick arrows, closed walks in red, cuts dashed.
 
-const DARK = "#1a1a1a", GREY = "#8a8a8a", PALE = "#d8d8d8", RED = "#d00000", ORANGE = "#e07000", BLUE = "#0050d0", PAPER = "#ffffffd0";
+const BLUE = "#0050d0", PAPER = "#ffffffd0";  // (all other colours come with the data)
 
 /** A pattern of strokes for those who follow no source. */
 function hatchOf(context, ink) {
@@ -20,7 +20,8 @@ export class Picture {
     this.canvas = canvas;
     this.context = canvas.getContext("2d");
     this.network = network;
-    this.hatches = {"#000000": hatchOf(this.context, "#1a1a1a"), "#FFFFFF": hatchOf(this.context, "#ffffff")};
+    this.signs = network.signs;
+    this.hatches = {"#000000": hatchOf(this.context, this.signs.dark), "#FFFFFF": hatchOf(this.context, "#ffffff")};
     this.view = {x: 0, y: 0, zoom: 1};
     this.box = network.box;
     this.cables = this.cablesOf();
@@ -120,8 +121,9 @@ export class Picture {
       const a = this.spots[cable.sender], b = this.spots[cable.receiver];
       cable.start = this.leaving(a, b);
       cable.end = this.leaving(b, a);
-      if (cable.lines.length > 2) this.stroke(cable.start, cable.end, PALE, 8, []);
-      this.stroke(cable.start, cable.end, cable.lines.some(line => this.network.lines[line].priority) ? GREY : PALE, 1, []);
+      if (cable.lines.length > 2) this.stroke(cable.start, cable.end, this.signs.pale, 8, []);
+      const isWanted = cable.lines.some(line => this.network.lines[line].priority);
+      this.stroke(cable.start, cable.end, isWanted ? this.signs.grey : this.signs.pale, 1, []);
     }
     this.drawStrokes(pen);
   }
@@ -140,7 +142,11 @@ export class Picture {
     for (const [colour, heads] of this.heads) {
       pen.fillStyle = colour;
       pen.beginPath();
-      for (const [to, left, right] of heads) { pen.moveTo(to[0], to[1]); pen.lineTo(left[0], left[1]); pen.lineTo(right[0], right[1]); }
+      for (const [to, left, right] of heads) {
+        pen.moveTo(to[0], to[1]);
+        pen.lineTo(left[0], left[1]);
+        pen.lineTo(right[0], right[1]);
+      }
       pen.fill();
     }
   }
@@ -148,31 +154,34 @@ export class Picture {
   /** Where the way from one point to another leaves a box about the first. */
   leaving([x, y], [u, v]) {
     const [width, height] = this.size, across = u - x, up = v - y;
-    const share = Math.min(across ? (width / 2 + 1) / Math.abs(across) : 9, up ? (height / 2 + 1) / Math.abs(up) : 9, 0.45);
+    const side = (half, way) => way ? (half + 1) / Math.abs(way) : 9;
+    const share = Math.min(side(width / 2, across), side(height / 2, up), 0.45);
     return [x + across * share, y + up * share];
   }
 
   addCable(run, cable, way) {
-    const {start, end} = cable, lines = this.network.lines, middle = [(start[0] + end[0]) / 2, (start[1] + end[1]) / 2];
+    const {start, end} = cable, lines = this.network.lines;
+    const middle = [(start[0] + end[0]) / 2, (start[1] + end[1]) / 2];
     const isDown = cable.lines.some(line => run.down.has(line));
     if (isDown) this.stroke(start, end, "#ffffff", 3, [3, 5]);
     for (const number of cable.lines) {
       const line = lines[number];
       const [from, to] = line.sender === cable.sender ? [start, end] : [end, start];
       if (run.closed.has(number)) this.addClosed(from, to, middle, run.closed.get(number));
-      else if (run.input[line.receiver] === number) this.arrow(from, to, way.has(number) ? BLUE : DARK, way.has(number) ? this.thick + 1.3 : this.thick);
-      else if (line.priority && this.size[1] > 9) this.arrow(from, to, GREY, 0.8);
+      else if (run.input[line.receiver] === number && way.has(number)) this.arrow(from, to, BLUE, this.thick + 1.3);
+      else if (run.input[line.receiver] === number) this.arrow(from, to, this.signs.dark, this.thick);
+      else if (line.priority && this.size[1] > 9) this.arrow(from, to, this.signs.grey, 0.8);
     }
-    if (isDown) this.words.push([...middle, "✕", 12, DARK, PAPER]);
+    if (isDown) this.words.push([...middle, "✕", 12, this.signs.dark, PAPER]);
     else if (this.size[1] > 22) {
       const first = lines[cable.lines[0]];
       const name = cable.lines.length > 2 ? `${first.bundleName}: ${cable.lines.length / 2} links` : first.link;
-      this.words.push([...middle, name, 9, GREY, PAPER]);
+      this.words.push([...middle, name, 9, this.signs.grey, PAPER]);
     }
   }
 
   addClosed(from, to, middle, isPair) {
-    const colour = isPair ? ORANGE : RED;
+    const colour = isPair ? this.signs.pair : this.signs.loop;
     this.arrow(from, to, colour, 4);
     this.words.push([middle[0], middle[1] - 9, isPair ? "PAIR" : "LOOP", 11, colour, PAPER, true]);
   }
@@ -190,7 +199,8 @@ export class Picture {
     const size = Math.min(4 + width * 2, 4 + this.size[1] / 3), x = across / length * size, y = up / length * size;
     if (width > 1) this.stroke(from, [to[0] - x * 0.7, to[1] - y * 0.7], colour, width, []);
     if (!this.heads.has(colour)) this.heads.set(colour, []);
-    this.heads.get(colour).push([to, [to[0] - x * 0.92 - y * 0.39, to[1] - y * 0.92 + x * 0.39], [to[0] - x * 0.92 + y * 0.39, to[1] - y * 0.92 - x * 0.39]]);
+    const corner = side => [to[0] - x * 0.92 + side * y * 0.39, to[1] - y * 0.92 - side * x * 0.39];
+    this.heads.get(colour).push([to, corner(-1), corner(1)]);
   }
 
   text(x, y, words, size, colour, paper, isBold) {
@@ -221,11 +231,19 @@ export class Picture {
     });
     const rectangles = numbers => {
       pen.beginPath();
-      for (const number of numbers) pen.rect(this.spots[number][0] - width / 2, this.spots[number][1] - height / 2, width, height);
+      for (const number of numbers) {
+        const [x, y] = this.spots[number];
+        pen.rect(x - width / 2, y - height / 2, width, height);
+      }
     };
-    const solid = [...looks].filter(([look]) => typeof look === "string"), hatched = [...looks].filter(([look]) => typeof look !== "string");
-    for (const [look, numbers] of [...solid, ...hatched]) { pen.fillStyle = look; rectangles(numbers); pen.fill(); }
-    for (const [numbers, colour, stroke] of [[seen, DARK, 0.8], [seen.filter(number => number === selected), BLUE, 3]]) {
+    const isHatch = ([look]) => typeof look !== "string", all = [...looks];
+    for (const [look, numbers] of [...all.filter(one => !isHatch(one)), ...all.filter(isHatch)]) {
+      pen.fillStyle = look;
+      rectangles(numbers);
+      pen.fill();
+    }
+    const chosen = seen.filter(number => number === selected);
+    for (const [numbers, colour, stroke] of [[seen, this.signs.dark, 0.8], [chosen, BLUE, 3]]) {
       pen.strokeStyle = colour;
       pen.lineWidth = stroke;
       rectangles(numbers);
@@ -246,7 +264,8 @@ export class Picture {
   addSourceArrow(run, source, number) {
     const isTaken = run.input[source.at] === this.network.lines.length + number;
     const here = this.spot(source), there = this.spots[source.at];
-    if (source.priority) this.arrow(here, this.leaving(there, here), isTaken ? DARK : GREY, isTaken ? this.thick : 0.8);
+    const [colour, width] = isTaken ? [this.signs.dark, this.thick] : [this.signs.grey, 0.8];
+    if (source.priority) this.arrow(here, this.leaving(there, here), colour, width);
   }
 
   drawSource(run, source, number) {
@@ -255,7 +274,7 @@ export class Picture {
     const isDown = run.down.has(input), isTaken = run.input[source.at] === input;
     const level = this.network.levels[isTaken ? run.level[source.at] : source.level];
     pen.fillStyle = level.colour;
-    pen.strokeStyle = DARK;
+    pen.strokeStyle = this.signs.dark;
     pen.setLineDash(isDown ? [4, 3] : []);
     pen.lineWidth = 1;
     pen.beginPath();
@@ -263,6 +282,7 @@ export class Picture {
     pen.fill();
     pen.stroke();
     pen.setLineDash([]);
-    if (height > 9) this.text(here[0], here[1], (isDown ? "✕ " : "") + source.name, Math.min(height * 0.4, width / (0.7 * Math.max(source.name.length, 4)), 13), level.ink);
+    const size = Math.min(height * 0.4, width / (0.7 * Math.max(source.name.length, 4)), 13);
+    if (height > 9) this.text(here[0], here[1], (isDown ? "✕ " : "") + source.name, size, level.ink);
   }
 }

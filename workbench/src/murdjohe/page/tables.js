@@ -85,7 +85,8 @@ export function elementRows(network, losses, start, onSelect) {
     const name = cell();
     const button = name.appendChild(made("button", "name", element.name));
     button.addEventListener("click", () => onSelect(number));
-    for (const text of [" ", " ", loss.best, seconds(loss.below), loss.below ? loss.worst : "", seconds(loss.unfed), loss.since === null ? "" : clock(loss.since, start)]) cell(text);
+    const worst = loss.below ? loss.worst : "", first = loss.since === null ? "" : clock(loss.since, start);
+    for (const text of [" ", " ", loss.best, seconds(loss.below), worst, seconds(loss.unfed), first]) cell(text);
     if (loss.below || loss.unfed) row.classList.add("lost");
     return row;
   });
@@ -106,13 +107,15 @@ export function updateElements(run, rows) {
   });
 }
 
-/** A strip of a case: each element in the colour of its level at the end, hatched dark where it follows no source. */
+/** A strip of a case: each element in the colour of its level at the end, red at its foot where it follows no source. */
 export function drawStrip(canvas, network, ended) {
   const pen = canvas.getContext("2d"), count = network.elements.length, width = canvas.width / count;
   ended.level.forEach((level, number) => {
     pen.fillStyle = network.levels[level].colour;
     pen.fillRect(number * width, 0, Math.ceil(width), canvas.height);
-    if (!ended.fed[number]) { pen.fillStyle = "#d00000"; pen.fillRect(number * width, canvas.height - 4, Math.ceil(width), 4); }
+    if (ended.fed[number]) return;
+    pen.fillStyle = network.signs.loop;
+    pen.fillRect(number * width, canvas.height - 4, Math.ceil(width), 4);
   });
 }
 
@@ -128,8 +131,9 @@ export function caseRows(network, cases, onCase) {
     const under = event => Math.floor(event.offsetX / strip.clientWidth * network.elements.length);
     strip.addEventListener("click", event => onCase(number, under(event)));
     strip.addEventListener("mousemove", event => {
-      const element = network.elements[under(event)];
-      if (element) strip.title = `${element.name}: ${network.levels[one.ended.level[under(event)]].name}${one.ended.fed[under(event)] ? "" : ", no source"}`;
+      const number = under(event), element = network.elements[number];
+      const fed = one.ended.fed[number] ? "" : ", no source";
+      if (element) strip.title = `${element.name}: ${network.levels[one.ended.level[number]].name}${fed}`;
     });
     drawStrip(strip, network, one.ended);
     return row;
