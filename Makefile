@@ -43,7 +43,7 @@ install: $(CORE)
 	ln -sf ../lib/murdjohe/murdjohe-core $(ROOT)/bin/murdjohe-core
 	install -d $(ROOT)/$(MODULES)/murdjohe
 	ln -sf ../../../murdjohe/murdjohe-core $(ROOT)/$(MODULES)/murdjohe/murdjohe-core
-	cd workbench/src && find murdjohe -name '*.py' -o -name py.typed | xargs -I {} install -D -m 644 {} $(ROOT)/$(MODULES)/{}
+	cd workbench/src && find murdjohe -name '*.py' -o -name py.typed -o -path '*/page/*.*' | xargs -I {} install -D -m 644 {} $(ROOT)/$(MODULES)/{}
 	install -m 644 docs/refusals.toml $(ROOT)/$(MODULES)/murdjohe/refusals.toml
 	sed 's|^PACKAGE = "src"|PACKAGE = "../$(MODULES)"|' workbench/murdjohe > $(ROOT)/bin/murdjohe
 	chmod 755 $(ROOT)/bin/murdjohe

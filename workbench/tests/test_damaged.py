@@ -97,7 +97,6 @@ def test_damaged_reports_have_bands_or_are_refused(folder: Path) -> None:
             assert str(wrong).startswith("damaged:")
             continue
         moments = sorted({row.at for row in rows})
-        assert set(bands.colours_of(rows)) == {row.level for row in rows}
         assert set(bands.places_of(moments, 1000)[0]) == set(moments)
         assert sum(map(len, bands.bands_of(rows, order, moments[-1] + 1).values())) == len(rows)
 

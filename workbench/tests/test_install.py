@@ -37,6 +37,9 @@ def test_what_is_installed_runs(tmp_path: Path, core: str, prefix: str) -> None:
     script = "import murdjohe; print(murdjohe.gen(2).result.text.count('[[link]]'))"
     ran = started(["/usr/bin/python3", "-c", script], None, b"", PYTHONPATH=str(modules), **bare)
     assert ran.out == b"1\n", ran.err
+    ran = started([command, "report", "plan.toml", "events.csv", "-o", str(tmp_path / "page.html")], RING, b"", **bare)
+    assert ran.status == 0 and 'id="picture"' in (tmp_path / "page.html").read_text(), ran.err
+    (tmp_path / "page.html").unlink()
     assert "murdjohe" in (at / "share" / "bash-completion" / "completions" / "murdjohe").read_text()
     assert all(os.stat(path).st_mode & 0o444 == 0o444 for path in at.rglob("*"))
     make("uninstall", tmp_path, core, prefix)

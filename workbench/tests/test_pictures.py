@@ -8,14 +8,30 @@ from pathlib import Path
 import pytest
 from conftest import EXAMPLES, murdjohe, started
 
-from murdjohe import bands, drawing
+from murdjohe import bands, drawing, strips
 from murdjohe.bands import Band, Row
+from murdjohe.commands import timeline
+from murdjohe.strips import Red
 
 PLANS = sorted(EXAMPLES.glob("*/*.toml"))
 REPORTS = sorted(
     path for path in EXAMPLES.glob("*/*report") if path.parent.name != "reserve-clock" or path.name == "report"
 )
-STORED = sorted(EXAMPLES.glob("*/timeline.svg"))
+STORED = sorted(EXAMPLES.glob("*/*.svg"))
+LOSS = ["loss.report", "--plan", "plan.toml", "--events", "loss.csv"]
+USUAL = ["report", "--plan", "plan.toml", "--events", "events.csv"]
+
+
+def made(stored: Path) -> list[str]:
+    """The words that make a stored picture, in its folder."""
+    is_inventory = stored.parent.name == "inventory"
+    if stored.name == "timeline.svg":
+        return ["timeline", *(LOSS if is_inventory else USUAL), "--until", "20m"]
+    if stored.name == "first.svg":
+        return ["draw", "first.toml", "--answer", "first.answer"]
+    if stored.parent.name == "ring" or stored.name == "plan.svg":
+        return ["draw", "plan.toml", "--report", "loss.report" if is_inventory else "report"]
+    raise ValueError(stored)
 
 
 def name(path: Path) -> str:
@@ -34,7 +50,7 @@ def test_each_plan_is_drawn_with_all_that_it_has(folder: Path, plan: Path) -> No
     assert dot.count(" -> ") == arrows + quiet + len(tables.get("source", []))
 
 
-@pytest.mark.parametrize("ending", ["svg", "png", "dot"])
+@pytest.mark.parametrize("ending", ["svg", "png", "pdf", "dot"])
 def test_pictures_of_each_format(folder: Path, ending: str) -> None:
     at = EXAMPLES / "metro-ring"
     words = [
@@ -46,7 +62,7 @@ def test_pictures_of_each_format(folder: Path, ending: str) -> None:
         str(at / "certificate.csv"),
     ]
     assert murdjohe(*words, "-o", f"plan.{ending}", folder=folder).status == 0
-    begins = {"svg": b"<?xml", "png": b"\x89PNG", "dot": b"digraph plan {"}[ending]
+    begins = {"svg": b"<?xml", "png": b"\x89PNG", "pdf": b"%PDF", "dot": b"digraph plan {"}[ending]
     assert (folder / f"plan.{ending}").read_bytes().startswith(begins)
 
 
@@ -76,11 +92,10 @@ def test_near_draws_a_part(folder: Path) -> None:
 
 
 @pytest.mark.parametrize("stored", STORED, ids=name)
-def test_the_stored_timelines_are_drawn(folder: Path, stored: Path) -> None:
-    report = stored.parent / ("loss.report" if stored.parent.name == "inventory" else "report")
-    ran = murdjohe("timeline", str(report), "--until", "20m", "-o", "timeline.svg", folder=folder)
+def test_the_stored_pictures_are_drawn(folder: Path, stored: Path) -> None:
+    ran = murdjohe(*made(stored), "-o", str(folder / "picture.svg"), folder=stored.parent)
     assert (ran.status, ran.err) == (0, "")
-    assert (folder / "timeline.svg").read_bytes() == stored.read_bytes()
+    assert (folder / "picture.svg").read_bytes() == stored.read_bytes()
 
 
 @pytest.mark.parametrize("report", REPORTS, ids=name)
@@ -106,27 +121,59 @@ def test_a_picture_from_a_millisecond_on() -> None:
     }
 
 
+def test_loops_at_the_end_of_a_report_stand_since_the_same_millisecond_without_its_plan() -> None:
+    ring = [str(EXAMPLES / "ring" / name) for name in ("report", "plan.toml")]
+    alone, whole = timeline.red_of(ring[0], None, 120_000), timeline.red_of(ring[0], ring[1], 120_000)
+    assert alone == whole == [Red(name, 3, 120_000, strips.LOOP) for name in "BCA"]
+    assert timeline.within(whole, 5, 90) == [Red(name, 5, 90, strips.LOOP) for name in "BCA"]
+    assert timeline.within(whole, 0, 3) == []
+
+
+@pytest.mark.parametrize(
+    ("walk", "word"),
+    [(("L1>B", "L1>A"), strips.PAIR), (("L1>B", "L2>A"), strips.CLOSED), (("L1>B", "L2>C", "L3>A"), strips.LOOP)],
+)
+def test_what_a_walk_is_by_its_names(walk: tuple[str, ...], word: str) -> None:
+    assert timeline.word_of(walk) == word
+
+
+def test_times_in_minutes() -> None:
+    assert [bands.minutes(at) for at in (0, 61_000, 60_302, 3_723_004)] == [
+        "00:00",
+        "01:01",
+        "01:00.302",
+        "1:02:03.004",
+    ]
+    assert [bands.length_of(span) for span in (300, 4_990, 60_000, 299_700)] == ["300 ms", "4.99 s", "1 min", "5.0 min"]
+
+
 def test_long_times_are_folded() -> None:
     places, folds = bands.places_of([0, 10, 5000, 5001], 1000)
-    assert places == {0: 0, 10: 50, 5000: 1050, 5001: 1100} and folds == [550]
+    assert places == {0: 0, 10: 50, 5000: 1050, 5001: 1100} and folds == {550: 4990}
     assert bands.labelled([0, 10, 5000, 5001], places, 60) == [0, 5000]
 
 
 @pytest.mark.parametrize(
     ("words", "said"),
     [
-        (["draw", "plan.toml", "-o", "plan.gif"], "a picture ends in .svg, .png or .dot"),
+        (["draw", "plan.toml", "-o", "plan.gif"], "a picture ends in .svg, .png, .pdf or .dot"),
         (["draw", "plan.toml", "-o", "nosuch/plan.dot"], "nosuch/plan.dot: No such file or directory"),
         (["draw", "nosuch", "-o", "plan.dot"], "nosuch: No such file or directory"),
         (["draw", ".", "-o", "plan.dot"], ".: Is a directory"),
         (["draw", "events.csv", "-o", "plan.dot"], "events.csv: it is no TOML document"),
         (["draw", "plan.toml", "--near", "Q", "-o", "plan.dot"], "--near: Q names no element"),
         (["draw", "plan.toml", "--report", "plan.toml", "-o", "plan.dot"], "plan.toml: it is no report of sim"),
+        (["draw", "plan.toml", "--at", "5", "-o", "plan.svg"], "--at and --events are of a run: name its report"),
+        (["draw", "plan.toml", "--places", "plan.toml", "-o", "plan.svg"], "plan.toml:1: a table of places has"),
+        (
+            ["timeline", "report", "--plan", "../mesh/plan.toml", "-o", "t.svg"],
+            "report: it is a report of another plan",
+        ),
         (["draw", "plan.toml", "--certificate", "report", "-o", "plan.dot"], "report: it is no certificate"),
         (["draw", "plan.toml", "--answer", "report", "-o", "plan.dot"], "report: it is no answer of rank or check"),
         (["draw", "plan.toml", "-o", "/dev/full"], "a picture ends in"),
         (["timeline", "plan.toml", "-o", "t.svg"], "plan.toml: it doesn't begin with the line `changes`"),
-        (["timeline", "report", "-o", "t.pdf"], "t.pdf: a picture ends in .svg or .png"),
+        (["timeline", "report", "-o", "t.gif"], "t.gif: a picture ends in .svg, .png or .pdf"),
         (["timeline", "report", "--until", "1ms", "-o", "t.svg"], "--until: the last change is at "),
         (["timeline", "report", "--from", "23h", "-o", "t.svg"], "--from: nothing changes after 82800000"),
         (["timeline", "report", "--fold", "0", "-o", "t.svg"], "--fold: at least 1 millisecond"),

@@ -217,13 +217,16 @@ def both_ways(elements: int) -> str:
     return edits.changed(plan, wanted).decode()
 
 
-@pytest.mark.parametrize(("elements", "kind"), [(30, "(least)"), (130, "(found, perhaps not least)")])
+FOUND = "(found, perhaps not least)"
+
+
+@pytest.mark.parametrize(("elements", "kind"), [(30, "(least)"), (130, FOUND), (2000, FOUND)])
 def test_a_large_knot_is_said_to_be_found_alone(folder: Path, elements: int, kind: str) -> None:
     (folder / "plan.toml").write_text(both_ways(elements))
     ran = murdjohe("repair", "plan.toml", "-o", "mended.toml", folder=folder)
     said = ran.out.decode()
     assert ran.status == 0 and kind in said and "\nchecked: accepted\n" in said
-    assert int(re.findall(r"a knot of (\d+) lines", said)[0]) > (400 if elements == 130 else 60)
+    assert int(re.findall(r"a knot of ([\d,]+) lines", said)[0].replace(",", "")) > (60 if elements == 30 else 400)
     assert murdjohe("rank", "mended.toml", folder=folder).status == 0
 
 

@@ -7,20 +7,6 @@ from dataclasses import dataclass
 from murdjohe import files
 from murdjohe.wrong import Wrong
 
-# Colours of Okabe and Ito: told apart by people who don't tell red from green; hatches tell the states as well.
-COLOURS = ("#56B4E9", "#E69F00", "#009E73", "#CC79A7", "#F0E442", "#0072B2", "#D55E00", "#BBBBBB")
-USUAL = {
-    "QL-PRC": 0,
-    "QL-SSU-A": 2,
-    "QL-SSU-B": 3,
-    "QL-SEC": 1,
-    "QL-DNU": 7,
-    "QL-PRS": 0,
-    "QL-ST2": 2,
-    "QL-ST3E": 3,
-    "QL-ST3": 1,
-    "QL-DUS": 7,
-}
 STATES = ("locked", "holdover", "freerun")
 
 
@@ -33,6 +19,7 @@ class Row:
     taken: str
     level: str
     state: str
+    mode: str = "auto"
 
 
 @dataclass(frozen=True)
@@ -44,6 +31,7 @@ class Band:
     taken: str
     level: str
     state: str
+    mode: str = "auto"
 
 
 def row_of(path: str, number: int, line: str) -> Row:
@@ -52,7 +40,8 @@ def row_of(path: str, number: int, line: str) -> Row:
     is_time = fields[0].isascii() and fields[0].isdigit() and len(fields[0]) < 9
     if len(fields) != 6 or not is_time or fields[5] not in STATES:
         raise Wrong(f"{path}:{number}: it is no row of changes of `sim`")
-    return Row(int(fields[0]), fields[1], *fields[3:])
+    at, element, mode, taken, level, state = fields
+    return Row(int(at), element, taken, level, state, mode)
 
 
 def changes_of(path: str) -> tuple[list[Row], list[str]]:
@@ -78,23 +67,38 @@ def rows_from(rows: list[Row], start: int) -> list[Row]:
     if not later:
         raise Wrong(f"--from: nothing changes after {start}")
     first = {
-        row.element: Row(start, row.element, row.taken, row.level, row.state)
+        row.element: Row(start, row.element, row.taken, row.level, row.state, row.mode)
         for row in rows
         if row.at <= start and row.element in later
     }
     return [*first.values(), *(row for row in rows if row.at > start)]
 
 
-def places_of(times: list[int], fold: int) -> tuple[dict[int, float], list[float]]:
-    """Where each of the rising times stands, and between which places time is left out."""
+def places_of(times: list[int], fold: int) -> tuple[dict[int, float], dict[float, int]]:
+    """Where each of the rising times stands, and at which places time is left out, with how many milliseconds lie there."""
     places: dict[int, float] = {times[0]: 0}
-    folds, place = [], 0.0
+    folds, place = {}, 0.0
     for before, time in zip(times, times[1:]):
         place += min(max(time - before, fold / 20), fold)
         places[time] = place
         if time - before > fold:
-            folds.append(place - fold / 2)
+            folds[place - fold / 2] = time - before
     return places, folds
+
+
+def minutes(at: int) -> str:
+    """A millisecond of a run as minutes and seconds, with hours and milliseconds where there are any."""
+    whole, rest = divmod(at, 1000)
+    hours, left = divmod(whole, 3600)
+    front = f"{hours}:{left // 60:02}" if hours else f"{left // 60:02}"
+    return f"{front}:{left % 60:02}" + (f".{rest:03}" if rest else "")
+
+
+def length_of(span: int) -> str:
+    """A length of time in a word or two: 5 min, 58.7 s, 300 ms."""
+    if span >= 60_000 and span % 60_000 == 0:
+        return f"{span // 60_000} min"
+    return f"{span / 60_000:.1f} min" if span >= 120_000 else f"{span / 1000:.3g} s" if span >= 1000 else f"{span} ms"
 
 
 def labelled(times: list[int], places: dict[int, float], room: float) -> list[int]:
@@ -106,16 +110,6 @@ def labelled(times: list[int], places: dict[int, float], room: float) -> list[in
     return shown
 
 
-def colours_of(rows: list[Row]) -> dict[str, str]:
-    """A colour for each level that comes up: the usual ones have always the same, the others what is left."""
-    levels = list(dict.fromkeys(row.level for row in rows))
-    colours = {level: COLOURS[USUAL[level]] for level in levels if level in USUAL}
-    free = [colour for colour in COLOURS if colour not in colours.values()] or list(COLOURS)
-    others = [level for level in levels if level not in USUAL]
-    colours |= {level: free[n % len(free)] for n, level in enumerate(others)}
-    return {level: colours[level] for level in levels}
-
-
 def bands_of(rows: list[Row], order: list[str], end: int) -> dict[str, list[Band]]:
     """For each element that changes, in order, its bands up to the end."""
     changed = {row.element for row in rows}
@@ -124,7 +118,7 @@ def bands_of(rows: list[Row], order: list[str], end: int) -> dict[str, list[Band
         own[row.element].append(row)
     return {
         element: [
-            Band(now.at, stop, now.taken, now.level, now.state)
+            Band(now.at, stop, now.taken, now.level, now.state, now.mode)
             for now, stop in zip(its, [row.at for row in its[1:]] + [end])
         ]
         for element, its in own.items()

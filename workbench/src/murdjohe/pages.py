@@ -1,0 +1,93 @@
+"""The page of a run: one file that opens from disk and asks for nothing from outside, put together of the files in `page`."""
+
+from __future__ import annotations
+
+import hashlib
+import html
+import json
+import re
+from pathlib import Path
+from typing import Any
+
+import murdjohe
+from murdjohe import colours, core, page_data
+from murdjohe.plan_file import PlanFile
+from murdjohe.rehearsals import Rehearsal, clock
+from murdjohe.remarks import plural
+from murdjohe.runs import EventFile
+
+PARTS = Path(__file__).parent / "page"
+# The modules of the page, each after those that it imports.
+MODULES = ("model.js", "picture.js", "tables.js", "main.js")
+PROMISE = (
+    "ranks rise over every hop, so no timing loop can form in the network, whatever fails, comes back or is commanded; "
+    "two elements on a link or bundle that is nominated at both ends may face one another for a moment"
+)
+
+
+def part(name: str) -> str:
+    """A file of the page."""
+    return (PARTS / name).read_text(encoding="utf-8")
+
+
+def script() -> str:
+    """The modules as one: their names are all different, so imports and the word `export` may go."""
+    texts = [re.sub(r"^import .*\n", "", part(name), flags=re.M) for name in MODULES]
+    return "\n".join(re.sub(r"^export ", "", text, flags=re.M) for text in texts)
+
+
+def as_json(data: dict[str, Any]) -> str:
+    """Data as JSON that nothing in it can end: a page looks for `</` and `<!--`, whatever stands between."""
+    return json.dumps(data, separators=(",", ":"), ensure_ascii=True).replace("<", "\\u003c")
+
+
+def digest(data: bytes) -> str:
+    return hashlib.sha256(data).hexdigest()
+
+
+def settled_text(found: Rehearsal) -> str:
+    """What `sim` says of the end of the run."""
+    if found.report.stopped_at is not None:
+        return f"stopped at {clock(found.until)}: more than 200,000 changes"
+    if found.settled_at is None:
+        return f"no at {clock(found.until)}: something would still change by itself"
+    return f"yes, from {clock(found.settled_at)} after the start on: nothing changes any more by itself"
+
+
+def facts(plan: PlanFile, events: EventFile, found: Rehearsal) -> list[tuple[str, str]]:
+    """The verdicts with what they promise, the versions, and the checksums."""
+    with open(core.find(), "rb") as file:
+        program = hashlib.file_digest(file, "sha256").hexdigest()
+    verdict = plan.verdict()
+    loops = " | ".join(" ".join(walk) for walk in found.report.loops) or "none"
+    rejected = plural(len(found.rejected), "command") if found.rejected else "no command"
+    return [
+        (
+            "rank, check",
+            verdict + (f": {PROMISE}" if verdict == "accepted" else ": timing may go round over these lines"),
+        ),
+        ("sim: settled", settled_text(found)),
+        ("sim: closed walks at the end", loops),
+        ("commands", f"{rejected} rejected, by the table of commands"),
+        ("between", "traces and walks before the end follow from what each element takes, by the rule of the report"),
+        ("plan", f"{plan.name}, sha256 {digest(plan.data)}"),
+        ("events", f"{events.name}, sha256 {digest(events.data)}"),
+        ("program", f"{core.NAME}, sha256 {program}"),
+        ("page", f"murdjohe {murdjohe.__version__}"),
+    ]
+
+
+def page(title: str, data: dict[str, Any], its_facts: list[tuple[str, str]]) -> bytes:
+    """The whole page."""
+    rows = [f"<dt>{html.escape(name)}</dt><dd>{html.escape(said)}</dd>" for name, said in its_facts]
+    filled = {
+        "title": html.escape(title),
+        "css": part("page.css"),
+        "loop": colours.LOOP,
+        "case_heads": "".join(f'<th scope="col">{head}</th>' for head in page_data.HEADS),
+        "facts": "\n".join(rows),
+        "data": as_json(data),
+        "script": script(),
+    }
+    text = re.sub(r"\{\{(\w+)\}\}", lambda found: filled[found[1]], part("page.html"))
+    return text.encode("utf-8", "backslashreplace")

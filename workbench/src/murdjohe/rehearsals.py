@@ -1,0 +1,223 @@
+"""Works as they will go: events and changes in one list with clock times, commands that are rejected, pairs and loops, and what
+each element goes without."""
+
+from __future__ import annotations
+
+from dataclasses import asdict, dataclass
+from typing import Any
+
+from murdjohe import moments, runs, spans, switching, wiring
+from murdjohe.moments import Event
+from murdjohe.plan_file import PlanFile
+from murdjohe.remarks import plural
+from murdjohe.reports import Change, Loop, Report
+from murdjohe.runs import EventFile
+from murdjohe.spans import Loss, Walk
+from murdjohe.switching import Command
+from murdjohe.wiring import Wiring
+
+EVENT, CHANGE = "event", "change"
+COLUMNS = ("at", "time", "kind", "name", "what", "input", "level", "state", "mode")
+DAY = 86_400_000
+
+
+@dataclass(frozen=True)
+class Rehearsal:
+    """A run that was rehearsed up to `until`; `settled_at` is None where the network isn't settled then."""
+
+    until: int
+    wired: Wiring
+    events: tuple[Event, ...]
+    late: int
+    report: Report
+    commands: list[Command]
+    walks: list[Walk]
+    losses: list[Loss]
+    settled_at: int | None
+
+    @property
+    def rejected(self) -> list[Command]:
+        return [command for command in self.commands if not command.is_taken]
+
+    @property
+    def loops(self) -> list[Walk]:
+        return [walk for walk in self.walks if not walk.is_pair]
+
+    @property
+    def is_smooth(self) -> bool:
+        """Whether nothing asks to be looked at again: no command rejected, no timing loop, no event too late, and settled."""
+        return not (self.rejected or self.loops or self.late) and self.settled_at is not None
+
+
+def rehearsed(plan: PlanFile, file: EventFile, until: int) -> Rehearsal:
+    """Runs the events by the program, and finds what there is to see. Raises Wrong where the program refuses them."""
+    report = runs.report_of(plan, file, until)
+    wired = wiring.wiring_of(plan.tables)
+    events = tuple(event for event in file.events if event.at <= until)
+    end = until if report.stopped_at is None else report.stopped_at
+    return Rehearsal(
+        end,
+        wired,
+        events,
+        len(file.events) - len(events),
+        report,
+        switching.commands_of(wired, wiring.nominated_of(plan.tables), events),
+        spans.walks_of(wired, report.changes),
+        spans.losses_of(wired, plan.plan.option, report.changes, end),
+        runs.settled_from(plan, file, report, until),
+    )
+
+
+def clock(at: int, start: int = 0) -> str:
+    """A millisecond as a time of day, in a run that began at `start`."""
+    seconds, rest = divmod((at + start) % DAY, 1000)
+    return f"{seconds // 3600:02}:{seconds // 60 % 60:02}:{seconds % 60:02}.{rest:03}"
+
+
+def seconds(length: int) -> str:
+    """A length of time in seconds."""
+    return f"{length / 1000:,.3f} s"
+
+
+def differs(before: Change, after: Change) -> str:
+    """What a change changes, in words."""
+    said = []
+    if after.input != before.input and after.input is None:
+        said.append(f"has lost {before.input}")
+    elif after.input != before.input:
+        said.append(f"takes {after.input}" + (f" in place of {before.input}" if before.input else ""))
+    if after.level != before.level:
+        said.append(f"{after.level}, which was {before.level}")
+    if after.state != before.state:
+        said.append(after.state)
+    if after.mode != before.mode:
+        said.append(f"mode {after.mode}")
+    return ", ".join(said)
+
+
+def event_text(event: Event, rejected: dict[tuple[int, str, str], str]) -> str:
+    """An event in words, with why it is rejected."""
+    why = rejected.get((event.at, event.what, event.target))
+    words = " ".join(word for word in (event.what, event.target, event.value) if word)
+    return words + (f" (rejected: {why})" if why else "")
+
+
+def reasons(found: Rehearsal) -> dict[tuple[int, str, str], str]:
+    """Why commands are rejected, by their millisecond, word and input."""
+    return {(one.at, one.word, one.input): one.why for one in found.rejected if one.why}
+
+
+def rows_of(found: Rehearsal) -> list[tuple[int, str, str, str, Change | None]]:
+    """Events and changes in one list: time, kind, name, what it is in words, and the change. An event comes before what it does."""
+    rows: list[tuple[int, str, str, str, Change | None]] = []
+    why = reasons(found)
+    for event in found.events:
+        rows.append((event.at, EVENT, event.target, event_text(event, why), None))
+    shown = moments.shown_first(found.wired)
+    for change in found.report.changes:
+        rows.append((change.at, CHANGE, change.element, differs(shown[change.element], change), change))
+        shown[change.element] = change
+    return sorted(rows, key=lambda row: (row[0], row[1] == CHANGE))
+
+
+def table_of(found: Rehearsal, start: int) -> list[tuple[str, ...]]:
+    """That list as rows of a table."""
+    table: list[tuple[str, ...]] = []
+    for at, kind, name, what, change in rows_of(found):
+        rest = ("", "", "", "")
+        if change is not None:
+            rest = (change.input or "none", change.level or "", change.state, change.mode)
+        table.append((str(at), clock(at, start), kind, name, what, *rest))
+    return table
+
+
+def list_text(found: Rehearsal, start: int, has_all: bool) -> list[str]:
+    """That list as a person reads it; what comes before the first event is counted, where not all is wanted."""
+    first = found.events[0].at if found.events and not has_all else 0
+    early = [row for row in rows_of(found) if row[0] < first]
+    said = []
+    if early:
+        said.append(f"{clock(early[-1][0], start)}  {plural(len(early), 'change')} up to here, before the first event")
+    for at, kind, name, what, _ in rows_of(found)[len(early) :]:
+        said.append(f"{clock(at, start)}  " + (f"* {what}" if kind == EVENT else f"{name}: {what}"))
+    return said
+
+
+def walk_name(found: Rehearsal, walk: Walk) -> str:
+    """A pair or a loop by its elements and lines."""
+    lines = " ".join(walk.lines)
+    if walk.is_pair:
+        ends = sorted(found.wired.lines[line].receiver for line in walk.lines)
+        return f"pair: {' and '.join(ends)} take from one another: {lines}"
+    return f"TIMING LOOP: {lines}"
+
+
+def walk_text(found: Rehearsal, walks: list[Walk], start: int) -> str:
+    """One pair or loop, with from when to when it stands; where it comes again and again, how often and how long in all."""
+    first, last = walks[0], walks[-1]
+    until = "to the end" if last.stop is None else f"to {clock(last.stop, start)}"
+    total = sum((found.until if walk.stop is None else walk.stop) - walk.start for walk in walks)
+    again = f", {len(walks):,} times, {seconds(total)} in all" if len(walks) > 1 else ""
+    return f"{clock(first.start, start)} {until}{again}  {walk_name(found, first)}"
+
+
+def walks_text(found: Rehearsal, start: int) -> list[str]:
+    """All pairs and loops, by when they first stand."""
+    its: dict[Loop, list[Walk]] = {}
+    for walk in found.walks:
+        its.setdefault(walk.lines, []).append(walk)
+    said = ["pairs and loops:" if its else "no pair and no loop stands at any time"]
+    return said + [f"  {walk_text(found, walks, start)}" for walks in its.values()]
+
+
+def loss_text(loss: Loss, start: int) -> str:
+    """What an element goes without."""
+    said = [f"{seconds(loss.below)} below {loss.best}, worst {loss.worst}"] if loss.below else []
+    said += [f"{seconds(loss.unfed)} without a source"] if loss.unfed else []
+    first = clock(loss.since, start) if loss.since is not None else ""
+    return f"  {first}  {loss.element}: {'; '.join(said)}"
+
+
+def ending_text(found: Rehearsal, start: int) -> list[str]:
+    """What is said of the whole: by the program whether it is settled and what stands at its end."""
+    said = []
+    if found.report.stopped_at is not None:
+        said.append(f"the program stopped at {clock(found.until, start)}: more than 200,000 changes")
+    elif found.settled_at is None:
+        said.append(f"not settled at {clock(found.until, start)}: run longer, by --until")
+    else:
+        said.append(f"settled from {clock(found.settled_at, start)} on")
+    if found.late:
+        verb = "has" if found.late == 1 else "have"
+        said.append(f"{plural(found.late, 'event')} after {clock(found.until, start)} {verb} no effect")
+    return said
+
+
+def text_of(found: Rehearsal, start: int, has_all: bool) -> list[str]:
+    """The rehearsal as a person reads it."""
+    said = list_text(found, start, has_all)
+    said += ["", "commands rejected:" if found.rejected else "no command is rejected"]
+    for one in found.rejected:
+        said.append(f"  {clock(one.at, start)}  {one.word} {one.input}: {one.why}")
+    said += walks_text(found, start)
+    lost = [loss for loss in found.losses if loss.below or loss.unfed]
+    said.append(
+        "losses, from when on and how long in all:"
+        if lost
+        else "nobody who has a source loses it, or falls below the best level"
+    )
+    return said + [loss_text(loss, start) for loss in lost] + ending_text(found, start)
+
+
+def as_data(found: Rehearsal, start: int) -> dict[str, Any]:
+    """The rehearsal as JSON has it."""
+    return {
+        "until": found.until,
+        "settled_from": found.settled_at,
+        "stopped_at": found.report.stopped_at,
+        "late_events": found.late,
+        "list": [dict(zip(COLUMNS, row)) | {"at": int(row[0])} for row in table_of(found, start)],
+        "commands": [asdict(command) | {"taken": command.is_taken} for command in found.commands],
+        "walks": [asdict(walk) for walk in found.walks],
+        "losses": [asdict(loss) for loss in found.losses],
+    }

@@ -1,0 +1,96 @@
+"""A plan and an event list as the program runs them: the report, the events as rows, and refusals with the names of the files."""
+
+from __future__ import annotations
+
+import csv
+
+from murdjohe import api, core, forms, inputs, reports
+from murdjohe.inputs import File
+from murdjohe.moments import Event
+from murdjohe.plan_file import PlanFile
+from murdjohe.reports import Report
+from murdjohe.wrong import Wrong, reason
+
+NO_EVENTS = b"at,what,target,value\n"
+NEAR = (0, 1, 10, 100, 1000)  # milliseconds after the last change in which a network is likely to be settled
+AFTER = 1_200_000  # milliseconds that a run goes on after its last event: longer than every hold-off and wait
+
+
+class EventFile:
+    """An event list: its name in sentences, its octets, and its rows, as far as they are rows."""
+
+    def __init__(self, name: str, data: bytes) -> None:
+        self.name = name
+        self.data = data
+
+    @property
+    def events(self) -> tuple[Event, ...]:
+        """The rows of a list that the program took."""
+        lines = self.data.decode("utf-8-sig", "replace").splitlines()
+        rows = [row for row in csv.reader(lines) if row][1:]
+        return tuple(Event(int(at), what, target, value) for at, what, target, value in rows)
+
+
+def read_events(path: str) -> EventFile:
+    """The octets of an event list. Raises Wrong."""
+    name = "standard input" if path == inputs.STDIN else path
+    try:
+        with open(0 if path == inputs.STDIN else path, "rb", closefd=path != inputs.STDIN) as file:
+            return EventFile(name, file.read(core.LONGEST_FILE + 1))
+    except OSError as fault:
+        raise Wrong(str(reason(name, fault)), status=core.READ_FAULT) from None
+    except ValueError as fault:  # (a name with a zero octet)
+        raise Wrong(f"{path}: {fault}", status=core.READ_FAULT) from None
+
+
+def report_text(plan: PlanFile, events: EventFile, until: int) -> bytes:
+    """What `sim` prints. Raises Wrong, with the program's status, where it refuses the events."""
+    form = forms.FORMS["sim"]
+    with api.named([plan.data, events.data]) as (plan_path, events_path):
+        files = [File(forms.PLAN, plan.name, plan_path), File(forms.EVENTS, events.name, events_path)]
+        words = inputs.Words(form, [plan.name, events.name, str(until)], [], files)
+        answer = core.run([form.name, plan_path, events_path, str(until)])
+        if answer.status not in reports.GOOD:
+            from murdjohe.sentences import answers
+
+            said = answers.sentence(words, answer) or f"sim: status {answer.status}"
+            raise Wrong(said, status=answer.status)
+    return answer.text
+
+
+def report_of(plan: PlanFile, events: EventFile, until: int) -> Report:
+    """The report of a run. Raises Wrong."""
+    return reports.report(core.Answer(core.DONE, report_text(plan, events, until)))
+
+
+def usual_end(events: EventFile) -> int:
+    """A while after the last event of a list: twenty minutes, and at most the end of the day."""
+    report_end = max((event.at for event in events.events), default=0) + AFTER
+    return min(report_end, forms.DAY_MS)
+
+
+def is_settled(plan: PlanFile, events: EventFile, until: int) -> bool:
+    """Whether the network is settled at a millisecond, by the program."""
+    return report_text(plan, events, until).endswith(b"\nsettled yes\n")
+
+
+def settled_from(plan: PlanFile, events: EventFile, report: Report, until: int) -> int | None:
+    """From which millisecond after the last event on the network is settled, by the program; None where it isn't at `until`.
+
+    Nothing changes any more in a settled network that is told nothing. So there is one first such millisecond, not before the
+    last change; it is looked for near that, and then by halves.
+    """
+    if not report.is_settled:
+        return None
+    low = max((event.at for event in events.events if event.at <= until), default=0)
+    low = max([low, *(change.at for change in report.changes[-1:])])
+    high = until
+    for middle in (low + step for step in NEAR if low + step < until):
+        if is_settled(plan, events, middle):
+            high = middle
+            break
+        low = middle + 1
+    while low < high:
+        middle = (low + high) // 2
+        low, high = (low, middle) if is_settled(plan, events, middle) else (middle + 1, high)
+    return low

@@ -1,0 +1,164 @@
+"""A run over time, from its changes: which closed walks stood from when to when, and what each element went without.
+
+Times are milliseconds. A closed walk of two lines of one link or bundle is a pair, two elements that face each other for a
+moment; any other is a timing loop.
+"""
+
+from __future__ import annotations
+
+from collections.abc import Iterable, Iterator
+from dataclasses import dataclass
+from itertools import groupby
+
+from murdjohe import moments
+from murdjohe.levels import LEVELS
+from murdjohe.reports import Change, Loop
+from murdjohe.wiring import Wiring
+
+
+@dataclass(frozen=True)
+class Walk:
+    """A closed walk that stood from one millisecond up to another, in which it doesn't any more; None where it stands on."""
+
+    lines: Loop
+    start: int
+    stop: int | None
+    is_pair: bool
+
+
+@dataclass(frozen=True)
+class Loss:
+    """What an element went without: milliseconds below its best level since it first had that, the worst level in them, and
+    milliseconds since it first followed a source in which it followed none; and when the first of these was, if there is one.
+    """
+
+    element: str
+    best: str
+    below: int
+    worst: str
+    unfed: int
+    since: int | None
+
+
+def by_time(changes: Iterable[Change]) -> Iterator[tuple[int, list[Change]]]:
+    """The changes of each millisecond that has some."""
+    for at, rows in groupby(changes, key=lambda change: change.at):
+        yield at, list(rows)
+
+
+class Network:
+    """What each element takes while a run goes by, who takes from whom, and who follows a source."""
+
+    def __init__(self, wiring: Wiring) -> None:
+        self.wiring = wiring
+        self.taken: dict[str, str] = {}
+        self.takers: dict[str, set[str]] = {name: set() for name in wiring.elements}
+        self.fed: set[str] = set()
+
+    def sender(self, element: str) -> str | None:
+        """The element from which this one takes its timing, if from one."""
+        line = self.wiring.lines.get(self.taken.get(element, ""))
+        return line.sender if line else None
+
+    def moved(self, rows: list[Change]) -> list[str]:
+        """Takes over the changes of a millisecond, and gives the elements that take something else by them."""
+        found = [row for row in rows if row.input != self.taken.get(row.element)]
+        for row in found:
+            if before := self.sender(row.element):
+                self.takers[before].discard(row.element)
+            self.taken.pop(row.element, None)
+            if row.input is not None:
+                self.taken[row.element] = row.input
+            if after := self.sender(row.element):
+                self.takers[after].add(row.element)
+        return [row.element for row in found]
+
+    def behind(self, elements: list[str]) -> set[str]:
+        """These elements, and all that take their timing through them."""
+        found, todo = set(elements), list(elements)
+        while todo:
+            more = self.takers[todo.pop()] - found
+            found |= more
+            todo.extend(more)
+        return found
+
+    def refed(self, elements: list[str]) -> set[str]:
+        """Finds out anew who follows a source after these have moved, and gives those for whom that is different.
+
+        Whoever takes his timing through an element follows a source just where that one does.
+        """
+        different: set[str] = set()
+        for name in elements:
+            is_fed = self.reaches_source(name)
+            if is_fed != (name in self.fed):
+                behind = self.behind([name])
+                others = behind - self.fed if is_fed else behind & self.fed
+                self.fed.symmetric_difference_update(others)
+                different |= others
+        return different
+
+    def reaches_source(self, element: str) -> bool:
+        """Whether what is taken leads from an element back to a source."""
+        met: set[str] = set()
+        while element not in met and (sender := self.sender(element)) is not None:
+            met.add(element)
+            element = sender
+        return element not in met and element in self.taken
+
+
+def walks_of(wiring: Wiring, changes: Iterable[Change]) -> list[Walk]:
+    """All closed walks that stand at some time, by when they begin."""
+    network = Network(wiring)
+    on: dict[str, Loop] = {}
+    since: dict[Loop, int] = {}
+    found: list[Walk] = []
+    for at, rows in by_time(changes):
+        moved = network.moved(rows)
+        for walk in {on[name] for name in moved if name in on}:
+            found.append(Walk(walk, since.pop(walk), at, moments.is_pair(wiring, walk)))
+            for line in walk:
+                del on[wiring.lines[line].receiver]
+        for name in moved:
+            if name not in on and (walk := moments.walk_through(wiring, network.taken, name) or ()):
+                since[walk] = at
+                on |= {wiring.lines[line].receiver: walk for line in walk}
+    found += [Walk(walk, at, None, moments.is_pair(wiring, walk)) for walk, at in since.items()]
+    return sorted(found, key=lambda walk: (walk.start, wiring.lines[walk.lines[0]].number))
+
+
+def gaps_of(wiring: Wiring, changes: Iterable[Change], end: int) -> dict[str, list[tuple[int, int]]]:
+    """From when to when each element followed no source, after it first did."""
+    network = Network(wiring)
+    lost: dict[str, int] = {}
+    found: dict[str, list[tuple[int, int]]] = {name: [] for name in wiring.elements}
+    for at, rows in by_time(changes):
+        for name in network.refed(network.moved(rows)):
+            if name not in network.fed:
+                lost[name] = at
+            elif name in lost:
+                found[name].append((lost.pop(name), at))
+    for name, at in lost.items():
+        found[name].append((at, end))
+    return found
+
+
+def loss_of(own: list[Change], option: str, end: int, gaps: list[tuple[int, int]]) -> Loss:
+    """What an element went without, by what it shows and by when it followed no source."""
+    order = {level: place for place, level in enumerate(LEVELS[option])}
+    best = min((row.level or "" for row in own), key=lambda level: order[level])
+    after = own[next(place for place, row in enumerate(own) if row.level == best) :]
+    spans = zip(after, [*(row.at for row in after[1:]), end])
+    worse = [(row.at, stop, row.level or "") for row, stop in spans if row.level != best and row.at < stop]
+    worst = max((level for _, _, level in worse), key=lambda level: order[level], default=best)
+    since = min([start for start, _, _ in worse] + [start for start, stop in gaps if start < stop], default=None)
+    below = sum(stop - start for start, stop, _ in worse)
+    return Loss(own[0].element, best, below, worst, sum(stop - start for start, stop in gaps), since)
+
+
+def losses_of(wiring: Wiring, option: str, changes: tuple[Change, ...], end: int) -> list[Loss]:
+    """What each element went without, up to the end of a run, in the order of the plan."""
+    its: dict[str, list[Change]] = {name: [row] for name, row in moments.shown_first(wiring).items()}
+    for row in changes:
+        its[row.element].append(row)
+    gaps = gaps_of(wiring, changes, end)
+    return [loss_of(rows, option, end, gaps[name]) for name, rows in its.items()]

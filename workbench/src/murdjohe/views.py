@@ -1,0 +1,114 @@
+"""What a picture shows of a plan, with or without a report: levels, what is taken, what is cut, who follows a source, what is closed."""
+
+from __future__ import annotations
+
+from dataclasses import dataclass, field
+from typing import Any
+
+from murdjohe import core, files, moments, network, rehearsals, reports, wiring
+from murdjohe.moments import Event
+from murdjohe.reports import Change, Loop, Report
+from murdjohe.wiring import Wiring
+from murdjohe.wrong import Wrong
+
+DOWN = ("failed", "holdoff")
+RING, LOOP, PAIR = "RING", "LOOP", "PAIR"  # the words beside closed walks
+
+
+@dataclass(frozen=True)
+class View:
+    """What is drawn.
+
+    `shown` is empty without a report. `unfed` are elements that follow no source, or have no way to one without a report;
+    `red` has the word of each line of a closed walk, and of the ring in an answer.
+    """
+
+    tables: dict[str, Any]
+    wired: Wiring
+    title: str
+    shown: dict[str, Change] = field(default_factory=dict)
+    unfed: frozenset[str] = frozenset()
+    down: frozenset[str] = frozenset()
+    waiting: frozenset[str] = frozenset()
+    red: dict[str, str] = field(default_factory=dict)
+    ranks: dict[str, str] = field(default_factory=dict)
+
+    @property
+    def has_report(self) -> bool:
+        return bool(self.shown)
+
+    @property
+    def has_words(self) -> bool:
+        """Whether there is room for more than names."""
+        return len(self.wired.elements) <= 80
+
+    def taken(self, element: str) -> str | None:
+        """What an element takes, by the report."""
+        return self.shown[element].input if element in self.shown else None
+
+    def level_of_source(self, source: dict[str, Any]) -> str:
+        """The level that a source gives, where its element takes it, and else that of the plan."""
+        at = self.shown.get(source["at"])
+        return at.level or "" if at and at.input == source["name"] else str(source["level"])
+
+
+def read_report(path: str) -> Report:
+    """The report of a file. Raises Wrong where it is none of `sim`."""
+    text = files.text(path)
+    if not text.startswith("changes\n"):
+        raise Wrong(f"{path}: it is no report of sim")
+    try:
+        report = reports.report(core.Answer(core.DONE, text.encode()))
+    except (ValueError, IndexError, TypeError):
+        raise Wrong(f"{path}: it is no report of sim") from None
+    if any(change.level is None for change in report.changes):
+        raise Wrong(f"{path}: it is a report of prio-sim, which has no levels; `sim` gives one with levels")
+    return report
+
+
+def of_this_plan(path: str, report: Report, wired: Wiring) -> Report:
+    """The report, where it is one of the plan. Raises Wrong where it has other elements or inputs."""
+    own = set(wired.elements)
+    named = {change.element for change in report.changes} | {trace.element for trace in report.traces}
+    inputs = {change.input for change in report.changes if change.input} | {row.input for row in report.inputs}
+    missing = sorted(name for name in inputs if wired.element_of(name) is None)
+    if named - own or missing:
+        name = min(named - own, default="") or missing[0]
+        raise Wrong(f"{path}: it is a report of another plan, since {name} is not in this one")
+    if report.traces and tuple(trace.element for trace in report.traces) != wired.elements:
+        raise Wrong(f"{path}: it is a report of another plan, which has other elements, or in another order")
+    if any(wired.element_of(change.input) != change.element for change in report.changes if change.input):
+        raise Wrong(f"{path}: it is a report of another plan, in which inputs lead to other elements")
+    return report
+
+
+def words_of(wired: Wiring, walks: tuple[Loop, ...]) -> dict[str, str]:
+    """The word beside each line of some closed walks."""
+    return {line: PAIR if moments.is_pair(wired, walk) else LOOP for walk in walks for line in walk}
+
+
+def plain_view(title: str, tables: dict[str, Any]) -> View:
+    """The plan by itself."""
+    unfed = frozenset(network.without_way(tables))
+    return View(tables, wiring.wiring_of(tables), title, unfed=unfed)
+
+
+def view_of(title: str, tables: dict[str, Any], report: Report, events: tuple[Event, ...], at: int | None) -> View:
+    """The plan at a millisecond of a report, or at its end. What is cut is told by events, and by the report at its end."""
+    wired = wiring.wiring_of(tables)
+    last = report.changes[-1].at if report.changes else 0
+    shown = moments.shown_at(wired, report.changes, last if at is None else at)
+    taken = moments.taken_of(shown)
+    traces = moments.traces_of(wired, taken)
+    unfed = frozenset(name for name, trace in traces.items() if trace.kind != moments.SOURCE)
+    cut = moments.cut_at(wired, events, rehearsals.DAY if at is None else at)
+    ended = report.inputs if at is None else ()
+    down = cut.down | {row.input for row in ended if row.condition in DOWN}
+    waiting = frozenset(row.input for row in ended if row.condition == "restoring")
+    when = (
+        f"at {rehearsals.clock(at)}"
+        if at is not None
+        else f"at the end of the run, last change at {rehearsals.clock(last)}"
+    )
+    red = words_of(wired, moments.loops_of(wired, taken))
+    return View(tables, wired, f"{title}, {when}", shown, unfed, frozenset(down), waiting, red)

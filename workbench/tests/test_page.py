@@ -1,0 +1,155 @@
+"""The page without a browser: one file that asks for nothing, scripts that can be read, and the model beside the program's report."""
+
+from __future__ import annotations
+
+import json
+import re
+import shutil
+import subprocess
+from pathlib import Path
+from typing import Any
+
+import pytest
+from conftest import EXAMPLES, murdjohe
+
+from murdjohe import api, moments, page_data, pages, places, plan_file, rehearsals, runs, wiring
+
+NODE = shutil.which("node")
+WANTS_NODE = pytest.mark.skipif(NODE is None, reason="there is no node (Debian: nodejs)")
+RUNS = sorted(
+    path.parent.name for path in EXAMPLES.glob("*/events.csv") if (path.parent / "report").exists()
+)  # (each with a plan)
+
+
+def data_of(name: str, has_cuts: bool = False, until: int = 400_000) -> dict[str, Any]:
+    """What the page of an example knows."""
+    at = EXAMPLES / name
+    plan, file = plan_file.read(str(at / "plan.toml")), runs.read_events(str(at / "events.csv"))
+    found = rehearsals.rehearsed(plan, file, until)
+    layout = places.layout_of(plan.tables, None, None)
+    return page_data.data_of(plan, found, layout, 0, name, has_cuts)
+
+
+def ran_by_node(script: str, data: Any) -> Any:
+    """What a script prints as JSON that imports the model and reads data."""
+    head = f'import * as model from "{(pages.PARTS / "model.js").as_uri()}";\nimport fs from "node:fs";\n'
+    head += "const data = JSON.parse(fs.readFileSync(0, 'utf8'));\n"
+    words = [NODE or "node", "--input-type=module", "--eval", head + script]
+    run = subprocess.run(words, input=json.dumps(data).encode(), capture_output=True, check=False, timeout=120)
+    assert run.returncode == 0, run.stderr.decode()
+    return json.loads(run.stdout)
+
+
+@WANTS_NODE
+def test_each_script_and_all_as_one_can_be_read(folder: Path) -> None:
+    texts = {name: pages.part(name) for name in pages.MODULES} | {"whole.js": pages.script()}
+    for name, text in texts.items():
+        module = folder / name.replace(".js", ".mjs")
+        module.write_text(text)
+        run = subprocess.run([NODE or "node", "--check", str(module)], capture_output=True, check=False)
+        assert run.returncode == 0, run.stderr.decode()
+
+
+def test_the_scripts_are_those_of_the_page_in_order() -> None:
+    assert {path.name for path in pages.PARTS.glob("*.js")} == set(pages.MODULES)
+    for place, name in enumerate(pages.MODULES):
+        wanted = re.findall(r'^import .* from "\./(.*)";$', pages.part(name), re.M)
+        assert set(wanted) <= set(pages.MODULES[:place])
+        assert len(wanted) == len(re.findall(r"^import ", pages.part(name), re.M))
+    assert not re.search(r"^(import|export) ", pages.script(), re.M)
+
+
+def test_the_page_asks_for_nothing_from_outside() -> None:
+    for name in ("page.html", "page.css", *pages.MODULES):
+        text = pages.part(name)
+        assert not re.search(r"https?:|\bfetch\b|XMLHttpRequest|WebSocket|\bimport\(|url\(|@import|\bsrc=", text), name
+    assert "default-src 'none'" in pages.part("page.html")
+
+
+def test_nothing_in_the_data_ends_the_page() -> None:
+    data = {"title": "</script><script>alert(1)</script><!--"}
+    text = pages.page("a </title> & b", data, [("<b>", "x & y")]).decode()
+    assert text.count("</script>") == 2 and text.count("</title>") == 1 and "<b>" not in text
+    (found,) = re.findall(r'id="data">(.*)</script>', text)
+    assert json.loads(found) == data
+
+
+@WANTS_NODE
+@pytest.mark.parametrize("name", RUNS)
+def test_the_model_is_the_report_in_each_moment(name: str) -> None:
+    data = data_of(name)
+    script = """
+    const run = new model.Run(data.network, data.changes, data.events, data.until);
+    const names = data.network.elements.map(element => element.name), said = [];
+    const order = [...run.moments.keys()];
+    for (const moment of [...order, ...order.reverse()]) {
+      run.goTo(moment);
+      const shown = names.map((name, element) => [model.MODES[run.mode[element]], run.inputName(run.input[element]),
+        data.network.levels[run.level[element]].name, model.STATES[run.state[element]]]);
+      const traces = names.map((name, element) => [["source", "own", "loop"][run.traces.kind[element]],
+        run.traces.kind[element] === 0 ? data.network.sources[run.traces.end[element]].name : names[run.traces.end[element]],
+        run.traces.hops[element]]);
+      said.push([run.at, shown, traces, [...run.closed.keys()].map(line => run.inputName(line)).sort()]);
+    }
+    console.log(JSON.stringify(said));"""
+    at = EXAMPLES / name
+    report = api.sim(at / "plan.toml", at / "events.csv", data["until"]).result
+    wired = wiring.wiring_of(plan_file.read(str(at / "plan.toml")).tables)
+    said = ran_by_node(script, data)
+    assert [row[0] for row in said] == sorted(row[0] for row in said[: len(said) // 2]) * 2 or len(said) % 2 == 0
+    for moment, shown, traces, closed in said:
+        own = moments.shown_at(wired, report.changes, moment)
+        assert shown == [[one.mode, one.input or "none", one.level, one.state] for one in own.values()]
+        found = moments.traces_of(wired, moments.taken_of(own))
+        assert traces == [[trace.kind, trace.name, trace.hops] for trace in found.values()]
+        assert closed == sorted(line for walk in moments.loops_of(wired, moments.taken_of(own)) for line in walk)
+    end = said[len(said) // 2 - 1]
+    assert end[0] == data["until"]
+    assert end[2] == [[trace.kind, trace.name, trace.hops] for trace in report.traces]
+
+
+def test_cases_are_the_rows_of_sweep() -> None:
+    at = EXAMPLES / "mesh"
+    data = data_of("mesh", has_cuts=True)
+    sweep = api.sweep(at / "plan.toml", page_data.CUT_AT, page_data.CUT_UNTIL).result
+    assert [case["name"] for case in data["cases"]] == [row.link for row in sweep.rows]
+    for case, row in zip(data["cases"], sweep.rows):
+        assert case["row"][1:4] == [str(row.locked), str(row.holdover), str(row.freerun)]
+        events = f"at,what,target,value\n60000,down,{row.link},\n".encode()
+        report = api.sim(at / "plan.toml", events, page_data.CUT_UNTIL).result
+        assert case["ended"]["fed"] == [int(trace.kind == "source") for trace in report.traces]
+        assert len(case["changes"]["at"]) == len(report.changes)
+
+
+def test_the_command_writes_a_page_and_says_what_the_program_says(folder: Path) -> None:
+    at = EXAMPLES / "ring"
+    words = ["report", str(at / "plan.toml"), str(at / "events.csv"), "--until", "2m", "-o", "page.html"]
+    ran = murdjohe(*words, folder=folder)
+    assert (ran.status, ran.out, ran.err) == (0, b"", "")
+    text = (folder / "page.html").read_text()
+    assert "<dd>cycle L1&gt;B L2&gt;C L3&gt;A: timing may go round over these lines</dd>" in text
+    assert "<dt>sim: closed walks at the end</dt><dd>L1&gt;B L2&gt;C L3&gt;A</dd>" in text
+    for name in ("plan.toml", "events.csv"):
+        run = subprocess.run(["sha256sum", str(at / name)], capture_output=True, check=True, text=True)
+        assert run.stdout.split()[0] in text
+    ran = murdjohe(*words, folder=folder)
+    assert ran.status == 2 and "page.html is there already; --force writes over it" in ran.err
+    before = (folder / "page.html").read_bytes()
+    assert murdjohe(*words, "--force", folder=folder).status == 0
+    assert (folder / "page.html").read_bytes() == before
+
+
+@pytest.mark.parametrize(
+    ("words", "status", "said"),
+    [
+        (["plan.toml", "events.csv", "-o", "page.txt"], 2, "page.txt: a page ends in .html"),
+        (["plan.toml", "plan.toml", "-o", "/tmp/none/page.html"], 5, "plan.toml:1: "),
+        (["nosuch", "events.csv", "-o", "/tmp/none/page.html"], 7, "nosuch: No such file"),
+        (["-", "-", "-o", "page.html"], 2, "standard input is one file"),
+        (["plan.toml", "events.csv", "--until", "25h", "-o", "page.html"], 2, "--until: at most a day"),
+        (["plan.toml", "events.csv", "-o", "/tmp/none/page.html"], 2, "/tmp/none/page.html: No such file"),
+    ],
+)
+def test_what_is_no_page(words: list[str], status: int, said: str) -> None:
+    ran = murdjohe("report", *words, folder=EXAMPLES / "ring")
+    assert (ran.status, ran.out) == (status, b"") and said in ran.err
