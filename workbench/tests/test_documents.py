@@ -138,3 +138,20 @@ def test_the_readme_of_the_workbench_runs(folder: Path) -> None:
     assert ran.status == 0, ran.err
     elements, refused = ran.out.decode().splitlines()
     assert elements == "[]" and refused.startswith('16 element 1 other.toml:2: `name = "M.1"`: ')
+
+
+def test_what_documents_name_is_there() -> None:
+    ran = started([str(TOP / "docs" / "check_names")])
+    assert (ran.status, ran.out.count(b"\n")) == (0, 1), ran.out
+
+
+def test_what_documents_name_and_is_nowhere_is_told(tmp_path: Path) -> None:
+    document = tmp_path / "notes.md"
+    wrong = ["nowhere.md", "#nowhere", "src/no_file.rt", "no_" + "such_name", "Plan::no_" + "such_line"]
+    links = f"[a file]({wrong[0]}), [a heading]({wrong[1]}), [this one](#of-sync_topo)"
+    names = ", ".join(f"`{name}`" for name in (*wrong[2:], "src/wiring.rt", "lines_out", "code-N"))
+    document.write_text(f"# Of sync_topo\n{links}, {names}\n```sh\n`{wrong[3]}`\n```\n", encoding="utf-8")
+    ran = started([str(TOP / "docs" / "check_names"), str(document)])
+    told = [line.rpartition(":2: ")[2].removesuffix(" isn't there") for line in ran.out.decode().splitlines()]
+    assert ran.status == 1
+    assert told == [*wrong, "9 names, 5 not there"]
