@@ -147,11 +147,12 @@ def test_what_documents_name_is_there() -> None:
 
 def test_what_documents_name_and_is_nowhere_is_told(tmp_path: Path) -> None:
     document = tmp_path / "notes.md"
-    wrong = ["nowhere.md", "#nowhere", "src/no_file.rt", "no_" + "such_name", "Plan::no_" + "such_line"]
+    files = ["src/no_file.rt", "docs/no_file.md", "crates/*/no_folder"]
+    wrong = ["nowhere.md", "#nowhere", *files, "no_" + "such_name", "Plan::no_" + "such_line"]
     links = f"[a file]({wrong[0]}), [a heading]({wrong[1]}), [this one](#of-sync_topo)"
-    names = ", ".join(f"`{name}`" for name in (*wrong[2:], "src/wiring.rt", "lines_out", "code-N"))
-    document.write_text(f"# Of sync_topo\n{links}, {names}\n```sh\n`{wrong[3]}`\n```\n", encoding="utf-8")
+    names = ", ".join(f"`{name}`" for name in (*wrong[2:], "src/wiring.rt", "docs/guide.md", "lines_out", "code-N"))
+    document.write_text(f"# Of sync_topo\n{links}, {names}\n```sh\n`{wrong[-1]}`\n```\n", encoding="utf-8")
     ran = started([str(TOP / "docs" / "check_names"), str(document)])
     told = [line.rpartition(":2: ")[2].removesuffix(" isn't there") for line in ran.out.decode().splitlines()]
     assert ran.status == 1
-    assert told == [*wrong, "9 names, 5 not there"]
+    assert told == [*wrong, "12 names, 7 not there"]
