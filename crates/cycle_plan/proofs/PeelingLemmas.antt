@@ -7,6 +7,7 @@ use Rattle.std.proofs.lemmas.Bool.{true≢false, cases_eq}
 use Rattle.std.proofs.lemmas.List.Elements.{All-push, Contains-push, Contains-append_left}
 use Rattle.std.proofs.lemmas.List.Sums.{sum_by-set, count_by-le-length}
 use Rattle.std.proofs.lemmas.Option.{none-some, same_Some, slice_get-get_or}
+use Rattle.rank_cert.proofs.RuleLaws.{some-rank}
 use Rattle.sync_topo.specs.Topology.{Topology}
 use Rattle.sync_topo.specs.Ranks.{HopTest}
 use Rattle.sync_topo.specs.Lines.{line_count, IsNominated, receiver_of, sender_of, inputs_of}
@@ -55,11 +56,6 @@ left_over-set ranks line rank inside none =
     let one : gap (get_or ranks line None) ≡ 1 = rw is refl in
     omega (arith, counts, one)
 
--- what is no gap is a rank
-rank_from : (o : Option ℕ) → is_none o ≡ false → (rank : ℕ) × (o ≡ Some rank)
-rank_from None never = absurd (true≢false never)
-rank_from (Some rank) some = (rank, refl)
-
 -- an input that isn't open stays so
 closed-grows : (before after : Ranks) (inputs : List InputId) (place : ℕ) → Grows (rank_at before) (rank_at after)
     → is_open before inputs place ≡ false → is_open after inputs place ≡ false
@@ -69,7 +65,7 @@ closed-grows before after inputs place grows closed = cases (line_at inputs plac
         → option_map_or (λ line. is_none (rank_at after line)) o false ≡ false
     cases None e = refl
     cases (Some line) e =
-        let some = rank_from (rank_at before line) e in rw (grows line some.0 some.1) refl
+        let some = some-rank (rank_at before line) e in rw (grows line some.0 some.1) refl
 
 -- a line without a rank had none
 open-grows : (before after : Ranks) (inputs : List InputId) (place line : ℕ) → Grows (rank_at before) (rank_at after) → IsOpenLine after inputs place line

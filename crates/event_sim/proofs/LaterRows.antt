@@ -6,15 +6,16 @@ use Rattle.std.proofs.Math.Decide.{dec_lt}
 use Rattle.std.proofs.lemmas.List.{get_or_append_left, get_or-append_right}
 use Rattle.std.proofs.lemmas.List.Elements.{All-append, filter-append}
 use Rattle.std.proofs.lemmas.List.Sorted.{IsNonDecreasingBy-from_all_adjacent, all_adjacent_from_non_decreasing}
+use Rattle.sync_text.proofs.Each.{Each-map, Each-range, Each-filter}
+use Rattle.sync_text.specs.Each.{Each}
 use Rattle.sync_topo.specs.declared.event.Event.{Event}
 use Rattle.sync_topo.specs.Topology.{Topology}
 use Rattle.sync_topo.specs.Events.{Fits, IsInOrder, IsEventList}
 use Rattle.sync_topo.proofs.Lists.{filter_range_agree}
 use Rattle.net_rules.specs.Signals.{signals_by, events_at}
 use Rattle.net_rules.specs.History.{element_past, out_at}
-use Rattle.net_rules.specs.Walks.{Each}
-use Rattle.net_rules.proofs.Lists.{Each-map, Each-range, Each-filter, map-same}
-use Rattle.event_sim.specs.declared.limits.TheConstants.{MOST_CHANGES}
+use Rattle.net_rules.proofs.Lists.{map-same}
+use Rattle.sync_ql.specs.declared.limits.TheConstants.{MOST_ROWS}
 use Rattle.event_sim.specs.declared.change.Change.{Change}
 use Rattle.event_sim.specs.declared.change.Watch.{Watch}
 use Rattle.event_sim.specs.declared.change.Watch.TheVariants.{Changes, Nothing}
@@ -120,11 +121,11 @@ rows-grow plan events m (suc n) early = elim (dec_lt n m) [
 
 -- where the rows of a millisecond are too many, the one before is the last up to which all fit
 pub last-fit : (plan : Topology) (events : List Event) (t until : ℕ) (watch : Watch) (net : NetState) (changes : List Change) → net.plan ≡ plan
-    → IsCut watch net changes events (suc t) → length changes ≤ MOST_CHANGES → t < until → IsLastFit plan events t until
+    → IsCut watch net changes events (suc t) → length changes ≤ MOST_ROWS → t < until → IsLastFit plan events t until
 last-fit plan events t until watch net changes same cut few early = record {
   fit =
       let rows : changes ≡ rows_until plan events (suc t) = cut.rows ∙ ap (λ (p : Topology). rows_until p events (suc t)) same in
-      subst (λ (all : List Change). length all ≤ MOST_CHANGES) rows few;
+      subst (λ (all : List Change). length all ≤ MOST_ROWS) rows few;
   full = full;
   all = let more = rows-grow plan events (suc (suc t)) (suc until) (omega (arith, early)) in omega (arith, full, more);
 }

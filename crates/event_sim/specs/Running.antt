@@ -10,7 +10,7 @@ use Rattle.net_rules.specs.Activity.{is_active}
 use Rattle.net_rules.specs.Signals.{events_at}
 use Rattle.sync_net.specs.NetState.{NetState}
 use Rattle.sync_net.specs.Standing as Net
-use Rattle.event_sim.specs.declared.limits.TheConstants.{MOST_CHANGES}
+use Rattle.sync_ql.specs.declared.limits.TheConstants.{MOST_ROWS}
 use Rattle.event_sim.specs.declared.change.Change.{Change}
 use Rattle.event_sim.specs.declared.change.Watch.{Watch}
 use Rattle.event_sim.specs.declared.change.Watch.TheVariants.{Nothing}
@@ -25,7 +25,7 @@ use Rattle.event_sim.specs.Showing.{AreShownIf}
 pub record IsOpen (run : Run) : Type 0 where
   pub live : run.net.spent ≡ false
   pub in_range : run.net.next ≤ LAST_MILLISECOND + 1
-  pub few : length run.changes.items ≤ MOST_CHANGES
+  pub few : length run.changes.items ≤ MOST_ROWS
   pub first : run.net.next ≡ 0 → run.changes.items ≡ []
   pub shown : AreShownIf run.watch run.net run.shown.items
 

@@ -26,7 +26,6 @@ mod change;
 mod crossing;
 mod events;
 mod laws;
-pub mod limits;
 mod noting;
 mod running;
 mod shown;

@@ -7,12 +7,12 @@ use Rattle.std.proofs.lemmas.Bool.Decides.{eqb_tells}
 use Rattle.std.proofs.lemmas.List.{get_or-drop, get_or-take, length-drop, length-take, append-nil, take-append-drop}
 use Rattle.std.proofs.lemmas.List.Elements.{All-take, All-drop, filter-append}
 use Rattle.std.proofs.lemmas.List.Sorted.{IsNonDecreasingBy-from_all_adjacent, IsNonDecreasingBy-drop, all_adjacent_from_non_decreasing}
+use Rattle.sync_text.proofs.Each.{each-all}
+use Rattle.sync_text.specs.Each.{Each}
 use Rattle.sync_topo.specs.declared.event.Event.{Event}
 use Rattle.sync_topo.specs.Topology.{Topology}
 use Rattle.sync_topo.specs.Events.{Fits, IsInOrder}
 use Rattle.net_rules.specs.Signals.{events_at}
-use Rattle.net_rules.specs.Walks.{Each}
-use Rattle.net_rules.proofs.EventLaws.{each-all}
 use Rattle.prio_mode.specs.EventTimes.{AreFrom, IsNextTime, AreParted}
 
 -- an earlier one of a list in order is no later

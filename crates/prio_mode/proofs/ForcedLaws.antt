@@ -8,6 +8,8 @@ use Rattle.std.proofs.lemmas.List.{get_or-replicate}
 use Rattle.std.proofs.lemmas.List.Elements.{All-nil, All-cons}
 use Rattle.std.proofs.lemmas.List.FromFn.{get_or-map-range_with_len}
 use Rattle.std.proofs.lemmas.Option.{slice_get_within}
+use Rattle.sync_text.proofs.Each.{Each-map}
+use Rattle.sync_text.specs.Each.{Each}
 use Rattle.sync_ql.specs.declared.levels.NetOption.{NetOption}
 use Rattle.sync_ql.specs.declared.levels.NetOption.TheVariants.{I, II}
 use Rattle.sync_ql.specs.declared.rules.Cmd.{Cmd}
@@ -28,8 +30,7 @@ use Rattle.sync_topo.specs.Ranks.{IsFirstCycle}
 use Rattle.sync_topo.proofs.LineLaws.{IsNominated-within}
 use Rattle.net_rules.specs.Signals.{Signals, signals_by, events_at, last_word, says_up, up_at, command_to}
 use Rattle.net_rules.specs.Settings.{input_by}
-use Rattle.net_rules.specs.Walks.{Each, AreApart, IsOneOf, IsTaken}
-use Rattle.net_rules.proofs.Lists.{Each-map}
+use Rattle.net_rules.specs.Walks.{AreApart, IsOneOf, IsTaken}
 use Rattle.net_rules.proofs.SettingLaws.{input-by, priorities-by}
 use Rattle.sync_topo.specs.declared.returns.Returns.TheVariants.{Allowed}
 use Rattle.sync_topo.specs.Hops.{hops_any}

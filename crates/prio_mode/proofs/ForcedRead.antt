@@ -8,6 +8,7 @@ use Rattle.std.proofs.lemmas.List.{length-append, length-map}
 use Rattle.std.proofs.lemmas.Map.Keys.{IsDistinct-cons, IsDistinct-from_apart}
 use Rattle.std.proofs.lemmas.Map.Steps.{length-le_from_distinct_below}
 use Rattle.std.proofs.lemmas.Option.{slice_get-map}
+use Rattle.sync_text.specs.Each.{Each}
 use Rattle.csv.specs.Writing.{default_writer, row_text, fields_text, is_blank, read_back}
 use Rattle.csv.proofs.RoundTrip.{rows_text}
 use Rattle.csv_records.specs.Records.{records_of}
@@ -19,7 +20,7 @@ use Rattle.sync_topo.specs.declared.event.What.TheVariants.{Forced}
 use Rattle.sync_topo.specs.Topology.{Topology}
 use Rattle.sync_topo.specs.Lines.{line_count, line_name, line_input, receiver_of}
 use Rattle.sync_topo.specs.WellFormed.{IsWellFormed}
-use Rattle.net_rules.specs.Walks.{Each, AreApart}
+use Rattle.net_rules.specs.Walks.{AreApart}
 use Rattle.net_rules.proofs.PlanLaws.{receiver-within}
 use Rattle.rank_cert.proofs.OwnNames.{own-name}
 use Rattle.rank_cert.proofs.WrittenText.{name-plain}

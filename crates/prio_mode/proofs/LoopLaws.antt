@@ -1,11 +1,12 @@
 -- Where ranks rise over every hop, elements that choose by priority alone never go round in a loop.
 use Rattle.std.proofs.Common.{ℕ, suc, List, [], ◌∷◌}
 use Rattle.std.specs.Prelude.{IsTrue}
+use Rattle.sync_text.specs.Each.{Each}
 use Rattle.sync_topo.specs.Topology.{Topology}
 use Rattle.sync_topo.specs.Lines.{line_input, receiver_of, IsNominated}
 use Rattle.sync_topo.specs.Ranks.{Rises, Circles, Leads}
 use Rattle.net_rules.specs.Signals.{Signals, signals_by}
-use Rattle.net_rules.specs.Walks.{Taken, Each, IsTaken, Joins, IsClosedWalk}
+use Rattle.net_rules.specs.Walks.{Taken, IsTaken, Joins, IsClosedWalk}
 use Rattle.net_rules.proofs.SettingLaws.{taken-own}
 use Rattle.net_rules.proofs.WalkLaws.{AreNominated, walks-leads, no_cycle}
 use Rattle.sync_topo.specs.Hops.{hops_any}

@@ -1,10 +1,11 @@
 -- The first cycle over hops that include returns: none of its lines stands twice, and no two have one receiver.
 use Rattle.std.proofs.Common.{◌≡◌, ◌≢◌, ◌≤◌, ◌<◌, ℕ, List, [], ◌∷◌, map, refl, sym, subst, ◌∙◌, inl, inr, arith}
+use Rattle.sync_text.proofs.Each.{each-all}
+use Rattle.sync_text.specs.Each.{Each}
 use Rattle.sync_topo.specs.Topology.{Topology}
 use Rattle.sync_topo.specs.Lines.{receiver_of}
 use Rattle.sync_topo.specs.Ranks.{HopTest, IsBefore, Leads, IsFirstCycleFrom}
-use Rattle.net_rules.specs.Walks.{Each, AreApart, IsOneOf, Joins}
-use Rattle.net_rules.proofs.EventLaws.{each-all}
+use Rattle.net_rules.specs.Walks.{AreApart, IsOneOf, Joins}
 use Rattle.cycle_plan.proofs.Back.{before_same}
 use Rattle.sync_topo.specs.declared.returns.Returns.TheVariants.{Allowed}
 use Rattle.sync_topo.specs.Hops.{hops_any}

@@ -2,6 +2,7 @@
 use Rattle.std.proofs.Common.{◌≡◌, ℕ, zero, suc, List, [], ◌∷◌, sym, subst, ap, ◌∙◌}
 use Rattle.std.specs.Prelude.{Option, None, Some, IfSome, option_and_then, slice_get}
 use Rattle.std.specs.List.{All}
+use Rattle.sync_text.proofs.Each.{item-if, each-all}
 use Rattle.sync_ql.specs.declared.rules.Mode.{Mode}
 use Rattle.sync_ql.specs.declared.rules.ClockState.{ClockState}
 use Rattle.sync_ql.specs.Moment.{Moment, selection_at}
@@ -12,22 +13,10 @@ use Rattle.sync_element.specs.StandsFor as Element
 use Rattle.sync_topo.specs.declared.input.InputId.{InputId}
 use Rattle.sync_topo.specs.Topology.{Topology}
 use Rattle.sync_topo.specs.Lines.{IsInput, inputs_of}
-use Rattle.net_rules.specs.Walks.{Each}
-use Rattle.net_rules.proofs.EventLaws.{each-all}
 use Rattle.prio_mode.specs.declared.shown.Shown.{Shown}
 use Rattle.prio_mode.specs.PriorityAlone.{priority_settings, priority_taken_by}
 use Rattle.prio_mode.specs.PriorityRows.{shown_after}
 use Rattle.prio_mode.specs.Running.{Shows}
-
--- what stands at a place of a list
-item-at : {A : Type 0} (P : A → Type 0) (xs : List A) (i : ℕ) → Each P xs → IfSome (slice_get xs i) P
-item-at P [] i each = tt
-item-at P (x ∷ xs) zero each = each.0
-item-at P (x ∷ xs) (suc i) each = item-at P xs i each.1
-
-item-if : {A : Type 0} (P : A → Type 0) (xs : List A) (place : Option ℕ) → Each P xs → IfSome (option_and_then (slice_get xs) place) P
-item-if P xs None each = tt
-item-if P xs (Some i) each = item-at P xs i each
 
 -- what is put together from the answers of an element is what it shows
 pub shown-as : (plan : Topology) (place : ℕ) (element : ElementState)

@@ -8,12 +8,11 @@ ghost use Rattle.prio_mode.specs.PriorityAlone.{priority_settings};
 ghost use Rattle.prio_mode.specs.Running.{Shows};
 
 use crate::shown::{Shown, shown_of};
-use net_words::Told;
 use std::marker::Brand;
 use std::sync::ledger::{Blank, Ledger};
 use sync_element::{Element, InputEvent};
 use sync_ql::limits::LAST_MILLISECOND;
-use sync_text::Steps;
+use sync_text::{Rows, Steps};
 use sync_topo::Plan;
 
 /// Tells an element its words, lets it make its step, and answers what it shows then.
@@ -21,7 +20,7 @@ pub(crate) fn step_told(
     plan: &Plan,
     place: u32,
     element: &mut Element,
-    told: &mut Told,
+    told: &mut Rows<InputEvent>,
     now: u64,
 ) -> Shown
     requires within { place < length plan.now.elements }

@@ -6,10 +6,11 @@ ghost use Rattle.sync_net.specs.Copied.{AreSame};
 use crate::parts::Parts;
 use crate::signals::{LineSignal, SourceSignal};
 use link_model::Line;
-use net_words::{Tellings, Told};
+use net_words::Tellings;
 use std::alloc::Global;
 use sync_element::Element;
 use sync_ql::Level;
+use sync_ql::rules::InputEvent;
 use sync_text::{NoMemory, Rows};
 
 // The same parts once more.
@@ -68,7 +69,10 @@ pub fn try_clone_line(alloc: Global, line: &Option<Line>) -> Result<Option<Line>
     }
 }
 
-fn try_clone_told(alloc: Global, changes: &[Told]) -> Result<Vec<Told>, NoMemory>
+fn try_clone_told(
+    alloc: Global,
+    changes: &[Rows<InputEvent>],
+) -> Result<Vec<Rows<InputEvent>>, NoMemory>
     ensures { IfOk result (λ copies. copies.items ≡ changes.now) }
 {
     let mut copies = Rows::with_capacity(alloc, changes.len())?;

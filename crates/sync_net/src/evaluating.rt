@@ -10,11 +10,11 @@ ghost use Rattle.sync_net.specs.Stages.{AreEvaluated, CanStep, changes_of, is_ou
 use crate::calls::step_element;
 use crate::marking::mark_all;
 use agenda::{DueTimes, Marks};
-use net_words::Told;
 use std::sync::ledger::Ledger;
 use sync_element::Element;
 use sync_ql::limits::LAST_MILLISECOND;
-use sync_text::Steps;
+use sync_ql::rules::InputEvent;
+use sync_text::{Rows, Steps};
 use sync_topo::Plan;
 
 // Lets each marked element make its step, and marks the lines out of those that give something
@@ -23,7 +23,7 @@ pub fn evaluate_elements<L: Ledger>(
     plan: &Plan,
     active: &Marks,
     elements: &mut [Element],
-    changes: &mut [Told],
+    changes: &mut [Rows<InputEvent>],
     dues: &mut DueTimes,
     called: &mut Marks,
     now: u64,
@@ -54,7 +54,7 @@ fn evaluate<L: Ledger>(
     plan: &Plan,
     place: u32,
     elements: &mut [Element],
-    changes: &mut [Told],
+    changes: &mut [Rows<InputEvent>],
     dues: &mut DueTimes,
     called: &mut Marks,
     now: u64,

@@ -47,14 +47,6 @@ module _ (plan : Topology) (signals : Signals) (out : Levels) (place next : ℕ)
   unfolding level_at
   level-now level says = by_past clock_level_at level says
 
--- an element's own level is of the plan's option
-pub own-option : (plan : Topology) (element : ℕ) → IsWellFormed plan → element < length plan.elements → (settings_of plan element).own.option ≡ plan.option
-unfolding settings_of
-own-option plan element well within = elim (slice_get_cases plan.elements element).1 [
-  | inl there ↦ rw there.2 ((well.elements_fit element there.0 there.2).own_is_clock_level.of_option)
-  | inr past ↦ absurd (omega (arith, within, past.0))
-]
-
 one-is : (b : Bool) → one_if b ≡ cond b 1 0
 one-is true = refl
 one-is false = refl

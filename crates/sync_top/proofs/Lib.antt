@@ -10,8 +10,7 @@ pub mod RowsOfHops
 pub mod LadderRises
 pub mod LastFits
 pub mod OneTrial
-pub mod TrialAnswers
 pub mod RunLaws
-pub mod PriorityRuns
 pub mod HighestRank
 pub mod NodeAnswers
+pub mod Endings

@@ -19,7 +19,9 @@ use Rattle.rank_cert.specs.Ranks.{Ranks, rank_of}
 use Rattle.rank_cert.specs.CertificateText.{certificate_of}
 use Rattle.sync_top.specs.declared.status.Status.{Status}
 use Rattle.sync_top.specs.declared.status.Status.TheVariants.{Done, Refuted, Usage, BadPlan, BadCert, BadEvents, BadFrames, ReadFault, WriteFault, TooLong, NoMemory, Stopped}
-use Rattle.sync_top.specs.Form.{Form, check, rank, hops, nominate, decode, encode, pcap_decode, pcap_encode, gen, trial, sim, sweep, form_of, prio_check, prio_rank, prio_sim, node}
+use Rattle.sync_top.specs.declared.form.RanksForm.TheVariants.{Check, PrioCheck}
+use Rattle.sync_top.specs.declared.form.LadderForm.TheVariants.{Gen, Trial}
+use Rattle.sync_top.specs.Form.{Form, form_of, on_plan, on_ranks, on_events, on_frames, on_ladder, node}
 use Rattle.sync_top.specs.Reading.{End, no_file, answered, file_limit, plan_in, Answered}
 use Rattle.sync_top.specs.Forms.Check.{ranks_in, documents, IsVerdict}
 use Rattle.sync_top.specs.Answer.{FormAnswer, IsAnswer, MissesFile}
@@ -106,22 +108,14 @@ checked-loop_free plan_name name text files answer = by (plan_in plan_name files
 
 form-loop_free : (form : Option Form) (files : Contents) (text : List ℕ) → FormAnswer form files Done text → IsCheckedLoopFree form files
 form-loop_free None files text answer = tt
-form-loop_free (Some (check plan_name name)) files text answer = checked-loop_free plan_name name text files answer
-form-loop_free (Some (rank plan_name)) files text answer = tt
-form-loop_free (Some (hops plan_name)) files text answer = tt
-form-loop_free (Some (nominate plan_name)) files text answer = tt
-form-loop_free (Some (decode option name)) files text answer = tt
-form-loop_free (Some (encode option name)) files text answer = tt
-form-loop_free (Some (pcap_decode option name)) files text answer = tt
-form-loop_free (Some (pcap_encode option name)) files text answer = tt
-form-loop_free (Some (gen n)) files text answer = tt
-form-loop_free (Some (trial n)) files text answer = answer.1.accepted
-form-loop_free (Some (sim plan_name events_name until)) files text answer = tt
-form-loop_free (Some (sweep plan_name at until)) files text answer = tt
-form-loop_free (Some (prio_check plan_name name)) files text answer = tt
-form-loop_free (Some (prio_rank plan_name)) files text answer = tt
-form-loop_free (Some (prio_sim plan_name events_name until)) files text answer = tt
-form-loop_free (Some (node plan_name element_name name until)) files text answer = tt
+form-loop_free (Some (on_plan what plan)) files text answer = tt
+form-loop_free (Some (on_ranks Check plan name)) files text answer = checked-loop_free plan name text files answer
+form-loop_free (Some (on_ranks PrioCheck plan name)) files text answer = tt
+form-loop_free (Some (on_events what plan events until)) files text answer = tt
+form-loop_free (Some (on_frames what option name)) files text answer = tt
+form-loop_free (Some (on_ladder Gen n)) files text answer = tt
+form-loop_free (Some (on_ladder Trial n)) files text answer = answer.1.accepted
+form-loop_free (Some (node plan element name until)) files text answer = tt
 
 -- so it is where the work ended in this status
 pub loop_free-from : (words : List (List ℕ)) (told : Option Contents) (steady : Bool) (before now : ℕ) (status : Status) (text : List ℕ)
@@ -171,22 +165,13 @@ checked-never_loops plan_name name text files answer = by (plan_in plan_name fil
 
 form-never_loops : (form : Option Form) (files : Contents) (text : List ℕ) → FormAnswer form files Done text → IsCheckedForPriority form files
 form-never_loops None files text answer = tt
-form-never_loops (Some (prio_check plan_name name)) files text answer = checked-never_loops plan_name name text files answer
-form-never_loops (Some (check plan_name name)) files text answer = tt
-form-never_loops (Some (rank plan_name)) files text answer = tt
-form-never_loops (Some (hops plan_name)) files text answer = tt
-form-never_loops (Some (nominate plan_name)) files text answer = tt
-form-never_loops (Some (decode option name)) files text answer = tt
-form-never_loops (Some (encode option name)) files text answer = tt
-form-never_loops (Some (pcap_decode option name)) files text answer = tt
-form-never_loops (Some (pcap_encode option name)) files text answer = tt
-form-never_loops (Some (gen n)) files text answer = tt
-form-never_loops (Some (trial n)) files text answer = tt
-form-never_loops (Some (sim plan_name events_name until)) files text answer = tt
-form-never_loops (Some (sweep plan_name at until)) files text answer = tt
-form-never_loops (Some (prio_rank plan_name)) files text answer = tt
-form-never_loops (Some (prio_sim plan_name events_name until)) files text answer = tt
-form-never_loops (Some (node plan_name element_name name until)) files text answer = tt
+form-never_loops (Some (on_plan what plan)) files text answer = tt
+form-never_loops (Some (on_ranks Check plan name)) files text answer = tt
+form-never_loops (Some (on_ranks PrioCheck plan name)) files text answer = checked-never_loops plan name text files answer
+form-never_loops (Some (on_events what plan events until)) files text answer = tt
+form-never_loops (Some (on_frames what option name)) files text answer = tt
+form-never_loops (Some (on_ladder what n)) files text answer = tt
+form-never_loops (Some (node plan element name until)) files text answer = tt
 
 -- so it is where the work ended in this status
 pub never_loops-from : (words : List (List ℕ)) (told : Option Contents) (steady : Bool) (before now : ℕ) (status : Status) (text : List ℕ)

@@ -1,10 +1,11 @@
 use Rattle.std.proofs.Common.{sym, ap, subst, ◌∙◌, arith}
 use Rattle.std.proofs.lemmas.List.{get_or_default}
 use Rattle.std.specs.Prelude.{slice_index_or}
+use Rattle.net_rules.proofs.OwnLevels.{own-option}
 use Rattle.net_rules.specs.Signals.{signals_by}
 use Rattle.net_rules.specs.History.{out_at}
 use Rattle.sync_sweep.specs.ShownNow.{ShowsLevel}
-use Rattle.sync_sweep.proofs.CountLemmas.{level-now, own-option}
+use Rattle.sync_sweep.proofs.CountLemmas.{level-now}
 use Rattle.sync_sweep.proofs.counting.level_of.Goals as goal
 
 pub returns-clause-kept : goal.returns-clause-kept
