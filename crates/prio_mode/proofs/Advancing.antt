@@ -1,20 +1,19 @@
 -- From one millisecond in which something happens to the next.
-use Rattle.std.proofs.Common.{◌≡◌, ◌≤◌, ◌<◌, ◌+◌, ℕ, zero, suc, false, List, [], ◌++◌, length, map, Option, None, Some, IfSome, refl, ap, sym, subst, ◌∙◌, inl, inr, arith, append_assoc, append-nil, add-one}
+use Rattle.std.proofs.Common.{◌≡◌, ◌≤◌, ◌<◌, ◌+◌, ℕ, zero, suc, false, List, [], ◌++◌, length, map, Option, None, IfSome, refl, ap, sym, subst, ◌∙◌, arith, append_assoc, append-nil, add-one}
 use Rattle.std.specs.Prelude.{slice_index_or}
 use Rattle.std.specs.List.{concat, range_with_len}
-use Rattle.std.proofs.lemmas.Bool.{cases_eq}
 use Rattle.sync_element.specs.ElementState.{ElementState, IsInTime}
 use Rattle.sync_topo.specs.declared.event.Event.{Event}
 use Rattle.sync_topo.specs.Topology.{Topology}
 use Rattle.sync_topo.specs.Events.{IsEventList}
 use Rattle.net_rules.specs.Signals.{events_at}
+use Rattle.event_times.specs.EventTimes.{IsNextTime}
+use Rattle.event_times.proofs.EventTimes.{sooner}
 use Rattle.net_words.specs.Words.{all_words}
 use Rattle.prio_mode.specs.declared.running.Run.{Run}
 use Rattle.prio_mode.specs.PriorityAlone.{priority_settings}
-use Rattle.prio_mode.specs.EventTimes.{AreFrom, IsNextTime}
 use Rattle.prio_mode.specs.PriorityRows.{shown_by, shown_after, row_in, rows_in, rows_until}
 use Rattle.prio_mode.specs.Running.{IsRun, RunStands, element_in, shown_in}
-use Rattle.prio_mode.proofs.EventTimes.{none-at}
 use Rattle.prio_mode.proofs.Standing.{quiet-stands, shown-is, no-row}
 
 -- a run is ready for a later millisecond up to which nothing is due
@@ -41,11 +40,6 @@ concat-none f a zero none = refl
 concat-none f a (suc n) none =
     rw (none a (omega arith) (omega arith)) (concat-none f (a + 1) n (λ i low high. none i (omega (arith, low)) (omega (arith, high))))
 
--- what is no later than what is no later
-earlier-too : (due : Option ℕ) (m now : ℕ) → m ≤ now → IfSome due (λ d. now ≤ d) → IfSome due (λ d. m ≤ d)
-earlier-too None m now before due = tt
-earlier-too (Some d) m now before due = omega (arith, before, due)
-
 -- the milliseconds in which nothing happens
 module _ (plan : Topology) (all : List Event) (next now : ℕ) (run : Run) (listed : IsEventList plan all) (is : IsRun plan next run) (is_then : IsRun plan now run)
     (none : (t : ℕ) → next ≤ t → t < now → events_at t all ≡ []) where
@@ -56,7 +50,7 @@ module _ (plan : Topology) (all : List Event) (next now : ℕ) (run : Run) (list
       record {
         first = λ never. (let ended = after.first never in absurd (omega (arith, ended, some)));
         later = (let begun = before.later in omega (arith, begun, low));
-        until_due = earlier-too (element_in run place element).due m now high after.until_due;
+        until_due = sooner (element_in run place element).due m now high after.until_due;
       }
 
   Through : ℕ → Type 0
@@ -105,13 +99,6 @@ module _ (plan : Topology) (all : List Event) (next now : ℕ) (run : Run) (list
   unfolding Through
   gap k same stood = subst Through same (quiet-more k (omega (arith, same)) stood)
 
--- events from the next millisecond on, up to the one in which something happens
-pub from-later : (plan : Topology) (next now until : ℕ) (rest : List Event) (due : Option ℕ) → AreFrom plan next rest → IsNextTime next rest due until now → AreFrom plan now rest
-from-later plan next now until rest due from is = elim (cases_eq next 0) [
-  | inl same ↦ let now_is = is.first same in subst (λ n. AreFrom plan n rest) (sym now_is) (subst (λ n. AreFrom plan n rest) same from)
-  | inr begun ↦ record { list = from.list; later = is.until_event begun }
-]
-
 -- each element is due no earlier than that
 pub due-until : (plan : Topology) (next now until : ℕ) (rest : List Event) (due : Option ℕ) (run : Run) (elements : List ElementState) → elements ≡ run.elements.items
     → IsRun plan next run → IsNextTime next rest due until now
@@ -120,20 +107,7 @@ pub due-until : (plan : Topology) (next now until : ℕ) (rest : List Event) (du
     → (place : ℕ) (element : ElementState) → place < length plan.elements → IfSome (element_in run place element).due (λ d. now ≤ d)
 due-until plan next now until rest due run elements listed is time first place element within =
     subst (λ xs. IfSome (slice_index_or xs place element).due (λ d. now ≤ d)) listed
-    (first place element (let count = ap length listed ∙ is.counted.elements in omega (arith, count, within)) now (elim (cases_eq next 0) [
-      | inl same ↦ anything due now (time.first same)
-      | inr begun ↦ time.until_due begun
-    ]))
-  where
-    anything : (due : Option ℕ) (n : ℕ) → n ≡ 0 → IfSome due (λ d. n ≤ d)
-    anything None n zero_is = tt
-    anything (Some d) n zero_is = omega (arith, zero_is)
-
--- and there are no events in between
-pub none-between : (plan : Topology) (next now : ℕ) (all rest : List Event) → AreFrom plan now rest → ((t : ℕ) → next ≤ t → events_at t all ≡ events_at t rest)
-    → (t : ℕ) → next ≤ t → t < now → events_at t all ≡ []
-none-between plan next now all rest from here t low high =
-    here t low ∙ none-at t rest (λ k other inside same. let late = from.later k other inside in absurd (omega (arith, late, same, high)))
+    (first place element (let count = ap length listed ∙ is.counted.elements in omega (arith, count, within)) now time.until_due)
 
 -- each element is due no earlier than the next millisecond
 pub dues-from : (plan : Topology) (next : ℕ) (run : Run) (elements : List ElementState) → elements ≡ run.elements.items → IsRun plan next run

@@ -12,6 +12,7 @@ use Rattle.sync_element.specs.ElementState.{ElementState}
 use Rattle.sync_topo.specs.declared.event.Event.{Event}
 use Rattle.sync_topo.specs.Topology.{Topology}
 use Rattle.sync_topo.specs.WellFormed.{IsWellFormed}
+use Rattle.event_times.specs.EventTimes.{AreHere}
 use Rattle.net_words.specs.Tellings.{told_to, is_something, AreTold}
 use Rattle.net_words.specs.Words.{all_words}
 use Rattle.net_words.proofs.FitLaws.{all-fit}
@@ -19,7 +20,7 @@ use Rattle.prio_mode.specs.declared.shown.Shown.{Shown}
 use Rattle.prio_mode.specs.declared.running.Run.{Run}
 use Rattle.prio_mode.specs.PriorityAlone.{priority_settings}
 use Rattle.prio_mode.specs.PriorityRows.{shown_after, row_in, rows_before, rows_in}
-use Rattle.prio_mode.specs.Running.{IsReady, IsOfPast, IsRun, RunStands, AreHere, IsVisited, IsHalfway, element_in, shown_in}
+use Rattle.prio_mode.specs.Running.{IsReady, IsOfPast, IsRun, RunStands, IsVisited, IsHalfway, element_in, shown_in}
 use Rattle.prio_mode.proofs.Standing.{fits-same}
 
 -- the rows of one number more

@@ -8,4 +8,3 @@ pub mod PriorityRows
 pub mod PriorityReport
 pub mod Running
 pub mod Configured
-pub mod EventTimes

@@ -12,6 +12,7 @@ use Rattle.sync_topo.specs.Topology.{Topology}
 use Rattle.sync_topo.specs.Lines.{IsInput}
 use Rattle.sync_topo.specs.Events.{IsEventList}
 use Rattle.net_rules.specs.Signals.{signals_by, events_at}
+use Rattle.event_times.specs.EventTimes.{AreHere}
 use Rattle.net_words.specs.Tellings.{told_to, is_active, is_something}
 use Rattle.net_words.specs.Words.{all_words}
 use Rattle.prio_mode.specs.declared.shown.Shown.{Shown}
@@ -66,11 +67,6 @@ pub record IsRun (plan : Topology) (next : ℕ) (run : Run) : Type 0 where
 abbrev pub RunStands : Topology → List Event → ℕ → Run → Type 0
 RunStands plan events n run = (place : ℕ) (element : ElementState) → place < length plan.elements
     → IsOfPast plan events place n (element_in run place element)
-
--- of all events, these stand at a millisecond
-pub record AreHere (plan : Topology) (all : List Event) (t : ℕ) (told : List Event) : Type 0 where
-  pub ordered : IsEventList plan all
-  pub here : events_at t all ≡ told
 
 -- the element at a place was looked at in a millisecond: it is ready for the next one, and its change is
 -- written

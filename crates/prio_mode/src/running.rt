@@ -5,17 +5,17 @@ ghost use Rattle.sync_ql.specs.Told.{FitsElement};
 ghost use Rattle.sync_element.specs.ElementState.{ElementState};
 ghost use Rattle.sync_topo.specs.declared.event.Event.{Event};
 ghost use Rattle.sync_topo.specs.Events.{Fits};
+ghost use Rattle.event_times.specs.EventTimes.{AreHere, AreTold, AreWithin};
 ghost use Rattle.net_words.specs.Tellings.{told_to, is_active, is_something};
 ghost use Rattle.prio_mode.specs.declared.shown.Shown.{Shown};
-ghost use Rattle.prio_mode.specs.EventTimes.{AreFrom};
 ghost use Rattle.prio_mode.specs.PriorityAlone.{priority_settings};
 ghost use Rattle.prio_mode.specs.PriorityRows.{rows_in, rows_until};
-ghost use Rattle.prio_mode.specs.Running.{AreCounted, IsRun, RunStands, IsReady, AreHere, IsVisited, element_in, shown_in};
+ghost use Rattle.prio_mode.specs.Running.{AreCounted, IsRun, RunStands, IsReady, IsVisited, element_in, shown_in};
 
-use crate::events::{next_time, split_at_time};
 use crate::rows::put_if_other;
 use crate::shown::Shown;
 use crate::stepping::step_told;
+use event_times::{next_time, split_at_time};
 use net_words::{Tellings, tell_events};
 use std::alloc::Global;
 use sync_element::Element;
@@ -150,12 +150,12 @@ impl Run {
         text: &mut Text,
     ) -> Result<(), NoMemory>
         requires run { IsRun plan.now 0 self.old }
-        requires from { AreFrom plan.now 0 events.now }
-        requires stands { RunStands plan.now events.now 0 self.old }
+        requires within { AreWithin plan.now 0 until events.now }
         requires in_range { until ≤ LAST_MILLISECOND }
         ensures run { OnOk result (IsRun plan.now (until + 1) self.new) }
-        ensures stands { OnOk result (RunStands plan.now events.now (suc until) self.new) }
-        ensures text { OnOk result (text.new ≡ text.old ++ rows_until plan.now events.now (suc until)) }
+        ensures stands { OnOk result ((all : List Event) → AreTold plan.now all 0 until events.now →
+            RunStands plan.now all 0 self.old → RunStands plan.now all (suc until) self.new
+            × (text.new ≡ text.old ++ rows_until plan.now all (suc until))) }
     {
         let mut next = 0;
         let mut rest = events;

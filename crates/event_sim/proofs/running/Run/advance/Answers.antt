@@ -4,10 +4,11 @@ use Rattle.sync_topo.specs.declared.event.Event.{Event}
 use Rattle.sync_topo.specs.Topology.{Topology}
 use Rattle.sync_topo.specs.Events.{Fits}
 use Rattle.sync_net.specs.NetState.{NetState}
-use Rattle.event_sim.specs.Standing.{AreWithin}
-use Rattle.event_sim.specs.Running.{RunStands, IsCut, IsAfterTurn, AreHere}
+use Rattle.event_times.specs.EventTimes.{AreWithin, AreHere}
+use Rattle.event_sim.specs.Running.{RunStands, IsCut, IsAfterTurn}
 use Rattle.event_sim.proofs.BoundLaws.{bound-more}
-use Rattle.event_sim.proofs.RunLaws.{IsTurn, within-from, the-turn, kept-more, run-until, turn-here, turn-counted}
+use Rattle.event_times.proofs.EventTimes.{within-from}
+use Rattle.event_sim.proofs.RunLaws.{IsTurn, the-turn, kept-more, run-until, turn-here, turn-counted}
 use Rattle.event_sim.proofs.running.Run.advance.Goals as goal
 
 pub take_turn-requires-clause-in_time : goal.take_turn-requires-clause-in_time

@@ -1,9 +1,10 @@
 use Rattle.std.proofs.Common.{◌≡◌, ◌+◌, ◌-◌, ◌++◌, ℕ, suc, List, sym, subst, ◌∙◌, arith, add-one}
 use Rattle.sync_topo.specs.declared.event.Event.{Event}
-use Rattle.prio_mode.specs.EventTimes.{AreFrom}
+use Rattle.event_times.specs.EventTimes.{AreWithin}
+use Rattle.event_times.proofs.EventTimes.{within-from, none-until, are-here}
 use Rattle.prio_mode.specs.PriorityRows.{rows_until}
 use Rattle.prio_mode.specs.Running.{IsRun, RunStands}
-use Rattle.prio_mode.proofs.Advancing.{run-later, gap, from-later, due-until, none-between, dues-from, rows-more}
+use Rattle.prio_mode.proofs.Advancing.{run-later, gap, due-until, dues-from, rows-more}
 use Rattle.prio_mode.proofs.running.Run.advance.Goals as goal
 
 pub next_time-now-requires-clause-due : goal.next_time-now-requires-clause-due
@@ -12,55 +13,60 @@ next_time-now-requires-clause-due c =
 
 pub turn-requires-clause-in_range : goal.turn-requires-clause-in_range
 turn-requires-clause-in_range c =
-    let time = c.next_time-now.ensures c.args.plan.now c.loop-next.invariant.from in
+    let time = c.next_time-now.ensures c.args.plan.now c.loop-next.invariant.rest in
     omega (arith, time.up_to, c.requires.in_range)
 
 pub turn-requires-clause-run : goal.turn-requires-clause-run
 turn-requires-clause-run c =
-    let time = c.next_time-now.ensures c.args.plan.now c.loop-next.invariant.from in
+    let time = c.next_time-now.ensures c.args.plan.now c.loop-next.invariant.rest in
     run-later c.args.plan.now c.loop-next.next c.next_time-now.result c.loop-next.self c.loop-next.invariant.run time.later time.first
     (due-until c.args.plan.now c.loop-next.next c.next_time-now.result c.args.until c.loop-next.rest.now c.first_due.result c.loop-next.self c.as_slice.result.now c.as_slice.ensures.value c.loop-next.invariant.run time
     c.first_due.ensures.until)
 
 pub turn-requires-clause-fit : goal.turn-requires-clause-fit
 turn-requires-clause-fit c =
-    let time = c.next_time-now.ensures c.args.plan.now c.loop-next.invariant.from in
-    let from = from-later c.args.plan.now c.loop-next.next c.next_time-now.result c.args.until c.loop-next.rest.now c.first_due.result c.loop-next.invariant.from time in
-    (c.split_at_time.ensures c.args.plan.now from).fit
+    let time = c.next_time-now.ensures c.args.plan.now c.loop-next.invariant.rest in
+    let within = within-from c.args.plan.now c.loop-next.next c.args.until c.next_time-now.result c.loop-next.rest.now c.first_due.result time c.loop-next.invariant.rest in
+    (c.split_at_time.ensures c.args.plan.now c.args.until within).fit
 
 pub overflow_add-next : goal.overflow_add-next
 overflow_add-next c =
-    let time = c.next_time-now.ensures c.args.plan.now c.loop-next.invariant.from in
+    let time = c.next_time-now.ensures c.args.plan.now c.loop-next.invariant.rest in
     omega (arith, time.up_to, c.requires.in_range)
 
 pub loop-next-smaller : goal.loop-next-smaller
 loop-next-smaller c =
-    let time = c.next_time-now.ensures c.args.plan.now c.loop-next.invariant.from in
+    let time = c.next_time-now.ensures c.args.plan.now c.loop-next.invariant.rest in
     omega (arith, time.up_to, time.later, c.loop-next-test.true)
 
 pub loop-next-preserved : goal.loop-next-preserved
 loop-next-preserved c =
     let plan = c.args.plan.now in
-    let events : List Event = c.args.events.now in
+    let until : ℕ = c.args.until in
+    let given : List Event = c.args.events.now in
+    let rest : List Event = c.loop-next.rest.now in
+    let here : List Event = c.split_at_time.result.0.now in
+    let later : List Event = c.split_at_time.result.1.now in
     let next : ℕ = c.loop-next.next in
     let now : ℕ = c.next_time-now.result in
     let before = c.loop-next.invariant in
-    let time = c.next_time-now.ensures plan before.from in
-    let from = from-later plan next now c.args.until c.loop-next.rest.now c.first_due.result before.from time in
-    let parted = c.split_at_time.ensures plan from in
+    let time = c.next_time-now.ensures plan before.rest in
+    let parted = c.split_at_time.ensures plan until (within-from plan next until now rest c.first_due.result time before.rest) in
     let then_run = run-later plan next now c.loop-next.self before.run time.later time.first
-    (due-until plan next now c.args.until c.loop-next.rest.now c.first_due.result c.loop-next.self c.as_slice.result.now c.as_slice.ensures.value before.run time c.first_due.ensures.until) in
-    let quiet = gap plan events next now c.loop-next.self c.requires.from.list before.run then_run
-    (none-between plan next now events c.loop-next.rest.now from before.here) (now - next) (let later = time.later in omega (arith, later)) before.stands in
-    let turned = c.in_ok-turn.ensures.stands events
-    (record { ordered = c.requires.from.list; here = before.here now time.later ∙ parted.here }) quiet.0 in
+    (due-until plan next now until rest c.first_due.result c.loop-next.self c.as_slice.result.now c.as_slice.ensures.value before.run time c.first_due.ensures.until) in
     record {
       run = c.in_ok-turn.ensures.run;
-      from = subst (λ n. AreFrom plan n c.split_at_time.result.1.now) (sym (add-one now)) parted.from;
-      here = λ t late.
-          before.here t (let later = time.later in omega (arith, later, late)) ∙ parted.rest t (omega (arith, late));
-      stands = subst (λ n. RunStands plan events n c.turn.new.self) (sym (add-one now)) turned.0;
-      text = turned.1 ∙ rows-more plan events c.args.text.now c.loop-next.text next now before.text quiet.1;
+      rest = subst (λ n. AreWithin plan n until later) (sym (add-one now)) parted.within;
+      left = λ t low high. before.left t (let early = time.later in omega (arith, early, low)) high ∙ parted.rest t (omega (arith, low));
+      stands = λ all told stood.
+          let so_far = before.stands all told stood in
+          let quiet = gap plan all next now c.loop-next.self told.ordered before.run then_run
+          (none-until plan all given rest 0 next until now c.first_due.result told (omega arith) before.left time)
+          (now - next) (let early = time.later in omega (arith, early)) so_far.0 in
+          let turned = c.in_ok-turn.ensures.stands all (are-here plan all given rest 0 next until now c.first_due.result told (omega arith) before.left time here later parted) quiet.0 in (
+            subst (λ n. RunStands plan all n c.turn.new.self) (sym (add-one now)) turned.0,
+            turned.1 ∙ rows-more plan all c.args.text.now c.loop-next.text next now so_far.1 quiet.1,
+          );
       up_to = (let end = time.up_to in omega (arith, end));
     }
 
@@ -70,11 +76,7 @@ returns-clause-run c =
     subst (λ n. IsRun c.args.plan.now n c.loop-next.self) same c.loop-next.invariant.run
 
 pub returns-clause-stands : goal.returns-clause-stands
-returns-clause-stands c =
+returns-clause-stands c = λ all told stood.
     let same : c.loop-next.next ≡ suc c.args.until = omega (arith, c.loop-next-test.false, c.loop-next.invariant.up_to) in
-    subst (λ n. RunStands c.args.plan.now c.args.events.now n c.loop-next.self) same c.loop-next.invariant.stands
-
-pub returns-clause-text : goal.returns-clause-text
-returns-clause-text c =
-    let same : c.loop-next.next ≡ suc c.args.until = omega (arith, c.loop-next-test.false, c.loop-next.invariant.up_to) in
-    subst (λ n. c.loop-next.text ≡ c.args.text.now ++ rows_until c.args.plan.now c.args.events.now n) same c.loop-next.invariant.text
+    subst (λ n. RunStands c.args.plan.now all n c.loop-next.self × (c.loop-next.text ≡ c.args.text.now ++ rows_until c.args.plan.now all n)) same
+    (c.loop-next.invariant.stands all told stood)

@@ -1,6 +1,7 @@
-use Rattle.std.proofs.Common.{◌≡◌, ◌≤◌, ◌+◌, ◌-◌, ◌++◌, ℕ}
+use Rattle.std.proofs.Common.{◌≡◌, ◌≤◌, ◌+◌, ◌-◌, ◌++◌, ℕ, List}
+use Rattle.sync_topo.specs.declared.event.Event.{Event}
 use Rattle.net_rules.specs.Signals.{events_at}
-use Rattle.prio_mode.specs.EventTimes.{AreFrom}
+use Rattle.event_times.specs.EventTimes.{AreTold, AreWithin}
 use Rattle.prio_mode.specs.PriorityRows.{rows_until}
 use Rattle.prio_mode.specs.Running.{IsRun, RunStands}
 use Rattle.prio_mode.proofs.running.Run.advance.Given as goal
@@ -9,10 +10,10 @@ use Rattle.prio_mode.proofs.running.Run.advance.Given as goal
 abbrev pub invariant-loop-next : goal.invariant-loop-next
 invariant-loop-next l = record {
   run : IsRun l.plan l.next l.self;
-  from : AreFrom l.plan l.next l.rest;
-  here : (t : ℕ) → l.next ≤ t → events_at t l.events ≡ events_at t l.rest;
-  stands : RunStands l.plan l.events l.next l.self;
-  text : l.text ≡ l.fn.text ++ rows_until l.plan l.events l.next;
+  rest : AreWithin l.plan l.next l.until l.rest;
+  left : (t : ℕ) → l.next ≤ t → t ≤ l.until → events_at t l.events ≡ events_at t l.rest;
+  stands : (all : List Event) → AreTold l.plan all 0 l.until l.events → RunStands l.plan all 0 l.fn.self
+      → RunStands l.plan all l.next l.self × (l.text ≡ l.fn.text ++ rows_until l.plan all l.next);
   up_to : l.next ≤ l.until + 1;
 }
 

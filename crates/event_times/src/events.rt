@@ -1,18 +1,21 @@
 //! Which events come next.
 
-ghost use Rattle.std.specs.Prelude.{◌≡◌, ◌≤◌, ◌<◌, ℕ, IfSome, length, slice_index_or};
+ghost use Rattle.std.specs.Prelude.{◌≡◌, ◌≤◌, ◌<◌, ◌⊎◌, ℕ, List, IfSome, length, slice_index_or};
 ghost use Rattle.sync_topo.specs.declared.event.Event.{Event};
+ghost use Rattle.sync_topo.specs.Events.{IsEventList};
 ghost use Rattle.sync_topo.specs.Topology.{Topology};
-ghost use Rattle.prio_mode.specs.EventTimes.{AreFrom, IsNextTime, AreParted};
+ghost use Rattle.event_times.specs.EventTimes.{IsNextTime, AreParted, AreTold, AreWithin};
 
 use sync_topo::Event;
 
 /// The next millisecond in which something happens: the first of all is 0, and a later one the least of
 /// the next event's, the due time and the end.
-pub(crate) fn next_time(next: u64, rest: &[Event], due: Option<u64>, until: u64) -> u64
+///
+/// This project's own.
+pub fn next_time(next: u64, rest: &[Event], due: Option<u64>, until: u64) -> u64
     requires later { next ≤ until }
     requires due { IfSome due (λ due. next ≤ due) }
-    ensures { (plan : Topology) → AreFrom plan next rest.now →
+    ensures { (plan : Topology) → AreWithin plan next until rest.now →
         IsNextTime next rest.now due until result }
 {
     if next == 0 {
@@ -29,7 +32,7 @@ pub(crate) fn next_time(next: u64, rest: &[Event], due: Option<u64>, until: u64)
 fn earlier(due: Option<u64>, until: u64) -> u64
     ensures up_to { result ≤ until }
     ensures until_due { IfSome due (λ due. result ≤ due) }
-    ensures from { (n : ℕ) → n ≤ until → IfSome due (λ due. n ≤ due) → n ≤ result }
+    ensures cause { (result ≡ until) ⊎ (due ≡ Some result) }
 {
     match due {
         Some(due) if due < until => due,
@@ -38,11 +41,25 @@ fn earlier(due: Option<u64>, until: u64) -> u64
 }
 
 /// The events at a millisecond, and the later ones.
-pub(crate) fn split_at_time(events: &[Event], now: u64) -> (&[Event], &[Event])
-    ensures { (plan : Topology) → AreFrom plan now events.now →
-        AreParted plan now events.now result.0.now result.1.now }
+///
+/// This project's own.
+pub fn split_at_time(events: &[Event], now: u64) -> (&[Event], &[Event])
+    ensures { (plan : Topology) (until : ℕ) → AreWithin plan now until events.now →
+        AreParted plan now until events.now result.0.now result.1.now }
 {
     events.split_at(count_at(events, now))
+}
+
+/// The events that are not later than a millisecond, of a list in order of time.
+///
+/// This project's own.
+pub fn events_until(events: &[Event], until: u64) -> &[Event]
+    ensures told { (plan : Topology) → IsEventList plan events.now →
+        AreTold plan events.now 0 until result.now }
+    ensures within { (plan : Topology) → IsEventList plan events.now →
+        AreWithin plan 0 until result.now }
+{
+    &events[..count_at(events, until)]
 }
 
 /// The number of events before the first one that is later.

@@ -1,5 +1,5 @@
-use Rattle.event_sim.proofs.EventCut.{are-told, are-within}
-use Rattle.event_sim.proofs.events.events_until.Goals as goal
+use Rattle.event_times.proofs.EventCut.{are-told, are-within}
+use Rattle.event_times.proofs.events.events_until.Goals as goal
 
 pub returns-clause-told : goal.returns-clause-told
 returns-clause-told c = λ plan list.

@@ -1,5 +1,5 @@
-use Rattle.event_sim.proofs.EventTimes.{next-event, next-last}
-use Rattle.event_sim.proofs.events.next_time.Goals as goal
+use Rattle.event_times.proofs.EventTimes.{next-event, next-last}
+use Rattle.event_times.proofs.events.next_time.Goals as goal
 
 pub returns-in-Some : goal.returns-in-Some
 returns-in-Some c = λ plan within.

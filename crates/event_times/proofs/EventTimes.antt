@@ -1,7 +1,7 @@
 -- Which events come next, and how a list of events is parted by time.
-use Rattle.std.proofs.Common.{◌≡◌, ◌≢◌, ◌≤◌, ◌<◌, ◌+◌, inl, inr, ℕ, suc, Bool, true, false, List, [], ◌∷◌, ◌++◌, length, filter, take, drop, refl, ap, sym, subst, ◌∙◌, arith}
+use Rattle.std.proofs.Common.{◌≡◌, ◌≢◌, ◌≤◌, ◌<◌, ◌+◌, ◌⊎◌, inl, inr, ℕ, suc, Bool, true, false, ◌||◌, List, [], ◌∷◌, ◌++◌, length, filter, take, drop, refl, ap, sym, subst, ◌∙◌, arith}
 use Rattle.std.specs.Prelude.{nat_eq, slice_get, slice_index_or, Option, None, Some, IfSome}
-use Rattle.std.specs.List.{All}
+use Rattle.std.specs.List.{All, list_any}
 use Rattle.std.proofs.lemmas.Bool.{eq-eqb}
 use Rattle.std.proofs.lemmas.Bool.Decides.{eqb_tells}
 use Rattle.std.proofs.lemmas.List.{get_or-drop, get_or-take, length-drop, length-take, append-nil, take-append-drop}
@@ -13,7 +13,7 @@ use Rattle.sync_topo.specs.Events.{Fits, IsInOrder}
 use Rattle.net_rules.specs.Signals.{events_at}
 use Rattle.net_rules.specs.Walks.{Each}
 use Rattle.net_rules.proofs.EventLaws.{each-all}
-use Rattle.prio_mode.specs.EventTimes.{AreFrom, IsNextTime, AreParted}
+use Rattle.event_times.specs.EventTimes.{AreWithin, AreTold, AreHere, IsNextTime, AreParted}
 
 -- an earlier one of a list in order is no later
 pub in-order : (events : List Event) → IsInOrder events → (i j : ℕ) (other : Event) → i ≤ j → j < length events
@@ -27,38 +27,51 @@ earlier-too (Some d) now last before due = omega (arith, before, due)
 
 -- the first event, where it is earlier than all else
 pub next-event : (plan : Topology) (next until last : ℕ) (rest : List Event) (due : Option ℕ) (event : Event) → Some event ≡ slice_get rest 0
-    → AreFrom plan next rest → next ≢ 0 → event.at < last → last ≤ until → IfSome due (λ d. last ≤ d)
+    → AreWithin plan next until rest → next ≢ 0 → event.at < last → last ≤ until → IfSome due (λ d. last ≤ d)
     → IsNextTime next rest due until event.at
-next-event plan next until last [] due event first from begun before end until_due = absurd (cc)
-next-event plan next until last (e ∷ events) due event first from begun before end until_due =
+next-event plan next until last [] due event first within begun before end until_due = absurd (cc)
+next-event plan next until last (e ∷ events) due event first within begun before end until_due =
     let same : event ≡ e = cc in
     record {
       first = λ none. absurd (begun none);
-      later = subst (λ (one : Event). next ≤ one.at) (sym same) (from.later 0 e (omega arith));
+      later = subst (λ (one : Event). next ≤ one.at) (sym same) (within.later 0 e (omega arith));
       up_to = omega (arith, before, end);
-      until_due = λ started. earlier-too due event.at last (omega (arith, before)) until_due;
-      until_event = λ started k other inside. subst (λ (one : Event). one.at ≤ (slice_index_or (e ∷ events) k other).at) (sym same)
-          (in-order (e ∷ events) from.list.in_order 0 k other (omega arith) inside);
+      until_due = earlier-too due event.at last (omega (arith, before)) until_due;
+      until_event = λ k other inside. subst (λ (one : Event). one.at ≤ (slice_index_or (e ∷ events) k other).at) (sym same)
+          (in-order (e ∷ events) within.list.in_order 0 k other (omega arith) inside);
+      cause = inr (inr (inl (ap (λ (b : Bool). b || list_any (λ (one : Event). nat_eq one.at event.at) events)
+          (subst (λ (one : Event). nat_eq one.at event.at ≡ true) same (eq-eqb event.at event.at refl)))));
     }
 
 -- what is due or the end, where no event is earlier
 pub next-last : (plan : Topology) (next until last : ℕ) (rest : List Event) (due : Option ℕ) (event : Event) → Some event ≡ slice_get rest 0
-    → AreFrom plan next rest → next ≢ 0 → last ≤ event.at → next ≤ last
-    → last ≤ until → IfSome due (λ d. last ≤ d)
+    → AreWithin plan next until rest → next ≢ 0 → last ≤ event.at → next ≤ until → IfSome due (λ d. next ≤ d)
+    → last ≤ until → IfSome due (λ d. last ≤ d) → (last ≡ until) ⊎ (due ≡ Some last)
     → IsNextTime next rest due until last
-next-last plan next until last [] due event first from begun before later end until_due = absurd (cc)
-next-last plan next until last (e ∷ events) due event first from begun before later end until_due =
+next-last plan next until last [] due event first within begun before started due_later end until_due cause = absurd (cc)
+next-last plan next until last (e ∷ events) due event first within begun before started due_later end until_due cause =
     let same : event ≡ e = cc in
     let early : last ≤ e.at = subst (λ (one : Event). last ≤ one.at) same before in
     record {
       first = λ none. absurd (begun none);
-      later = later;
+      later = of due due_later cause;
       up_to = end;
-      until_due = λ started. until_due;
-      until_event = λ started k other inside.
-          let ordered : e.at ≤ (slice_index_or (e ∷ events) k other).at = in-order (e ∷ events) from.list.in_order 0 k other (omega arith) inside in
+      until_due = until_due;
+      until_event = λ k other inside.
+          let ordered : e.at ≤ (slice_index_or (e ∷ events) k other).at = in-order (e ∷ events) within.list.in_order 0 k other (omega arith) inside in
           omega (arith, early, ordered);
+      cause = causes cause;
     }
+  where
+    of : (due : Option ℕ) → IfSome due (λ d. next ≤ d) → (last ≡ until) ⊎ (due ≡ Some last) → next ≤ last
+    of due is (inl same) = omega (arith, started, same)
+    of None is (inr same) = absurd (cc)
+    of (Some d) is (inr same) = let equal : d ≡ last = cc in omega (arith, is, equal)
+
+    causes : (last ≡ until) ⊎ (due ≡ Some last)
+        → (next ≡ 0) ⊎ ((last ≡ until) ⊎ ((list_any (λ (one : Event). nat_eq one.at last) (e ∷ events) ≡ true) ⊎ (due ≡ Some last)))
+    causes (inl same) = inr (inl same)
+    causes (inr same) = inr (inr (inr same))
 
 -- where all pass, all are kept, and where none does, none
 filter-each : (p : Event → Bool) (events : List Event) → Each (λ event. p event ≡ true) events → filter p events ≡ events
@@ -81,7 +94,7 @@ all-at t events all = filter-each (λ event. nat_eq event.at t) events (each-all
     (λ k other inside. eq-eqb (slice_index_or events k other).at t (all k other inside)))
 
 -- the events before the first later one, and those from it on
-module _ (plan : Topology) (now count : ℕ) (events : List Event) (within : AreFrom plan now events) (few : count ≤ length events)
+module _ (plan : Topology) (now until count : ℕ) (events : List Event) (within : AreWithin plan now until events) (few : count ≤ length events)
     (here : (k : ℕ) (other : Event) → k < count → (slice_index_or events k other).at ≤ now)
     (later : (other : Event) → count < length events → now < (slice_index_or events count other).at) where
   front-at : All (λ event. event.at ≡ now) (take count events)
@@ -105,7 +118,7 @@ module _ (plan : Topology) (now count : ℕ) (events : List Event) (within : Are
   whole : (t : ℕ) → events_at t events ≡ events_at t (take count events) ++ events_at t (drop count events)
   whole t = ap (events_at t) (sym (take-append-drop count events)) ∙ filter-append (λ (event : Event). nat_eq event.at t) (take count events) (drop count events)
 
-  pub parted : AreParted plan now events (take count events) (drop count events)
+  pub parted : AreParted plan now until events (take count events) (drop count events)
   parted = record {
     here = whole now
         ∙ ap (λ (back : List Event). events_at now (take count events) ++ back)
@@ -114,7 +127,7 @@ module _ (plan : Topology) (now count : ℕ) (events : List Event) (within : Are
         ∙ all-at now (take count events) front-at;
     rest = λ t after. whole t ∙ ap (λ (front : List Event). front ++ events_at t (drop count events))
         (none-at t (take count events) (λ k other inside same. let at = front-at k other inside in absurd (omega (arith, at, same, after))));
-    from = record {
+    within = record {
       list = record {
         fit = All-drop (Fits plan) count events within.list.fit;
         in_order = all_adjacent_from_non_decreasing (λ (event : Event). event.at) (drop count events)
@@ -122,6 +135,34 @@ module _ (plan : Topology) (now count : ℕ) (events : List Event) (within : Are
             (IsNonDecreasingBy-from_all_adjacent (λ (event : Event). event.at) events within.list.in_order));
       };
       later = back-later;
+      up_to = All-drop (λ event. event.at ≤ until) count events within.up_to;
     };
     fit = All-take (Fits plan) count events within.list.fit;
+    at = front-at;
   }
+
+-- none of the events that are left is earlier than the next time
+pub within-from : (plan : Topology) (next until now : ℕ) (rest : List Event) (due : Option ℕ) → IsNextTime next rest due until now
+    → AreWithin plan next until rest → AreWithin plan now until rest
+within-from plan next until now rest due is within = record { list = within.list; later = is.until_event; up_to = within.up_to }
+
+-- what is due up to a millisecond is due no earlier than one before it
+pub sooner : (due : Option ℕ) (k now : ℕ) → k ≤ now → IfSome due (λ d. now ≤ d) → IfSome due (λ d. k ≤ d)
+sooner None k now high is = tt
+sooner (Some d) k now high is = omega (arith, high, is)
+
+-- from one millisecond to the next in which something happens, of all events of which some are told
+module _ (plan : Topology) (all given rest : List Event) (from next until now : ℕ) (due : Option ℕ) (told : AreTold plan all from until given) (begun : from ≤ next)
+    (left : (t : ℕ) → next ≤ t → t ≤ until → events_at t given ≡ events_at t rest) (is : IsNextTime next rest due until now) where
+  pub here-of : (t : ℕ) → next ≤ t → t ≤ until → events_at t all ≡ events_at t rest
+  here-of t low high = told.here t (omega (arith, low, begun)) high ∙ left t low high
+
+  -- there are no events in between
+  pub none-until : (t : ℕ) → next ≤ t → t < now → events_at t all ≡ []
+  none-until t low high =
+      here-of t low (omega (arith, high, is.up_to))
+      ∙ none-at t rest (λ k other inside at. let late = is.until_event k other inside in absurd (omega (arith, late, at, high)))
+
+  -- and its events are those that stand there
+  pub are-here : (here later : List Event) → AreParted plan now until rest here later → AreHere plan all now here
+  are-here here later parted = record { ordered = told.ordered; here = here-of now is.later is.up_to ∙ parted.here }

@@ -1,6 +1,6 @@
 use Rattle.std.proofs.Common.{◌≤◌, ◌<◌, ℕ, slice_index_or}
 use Rattle.sync_topo.specs.declared.event.Event.{Event}
-use Rattle.event_sim.proofs.events.count_at.Given as goal
+use Rattle.event_times.proofs.events.count_at.Given as goal
 
 -- no event behind is later
 abbrev pub invariant-loop-place : goal.invariant-loop-place

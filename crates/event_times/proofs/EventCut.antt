@@ -9,8 +9,8 @@ use Rattle.sync_topo.specs.declared.event.Event.{Event}
 use Rattle.sync_topo.specs.Topology.{Topology}
 use Rattle.sync_topo.specs.Events.{Fits, IsEventList}
 use Rattle.net_rules.specs.Signals.{events_at}
-use Rattle.event_sim.specs.Standing.{AreTold, AreWithin}
-use Rattle.event_sim.proofs.EventTimes.{in-order, none-at}
+use Rattle.event_times.specs.EventTimes.{AreTold, AreWithin}
+use Rattle.event_times.proofs.EventTimes.{in-order, none-at}
 
 module _ (plan : Topology) (until count : ℕ) (events : List Event) (list : IsEventList plan events) (few : count ≤ length events)
     (here : (k : ℕ) (other : Event) → k < count → (slice_index_or events k other).at ≤ until)

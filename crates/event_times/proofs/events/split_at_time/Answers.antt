@@ -1,8 +1,8 @@
 use Rattle.std.proofs.Common.{List, drop, subst, sym}
 use Rattle.sync_topo.specs.declared.event.Event.{Event}
-use Rattle.event_sim.specs.Running.{AreParted}
-use Rattle.event_sim.proofs.EventTimes.{parted}
-use Rattle.event_sim.proofs.events.split_at_time.Goals as goal
+use Rattle.event_times.specs.EventTimes.{AreParted}
+use Rattle.event_times.proofs.EventTimes.{parted}
+use Rattle.event_times.proofs.events.split_at_time.Goals as goal
 
 pub returns : goal.returns
 returns c = λ plan until within.
