@@ -17,6 +17,7 @@
 //! The tests are worked plans and runs.
 #![tactic(auto)]
 
+mod calling;
 mod checking;
 mod forced;
 mod laws;

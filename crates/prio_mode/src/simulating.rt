@@ -31,6 +31,6 @@ pub fn prio_sim(alloc: Global, plan: &Plan, events: &[Event], until: u64) -> Res
     let told = events_until(events, until);
     run.advance(alloc, plan, told, until, &mut text)?;
     text.put(b"loops\n")?;
-    put_loops(alloc, &mut text, plan, run.shown.as_slice())?;
+    put_loops(alloc, &mut text, plan, run.seen.as_slice())?;
     Ok(text)
 }

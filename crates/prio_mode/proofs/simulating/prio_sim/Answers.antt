@@ -12,7 +12,7 @@ pub put_loops-requires : goal.put_loops-requires
 put_loops-requires c = record {
   taken =
       subst (λ shown. AreTaken c.args.plan.now (inputs_shown shown)) (sym c.as_slice.ensures.value)
-      (take-own c.args.plan.now c.args.events.now c.args.until c.advance.new.self c.elements-elements.ensures.well_formed c.in_ok-advance.ensures.run 
+      (take-own c.args.plan.now c.args.events.now c.args.until c.advance.new.self c.elements-elements.ensures.well_formed c.in_ok-advance.ensures.run
       (c.in_ok-advance.ensures.stands c.args.events.now (c.events_until-told.ensures.told c.args.plan.now (record { fit = c.requires.valid.fit; in_order = c.requires.valid.in_order })) (c.in_ok-run.ensures.stands c.args.events.now)).0);
 }
 
