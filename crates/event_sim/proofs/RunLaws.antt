@@ -27,7 +27,7 @@ use Rattle.event_times.specs.EventTimes.{AreTold, AreHere, IsNextTime, AreParted
 use Rattle.event_sim.specs.Showing.{AreShown, AreShownIf, AreNoted, kept_in, others_in, rows_between}
 use Rattle.event_sim.specs.Running.{IsKeptBy, RunStands, IsAfterTurn, IsTurnBound}
 use Rattle.event_sim.proofs.RowLaws.{HasElements, quiet-rows, turn-rows}
-use Rattle.event_times.proofs.EventTimes.{sooner, here-of, none-until, are-here}
+use Rattle.event_times.proofs.EventTimes.{sooner, none-until, are-here}
 use Rattle.event_sim.proofs.BoundLaws.{turn-bound, turn-counts}
 
 -- a step goes on from the millisecond before
@@ -124,8 +124,11 @@ kept-more one two three first second = record {
 module _ (net : NetState) (plan : Topology) (given rest here later : List Event) (until now : ℕ) (due : Option ℕ)
     (turn : IsTurn net plan given rest here later until now due)
     (all : List Event) (from : ℕ) (told : AreTold plan all from until given) (begun : from ≤ net.next) where
+  told-rest : AreTold plan all net.next until rest
+  told-rest = record { ordered = told.ordered; here = λ t low high. told.here t (omega (arith, low, begun)) high ∙ turn.left t low high }
+
   quiet : NoneFrom net.next now all
-  quiet = none-until plan all given rest from net.next until now due told begun turn.left turn.next
+  quiet = none-until plan all rest net.next until now due told-rest turn.next
 
   -- the network stands for each millisecond up to it
   stands-until : StandsFor net all net.next → (k : ℕ) → net.next ≤ k → k ≤ now → StandsFor net all k
@@ -146,14 +149,13 @@ module _ (net : NetState) (plan : Topology) (given rest here later : List Event)
   pub turn-here : AreHere net.plan all now here
   turn-here =
       subst (λ (p : Topology). AreHere p all now here) (sym turn.same)
-      (are-here plan all given rest from net.next until now due told begun turn.left turn.next here later turn.parted)
+      (are-here plan all rest net.next until now due told-rest turn.next here later turn.parted)
 
   -- and the step at it is counted
   pub turn-counted : StandsFor net all net.next → (net_then : NetState) → net_then.later_steps ≡ (if nat_eq net.next 0 then 0 else net.later_steps + 1)
       → net_then.later_steps ≤ net.later_steps + cond (is_busy plan all now || nat_eq now until) 1 0
   turn-counted stands net_then stepped =
-      turn-counts plan all rest net.next until now due turn.next
-      (here-of plan all given rest from net.next until now due told begun turn.left turn.next now turn.next.later turn.next.up_to)
+      turn-counts plan all rest net.next until now due turn.next (told-rest.here now turn.next.later turn.next.up_to)
       (λ is_due started.
       let busy : (every : List Event) (n : ℕ) → StandsFor net every n → 0 < net.next → n ≤ now → NoneFrom n now every → is_busy net.plan every now ≡ true =
       subst (λ (o : Option ℕ). IfSome o (λ d. (every : List Event) (n : ℕ) → StandsFor net every n → 0 < net.next → n ≤ d → NoneFrom n d every → is_busy net.plan every d ≡ true))

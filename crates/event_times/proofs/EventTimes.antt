@@ -26,30 +26,30 @@ earlier-too None now last before due = tt
 earlier-too (Some d) now last before due = omega (arith, before, due)
 
 -- the first event, where it is earlier than all else
-pub next-event : (plan : Topology) (next until last : ℕ) (rest : List Event) (due : Option ℕ) (event : Event) → Some event ≡ slice_get rest 0
-    → AreWithin plan next until rest → next ≢ 0 → event.at < last → last ≤ until → IfSome due (λ d. last ≤ d)
+pub next-event : (next until last : ℕ) (rest : List Event) (due : Option ℕ) (event : Event) → Some event ≡ slice_get rest 0
+    → IsInOrder rest → All (λ event. next ≤ event.at) rest → next ≢ 0 → event.at < last → last ≤ until → IfSome due (λ d. last ≤ d)
     → IsNextTime next rest due until event.at
-next-event plan next until last [] due event first within begun before end until_due = absurd (cc)
-next-event plan next until last (e ∷ events) due event first within begun before end until_due =
+next-event next until last [] due event first ordered low begun before end until_due = absurd (cc)
+next-event next until last (e ∷ events) due event first ordered low begun before end until_due =
     let same : event ≡ e = cc in
     record {
       first = λ none. absurd (begun none);
-      later = subst (λ (one : Event). next ≤ one.at) (sym same) (within.later 0 e (omega arith));
+      later = subst (λ (one : Event). next ≤ one.at) (sym same) (low 0 e (omega arith));
       up_to = omega (arith, before, end);
       until_due = earlier-too due event.at last (omega (arith, before)) until_due;
       until_event = λ k other inside. subst (λ (one : Event). one.at ≤ (slice_index_or (e ∷ events) k other).at) (sym same)
-          (in-order (e ∷ events) within.list.in_order 0 k other (omega arith) inside);
+          (in-order (e ∷ events) ordered 0 k other (omega arith) inside);
       cause = inr (inr (inl (ap (λ (b : Bool). b || list_any (λ (one : Event). nat_eq one.at event.at) events)
           (subst (λ (one : Event). nat_eq one.at event.at ≡ true) same (eq-eqb event.at event.at refl)))));
     }
 
 -- what is due or the end, where no event is earlier
-pub next-last : (plan : Topology) (next until last : ℕ) (rest : List Event) (due : Option ℕ) (event : Event) → Some event ≡ slice_get rest 0
-    → AreWithin plan next until rest → next ≢ 0 → last ≤ event.at → next ≤ until → IfSome due (λ d. next ≤ d)
+pub next-last : (next until last : ℕ) (rest : List Event) (due : Option ℕ) (event : Event) → Some event ≡ slice_get rest 0
+    → IsInOrder rest → next ≢ 0 → last ≤ event.at → next ≤ until → IfSome due (λ d. next ≤ d)
     → last ≤ until → IfSome due (λ d. last ≤ d) → (last ≡ until) ⊎ (due ≡ Some last)
     → IsNextTime next rest due until last
-next-last plan next until last [] due event first within begun before started due_later end until_due cause = absurd (cc)
-next-last plan next until last (e ∷ events) due event first within begun before started due_later end until_due cause =
+next-last next until last [] due event first in_order begun before started due_later end until_due cause = absurd (cc)
+next-last next until last (e ∷ events) due event first in_order begun before started due_later end until_due cause =
     let same : event ≡ e = cc in
     let early : last ≤ e.at = subst (λ (one : Event). last ≤ one.at) same before in
     record {
@@ -58,7 +58,7 @@ next-last plan next until last (e ∷ events) due event first within begun befor
       up_to = end;
       until_due = until_due;
       until_event = λ k other inside.
-          let ordered : e.at ≤ (slice_index_or (e ∷ events) k other).at = in-order (e ∷ events) within.list.in_order 0 k other (omega arith) inside in
+          let ordered : e.at ≤ (slice_index_or (e ∷ events) k other).at = in-order (e ∷ events) in_order 0 k other (omega arith) inside in
           omega (arith, early, ordered);
       cause = causes cause;
     }
@@ -151,18 +151,22 @@ pub sooner : (due : Option ℕ) (k now : ℕ) → k ≤ now → IfSome due (λ d
 sooner None k now high is = tt
 sooner (Some d) k now high is = omega (arith, high, is)
 
--- from one millisecond to the next in which something happens, of all events of which some are told
-module _ (plan : Topology) (all given rest : List Event) (from next until now : ℕ) (due : Option ℕ) (told : AreTold plan all from until given) (begun : from ≤ next)
-    (left : (t : ℕ) → next ≤ t → t ≤ until → events_at t given ≡ events_at t rest) (is : IsNextTime next rest due until now) where
-  pub here-of : (t : ℕ) → next ≤ t → t ≤ until → events_at t all ≡ events_at t rest
-  here-of t low high = told.here t (omega (arith, low, begun)) high ∙ left t low high
-
+-- from one millisecond to the next in which something happens, of all events of which those that are left are told
+module _ (plan : Topology) (all rest : List Event) (next until now : ℕ) (due : Option ℕ) (told : AreTold plan all next until rest)
+    (is : IsNextTime next rest due until now) where
   -- there are no events in between
   pub none-until : (t : ℕ) → next ≤ t → t < now → events_at t all ≡ []
   none-until t low high =
-      here-of t low (omega (arith, high, is.up_to))
+      told.here t low (omega (arith, high, is.up_to))
       ∙ none-at t rest (λ k other inside at. let late = is.until_event k other inside in absurd (omega (arith, late, at, high)))
 
-  -- and its events are those that stand there
+  -- its events are those that stand there
   pub are-here : (here later : List Event) → AreParted plan now until rest here later → AreHere plan all now here
-  are-here here later parted = record { ordered = told.ordered; here = here-of now is.later is.up_to ∙ parted.here }
+  are-here here later parted = record { ordered = told.ordered; here = told.here now is.later is.up_to ∙ parted.here }
+
+  -- and the later ones are those that are left
+  pub later-told : (here later : List Event) → AreParted plan now until rest here later → AreTold plan all (suc now) until later
+  later-told here later parted = record {
+    ordered = told.ordered;
+    here = λ t low high. told.here t (let first = is.later in omega (arith, first, low)) high ∙ parted.rest t (omega (arith, low));
+  }

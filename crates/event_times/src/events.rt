@@ -1,8 +1,8 @@
 //! Which events come next.
 
-ghost use Rattle.std.specs.Prelude.{◌≡◌, ◌≤◌, ◌<◌, ◌⊎◌, ℕ, List, IfSome, length, slice_index_or};
+ghost use Rattle.std.specs.Prelude.{◌≡◌, ◌≤◌, ◌<◌, ◌⊎◌, ℕ, List, IfSome, All, length, slice_index_or};
 ghost use Rattle.sync_topo.specs.declared.event.Event.{Event};
-ghost use Rattle.sync_topo.specs.Events.{IsEventList};
+ghost use Rattle.sync_topo.specs.Events.{IsEventList, IsInOrder};
 ghost use Rattle.sync_topo.specs.Topology.{Topology};
 ghost use Rattle.event_times.specs.EventTimes.{IsNextTime, AreParted, AreTold, AreWithin};
 
@@ -15,8 +15,9 @@ use sync_topo::Event;
 pub fn next_time(next: u64, rest: &[Event], due: Option<u64>, until: u64) -> u64
     requires later { next ≤ until }
     requires due { IfSome due (λ due. next ≤ due) }
-    ensures { (plan : Topology) → AreWithin plan next until rest.now →
-        IsNextTime next rest.now due until result }
+    requires events { All (λ event. next ≤ event.at) rest.now }
+    requires in_order { IsInOrder rest.now }
+    ensures { IsNextTime next rest.now due until result }
 {
     if next == 0 {
         return 0;

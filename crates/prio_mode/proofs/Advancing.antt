@@ -1,16 +1,18 @@
 -- From one millisecond in which something happens to the next.
-use Rattle.std.proofs.Common.{◌≡◌, ◌≤◌, ◌<◌, ◌+◌, ℕ, zero, suc, List, [], ◌++◌, length, map, IfSome, refl, ap, sym, subst, ◌∙◌, arith, append_assoc, append-nil, add-one}
+use Rattle.std.proofs.Common.{◌≡◌, ◌≤◌, ◌<◌, ◌+◌, ℕ, zero, suc, List, [], ◌++◌, length, map, Option, IfSome, refl, ap, sym, subst, ◌∙◌, arith, append-nil, add-one}
+use Rattle.std.proofs.Math.Decide.{dec_lt}
 use Rattle.std.specs.List.{concat, range_with_len}
 use Rattle.agenda.specs.DueTimes.{due_in}
 use Rattle.sync_topo.specs.declared.event.Event.{Event}
 use Rattle.sync_topo.specs.Topology.{Topology}
 use Rattle.sync_topo.specs.Events.{IsEventList}
 use Rattle.net_rules.specs.Signals.{events_at}
-use Rattle.event_times.proofs.EventTimes.{sooner}
+use Rattle.event_times.specs.EventTimes.{AreHere, IsNextTime, AreParted}
+use Rattle.event_times.proofs.EventTimes.{sooner, none-until, are-here, later-told}
 use Rattle.net_words.specs.Words.{all_words}
 use Rattle.prio_mode.specs.declared.running.Run.{Run}
-use Rattle.prio_mode.specs.PriorityRows.{row_in, rows_in, rows_until}
-use Rattle.prio_mode.specs.Running.{IsReady, IsRun, RunStands, kept_at}
+use Rattle.prio_mode.specs.PriorityRows.{row_in, rows_until}
+use Rattle.prio_mode.specs.Running.{IsReady, IsRun, RunStands, HasRun, IsOnWay, kept_at}
 use Rattle.prio_mode.proofs.Standing.{quiet-stands, no-row}
 use Rattle.prio_mode.proofs.Turning.{ready-later, row-is}
 
@@ -36,21 +38,18 @@ module _ (plan : Topology) (next now : ℕ) (run : Run) (is : IsRun plan next ru
   run-later = record {
     counted = is.counted;
     ready = λ e within. ready-at e now within later (omega arith) first;
-    idle = is.idle;
   }
 
-  -- and stands for it where no event comes meanwhile, with no rows
-  module _ (all : List Event) (listed : IsEventList plan all)
+  -- and where no event comes meanwhile, it stands for each millisecond, with no more rows
+  module _ (all : List Event) (listed : IsEventList plan all) (front text : List ℕ)
       (none : (t : ℕ) → next ≤ t → t < now → events_at t all ≡ []) where
-    abbrev Through : ℕ → Type 0
-    Through m = RunStands plan all m run × (rows_until plan all m ≡ rows_until plan all next)
-
-    quiet-one : (m : ℕ) → next ≤ m → m < now → Through m → Through (suc m)
+    quiet-one : (m : ℕ) → next ≤ m → m < now → HasRun plan all m run front text
+        → HasRun plan all (suc m) run front text
     quiet-one m low high so_far = (
       then_stands,
-      ap (λ rows. rows_until plan all m ++ rows)
+      so_far.1 ∙ ap (λ rows. front ++ rows) (sym (ap (λ rows. rows_until plan all m ++ rows)
           (concat-none (row_in plan all m) 0 (length plan.elements) (λ e from to. nothing e (omega (arith, to))))
-          ∙ append-nil (rows_until plan all m) ∙ so_far.1,
+          ∙ append-nil (rows_until plan all m))),
     )
       where
         ready : (e : ℕ) → e < length plan.elements → IsReady plan (suc m) e (kept_at plan run e)
@@ -68,16 +67,19 @@ module _ (plan : Topology) (next now : ℕ) (run : Run) (is : IsRun plan next ru
             (is.ready e within).shows (is.ready e within).shows (so_far.0 e within) (then_stands e within)
             ∙ no-row plan m e (kept_at plan run e).one.shown (kept_at plan run e).one.shown refl
 
-    quiet-more : (k : ℕ) → next + k ≤ now → RunStands plan all next run → Through (next + k)
-    quiet-more zero within stood =
-        let same : next ≡ next + zero = omega arith in subst Through same (stood, refl)
-    quiet-more (suc k) within stood =
-        let same : suc (next + k) ≡ next + suc k = omega arith in
-        subst Through same (quiet-one (next + k) (omega arith) (omega (arith, within))
-        (quiet-more k (omega (arith, within)) stood))
-
-    pub gap : (k : ℕ) → next + k ≡ now → RunStands plan all next run → Through now
-    gap k same stood = subst Through same (quiet-more k (omega (arith, same)) stood)
+    pub quiet-until : (m : ℕ) → next ≤ m → m ≤ now → HasRun plan all next run front text
+        → HasRun plan all m run front text
+    quiet-until zero low high begun =
+        let same : next ≡ 0 = omega (arith, low) in
+        subst (λ n. HasRun plan all n run front text) same begun
+    quiet-until (suc m) low high begun = elim (dec_lt m next) [
+      | yes here ↦
+          let same : next ≡ suc m = omega (arith, here, low) in
+          subst (λ n. HasRun plan all n run front text) same begun
+      | no before ↦
+          quiet-one m (omega (arith, before)) (omega (arith, high))
+          (quiet-until m (omega (arith, before)) (omega (arith, high)) begun)
+    ]
 
 -- each element is due no earlier than the next millisecond
 pub dues-from : (plan : Topology) (next : ℕ) (run : Run) → IsRun plan next run
@@ -86,11 +88,26 @@ dues-from plan next run is e within =
     let ready = is.ready e (let count = is.counted.dues in omega (arith, count, within)) in
     subst (λ o. IfSome o (λ due. next ≤ due)) (sym ready.due) ready.in_time.until_due
 
--- the rows up to and with a millisecond, after a quiet gap
-pub rows-more : (plan : Topology) (all : List Event) (old before : List ℕ) (next now : ℕ)
-    → before ≡ old ++ rows_until plan all next → rows_until plan all now ≡ rows_until plan all next
-    → before ++ rows_in plan all now ≡ old ++ rows_until plan all (now + 1)
-rows-more plan all old before next now so_far quiet =
-    ap (λ front. front ++ rows_in plan all now) (so_far ∙ ap (λ rows. old ++ rows) (sym quiet))
-    ∙ append_assoc old (rows_until plan all now) (rows_in plan all now)
-    ∙ ap (λ n. old ++ rows_until plan all n) (sym (add-one now))
+-- a turn on, and the events after it
+pub on-way : (plan : Topology) (events rest here later : List Event) (next until now : ℕ) (due : Option ℕ)
+    (before run run_then : Run) (first text text_then : List ℕ)
+    → IsOnWay plan events rest next until before run first text → IsNextTime next rest due until now
+    → ((e : ℕ) → IfSome (due_in run.dues e) (λ due. now ≤ due)) → AreParted plan now until rest here later
+    → IsRun plan (suc now) run_then
+    → ((all : List Event) (front : List ℕ) → AreHere plan all now here → HasRun plan all now run front text
+    → HasRun plan all (suc now) run_then front text_then)
+    → IsOnWay plan events later (now + 1) until before run_then first text_then
+on-way plan events rest here later next until now due before run run_then first text text_then
+    way time none_due parted is turned =
+    subst (λ n. IsOnWay plan events later n until before run_then first text_then) (sym (add-one now)) (record {
+      run_is = is;
+      within = parted.within;
+      stands = λ all told stood.
+          let so_far = way.stands all told stood in (
+            later-told plan all rest next until now due so_far.0 time here later parted,
+            turned all first (are-here plan all rest next until now due so_far.0 time here later parted)
+                (quiet-until plan next now run way.run_is time.later time.first none_due all told.ordered first text
+                (none-until plan all rest next until now due so_far.0 time) now time.later (omega arith) so_far.1),
+          );
+      up_to = (let end = time.up_to in omega (arith, end));
+    })

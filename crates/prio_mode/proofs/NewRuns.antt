@@ -41,7 +41,6 @@ begun plan run seen changes active dues = record {
     due = ap (λ xs. slice_index_or xs e None) dues ∙ replicated (length plan.elements) e None
         ∙ sym is.new.due;
   };
-  idle = active;
 }
 
 -- and stand for no milliseconds

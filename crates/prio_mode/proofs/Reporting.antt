@@ -1,5 +1,5 @@
 -- What a run shows at its end is what the elements take by the rules.
-use Rattle.std.proofs.Common.{◌≡◌, ◌≤◌, ◌<◌, ◌+◌, ℕ, suc, List, length, Option, None, Some, IfSome, refl, ap, sym, subst, ◌∙◌, inl, inr, arith}
+use Rattle.std.proofs.Common.{◌≡◌, ◌≤◌, ◌<◌, ℕ, suc, List, length, Option, None, Some, IfSome, refl, ap, sym, subst, ◌∙◌, inl, inr, arith}
 use Rattle.std.specs.Prelude.{◌++◌, codes}
 use Rattle.std.proofs.Math.Path.{fun_ext}
 use Rattle.std.proofs.lemmas.Bool.{cases_lt}
@@ -41,7 +41,7 @@ element-within plan (Source source) well has = elim (slice_get_cases plan.source
 abbrev taken_shown : List Seen → Taken
 taken_shown seen = taken_in_list (inputs_shown seen)
 
-module _ (plan : Topology) (events : List Event) (until : ℕ) (run : Run) (well : IsWellFormed plan) (is : IsRun plan (until + 1) run) (stood : RunStands plan events (suc until) run) where
+module _ (plan : Topology) (events : List Event) (until : ℕ) (run : Run) (well : IsWellFormed plan) (is : IsRun plan (suc until) run) (stood : RunStands plan events (suc until) run) where
   inside : (e : ℕ) → e < length plan.elements
       → (kept_at plan run e).one.shown.input ≡ priority_taken_in plan (signals_by plan events) until e
   unfolding shown_after priority_taken_at

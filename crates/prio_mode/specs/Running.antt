@@ -1,12 +1,11 @@
 -- Private to this crate: what a run keeps, and how far it has come.
-use Rattle.std.specs.Prelude.{◌≡◌, ◌<◌, ℕ, false, List, [], length, map, slice_index_or, Option, None, IfSome}
+use Rattle.std.specs.Prelude.{◌≡◌, ◌≤◌, ◌<◌, ℕ, suc, false, List, [], ◌++◌, length, map, slice_index_or, Option, None, IfSome}
 use Rattle.sync_ql.specs.declared.rules.InputEvent.{InputEvent}
 use Rattle.sync_ql.specs.declared.rules.Mode.TheVariants.{Auto}
 use Rattle.sync_ql.specs.declared.rules.ClockState.TheVariants.{FreeRun}
 use Rattle.sync_ql.specs.Moment.{Moment}
 use Rattle.sync_ql.specs.Told.{moments_until}
 use Rattle.agenda.specs.DueTimes.{due_in}
-use Rattle.agenda.specs.Marked.{none_marked}
 use Rattle.sync_element.specs.ElementState.{ElementState, IsInTime}
 use Rattle.sync_element.specs.StandsAfter.{StandsAfter}
 use Rattle.sync_element.specs.StandsFor as Element
@@ -15,13 +14,14 @@ use Rattle.sync_topo.specs.declared.input.InputId.{InputId}
 use Rattle.sync_topo.specs.Topology.{Topology}
 use Rattle.sync_topo.specs.Lines.{IsInput}
 use Rattle.net_rules.specs.Signals.{signals_by}
+use Rattle.event_times.specs.EventTimes.{AreTold, AreWithin}
 use Rattle.net_words.specs.NewElements.{IsNewElement, by_priority}
 use Rattle.net_words.specs.Tellings.{told_to}
 use Rattle.prio_mode.specs.declared.shown.Shown.{Shown}
 use Rattle.prio_mode.specs.declared.shown.Seen.{Seen}
 use Rattle.prio_mode.specs.declared.running.Run.{Run}
 use Rattle.prio_mode.specs.PriorityAlone.{priority_settings, priority_moment}
-use Rattle.prio_mode.specs.PriorityRows.{shown_after}
+use Rattle.prio_mode.specs.PriorityRows.{shown_after, rows_until}
 
 -- an element of a plan shows this after any past for which it stands, and after the milliseconds that
 -- follow up to its due time, if nothing is told; and the input is one of the plan
@@ -90,12 +90,24 @@ pub record IsReady (plan : Topology) (next place : ℕ) (kept : Kept) : Type 0 w
   pub untold : kept.told ≡ []
   pub due : kept.due ≡ kept.one.element.due
 
--- a run before a millisecond: all elements are ready, and none is marked
+-- a run before a millisecond: all elements are ready
 pub record IsRun (plan : Topology) (next : ℕ) (run : Run) : Type 0 where
   pub counted : AreCounted plan run
   pub ready : (e : ℕ) → e < length plan.elements → IsReady plan next e (kept_at plan run e)
-  pub idle : run.tellings.active ≡ none_marked (length plan.elements)
 
 abbrev pub RunStands : Topology → List Event → ℕ → Run → Type 0
 RunStands plan events n run = (e : ℕ) → e < length plan.elements
     → IsOfPast plan events e n (kept_at plan run e).one.element
+
+-- after n milliseconds it stands for events, and has put their rows
+abbrev pub HasRun : Topology → List Event → ℕ → Run → List ℕ → List ℕ → Type 0
+HasRun plan events n run first text = RunStands plan events n run × (text ≡ first ++ rows_until plan events n)
+
+-- how far it has come with events up to a millisecond, of which some are left
+pub record IsOnWay (plan : Topology) (events rest : List Event) (next until : ℕ) (before run : Run)
+    (first text : List ℕ) : Type 0 where
+  pub run_is : IsRun plan next run
+  pub within : AreWithin plan next until rest
+  pub stands : (all : List Event) → AreTold plan all 0 until events → RunStands plan all 0 before
+      → AreTold plan all next until rest × HasRun plan all next run first text
+  pub up_to : next ≤ suc until

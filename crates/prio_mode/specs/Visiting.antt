@@ -33,26 +33,26 @@ pub record AreInOrder (flags : List Bool) (order : List ℕ) : Type 0 where
   pub within : All (λ e. e < length flags) order
   pub kept : order ≡ filter (is_marked flags) (range_with_len 0 (length flags))
 
--- an element is told some words; one that isn't marked has none, and something to do only later
-pub record IsCalled (now : ℕ) (words : List InputEvent) (marked : Bool) (was is : Kept) : Type 0 where
-  pub one : is.one ≡ was.one
-  pub told : is.told ≡ was.told ++ words
-  pub started : marked ≡ false → now ≢ 0
-  pub wordless : marked ≡ false → words ≡ []
-  pub due : marked ≡ false → is.due ≡ was.due
-  pub later : IfSome is.due (λ due. now < due)
-
--- so each element is
-pub record AreCalled (plan : Topology) (now : ℕ) (here : List Event) (before after : Run) : Type 0 where
-  pub counted : AreCounted plan after
-  pub each : (e : ℕ) → e < length plan.elements → IsCalled now (all_words plan here e) (is_active after.tellings e)
-      (kept_at plan before e) (kept_at plan after e)
-
 -- what an element wants for its step
 pub record CanStep (plan : Topology) (now e : ℕ) (kept : Kept) : Type 0 where
   pub settings : kept.one.element.settings ≡ priority_settings plan e
   pub in_time : IsInTime kept.one.element now
   pub fits : All (FitsElement (priority_settings plan e)) kept.told
+
+-- an element was told some words; one that isn't marked has none, and something to do only later
+pub record IsCalled (now : ℕ) (words : List InputEvent) (marked : Bool) (was is : Kept) : Type 0 where
+  pub one : is.one ≡ was.one
+  pub told : is.told ≡ words
+  pub started : marked ≡ false → now ≢ 0
+  pub wordless : marked ≡ false → words ≡ []
+  pub idle : marked ≡ false → is ≡ was
+  pub later : IfSome is.due (λ due. now < due)
+
+-- so each element was
+pub record AreCalled (plan : Topology) (now : ℕ) (here : List Event) (before after : Run) : Type 0 where
+  pub counted : AreCounted plan after
+  pub each : (e : ℕ) → e < length plan.elements → IsCalled now (all_words plan here e)
+      (is_active after.tellings e) (kept_at plan before e) (kept_at plan after e)
 
 -- it made its step: it was told all, and is due when it says
 pub record IsVisited (plan : Topology) (now e : ℕ) (was is : Kept) : Type 0 where

@@ -5,8 +5,7 @@ ghost use Rattle.std.specs.List.{IsDistinct};
 ghost use Rattle.sync_topo.specs.declared.event.Event.{Event};
 ghost use Rattle.sync_topo.specs.Events.{Fits};
 ghost use Rattle.event_times.specs.EventTimes.{AreHere, AreTold, AreWithin};
-ghost use Rattle.prio_mode.specs.PriorityRows.{rows_in, rows_until};
-ghost use Rattle.prio_mode.specs.Running.{AreCounted, IsRun, RunStands, kept_at};
+ghost use Rattle.prio_mode.specs.Running.{AreCounted, IsRun, RunStands, HasRun, kept_at};
 ghost use Rattle.prio_mode.specs.Visiting.{CanStep, IsAloneVisited, AreVisited, AreCalled};
 
 use crate::calling::{first_due, in_order, mark_due, mark_first};
@@ -32,13 +31,17 @@ pub(crate) struct Run {
 impl Run {
     /// Marks the elements that have something to do in a millisecond, and tells them what events say.
     fn call(&mut self, plan: &Plan, now: u64, here: &[Event]) -> Result<(), NoMemory>
-        requires counted { AreCounted plan.now self.old }
+        requires run { IsRun plan.now now self.old }
         requires fit { All (Fits plan.now) here.now }
-        ensures { OnOk result (AreCalled plan.now now here.now self.old self.new) }
+        ensures called { OnOk result (AreCalled plan.now now here.now self.old self.new) }
+        ensures can_step { OnOk result ((e : ℕ) → e < length plan.now.elements →
+            CanStep plan.now now e (kept_at plan.now self.new e)) }
     {
+        self.tellings.active.clear();
         mark_first(plan, &mut self.tellings.active, now);
         mark_due(&mut self.dues, &mut self.tellings.active, now);
         tell_events(plan, &mut self.tellings, here)?;
+        let _elements = plan.elements();
         Ok(())
     }
 
@@ -102,16 +105,14 @@ impl Run {
         requires run { IsRun plan.now now self.old }
         requires in_range { now ≤ LAST_MILLISECOND }
         requires fit { All (Fits plan.now) here.now }
-        ensures run { OnOk result (IsRun plan.now (now + 1) self.new) }
-        ensures stands { OnOk result ((all : List Event) → AreHere plan.now all now here.now →
-            RunStands plan.now all now self.old → RunStands plan.now all (suc now) self.new
-            × (text.new ≡ text.old ++ rows_in plan.now all now)) }
+        ensures run { OnOk result (IsRun plan.now (suc now) self.new) }
+        ensures stands { OnOk result ((all : List Event) (first : List ℕ) →
+            AreHere plan.now all now here.now → HasRun plan.now all now self.old first text.old →
+            HasRun plan.now all (suc now) self.new first text.new) }
     {
-        let _elements = plan.elements();
         self.call(plan, now, here)?;
         let order = in_order(alloc, &self.tellings.active)?;
         self.visit_all(alloc, plan, order.as_slice(), now, text)?;
-        self.tellings.active.clear();
         Ok(())
     }
 
@@ -127,10 +128,10 @@ impl Run {
         requires run { IsRun plan.now 0 self.old }
         requires within { AreWithin plan.now 0 until events.now }
         requires in_range { until ≤ LAST_MILLISECOND }
-        ensures run { OnOk result (IsRun plan.now (until + 1) self.new) }
+        ensures run { OnOk result (IsRun plan.now (suc until) self.new) }
         ensures stands { OnOk result ((all : List Event) → AreTold plan.now all 0 until events.now →
-            RunStands plan.now all 0 self.old → RunStands plan.now all (suc until) self.new
-            × (text.new ≡ text.old ++ rows_until plan.now all (suc until))) }
+            RunStands plan.now all 0 self.old →
+            HasRun plan.now all (suc until) self.new text.old text.new) }
     {
         let mut next = 0;
         let mut rest = events;
