@@ -3,6 +3,7 @@ use Rattle.std.proofs.Common.{◌≡◌, ◌≤◌, ◌<◌, ℕ, suc, Bool, tru
 use Rattle.std.specs.List.{concat, range_with_len}
 use Rattle.sync_ql.specs.declared.rules.InputEvent.{InputEvent}
 use Rattle.sync_ql.specs.Told.{moment_after}
+use Rattle.agenda.specs.Called.{AreInOrder}
 use Rattle.agenda.proofs.MarkedPlaces.{flag_within}
 use Rattle.sync_element.specs.StandsAfter.{IsStepped}
 use Rattle.sync_element.proofs.ElementSteps.{later-due, stepped-in_time, stands-stepped}
@@ -19,7 +20,7 @@ use Rattle.prio_mode.specs.declared.running.Run.{Run}
 use Rattle.prio_mode.specs.PriorityAlone.{priority_settings, priority_moment, priority_past}
 use Rattle.prio_mode.specs.PriorityRows.{shown_by, row_between, row_in, rows_in, rows_until}
 use Rattle.prio_mode.specs.Running.{Shows, Kept, IsReady, IsOfPast, IsRun, HasRun, kept_at}
-use Rattle.prio_mode.specs.Visiting.{AreInOrder, IsCalled, AreCalled, IsVisited, AreVisited, row_of}
+use Rattle.prio_mode.specs.Visiting.{IsCalled, AreCalled, IsVisited, AreVisited, row_of}
 use Rattle.prio_mode.proofs.Standing.{told-moment, quiet-stands, shown-is, no-row}
 
 -- an element that isn't due up to a later millisecond is ready for it

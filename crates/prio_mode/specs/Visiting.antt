@@ -1,9 +1,8 @@
 -- Private to this crate: what becomes of a run in a millisecond, element by element.
-use Rattle.std.specs.Prelude.{◌≡◌, ◌≢◌, ◌<◌, ℕ, Bool, true, false, nat_eq, List, [], ◌++◌, length, map, filter, slice_index_or, Option, IfSome}
-use Rattle.std.specs.List.{All, IsDistinct, concat, list_any, range_with_len}
+use Rattle.std.specs.Prelude.{◌≡◌, ◌≢◌, ◌<◌, ℕ, Bool, true, false, nat_eq, List, [], ◌++◌, length, map, IfSome}
+use Rattle.std.specs.List.{All, concat, list_any}
 use Rattle.sync_ql.specs.declared.rules.InputEvent.{InputEvent}
 use Rattle.sync_ql.specs.Told.{FitsElement}
-use Rattle.agenda.specs.DueTimes.{due_in}
 use Rattle.sync_element.specs.ElementState.{IsInTime}
 use Rattle.sync_element.specs.StandsAfter.{IsStepped}
 use Rattle.sync_topo.specs.declared.event.Event.{Event}
@@ -14,24 +13,6 @@ use Rattle.prio_mode.specs.declared.running.Run.{Run}
 use Rattle.prio_mode.specs.PriorityAlone.{priority_settings}
 use Rattle.prio_mode.specs.PriorityRows.{row_between}
 use Rattle.prio_mode.specs.Running.{Shows, Kept, kept_at, AreCounted}
-
--- whether a place is marked
-abbrev pub is_marked : List Bool → ℕ → Bool
-is_marked flags e = slice_index_or flags e false
-
--- some places more are marked, and the others are due as they were
-pub record AreDueMarked (dues dues_then : List (Option ℕ)) (flags flags_then : List Bool) : Type 0 where
-  pub dues_count : length dues_then ≡ length dues
-  pub flags_count : length flags_then ≡ length flags
-  pub kept : (e : ℕ) → is_marked flags e ≡ true → is_marked flags_then e ≡ true
-  pub left : (e : ℕ) → is_marked flags_then e ≡ false → due_in dues_then e ≡ due_in dues e
-
--- just the marked places, from the lowest on
-pub record AreInOrder (flags : List Bool) (order : List ℕ) : Type 0 where
-  pub marked : (e : ℕ) → list_any (nat_eq e) order ≡ is_marked flags e
-  pub apart : IsDistinct nat_eq order
-  pub within : All (λ e. e < length flags) order
-  pub kept : order ≡ filter (is_marked flags) (range_with_len 0 (length flags))
 
 -- what an element wants for its step
 pub record CanStep (plan : Topology) (now e : ℕ) (kept : Kept) : Type 0 where

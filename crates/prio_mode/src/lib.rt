@@ -17,7 +17,6 @@
 //! The tests are worked plans and runs.
 #![tactic(auto)]
 
-mod calling;
 mod checking;
 mod forced;
 mod laws;

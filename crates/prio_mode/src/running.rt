@@ -1,18 +1,18 @@
 //! A run of a network of elements that choose by priority alone.
 
-ghost use Rattle.std.specs.Prelude.{◌≡◌, ◌≤◌, ◌<◌, ◌+◌, ◌++◌, ℕ, suc, nat_eq, List, OnOk, All, length};
+ghost use Rattle.std.specs.Prelude.{◌≡◌, ◌≤◌, ◌<◌, ◌+◌, ◌++◌, ℕ, suc, true, nat_eq, List, OnOk, All, length};
 ghost use Rattle.std.specs.List.{IsDistinct};
+ghost use Rattle.agenda.specs.Called.{is_marked};
 ghost use Rattle.sync_topo.specs.declared.event.Event.{Event};
 ghost use Rattle.sync_topo.specs.Events.{Fits};
 ghost use Rattle.event_times.specs.EventTimes.{AreHere, AreTold, AreWithin};
 ghost use Rattle.prio_mode.specs.Running.{AreCounted, IsRun, RunStands, HasRun, kept_at};
 ghost use Rattle.prio_mode.specs.Visiting.{CanStep, IsAloneVisited, AreVisited, AreCalled};
 
-use crate::calling::{first_due, in_order, mark_due, mark_first};
 use crate::rows::put_if_other;
 use crate::shown::Seen;
 use crate::stepping::step_told;
-use agenda::DueTimes;
+use agenda::{DueTimes, Marks, first_due, in_order, mark_all, mark_due};
 use event_times::{next_time, split_at_time};
 use net_words::{Tellings, tell_events};
 use std::alloc::Global;
@@ -26,6 +26,18 @@ pub(crate) struct Run {
     pub(crate) seen: Vec<Seen>,
     pub(crate) tellings: Tellings,
     pub(crate) dues: DueTimes,
+}
+
+/// Marks all elements in the first millisecond.
+fn mark_first(plan: &Plan, marks: &mut Marks, now: u64)
+    requires count { length marks.old.flags ≡ length plan.now.elements }
+    ensures count { length marks.new.flags ≡ length marks.old.flags }
+    ensures first { now ≡ 0 → (e : ℕ) → e < length plan.now.elements →
+        is_marked marks.new.flags e ≡ true }
+{
+    if now == 0 {
+        mark_all(marks, plan.elements());
+    }
 }
 
 impl Run {

@@ -1,7 +1,7 @@
 use Rattle.std.proofs.Common.{◌∙◌, subst}
 use Rattle.std.specs.List.Sorted.{IsPermutation}
-use Rattle.prio_mode.proofs.CalledElements.{in-order}
-use Rattle.prio_mode.proofs.calling.in_order.Goals as goal
+use Rattle.agenda.proofs.InOrder.{in-order}
+use Rattle.agenda.proofs.called.in_order.Goals as goal
 
 pub returns : goal.returns
 returns c =

@@ -1,4 +1,4 @@
--- Which elements have something to do in a millisecond.
+-- The marked places in order.
 use Rattle.std.proofs.Common.{◌≡◌, ◌<◌, ℕ, List, length, sym, ◌∙◌}
 use Rattle.std.specs.Prelude.{nat_eq}
 use Rattle.std.specs.List.{IsDistinct, list_any}
@@ -10,7 +10,7 @@ use Rattle.std.proofs.lemmas.List.Sorted.{list_any-IsPermutation, All-permutatio
 use Rattle.agenda.specs.Marked.{Marked, AreListed}
 use Rattle.agenda.proofs.MarkedPlaces.{flag_within}
 use Rattle.agenda.proofs.SortedPlaces.{sorted-kept}
-use Rattle.prio_mode.specs.Visiting.{is_marked, AreInOrder}
+use Rattle.agenda.specs.Called.{is_marked, AreInOrder}
 
 -- the places that are listed, sorted
 pub in-order : (marked : Marked) (order : List ℕ) → AreListed marked → IsPermutation marked.listed order

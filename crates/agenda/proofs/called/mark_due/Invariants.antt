@@ -1,6 +1,6 @@
 use Rattle.agenda.specs.DueTimes.{due_count}
-use Rattle.prio_mode.specs.Visiting.{AreDueMarked}
-use Rattle.prio_mode.proofs.calling.mark_due.Given as goal
+use Rattle.agenda.specs.Called.{AreDueMarked}
+use Rattle.agenda.proofs.called.mark_due.Given as goal
 
 -- what was taken out is marked
 abbrev pub invariant-loop-place : goal.invariant-loop-place
