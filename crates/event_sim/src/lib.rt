@@ -24,7 +24,6 @@
 
 mod change;
 mod crossing;
-mod events;
 mod laws;
 mod noting;
 mod running;
@@ -32,6 +31,6 @@ mod shown;
 mod sim;
 
 pub use change::{Change, Reach, Watch};
-pub use events::events_until;
+pub use event_times::events_until;
 pub use laws::later_events_law;
 pub use sim::Sim;

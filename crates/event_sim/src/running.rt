@@ -5,15 +5,15 @@ ghost use Rattle.sync_topo.specs.declared.event.Event.{Event};
 ghost use Rattle.sync_topo.specs.Events.{Fits};
 ghost use Rattle.sync_net.specs.NetState.{IsInTime};
 ghost use Rattle.sync_net.specs.Standing.{StandsFor};
+ghost use Rattle.event_times.specs.EventTimes.{AreTold, AreWithin, AreHere};
 ghost use Rattle.event_sim.specs.Changes.{IsChangeOf};
-ghost use Rattle.event_sim.specs.Standing.{AreTold, AreWithin};
 ghost use Rattle.event_sim.specs.Answers.{OnUntil, IfStopped};
-ghost use Rattle.event_sim.specs.Running.{IsOpen, IsKeptBy, RunStands, IsCut, IsAfterTurn, AreHere, IsTurnBound, IsBound};
+ghost use Rattle.event_sim.specs.Running.{IsOpen, IsKeptBy, RunStands, IsCut, IsAfterTurn, IsTurnBound, IsBound};
 
 use crate::change::{Change, Reach, Watch};
-use crate::events::{next_time, split_at_time};
 use crate::noting::note_changes;
 use crate::shown::Shown;
+use event_times::{next_time, split_at_time};
 use std::alloc::Global;
 use std::sync::ledger::Ledger;
 use sync_net::{Net, elements_law};

@@ -4,8 +4,9 @@ ghost use Rattle.std.specs.Prelude.{◌≡◌, ◌≤◌, ◌<◌, ◌+◌, ℕ,
 ghost use Rattle.event_sim.specs.Changes.{IsChangeOf};
 ghost use Rattle.sync_element.specs.ElementState.{ElementState};
 ghost use Rattle.sync_topo.specs.declared.event.Event.{Event};
+ghost use Rattle.event_times.specs.EventTimes.{AreTold, AreWithin};
 ghost use Rattle.event_sim.specs.SimState.{first_after};
-ghost use Rattle.event_sim.specs.Standing.{StandsFor, AreTold, AreWithin};
+ghost use Rattle.event_sim.specs.Standing.{StandsFor};
 ghost use Rattle.event_sim.specs.Answers.{is_stopped, OnUntil, IfStopped, IsLastFit};
 ghost use Rattle.event_sim.specs.Bounds.{turns_in, active_times, active_pairs};
 

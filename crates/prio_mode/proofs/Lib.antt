@@ -1,5 +1,4 @@
 pub mod LoopLaws
-pub mod EventTimes
 pub mod ShownLemmas
 pub mod Standing
 pub mod Visiting

@@ -18,6 +18,13 @@ pub(crate) struct Shown {
     pub(crate) state: ClockState,
 }
 
+/// An element, and what it showed last.
+#[derive(Debug, Drop)]
+pub(crate) struct Seen {
+    pub(crate) element: Element,
+    pub(crate) shown: Shown,
+}
+
 /// What an element of the plan shows.
 pub(crate) fn shown_of(plan: &Plan, place: u32, element: &Element) -> Shown
     requires within { place < length plan.now.elements }

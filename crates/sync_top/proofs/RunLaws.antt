@@ -16,7 +16,8 @@ use Rattle.event_sim.specs.declared.change.Reach.TheVariants.{Until, Stopped}
 use Rattle.sync_ql.specs.declared.limits.TheConstants.{MOST_ROWS}
 use Rattle.event_sim.specs.Rows.{rows_until}
 use Rattle.event_sim.specs.SimState.{SimState, first_after}
-use Rattle.event_sim.specs.Standing.{StandsFor, AreTold, watched_rows}
+use Rattle.event_times.specs.EventTimes.{AreTold}
+use Rattle.event_sim.specs.Standing.{StandsFor, watched_rows}
 use Rattle.event_sim.specs.Answers.{is_stopped, OnUntil, IfStopped, IsLastFit}
 use Rattle.sync_top.specs.Forms.Trial.{trial_events, counted_line, last_line, run_lines, trial_text, AreReportRows, IsSettledAt}
 use Rattle.trace_report.specs.LastParts.{settled_part}
