@@ -7,8 +7,8 @@ ghost use Rattle.sync_ql.specs.Messages.{is_same_level};
 
 use shown_words::{is_same_mode, is_same_state, is_same_taken};
 use sync_element::Element;
-use sync_ql::Level;
 use sync_ql::rules::{ClockState, Mode};
+use sync_ql::{Level, is_same_level};
 use sync_topo::{InputId, Plan};
 
 // What an element shows: how its input is chosen, which it takes, its level, and what its clock
@@ -53,10 +53,4 @@ pub fn is_other(was: Shown, now: Shown) -> bool
         && is_same_taken(was.input, now.input)
         && is_same_level(was.level, now.level)
         && is_same_state(was.state, now.state))
-}
-
-fn is_same_level(one: Level, other: Level) -> bool
-    ensures { result ≡ is_same_level (Some one) (Some other) }
-{
-    one.option == other.option && one.place == other.place
 }

@@ -11,7 +11,7 @@ use node_file::{NodeRow, NodeWord};
 use sync_ql::limits::MOST_INPUTS;
 use sync_ql::rules::{Cmd, InputEvent};
 use sync_text::NoMemory;
-use sync_topo::{InputId, What};
+use sync_topo::{InputId, What, is_same_input};
 
 /// Tells the element the commands of a millisecond, whose wait-to-restore times are cleared, and of
 /// each input whether it is up and which level it has.
@@ -97,17 +97,7 @@ fn place_of(ids: &[InputId], input: InputId) -> Option<u32>
 fn place_among(ids: &[InputId], input: InputId) -> Option<usize>
     ensures { result ≡ place_in ids.now input }
 {
-    ids.iter().position(|other| is_same(input, *other))
-}
-
-fn is_same(input: InputId, other: InputId) -> bool
-    ensures { result ≡ is_same_input input other }
-{
-    match (input, other) {
-        (InputId::Line(line), InputId::Line(other)) => line.0 == other.0,
-        (InputId::Source(source), InputId::Source(other)) => source == other,
-        _ => false,
-    }
+    ids.iter().position(|other| is_same_input(input, *other))
 }
 
 fn tell_inputs(told: &mut Told, inputs: &[InputKept]) -> Result<(), NoMemory>

@@ -18,7 +18,7 @@ use link_model::Line;
 use net_words::{Tellings, input_place};
 use sync_element::InputEvent;
 use sync_ql::limits::LAST_MILLISECOND;
-use sync_ql::{Level, NetOption};
+use sync_ql::{Level, NetOption, is_same_heard};
 use sync_text::NoMemory;
 use sync_topo::{InputId, LineId, Plan};
 
@@ -41,7 +41,7 @@ fn pass_on(
         tellings.old.changes.items tellings.new.changes.items
         tellings.old.active.flags tellings.new.active.flags) }
 {
-    if is_same(level, heards[line.0 as usize]) {
+    if is_same_heard(level, heards[line.0 as usize]) {
         return Ok(());
     }
     heards[line.0 as usize] = level;
@@ -50,17 +50,6 @@ fn pass_on(
     };
     tellings.tell(there.element, InputEvent::Heard(there.place, level))?;
     Ok(())
-}
-
-// Whether two levels, or none, are the same.
-fn is_same(one: Option<Level>, other: Option<Level>) -> bool
-    ensures { result ≡ is_same_level one other }
-{
-    match (one, other) {
-        (Some(one), Some(other)) => one.option == other.option && one.place == other.place,
-        (None, None) => true,
-        _ => false,
-    }
 }
 
 // Tells each marked line what it is, takes what arrives, and passes on what is heard.

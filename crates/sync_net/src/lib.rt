@@ -11,7 +11,6 @@
 //! | who reads the state | [`Net::element`], [`Net::line`], [`Net::evaluated`], [`Net::called`] |
 //! | who goes on from one network in several ways | [`Net::try_clone`], [`Net::return_to`] |
 //! | who proves something of a run | [`elements_law`], [`later_events_law`], [`gap_law`] |
-//! | who tells elements of events without a network | [`places_of`], [`new_tellings`], [`tell_events`], [`Tellings`], [`Told`] |
 //!
 //! A step costs by what is active in it: it calls only the elements that an event touches, into
 //! which another level is heard, or that are due, and only the lines that an event switches, that

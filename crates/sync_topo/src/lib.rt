@@ -34,7 +34,7 @@ mod wiring;
 pub use element::Element;
 pub use error::PlanErr;
 pub use event::{Event, Part, What};
-pub use input::{InputId, LineId};
+pub use input::{InputId, LineId, is_same_input};
 pub use laws::{bundle_law, goes_back_law};
 pub use link::Link;
 pub use parts::{MOST_ELEMENTS, MOST_LINKS, MOST_SOURCES};
