@@ -216,8 +216,8 @@ pub fn run_out<L: Ledger>(
 pub fn show(branch: &mut Branch<'_>)
     requires live { branch.old.net.spent ≡ false }
     requires elements { length branch.old.elements.flags ≡ length branch.old.net.plan.elements }
-    requires states { length branch.old.shown.states.items ≡ length branch.old.net.plan.elements }
-    requires levels { length branch.old.shown.levels.items ≡ length branch.old.net.plan.elements }
+    requires states { length branch.old.shown.states ≡ length branch.old.net.plan.elements }
+    requires levels { length branch.old.shown.levels ≡ length branch.old.net.plan.elements }
     ensures net { branch.new.net ≡ branch.old.net }
     ensures elements { branch.new.elements ≡ branch.old.elements }
     ensures lines { branch.new.lines ≡ branch.old.lines }

@@ -12,6 +12,8 @@
 
 mod branch;
 mod chunks;
+mod counted_levels;
+mod counted_states;
 mod counting;
 mod crossing;
 mod gate;
