@@ -1,6 +1,6 @@
 -- Chains of timing, and what is counted of them. Filters are after G.803, the synchronization reference chain, which counts
 -- clocks apart that clean what they pass on; which chains count is this project's own.
-use Rattle.std.specs.Prelude.{◌≡◌, ℕ, suc, ◌≤◌, ⊤, Bool, false, nat_le, if◌then◌else◌, List, [], ◌∷◌, length, codes}
+use Rattle.std.specs.Prelude.{◌≡◌, ℕ, suc, ◌≤◌, ⊤, Bool, false, nat_le, if◌then◌else◌, List, [], ◌∷◌, length, codes, Some, slice_get}
 use Rattle.std.specs.List.{count_by}
 use Rattle.std.specs.Option.{option_map_or}
 use Rattle.sync_ql.specs.declared.levels.NetOption.{NetOption}
@@ -62,6 +62,11 @@ pub record IsRow (plan : Topology) (element : ℕ) (row : Chain) : Type 0 where
   pub links : IsGreatestOf plan element length row.links
   pub since : IsGreatestOf plan element (since_of plan) row.since
   pub clocks : IsGreatestOf plan element (clocks_of plan) row.clocks
+
+-- a row for each element of the plan, in order
+pub record AreRows (plan : Topology) (rows : List Chain) : Type 0 where
+  pub counted : length rows ≡ length plan.elements
+  pub each : (element : ℕ) (row : Chain) → slice_get rows element ≡ Some row → IsRow plan element row
 
 -- lines, the last one first, of which no more is counted than a row says
 pub record IsWithin (plan : Topology) (row : Chain) (lines : List ℕ) : Type 0 where
