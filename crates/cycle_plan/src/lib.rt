@@ -13,14 +13,21 @@
 #![tactic(auto)]
 
 mod bound;
+mod chain_rows;
+mod chaining;
+mod filters;
 mod inputs;
 mod laws;
+mod most;
 mod numbers;
 mod ranked;
 mod ranking;
+mod reach;
 mod ring;
 mod top;
 
 pub use bound::settling_bound;
+pub use chain_rows::Chains;
+pub use chaining::{Chained, chain_plan, chains};
 pub use laws::{first_cycle_law, least_rank_law};
 pub use ranked::{Ranked, rank_plan, rank_with};
