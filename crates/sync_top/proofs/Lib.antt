@@ -2,6 +2,7 @@ pub mod Cuts
 pub mod OneText
 pub mod Verdicts
 pub mod PriorityAnswers
+pub mod ChainAnswers
 pub mod OneAnswer
 pub mod Accepted
 pub mod LoopFree

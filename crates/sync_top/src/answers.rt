@@ -9,6 +9,7 @@ ghost use Rattle.sync_top.specs.Answer.{PlanAnswer, RanksAnswer, EventsAnswer, F
 ghost use Rattle.sync_top.specs.Work.{ends_in};
 
 use crate::captures::{captured, captured_packets};
+use crate::chains::chained;
 use crate::check::judged;
 use crate::form::{EventsForm, FramesForm, LadderForm, PlanForm, RanksForm};
 use crate::found::{Found, done};
@@ -45,6 +46,7 @@ pub(crate) fn plan_found<R: Threads + Sync, G: Gate + Sync>(
 {
     match what {
         PlanForm::Rank => planned(alloc, plan),
+        PlanForm::Chains => chained(alloc, plan),
         PlanForm::Hops => counted(alloc, plan),
         PlanForm::Nominate => nominated(alloc, plan),
         PlanForm::PrioRank => priority_planned(alloc, plan),

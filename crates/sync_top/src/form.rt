@@ -15,6 +15,8 @@ use sync_topo::MOST_ELEMENTS;
 pub(crate) enum PlanForm {
     /// The least ranks as a certificate, or the first cycle.
     Rank,
+    /// The longest chains into each element, or the first cycle.
+    Chains,
     /// The hop counts.
     Hops,
     /// The plan with priorities by fewest hops.
@@ -136,6 +138,7 @@ fn plan_word(word: &str) -> Option<PlanForm>
 {
     match word {
         "rank" => Some(PlanForm::Rank),
+        "chains" => Some(PlanForm::Chains),
         "hops" => Some(PlanForm::Hops),
         "nominate" => Some(PlanForm::Nominate),
         "prio-rank" => Some(PlanForm::PrioRank),

@@ -10,6 +10,7 @@
 
 mod answers;
 mod captures;
+mod chains;
 mod check;
 mod form;
 mod found;
