@@ -1,10 +1,16 @@
 -- How a run comes over a millisecond, element by element.
-use Rattle.std.proofs.Common.{◌≡◌, ◌≤◌, ◌<◌, ℕ, suc, Bool, true, false, List, [], ◌∷◌, ◌++◌, length, filter, map, cond, IfSome, refl, ap, sym, subst, ◌∙◌, arith, append_assoc}
-use Rattle.std.specs.List.{concat, range_with_len}
+use Rattle.std.proofs.Common.{◌≡◌, ◌≤◌, ◌<◌, ℕ, suc, Bool, true, false, List, [], ◌∷◌, ◌++◌, length, filter, map, cond, IfSome, refl, ap, sym, subst, ◌∙◌, arith, append_assoc, ◌||◌, inl, inr, append-nil}
+use Rattle.std.specs.List.{concat, range_with_len, list_any}
+use Rattle.std.specs.Prelude.{nat_eq}
+use Rattle.std.proofs.Math.Bool.{or-false, or-true}
+use Rattle.std.proofs.lemmas.Bool.{true≢false, eq-eqb}
+use Rattle.std.proofs.lemmas.Bool.Decides.{eqb_tells}
+use Rattle.std.proofs.lemmas.List.{map-append}
+use Rattle.std.proofs.lemmas.List.Folds.{concat-append}
 use Rattle.sync_ql.specs.declared.rules.InputEvent.{InputEvent}
 use Rattle.sync_ql.specs.Told.{moment_after}
 use Rattle.agenda.specs.Called.{AreInOrder}
-use Rattle.agenda.proofs.MarkedPlaces.{flag_within}
+use Rattle.agenda.proofs.MarkedPlaces.{flag_within, listed-push}
 use Rattle.sync_element.specs.StandsAfter.{IsStepped}
 use Rattle.sync_element.proofs.ElementSteps.{later-due, stepped-in_time, stands-stepped}
 use Rattle.sync_topo.specs.declared.event.Event.{Event}
@@ -20,8 +26,62 @@ use Rattle.prio_mode.specs.declared.running.Run.{Run}
 use Rattle.prio_mode.specs.PriorityAlone.{priority_settings, priority_moment, priority_past}
 use Rattle.prio_mode.specs.PriorityRows.{shown_by, row_between, row_in, rows_in, rows_until}
 use Rattle.prio_mode.specs.Running.{Shows, Kept, IsReady, IsOfPast, IsRun, HasRun, kept_at}
-use Rattle.prio_mode.specs.Visiting.{IsCalled, AreCalled, IsVisited, AreVisited, row_of}
+use Rattle.prio_mode.specs.Visiting.{IsCalled, AreCalled, IsVisited, AreVisited, row_of, IsAloneVisited}
 use Rattle.prio_mode.proofs.Standing.{told-moment, quiet-stands, shown-is, no-row}
+
+-- after some elements, one that isn't among them
+module _ (plan : Topology) (now e : ℕ) (done : List ℕ) (before mid after : Run)
+    (text text_mid text_then : List ℕ) (fresh : list_any (nat_eq e) done ≡ false)
+    (walk : AreVisited plan now done before mid text text_mid)
+    (one : IsAloneVisited plan now e mid after text_mid text_then) where
+  earlier : (other : ℕ) → nat_eq other e ≡ false
+      → list_any (nat_eq other) (done ++ e ∷ []) ≡ list_any (nat_eq other) done
+  earlier other apart = listed-push other e done
+      ∙ ap (λ b. list_any (nat_eq other) done || b) apart ∙ or-false (list_any (nat_eq other) done)
+
+  last : (other : ℕ) → nat_eq other e ≡ true → list_any (nat_eq other) (done ++ e ∷ []) ≡ true
+  last other same = listed-push other e done
+      ∙ ap (λ b. list_any (nat_eq other) done || b) same ∙ or-true (list_any (nat_eq other) done)
+
+  rows-next : (row : ℕ → List ℕ)
+      → concat (map row (done ++ e ∷ [])) ≡ concat (map row done) ++ row e
+  rows-next row = ap concat (map-append row done (e ∷ []))
+      ∙ concat-append (map row done) (row e ∷ [])
+      ∙ ap (λ rows. concat (map row done) ++ rows) (append-nil (row e))
+
+  pub walk-next : AreVisited plan now (done ++ e ∷ []) before after text text_then
+  walk-next = record {
+    counted = one.counted;
+    active = one.active ∙ walk.active;
+    here = λ other among. elim (eqb_tells other e) [
+      | inl same ↦
+          subst (λ p. IsVisited plan now p (kept_at plan before p) (kept_at plan after p)) (sym same.1)
+          (subst (λ (kept : Kept). IsVisited plan now e kept (kept_at plan after e)) (walk.others e fresh)
+          one.here)
+      | inr apart ↦
+          subst (IsVisited plan now other (kept_at plan before other)) (sym (one.others other apart.1))
+          (walk.here other (sym (earlier other apart.0) ∙ among))
+    ];
+    others = λ other none. elim (eqb_tells other e) [
+      | inl same ↦ absurd (true≢false (sym (last other same.0) ∙ none))
+      | inr apart ↦ one.others other apart.1 ∙ walk.others other (sym (earlier other apart.0) ∙ none)
+    ];
+    rows = λ row is.
+        one.row
+        ∙ ap (λ front. front ++ row_of plan now e (kept_at plan mid e) (kept_at plan after e))
+        (walk.rows row (λ other among. elim (eqb_tells other e) [
+          | inl same ↦
+              absurd (true≢false (sym among ∙ ap (λ p. list_any (nat_eq p) done) same.1 ∙ fresh))
+          | inr apart ↦
+              is other (earlier other apart.0 ∙ among)
+              ∙ ap (row_of plan now other (kept_at plan before other)) (one.others other apart.1)
+        ]))
+        ∙ ap (λ own. (text ++ concat (map row done)) ++ own)
+        (ap (λ kept. row_of plan now e kept (kept_at plan after e)) (walk.others e fresh)
+        ∙ sym (is e (last e (eq-eqb e e refl))))
+        ∙ append_assoc text (concat (map row done)) (row e)
+        ∙ ap (λ rows. text ++ rows) (sym (rows-next row));
+  }
 
 -- an element that isn't due up to a later millisecond is ready for it
 pub ready-later : (plan : Topology) (next now e : ℕ) (kept : Kept) → IsReady plan next e kept
