@@ -1,5 +1,4 @@
 pub mod LoopLaws
-pub mod ShownLemmas
 pub mod Standing
 pub mod Turning
 pub mod Advancing
