@@ -14,7 +14,8 @@ pub record AreWithin (plan : Topology) (from until : ℕ) (events : List Event) 
 
 -- of all events of a plan, just those that are told stand from one millisecond up to another, which is
 -- included
-pub record AreTold (plan : Topology) (all : List Event) (from until : ℕ) (told : List Event) : Type 0 where
+pub record AreTold (plan : Topology) (all : List Event) (from until : ℕ) (told : List Event) : Type
+    0 where
   pub ordered : IsEventList plan all
   pub here : (t : ℕ) → from ≤ t → t ≤ until → events_at t all ≡ events_at t told
 
@@ -31,10 +32,12 @@ pub record IsNextTime (next : ℕ) (rest : List Event) (due : Option ℕ) (until
   pub up_to : now ≤ until
   pub until_due : IfSome due (λ d. now ≤ d)
   pub until_event : All (λ event. now ≤ event.at) rest
-  pub cause : (next ≡ 0) ⊎ ((now ≡ until) ⊎ ((list_any (λ event. nat_eq event.at now) rest ≡ true) ⊎ (due ≡ Some now)))
+  pub cause : (next ≡ 0) ⊎
+      ((now ≡ until) ⊎ ((list_any (λ event. nat_eq event.at now) rest ≡ true) ⊎ (due ≡ Some now)))
 
 -- the events at a millisecond, and the later ones
-pub record AreParted (plan : Topology) (now until : ℕ) (events told later : List Event) : Type 0 where
+pub record AreParted (plan : Topology) (now until : ℕ) (events told later : List Event) : Type 0
+    where
   pub here : events_at now events ≡ told
   pub rest : (t : ℕ) → now < t → events_at t events ≡ events_at t later
   pub within : AreWithin plan (suc now) until later

@@ -3,7 +3,8 @@ use Rattle.std.proofs.Common.{ℕ, zero, suc, List, [], ◌∷◌}
 use Rattle.std.specs.Prelude.{Option, None, Some, IfSome, option_and_then, slice_get}
 use Rattle.net_rules.specs.Walks.{Each}
 
-item-at : {A : Type 0} (P : A → Type 0) (xs : List A) (i : ℕ) → Each P xs → IfSome (slice_get xs i) P
+item-at : {A : Type 0} (P : A → Type 0) (xs : List A) (i : ℕ) → Each P xs
+    → IfSome (slice_get xs i) P
 item-at P [] i each = tt
 item-at P (x ∷ xs) zero each = each.0
 item-at P (x ∷ xs) (suc i) each = item-at P xs i each.1

@@ -119,7 +119,8 @@ one-told plan line place (next ∷ rest) at apart (inl same) =
     rw (here, none-told plan (receiver_of plan line) rest differ) refl
 one-told plan line place (next ∷ rest) at apart (inr more) =
     let differs = each-one (λ other. receiver_of plan next ≢ receiver_of plan other) rest line
-    (Each-unmade (λ receiver. receiver_of plan next ≢ receiver) (receiver_of plan) rest apart.0) more in
+    (Each-unmade (λ receiver. receiver_of plan next ≢ receiver) (receiver_of plan) rest apart.0)
+    more in
     rw (no-place-there plan (receiver_of plan line) (line_input next) (λ is. differs is.of_element)) (one-told plan line place rest at apart.1 more)
 
 -- no forced switch says that an input is up or down

@@ -123,7 +123,8 @@ few-lines : (plan : Topology) (lines : List ℕ) → IsWellFormed plan → AreWi
 few-lines plan lines well within apart =
     let few = at_most (length plan.elements) (map (receiver_of plan) lines) apart
     (Each-made (λ k. k < length plan.elements) (receiver_of plan) lines
-    (Each-map (λ line. line < line_count plan) (λ line. receiver_of plan line < length plan.elements)
+    (Each-map (λ line. line < line_count plan)
+    (λ line. receiver_of plan line < length plan.elements)
     (λ line inside. receiver-within plan well line inside) lines within)) in
     omega (arith, few, length-map lines (receiver_of plan), well.few_elements)
 

@@ -30,10 +30,14 @@ unfolding returns-clause-text
 returns-clause-read_back c =
     let numbers : List ℕ = map (λ line. line.0) c.args.lines.now in
     ap (events_of c.args.plan.now) (returns-clause-text c)
-    ∙ read-back c.args.plan.now numbers c.lines-lines.ensures.well_formed (each-all (λ line. line < line_count c.args.plan.now) numbers c.requires.within) c.requires.apart
+    ∙ read-back c.args.plan.now numbers c.lines-lines.ensures.well_formed
+    (each-all (λ line. line < line_count c.args.plan.now) numbers c.requires.within)
+    c.requires.apart
 
 pub returns-clause-short : goal.returns-clause-short
 returns-clause-short c =
     let numbers : List ℕ = map (λ line. line.0) c.args.lines.now in
     subst (λ text. length text ≤ forced_size) (sym (returns-clause-text c))
-    (text-short c.args.plan.now numbers c.lines-lines.ensures.well_formed (each-all (λ line. line < line_count c.args.plan.now) numbers c.requires.within) c.requires.apart)
+    (text-short c.args.plan.now numbers c.lines-lines.ensures.well_formed
+    (each-all (λ line. line < line_count c.args.plan.now) numbers c.requires.within)
+    c.requires.apart)

@@ -11,7 +11,8 @@ visit-requires-clause-can_step c =
     let i : ℕ = c.loop-place.place-index in
     let inside : i < length order = omega (arith, c.loop-place-test.true) in
     subst (CanStep c.args.plan.now c.args.now (slice_index order i))
-    (sym (c.loop-place.invariant.others (slice_index order i) (not_before i order c.requires.apart inside)))
+    (sym (c.loop-place.invariant.others (slice_index order i)
+    (not_before i order c.requires.apart inside)))
     (c.requires.can_step (slice_index order i) (c.requires.within i 0 inside))
 
 pub loop-place-preserved : goal.loop-place-preserved
@@ -22,5 +23,6 @@ loop-place-preserved c =
     subst (λ done. AreVisited c.args.plan.now c.args.now done c.args.self.now c.visit.new.self
     c.args.text.now c.visit.new.text) (sym (take_more order i 0 inside))
     (walk-next c.args.plan.now c.args.now (slice_index order i) (take i order)
-    c.args.self.now c.loop-place.self c.visit.new.self c.args.text.now c.loop-place.text c.visit.new.text
+    c.args.self.now c.loop-place.self c.visit.new.self c.args.text.now c.loop-place.text
+    c.visit.new.text
     (not_before i order c.requires.apart inside) c.loop-place.invariant c.in_ok-visit.ensures)
