@@ -22,11 +22,11 @@ pub in-order : (events : List Event) → IsInOrder events → (i j : ℕ) (other
 in-order events ordered i j other early inside = IsNonDecreasingBy-from_all_adjacent
     (λ (event : Event). event.at) events ordered i j other early inside
 
--- no later than what is no later than another
-earlier-too : (due : Option ℕ) (now last : ℕ) → now ≤ last → IfSome due (λ d. last ≤ d)
-    → IfSome due (λ d. now ≤ d)
-earlier-too None now last before due = tt
-earlier-too (Some d) now last before due = omega (arith, before, due)
+-- what is due up to a millisecond is due no earlier than one before it
+pub sooner : (due : Option ℕ) (k now : ℕ) → k ≤ now → IfSome due (λ d. now ≤ d)
+    → IfSome due (λ d. k ≤ d)
+sooner None k now high is = tt
+sooner (Some d) k now high is = omega (arith, high, is)
 
 -- the first event, where it is earlier than all else
 pub next-event : (next until last : ℕ) (rest : List Event) (due : Option ℕ) (event : Event)
@@ -41,7 +41,7 @@ next-event next until last (e ∷ events) due event first ordered low begun befo
       first = λ none. absurd (begun none);
       later = subst (λ (one : Event). next ≤ one.at) (sym same) (low 0 e (omega arith));
       up_to = omega (arith, before, end);
-      until_due = earlier-too due event.at last (omega (arith, before)) until_due;
+      until_due = sooner due event.at last (omega (arith, before)) until_due;
       until_event = λ k other inside. subst
           (λ (one : Event). one.at ≤ (slice_index_or (e ∷ events) k other).at) (sym same)
           (in-order (e ∷ events) ordered 0 k other (omega arith) inside);
@@ -187,13 +187,8 @@ pub within-from : (plan : Topology) (next until now : ℕ) (rest : List Event) (
 within-from plan next until now rest due is within = record
     { list = within.list; later = is.until_event; up_to = within.up_to }
 
--- what is due up to a millisecond is due no earlier than one before it
-pub sooner : (due : Option ℕ) (k now : ℕ) → k ≤ now → IfSome due (λ d. now ≤ d)
-    → IfSome due (λ d. k ≤ d)
-sooner None k now high is = tt
-sooner (Some d) k now high is = omega (arith, high, is)
-
--- from one millisecond to the next in which something happens, of all events of which those that are left are told
+-- from one millisecond to the next in which something happens, for all events of which those that are
+-- left are told
 module _ (plan : Topology) (all rest : List Event) (next until now : ℕ) (due : Option ℕ)
     (told : AreTold plan all next until rest)
     (is : IsNextTime next rest due until now) where

@@ -12,8 +12,8 @@ pub record AreWithin (plan : Topology) (from until : ℕ) (events : List Event) 
   pub later : All (λ event. from ≤ event.at) events
   pub up_to : All (λ event. event.at ≤ until) events
 
--- of all events of a plan, just those that are told stand from one millisecond up to another, which is
--- included
+-- of all events of a plan, just those that are told stand from one millisecond up to another, which
+-- is included
 pub record AreTold (plan : Topology) (all : List Event) (from until : ℕ) (told : List Event) : Type
     0 where
   pub ordered : IsEventList plan all
@@ -24,8 +24,8 @@ pub record AreHere (plan : Topology) (all : List Event) (t : ℕ) (told : List E
   pub ordered : IsEventList plan all
   pub here : events_at t all ≡ told
 
--- the next millisecond in which something happens: none of these events, and nothing that is due, is
--- earlier; and there is a cause for it
+-- the next millisecond in which something happens: none of these events, and nothing that is due,
+-- is earlier; and there is a cause for it
 pub record IsNextTime (next : ℕ) (rest : List Event) (due : Option ℕ) (until now : ℕ) : Type 0 where
   pub first : next ≡ 0 → now ≡ 0
   pub later : next ≤ now

@@ -4,7 +4,7 @@
 //! priority alone. [`Tellings`] keeps what each is told in a millisecond ([`Told`]) and which are told
 //! something; [`tell_events`] tells the elements of inputs what events say of these, in the words of one
 //! element (`sync_ql`), and [`tell_input`] one [`Saying`] of one input. [`taken_of`] is the input of the
-//! plan that an element takes.
+//! plan that an element takes, and [`step_alone`] a step of it that nobody counts.
 //!
 //! A network, a run by priority alone and the replay of one element stand on it.
 #![tactic(auto)]

@@ -12,8 +12,8 @@ use net_words::{Told, step_alone};
 use sync_ql::limits::LAST_MILLISECOND;
 use sync_topo::Plan;
 
-/// Tells an element its words, lets it make its step, and answers what it shows then, and when it is
-/// due next.
+/// Tells an element its words, lets it make its step, and answers what it shows then, and when it
+/// is due next.
 pub(crate) fn step_told(
     plan: &Plan,
     place: u32,
