@@ -13,7 +13,8 @@ use Rattle.agenda.proofs.SortedPlaces.{sorted-kept}
 use Rattle.agenda.specs.Called.{is_marked, AreInOrder}
 
 -- the places that are listed, sorted
-pub in-order : (marked : Marked) (order : List ℕ) → AreListed marked → IsPermutation marked.listed order
+pub in-order : (marked : Marked) (order : List ℕ) → AreListed marked
+    → IsPermutation marked.listed order
     → IsSorted nat_cmp order → AreInOrder marked.flags order
 in-order marked order all moved sorted = record {
   marked = among;

@@ -22,8 +22,8 @@ pub fn mark_all(marks: &mut Marks, count: u32)
     }
 }
 
-/// Takes out what is due at `now` or before it, and marks it. It takes the time of `set` for each, and no
-/// memory.
+/// Takes out what is due at `now` or before it, and marks it. It takes the time of `set` for each,
+/// and no memory.
 ///
 /// This project's own.
 pub fn mark_due(dues: &mut DueTimes, marks: &mut Marks, now: u64)

@@ -1,4 +1,3 @@
-pub mod ShownLemmas
 pub mod RowLaws
 pub mod NotingLaws
 pub mod BoundLaws

@@ -125,7 +125,9 @@ module _ (net : NetState) (plan : Topology) (given rest here later : List Event)
     (turn : IsTurn net plan given rest here later until now due)
     (all : List Event) (from : ℕ) (told : AreTold plan all from until given) (begun : from ≤ net.next) where
   told-rest : AreTold plan all net.next until rest
-  told-rest = record { ordered = told.ordered; here = λ t low high. told.here t (omega (arith, low, begun)) high ∙ turn.left t low high }
+  told-rest = record
+      { ordered = told.ordered; here = λ t low high. told.here t (omega (arith, low, begun)) high
+      ∙ turn.left t low high }
 
   quiet : NoneFrom net.next now all
   quiet = none-until plan all rest net.next until now due told-rest turn.next
@@ -134,7 +136,8 @@ module _ (net : NetState) (plan : Topology) (given rest here later : List Event)
   stands-until : StandsFor net all net.next → (k : ℕ) → net.next ≤ k → k ≤ now → StandsFor net all k
   stands-until stands k low high =
       turn.gap all net.next k stands low (λ none. let first = turn.next.first none in omega (arith, first, high))
-      (λ t after before. quiet t after (omega (arith, before, high))) (sooner due k now high turn.next.until_due)
+      (λ t after before. quiet t after (omega (arith, before, high)))
+      (sooner due k now high turn.next.until_due)
 
   -- and no row comes meanwhile
   pub run-until : HasElements → (watch : Watch) (shown : List Shown) (changes : List Change) → AreShownIf watch net shown
@@ -155,7 +158,8 @@ module _ (net : NetState) (plan : Topology) (given rest here later : List Event)
   pub turn-counted : StandsFor net all net.next → (net_then : NetState) → net_then.later_steps ≡ (if nat_eq net.next 0 then 0 else net.later_steps + 1)
       → net_then.later_steps ≤ net.later_steps + cond (is_busy plan all now || nat_eq now until) 1 0
   turn-counted stands net_then stepped =
-      turn-counts plan all rest net.next until now due turn.next (told-rest.here now turn.next.later turn.next.up_to)
+      turn-counts plan all rest net.next until now due turn.next
+      (told-rest.here now turn.next.later turn.next.up_to)
       (λ is_due started.
       let busy : (every : List Event) (n : ℕ) → StandsFor net every n → 0 < net.next → n ≤ now → NoneFrom n now every → is_busy net.plan every now ≡ true =
       subst (λ (o : Option ℕ). IfSome o (λ d. (every : List Event) (n : ℕ) → StandsFor net every n → 0 < net.next → n ≤ d → NoneFrom n d every → is_busy net.plan every d ≡ true))

@@ -12,9 +12,11 @@ use Rattle.net_rules.specs.Signals.{events_at}
 use Rattle.event_times.specs.EventTimes.{AreTold, AreWithin}
 use Rattle.event_times.proofs.EventTimes.{in-order, none-at}
 
-module _ (plan : Topology) (until count : ℕ) (events : List Event) (list : IsEventList plan events) (few : count ≤ length events)
+module _ (plan : Topology) (until count : ℕ) (events : List Event) (list : IsEventList plan events)
+    (few : count ≤ length events)
     (here : (k : ℕ) (other : Event) → k < count → (slice_index_or events k other).at ≤ until)
-    (later : (other : Event) → count < length events → until < (slice_index_or events count other).at) where
+    (later : (other : Event) → count < length events
+        → until < (slice_index_or events count other).at) where
   -- they stand in order up to it
   pub are-within : AreWithin plan 0 until (take count events)
   are-within = record {
@@ -27,17 +29,22 @@ module _ (plan : Topology) (until count : ℕ) (events : List Event) (list : IsE
     later = λ k other inside. omega arith;
     up_to = λ k other inside.
         let before : k < count = omega (arith, inside, length-take count events, few) in
-        let same : slice_index_or (take count events) k other ≡ slice_index_or events k other = get_or-take count events k other before in
+        let same : slice_index_or (take count events) k other ≡ slice_index_or events k
+            other = get_or-take count events k other before in
         omega (arith, ap (λ (event : Event). event.at) same, here k other before);
   }
 
   -- the others are later
   back-later : All (λ event. until < event.at) (drop count events)
   back-later k other inside =
-      let within_all : count + k < length events = omega (arith, inside, length-drop count events) in
-      let same : slice_index_or (drop count events) k other ≡ slice_index_or events (count + k) other = get_or-drop count events k other in
-      let first : until < (slice_index_or events count other).at = later other (omega (arith, within_all)) in
-      let order : (slice_index_or events count other).at ≤ (slice_index_or events (count + k) other).at =
+      let within_all : count + k < length events = omega
+          (arith, inside, length-drop count events) in
+      let same : slice_index_or (drop count events) k other ≡ slice_index_or events (count + k)
+          other = get_or-drop count events k other in
+      let first : until < (slice_index_or events count other).at = later other
+          (omega (arith, within_all)) in
+      let order :
+          (slice_index_or events count other).at ≤ (slice_index_or events (count + k) other).at =
       in-order events list.in_order count (count + k) other (omega arith) within_all in
       omega (arith, ap (λ (event : Event). event.at) same, first, order)
 
@@ -46,8 +53,12 @@ module _ (plan : Topology) (until count : ℕ) (events : List Event) (list : IsE
   are-told = record {
     ordered = list;
     here = λ t low high.
-        ap (events_at t) (sym (take-append-drop count events)) ∙ filter-append (λ (event : Event). nat_eq event.at t) (take count events) (drop count events)
+        ap (events_at t) (sym (take-append-drop count events))
+        ∙ filter-append (λ (event : Event). nat_eq event.at t) (take count events)
+        (drop count events)
         ∙ ap (λ (back : List Event). events_at t (take count events) ++ back)
-        (none-at t (drop count events) (λ k other inside same. let late = back-later k other inside in absurd (omega (arith, late, same, high))))
+        (none-at t (drop count events)
+        (λ k other inside same. let late = back-later k other inside in absurd
+        (omega (arith, late, same, high))))
         ∙ append-nil (events_at t (take count events));
   }

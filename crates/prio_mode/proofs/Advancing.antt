@@ -25,61 +25,66 @@ concat-none f a (suc n) none =
     (concat-none f (a + 1) n (λ i low high. none i (omega (arith, low)) (omega (arith, high))))
 
 -- from a millisecond up to another, up to which nothing is due
-module _ (plan : Topology) (next now : ℕ) (run : Run) (is : IsRun plan next run) (later : next ≤ now)
-    (first : next ≡ 0 → now ≡ 0) (due : (e : ℕ) → IfSome (due_in run.dues e) (λ due. now ≤ due)) where
-  ready-at : (e m : ℕ) → e < length plan.elements → next ≤ m → m ≤ now → (next ≡ 0 → m ≡ 0)
-      → IsReady plan m e (kept_at plan run e)
-  ready-at e m within low high begun =
-      ready-later plan next m e (kept_at plan run e) (is.ready e within) low begun
-      (sooner (due_in run.dues e) m now high (due e))
+module _ (plan : Topology) (next now : ℕ) (run : Run) (is : IsRun plan next run)
+    (later : next ≤ now)
+    (first : next ≡ 0 → now ≡ 0) (due : (e : ℕ) → IfSome (due_in run.dues e) (λ due. now ≤ due))
+  where
+    ready-at : (e m : ℕ) → e < length plan.elements → next ≤ m → m ≤ now → (next ≡ 0 → m ≡ 0)
+        → IsReady plan m e (kept_at plan run e)
+    ready-at e m within low high begun =
+        ready-later plan next m e (kept_at plan run e) (is.ready e within) low begun
+        (sooner (due_in run.dues e) m now high (due e))
 
-  -- a run is ready for it
-  pub run-later : IsRun plan now run
-  run-later = record {
-    counted = is.counted;
-    ready = λ e within. ready-at e now within later (omega arith) first;
-  }
+    -- a run is ready for it
+    pub run-later : IsRun plan now run
+    run-later = record {
+      counted = is.counted;
+      ready = λ e within. ready-at e now within later (omega arith) first;
+    }
 
-  -- and where no event comes meanwhile, it stands for each millisecond, with no more rows
-  module _ (all : List Event) (listed : IsEventList plan all) (front text : List ℕ)
-      (none : (t : ℕ) → next ≤ t → t < now → events_at t all ≡ []) where
-    quiet-one : (m : ℕ) → next ≤ m → m < now → HasRun plan all m run front text
-        → HasRun plan all (suc m) run front text
-    quiet-one m low high so_far = (
-      then_stands,
-      so_far.1 ∙ ap (λ rows. front ++ rows) (sym (ap (λ rows. rows_until plan all m ++ rows)
-          (concat-none (row_in plan all m) 0 (length plan.elements) (λ e from to. nothing e (omega (arith, to))))
-          ∙ append-nil (rows_until plan all m))),
-    )
-      where
-        ready : (e : ℕ) → e < length plan.elements → IsReady plan (suc m) e (kept_at plan run e)
-        ready e within = ready-at e (suc m) within (omega (arith, low)) (omega (arith, high))
-            (λ never. (let ended = first never in absurd (omega (arith, ended, high))))
+    -- and where no event comes meanwhile, it stands for each millisecond, with no more rows
+    module _ (all : List Event) (listed : IsEventList plan all) (front text : List ℕ)
+        (none : (t : ℕ) → next ≤ t → t < now → events_at t all ≡ []) where
+      quiet-one : (m : ℕ) → next ≤ m → m < now → HasRun plan all m run front text
+          → HasRun plan all (suc m) run front text
+      quiet-one m low high so_far = (
+        then_stands,
+        so_far.1 ∙ ap (λ rows. front ++ rows) (sym (ap (λ rows. rows_until plan all m ++ rows)
+            (concat-none (row_in plan all m) 0 (length plan.elements)
+            (λ e from to. nothing e (omega (arith, to))))
+            ∙ append-nil (rows_until plan all m))),
+      )
+        where
+          ready : (e : ℕ) → e < length plan.elements → IsReady plan (suc m) e (kept_at plan run e)
+          ready e within = ready-at e (suc m) within (omega (arith, low)) (omega (arith, high))
+              (λ never. (let ended = first never in absurd (omega (arith, ended, high))))
 
-        then_stands : RunStands plan all (suc m) run
-        then_stands e within =
-            quiet-stands plan all e m (kept_at plan run e).one.element listed.in_order (ready e within).in_time
-            (ap (λ events. all_words plan events e) (none m low high)) (so_far.0 e within)
+          then_stands : RunStands plan all (suc m) run
+          then_stands e within =
+              quiet-stands plan all e m (kept_at plan run e).one.element listed.in_order
+              (ready e within).in_time
+              (ap (λ events. all_words plan events e) (none m low high)) (so_far.0 e within)
 
-        nothing : (e : ℕ) → e < length plan.elements → row_in plan all m e ≡ []
-        nothing e within =
-            row-is plan all m e (kept_at plan run e) (kept_at plan run e)
-            (is.ready e within).shows (is.ready e within).shows (so_far.0 e within) (then_stands e within)
-            ∙ no-row plan m e (kept_at plan run e).one.shown (kept_at plan run e).one.shown refl
+          nothing : (e : ℕ) → e < length plan.elements → row_in plan all m e ≡ []
+          nothing e within =
+              row-is plan all m e (kept_at plan run e) (kept_at plan run e)
+              (is.ready e within).shows (is.ready e within).shows (so_far.0 e within)
+              (then_stands e within)
+              ∙ no-row plan m e (kept_at plan run e).one.shown (kept_at plan run e).one.shown refl
 
-    pub quiet-until : (m : ℕ) → next ≤ m → m ≤ now → HasRun plan all next run front text
-        → HasRun plan all m run front text
-    quiet-until zero low high begun =
-        let same : next ≡ 0 = omega (arith, low) in
-        subst (λ n. HasRun plan all n run front text) same begun
-    quiet-until (suc m) low high begun = elim (dec_lt m next) [
-      | yes here ↦
-          let same : next ≡ suc m = omega (arith, here, low) in
+      pub quiet-until : (m : ℕ) → next ≤ m → m ≤ now → HasRun plan all next run front text
+          → HasRun plan all m run front text
+      quiet-until zero low high begun =
+          let same : next ≡ 0 = omega (arith, low) in
           subst (λ n. HasRun plan all n run front text) same begun
-      | no before ↦
-          quiet-one m (omega (arith, before)) (omega (arith, high))
-          (quiet-until m (omega (arith, before)) (omega (arith, high)) begun)
-    ]
+      quiet-until (suc m) low high begun = elim (dec_lt m next) [
+        | yes here ↦
+            let same : next ≡ suc m = omega (arith, here, low) in
+            subst (λ n. HasRun plan all n run front text) same begun
+        | no before ↦
+            quiet-one m (omega (arith, before)) (omega (arith, high))
+            (quiet-until m (omega (arith, before)) (omega (arith, high)) begun)
+      ]
 
 -- each element is due no earlier than the next millisecond
 pub dues-from : (plan : Topology) (next : ℕ) (run : Run) → IsRun plan next run
@@ -89,25 +94,32 @@ dues-from plan next run is e within =
     subst (λ o. IfSome o (λ due. next ≤ due)) (sym ready.due) ready.in_time.until_due
 
 -- a turn on, and the events after it
-pub on-way : (plan : Topology) (events rest here later : List Event) (next until now : ℕ) (due : Option ℕ)
+pub on-way : (plan : Topology) (events rest here later : List Event) (next until now : ℕ)
+    (due : Option ℕ)
     (before run run_then : Run) (first text text_then : List ℕ)
     → IsOnWay plan events rest next until before run first text → IsNextTime next rest due until now
-    → ((e : ℕ) → IfSome (due_in run.dues e) (λ due. now ≤ due)) → AreParted plan now until rest here later
+    → ((e : ℕ) → IfSome (due_in run.dues e) (λ due. now ≤ due))
+    → AreParted plan now until rest here later
     → IsRun plan (suc now) run_then
-    → ((all : List Event) (front : List ℕ) → AreHere plan all now here → HasRun plan all now run front text
+    → ((all : List Event) (front : List ℕ) → AreHere plan all now here
+    → HasRun plan all now run front text
     → HasRun plan all (suc now) run_then front text_then)
     → IsOnWay plan events later (now + 1) until before run_then first text_then
 on-way plan events rest here later next until now due before run run_then first text text_then
     way time none_due parted is turned =
-    subst (λ n. IsOnWay plan events later n until before run_then first text_then) (sym (add-one now)) (record {
+    subst (λ n. IsOnWay plan events later n until before run_then first text_then)
+    (sym (add-one now)) (record {
       run_is = is;
       within = parted.within;
       stands = λ all told stood.
           let so_far = way.stands all told stood in (
             later-told plan all rest next until now due so_far.0 time here later parted,
-            turned all first (are-here plan all rest next until now due so_far.0 time here later parted)
-                (quiet-until plan next now run way.run_is time.later time.first none_due all told.ordered first text
-                (none-until plan all rest next until now due so_far.0 time) now time.later (omega arith) so_far.1),
+            turned all first
+                (are-here plan all rest next until now due so_far.0 time here later parted)
+                (quiet-until plan next now run way.run_is time.later time.first none_due all
+                told.ordered first text
+                (none-until plan all rest next until now due so_far.0 time) now time.later
+                (omega arith) so_far.1),
           );
       up_to = (let end = time.up_to in omega (arith, end));
     })

@@ -1,7 +1,5 @@
 pub mod LoopLaws
-pub mod ShownLemmas
 pub mod Standing
-pub mod Visiting
 pub mod Turning
 pub mod Advancing
 pub mod NewRuns

@@ -41,12 +41,15 @@ element-within plan (Source source) well has = elim (slice_get_cases plan.source
 abbrev taken_shown : List Seen → Taken
 taken_shown seen = taken_in_list (inputs_shown seen)
 
-module _ (plan : Topology) (events : List Event) (until : ℕ) (run : Run) (well : IsWellFormed plan) (is : IsRun plan (suc until) run) (stood : RunStands plan events (suc until) run) where
+module _ (plan : Topology) (events : List Event) (until : ℕ) (run : Run) (well : IsWellFormed plan)
+    (is : IsRun plan (suc until) run) (stood : RunStands plan events (suc until) run) where
   inside : (e : ℕ) → e < length plan.elements
-      → (kept_at plan run e).one.shown.input ≡ priority_taken_in plan (signals_by plan events) until e
+      → (kept_at plan run e).one.shown.input ≡ priority_taken_in plan (signals_by plan events) until
+      e
   unfolding shown_after priority_taken_at
   inside e within = ap (λ (shown : Shown). shown.input)
-      (shown-is plan events e (suc until) (kept_at plan run e).one.element (kept_at plan run e).one.shown
+      (shown-is plan events e (suc until) (kept_at plan run e).one.element
+      (kept_at plan run e).one.shown
       (is.ready e within).shows (stood e within))
 
   beyond : (e : ℕ) → length plan.elements ≤ e → (o : Option InputId) → priority_taken_in plan (signals_by plan events) until e ≡ o → o ≡ None
@@ -59,12 +62,16 @@ module _ (plan : Topology) (events : List Event) (until : ℕ) (run : Run) (well
       absurd (omega (arith, within, at, past))
 
   taken-same : taken_shown run.seen.items ≡ priority_taken_in plan (signals_by plan events) until
-  taken-same = fun_ext (λ e. get_or-map (λ (one : Seen). one.shown.input) run.seen.items e (nobody plan) ∙ elim (cases_lt e (length plan.elements)) [
-    | inl within ↦ inside e within
-    | inr past ↦
-        ap (λ (one : Seen). one.shown.input) (get_or_past run.seen.items e (nobody plan) (let count = is.counted.seen in omega (arith, count, past)))
-        ∙ sym (beyond e past (priority_taken_in plan (signals_by plan events) until e) refl)
-  ])
+  taken-same = fun_ext
+      (λ e. get_or-map (λ (one : Seen). one.shown.input) run.seen.items e (nobody plan)
+      ∙ elim (cases_lt e (length plan.elements)) [
+        | inl within ↦ inside e within
+        | inr past ↦
+            ap (λ (one : Seen). one.shown.input)
+            (get_or_past run.seen.items e (nobody plan)
+            (let count = is.counted.seen in omega (arith, count, past)))
+            ∙ sym (beyond e past (priority_taken_in plan (signals_by plan events) until e) refl)
+      ])
 
   -- each element takes an input of its own
   pub take-own : AreTaken plan (inputs_shown run.seen.items)
@@ -79,12 +86,15 @@ module _ (plan : Topology) (events : List Event) (until : ℕ) (run : Run) (well
       by e (Some input) taken = taken-own plan (priority_settings plan e) e (priority_past plan (signals_by plan events) e (suc until)) input taken
 
   -- the parts that were put are the report
-  pub reported : (seen : List Seen) (first second third whole : List ℕ) → seen ≡ run.seen.items → first ≡ codes "changes\n"
+  pub reported : (seen : List Seen) (first second third whole : List ℕ) → seen ≡ run.seen.items
+      → first ≡ codes "changes\n"
       → second ≡ first ++ rows_until plan events (suc until) → third ≡ second ++ codes "loops\n"
-      → (walks : List (List ℕ)) × AreLoops plan (taken_in_list (inputs_shown seen)) walks × (whole ≡ third ++ walk_rows plan walks)
+      → (walks : List (List ℕ)) × AreLoops plan (taken_in_list (inputs_shown seen)) walks ×
+      (whole ≡ third ++ walk_rows plan walks)
       → IsPriorityReport plan events until whole
   reported seen first second third whole listed one two three put = record {
     walks = put.0;
-    loops = subst (λ (taken : Taken). AreLoops plan taken put.0) taken-same (subst (λ (xs : List Seen). AreLoops plan (taken_shown xs) put.0) listed put.1);
+    loops = subst (λ (taken : Taken). AreLoops plan taken put.0) taken-same
+        (subst (λ (xs : List Seen). AreLoops plan (taken_shown xs) put.0) listed put.1);
     text_is = put.2 ∙ ap (λ front. front ++ walk_rows plan put.0) (three ∙ ap (λ front. front ++ codes "loops\n") (two ∙ ap (λ front. front ++ rows_until plan events (suc until)) one));
   }

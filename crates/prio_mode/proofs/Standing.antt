@@ -85,7 +85,8 @@ no-row plan t place was shown same =
     ap (λ other. row_between plan t place other shown) same ∙ ap (λ b. if b then change_row plan t place shown else []) (not-other shown)
 
 -- words that fit an element by the plan fit it where priority alone counts
-fits-same : (plan : Topology) (place : ℕ) (event : InputEvent) → FitsElement (settings_of plan place) event → FitsElement (priority_settings plan place) event
+fits-same : (plan : Topology) (place : ℕ) (event : InputEvent)
+    → FitsElement (settings_of plan place) event → FitsElement (priority_settings plan place) event
 unfolding settings_of priority_settings
 fits-same plan place (tell.Signal i up) fits = fits
 fits-same plan place (tell.Heard i level) fits = fits
@@ -93,7 +94,9 @@ fits-same plan place (tell.ClearWtr i) fits = fits
 fits-same plan place (tell.Command command) fits = fits
 
 -- so do the words that events of the plan say
-pub words-fit : (plan : Topology) (here : List Event) (e : ℕ) → IsWellFormed plan → e < length plan.elements
+pub words-fit : (plan : Topology) (here : List Event) (e : ℕ) → IsWellFormed plan
+    → e < length plan.elements
     → All (FitsElement (priority_settings plan e)) (all_words plan here e)
 words-fit plan here e well within k d inside =
-    fits-same plan e (slice_index_or (all_words plan here e) k d) (all-fit plan e well within here k d inside)
+    fits-same plan e (slice_index_or (all_words plan here e) k d)
+    (all-fit plan e well within here k d inside)

@@ -101,7 +101,8 @@ RunStands plan events n run = (e : ℕ) → e < length plan.elements
 
 -- after n milliseconds it stands for events, and has put their rows
 abbrev pub HasRun : Topology → List Event → ℕ → Run → List ℕ → List ℕ → Type 0
-HasRun plan events n run first text = RunStands plan events n run × (text ≡ first ++ rows_until plan events n)
+HasRun plan events n run first text = RunStands plan events n run ×
+    (text ≡ first ++ rows_until plan events n)
 
 -- how far it has come with events up to a millisecond, of which some are left
 pub record IsOnWay (plan : Topology) (events rest : List Event) (next until : ℕ) (before run : Run)

@@ -21,19 +21,21 @@ pub record CanStep (plan : Topology) (now e : ℕ) (kept : Kept) : Type 0 where
   pub fits : All (FitsElement (priority_settings plan e)) kept.told
 
 -- an element was told some words; one that isn't marked has none, and something to do only later
-pub record IsCalled (now : ℕ) (words : List InputEvent) (marked : Bool) (was is : Kept) : Type 0 where
-  pub one : is.one ≡ was.one
-  pub told : is.told ≡ words
-  pub started : marked ≡ false → now ≢ 0
-  pub wordless : marked ≡ false → words ≡ []
-  pub idle : marked ≡ false → is ≡ was
-  pub later : IfSome is.due (λ due. now < due)
+pub record IsCalled (now : ℕ) (words : List InputEvent) (marked : Bool) (was is : Kept) : Type 0
+  where
+    pub one : is.one ≡ was.one
+    pub told : is.told ≡ words
+    pub started : marked ≡ false → now ≢ 0
+    pub wordless : marked ≡ false → words ≡ []
+    pub idle : marked ≡ false → is ≡ was
+    pub later : IfSome is.due (λ due. now < due)
 
 -- so each element was
-pub record AreCalled (plan : Topology) (now : ℕ) (here : List Event) (before after : Run) : Type 0 where
-  pub counted : AreCounted plan after
-  pub each : (e : ℕ) → e < length plan.elements → IsCalled now (all_words plan here e)
-      (is_active after.tellings e) (kept_at plan before e) (kept_at plan after e)
+pub record AreCalled (plan : Topology) (now : ℕ) (here : List Event) (before after : Run) : Type 0
+  where
+    pub counted : AreCounted plan after
+    pub each : (e : ℕ) → e < length plan.elements → IsCalled now (all_words plan here e)
+        (is_active after.tellings e) (kept_at plan before e) (kept_at plan after e)
 
 -- it made its step: it was told all, and is due when it says
 pub record IsVisited (plan : Topology) (now e : ℕ) (was is : Kept) : Type 0 where
@@ -47,7 +49,8 @@ abbrev pub row_of : Topology → ℕ → ℕ → Kept → Kept → List ℕ
 row_of plan now e was is = row_between plan now e was.one.shown is.one.shown
 
 -- one element alone made its step, and its change is written
-pub record IsAloneVisited (plan : Topology) (now e : ℕ) (before after : Run) (text text_then : List ℕ) : Type 0 where
+pub record IsAloneVisited (plan : Topology) (now e : ℕ) (before after : Run)
+    (text text_then : List ℕ) : Type 0 where
   pub counted : AreCounted plan after
   pub active : after.tellings.active ≡ before.tellings.active
   pub here : IsVisited plan now e (kept_at plan before e) (kept_at plan after e)
@@ -55,12 +58,14 @@ pub record IsAloneVisited (plan : Topology) (now e : ℕ) (before after : Run) (
   pub row : text_then ≡ text ++ row_of plan now e (kept_at plan before e) (kept_at plan after e)
 
 -- those that are listed did, one after another
-pub record AreVisited (plan : Topology) (now : ℕ) (order : List ℕ) (before after : Run) (text text_then : List ℕ) : Type 0 where
+pub record AreVisited (plan : Topology) (now : ℕ) (order : List ℕ) (before after : Run)
+    (text text_then : List ℕ) : Type 0 where
   pub counted : AreCounted plan after
   pub active : after.tellings.active ≡ before.tellings.active
   pub here : (e : ℕ) → list_any (nat_eq e) order ≡ true
       → IsVisited plan now e (kept_at plan before e) (kept_at plan after e)
-  pub others : (e : ℕ) → list_any (nat_eq e) order ≡ false → kept_at plan after e ≡ kept_at plan before e
+  pub others : (e : ℕ) → list_any (nat_eq e) order ≡ false
+      → kept_at plan after e ≡ kept_at plan before e
   pub rows : (row : ℕ → List ℕ)
       → ((e : ℕ) → list_any (nat_eq e) order ≡ true
       → row e ≡ row_of plan now e (kept_at plan before e) (kept_at plan after e))

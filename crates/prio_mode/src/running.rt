@@ -41,7 +41,8 @@ fn mark_first(plan: &Plan, marks: &mut Marks, now: u64)
 }
 
 impl Run {
-    /// Marks the elements that have something to do in a millisecond, and tells them what events say.
+    /// Marks the elements that have something to do in a millisecond, and tells them what events
+    /// say.
     fn call(&mut self, plan: &Plan, now: u64, here: &[Event]) -> Result<(), NoMemory>
         requires run { IsRun plan.now now self.old }
         requires fit { All (Fits plan.now) here.now }

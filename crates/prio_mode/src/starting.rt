@@ -30,7 +30,8 @@ pub(crate) fn new_run(alloc: Global, plan: &Plan) -> Result<Run, NoMemory>
 
 /// The elements, with what each shows before it is told anything.
 fn all_seen(alloc: Global, plan: &Plan) -> Result<Vec<Seen>, NoMemory>
-    ensures { IfOk result (λ seen. AreEach (IsNewSeen plan.now) (length plan.now.elements) seen.items) }
+    ensures { IfOk result
+        (λ seen. AreEach (IsNewSeen plan.now) (length plan.now.elements) seen.items) }
 {
     let mut seen = Rows::with_capacity(alloc, plan.elements() as usize)?;
     for place in 0..plan.elements() {

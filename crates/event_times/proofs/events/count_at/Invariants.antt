@@ -4,4 +4,5 @@ use Rattle.event_times.proofs.events.count_at.Given as goal
 
 -- no event behind is later
 abbrev pub invariant-loop-place : goal.invariant-loop-place
-invariant-loop-place l = (k : ℕ) (other : Event) → k < l.place → (slice_index_or l.events k other).at ≤ l.now
+invariant-loop-place l = (k : ℕ) (other : Event) → k < l.place
+    → (slice_index_or l.events k other).at ≤ l.now

@@ -6,6 +6,9 @@ use Rattle.event_times.proofs.events.split_at_time.Goals as goal
 
 pub returns : goal.returns
 returns c = λ plan until within.
-    subst (λ (back : List Event). AreParted plan c.args.now until c.args.events.now c.split_at.result.0.now back) (sym c.split_at.ensures.back)
-    (subst (λ (front : List Event). AreParted plan c.args.now until c.args.events.now front (drop c.count_at.result c.args.events.now)) (sym c.split_at.ensures.front)
-    (parted plan c.args.now until c.count_at.result c.args.events.now within c.count_at.ensures.within c.count_at.ensures.here c.count_at.ensures.later))
+    subst (λ (back : List Event). AreParted plan c.args.now until c.args.events.now
+    c.split_at.result.0.now back) (sym c.split_at.ensures.back)
+    (subst (λ (front : List Event). AreParted plan c.args.now until c.args.events.now front
+    (drop c.count_at.result c.args.events.now)) (sym c.split_at.ensures.front)
+    (parted plan c.args.now until c.count_at.result c.args.events.now within
+    c.count_at.ensures.within c.count_at.ensures.here c.count_at.ensures.later))

@@ -18,18 +18,23 @@ turn-requires-clause-run c =
 
 pub turn-requires-clause-fit : goal.turn-requires-clause-fit
 turn-requires-clause-fit c =
-    (c.split_at_time.ensures c.args.plan.now c.args.until (within-from c.args.plan.now c.loop-next.next
-    c.args.until c.next_time-now.result c.loop-next.rest.now c.first_due.result c.next_time-now.ensures
+    (c.split_at_time.ensures c.args.plan.now c.args.until
+    (within-from c.args.plan.now c.loop-next.next
+    c.args.until c.next_time-now.result c.loop-next.rest.now c.first_due.result
+    c.next_time-now.ensures
     c.loop-next.invariant.within)).fit
 
 pub loop-next-preserved : goal.loop-next-preserved
 loop-next-preserved c =
     let time = c.next_time-now.ensures in
     on-way c.args.plan.now c.args.events.now c.loop-next.rest.now c.split_at_time.result.0.now
-    c.split_at_time.result.1.now c.loop-next.next c.args.until c.next_time-now.result c.first_due.result
-    c.args.self.now c.loop-next.self c.turn.new.self c.args.text.now c.loop-next.text c.turn.new.text
+    c.split_at_time.result.1.now c.loop-next.next c.args.until c.next_time-now.result
+    c.first_due.result
+    c.args.self.now c.loop-next.self c.turn.new.self c.args.text.now c.loop-next.text
+    c.turn.new.text
     c.loop-next.invariant time (c.first_due.ensures.until c.next_time-now.result time.until_due)
-    (c.split_at_time.ensures c.args.plan.now c.args.until (within-from c.args.plan.now c.loop-next.next
+    (c.split_at_time.ensures c.args.plan.now c.args.until
+    (within-from c.args.plan.now c.loop-next.next
     c.args.until c.next_time-now.result c.loop-next.rest.now c.first_due.result time
     c.loop-next.invariant.within)) c.in_ok-turn.ensures.run c.in_ok-turn.ensures.stands
 

@@ -15,5 +15,6 @@ returns-clause-can_step c = λ e within.
       in_time = ready.in_time;
       fits = subst (All (FitsElement (priority_settings c.args.plan.now e)))
           (sym (c.in_ok-tell_events.ensures.list e ∙ ap (λ told. told ++ words) ready.untold))
-          (words-fit c.args.plan.now c.args.here.now e c.elements-elements.ensures.well_formed within);
+          (words-fit c.args.plan.now c.args.here.now e c.elements-elements.ensures.well_formed
+          within);
     }

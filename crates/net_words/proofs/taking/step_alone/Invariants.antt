@@ -1,4 +1,4 @@
-use Rattle.prio_mode.proofs.stepping.step_told.Given as goal
+use Rattle.net_words.proofs.taking.step_alone.Given as goal
 
 -- the steps are counted on the blank's own ledger
 abbrev pub ghosts-step : goal.ghosts-step
