@@ -1,17 +1,17 @@
 -- The first of the times at which running times end.
 use Rattle.std.proofs.Common.{◌≡◌, ◌≤◌, ◌<◌, ℕ, ◌+◌, ◌*◌, Bool, true, false, nat_eq, cond, List, set, length, replicate, Option, None, Some, IfSome, refl, ap, sym, ◌∙◌, arith, subst, get_or-set_other, length-set}
 use Rattle.std.specs.Prelude.{slice_index_or, if◌then◌else◌, min, unwrap_or, is_some}
-use Rattle.std.proofs.Math.Decide.{dec_le}
+use Rattle.std.proofs.Math.Decide.{dec_le, dec_lt}
 use Rattle.std.proofs.Math.Nat.{min-le_left, min-le_right, min-eq_left, min-eq_right}
 use Rattle.std.proofs.lemmas.Bool.Decides.{nat_tests}
-use Rattle.std.proofs.lemmas.List.{get_or-set_same, get_or-replicate, length-replicate}
+use Rattle.std.proofs.lemmas.List.{get_or-set_same, get_or-replicate, get_or_past, length-replicate}
 use Rattle.std.proofs.lemmas.List.Folds.{sum_by-replicate}
 use Rattle.std.proofs.lemmas.List.Sums.{get_or-le-sum_by, count_by-le-length, sum_by-set}
 use Rattle.agenda.specs.Tournament.{IsTournament, with_player}
 use Rattle.agenda.proofs.Tournaments.{same_players, last_has}
 use Rattle.agenda.specs.declared.due_times.Due.{Due}
 use Rattle.agenda.specs.declared.due_times.TheConstants.{NEVER}
-use Rattle.agenda.specs.DueTimes.{due_in, due_count, IsFirst}
+use Rattle.agenda.specs.DueTimes.{due_in, due_count, IsFirst, AreLater}
 use Rattle.agenda.specs.EarlierDue.{number_at, IsListed}
 
 -- 1 for an object that is due
@@ -121,3 +121,14 @@ tournament-new n = subst (λ m. IsTournament min NEVER m (number_at (replicate n
 -- none of new ones is counted
 pub count-new : (n : ℕ) → due_count (replicate n no_time) ≡ 0
 count-new n = sum_by-replicate one_if_due n no_time ∙ (let none : n * 0 ≡ 0 = omega arith in none)
+
+-- where the last winner's number is later, so are all times
+pub all_later : (times : List (Option ℕ)) (rounds : List ℕ) (now : ℕ) → IsTournament min NEVER (length times) (number_at times) rounds 0 → now < slice_index_or rounds 1 NEVER → AreLater now times
+all_later times rounds now all later i = elim (dec_lt i (length times)) [
+  | yes within ↦ of (due_in times i) (omega (arith, last_least (length times) (number_at times) rounds all i within, later))
+  | no beyond ↦ rw (get_or_past times i None (omega (arith, beyond))) tt
+]
+  where
+    of : (o : Option ℕ) → now < unwrap_or o NEVER → IfSome o (λ due. now < due)
+    of None less = tt
+    of (Some at) less = less

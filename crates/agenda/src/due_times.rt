@@ -126,7 +126,7 @@ impl DueTimes {
     }
 
     /// Takes out an object that is due at `now` or before it, if there is one; that object isn't due
-    /// afterwards. It takes the time of `set`, and no memory.
+    /// afterwards. It takes the time of `set` where there is one, and no memory.
     ///
     /// This project's own.
     pub fn take(&mut self, now: u64) -> Option<u32>
@@ -135,6 +135,9 @@ impl DueTimes {
         ensures none { IsNone result → AreLater now self.old }
         ensures kept { IsNone result → self.new ≡ self.old }
     {
+        if self.due > 0 && self.rounds[1] > now {
+            return None;
+        }
         match self.first() {
             Some(due) if due.at <= now => {
                 self.set(due.place, None);

@@ -33,14 +33,14 @@ pub struct Branch<'a> {
     pub shown: Shown,
 }
 
-// A copy of a network, of which nothing is touched.
-pub fn new_branch<'a>(alloc: Global, base: &Net<'a>) -> Result<Branch<'a>, NoMemory>
+// A network that goes on from another, of which nothing is touched.
+pub fn new_branch<'a>(alloc: Global, base: &'a Net<'_>) -> Result<Branch<'a>, NoMemory>
     requires live { base.now.spent ≡ false }
     ensures branch { IfOk result (λ branch. IsBranch base.now branch.net branch.elements branch.lines) }
     ensures net { IfOk result (λ branch. branch.net ≡ base.now) }
     ensures shown { IfOk result (λ branch. AreShown base.now branch.shown) }
 {
-    let net = base.try_clone(alloc)?;
+    let net = base.share(alloc)?;
     let shown = all_shown(alloc, base)?;
     let elements = Marks::new(alloc, net.plan().elements() as usize)?;
     let lines = Marks::new(alloc, net.plan().lines() as usize)?;
