@@ -33,7 +33,7 @@ pub enum Chained {
 pub fn chains(alloc: Global, plan: &Plan) -> Result<Option<Chains>, NoMemory>
     ensures rows { IfOk result (λ chains. IfSome chains (AreRows plan.now)) }
     ensures acyclic { IfOk result (λ chains. IfSome chains (λ rows. (lines : List ℕ) →
-        IsCycle plan.now lines → ⊥)) }
+        ¬ IsCycle plan.now lines)) }
     ensures cyclic { IfOk result (λ chains. IsNone chains →
         (lines : List ℕ) × IsCycle plan.now lines) }
 {
@@ -50,6 +50,7 @@ pub fn chains(alloc: Global, plan: &Plan) -> Result<Option<Chains>, NoMemory>
 pub fn chain_plan(alloc: Global, plan: &Plan) -> Result<Chained, NoMemory>
     ensures rows { IfChains result (AreRows plan.now) }
     ensures rising { IfChains result (λ rows. (rank : ℕ → ℕ) × IsRising plan.now rank) }
+    ensures acyclic { IfChains result (λ rows. (lines : List ℕ) → ¬ IsCycle plan.now lines) }
     ensures first { IfCycle result (IsFirstCycle (hops plan.now)) }
     ensures cycle { IfCycle result (IsCycle plan.now) }
     ensures within { IfCycle result (All (λ line. line < line_count plan.now)) }

@@ -56,11 +56,14 @@ impl Ranking {
             return Err(NoMemory);
         };
         let waiting = all_elements(alloc, plan)?;
+        let Ok(order) = Vec::with_capacity(alloc, plan.lines() as usize) else {
+            return Err(NoMemory);
+        };
         Ok(Ranking {
             ranks,
             watches,
             waiting,
-            order: Vec::new(alloc),
+            order,
         })
     }
 

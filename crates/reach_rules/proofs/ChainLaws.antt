@@ -1,14 +1,14 @@
 -- A trace is a chain, but for its last line where it ends in a loop.
 use Rattle.std.proofs.Common.{◌≡◌, ◌≢◌, ◌≤◌, ◌+◌, ◌⊎◌, ℕ, suc, Bool, true, false, List, [], ◌∷◌, ◌++◌, length, Some, sym, ap, ◌∙◌, inl, inr, arith, length-append}
-use Rattle.std.specs.Prelude.{if◌then◌else◌, refl}
+use Rattle.std.specs.Prelude.{slice_get, if◌then◌else◌, refl}
 use Rattle.std.proofs.lemmas.List.Sums.{sum_by-append}
 use Rattle.sync_text.specs.Each.{Each}
 use Rattle.sync_topo.specs.Topology.{Topology}
 use Rattle.sync_topo.specs.Lines.{line_input, sender_of, receiver_of, IsNominated}
 use Rattle.sync_topo.specs.Hops.{IsRising}
 use Rattle.sync_topo.specs.WellFormed.{IsWellFormed}
-use Rattle.net_rules.specs.Signals.{Signals}
-use Rattle.net_rules.specs.History.{Levels, Obeys}
+use Rattle.net_rules.specs.Signals.{Signals, signals_by}
+use Rattle.net_rules.specs.History.{Levels, Obeys, out_at}
 use Rattle.net_rules.specs.Walks.{Taken, TraceEnd, at_source, at_clock, at_loop, IsTraceAfter, IsTrace}
 use Rattle.net_rules.specs.Safety.{taken_in}
 use Rattle.net_rules.specs.Settled.{IsSettled}
@@ -16,7 +16,7 @@ use Rattle.net_rules.proofs.Backs.{back-receiver, hop-or_back}
 use Rattle.net_rules.proofs.NetLaws.{taken-is}
 use Rattle.net_rules.proofs.SettledLaws.{rising-loop_free}
 use Rattle.reach_rules.specs.declared.chain.Chain.{Chain}
-use Rattle.reach_rules.specs.Chains.{begins_at_filter, LeadTo, IsChain, clocks_of, since_of, IsRow, IsWithin, one_more, IsOrigin}
+use Rattle.reach_rules.specs.Chains.{begins_at_filter, LeadTo, IsChain, clocks_of, since_of, IsGreatestOf, IsRow, AreRows, IsWithin, AreBounds, one_more, IsOrigin}
 
 -- what elements take are nominated lines of their own
 abbrev pub AreOwn : Topology → Taken → Type 0
@@ -177,3 +177,45 @@ settled-here plan signals out rank element t row lines (at_clock clock) well obe
     origin-here plan signals out element t row lines (at_clock clock) well is trace tt
 settled-here plan signals out rank element t row lines (at_loop again) well obeys rising settled is trace =
     absurd ((rising-loop_free plan signals out rank well obeys rising t).traced settled element lines (at_loop again) trace)
+
+pub rows-bound : (plan : Topology) (rows : List Chain) → IsWellFormed plan → AreRows plan rows → AreBounds plan rows
+rows-bound plan rows well are events fits t element row there lines end trace origin =
+    origin-here plan (signals_by plan events) (out_at plan (signals_by plan events)) element t row lines end well (are.each element row there) trace origin
+
+-- a count has one greatest
+one-greatest : (plan : Topology) (element : ℕ) (count : List ℕ → ℕ) (greatest other : ℕ) → IsGreatestOf plan element count greatest
+    → IsGreatestOf plan element count other → greatest ≡ other
+one-greatest plan element count greatest other first second =
+    omega (
+      arith,
+      second.most first.reached.0 first.reached.1,
+      first.most second.reached.0 second.reached.1,
+      first.reached.2,
+      second.reached.2,
+    )
+
+same-row : (links others since others_since clocks others_clocks : ℕ) → links ≡ others → since ≡ others_since → clocks ≡ others_clocks
+    → ◌≡◌ {A = Chain} (record { links = links; since = since; clocks = clocks }) (record { links = others; since = others_since; clocks = others_clocks })
+same-row links others since others_since clocks others_clocks a b c = rw (a, b, c) refl
+
+one-row : (plan : Topology) (element : ℕ) (row other : Chain) → IsRow plan element row → IsRow plan element other → row ≡ other
+one-row plan element row other first second =
+    same-row row.links other.links row.since other.since row.clocks other.clocks
+    (one-greatest plan element length row.links other.links first.links second.links)
+    (one-greatest plan element (since_of plan) row.since other.since first.since second.since)
+    (one-greatest plan element (clocks_of plan) row.clocks other.clocks first.clocks second.clocks)
+
+-- lists of one length with the same at each place are one
+same-list : (xs ys : List Chain) → length xs ≡ length ys → ((k : ℕ) (x y : Chain) → slice_get xs k ≡ Some x → slice_get ys k ≡ Some y → x ≡ y) → xs ≡ ys
+same-list [] [] long each = refl
+same-list [] (y ∷ ys) long each = absurd (omega (arith, long))
+same-list (x ∷ xs) [] long each = absurd (omega (arith, long))
+same-list (x ∷ xs) (y ∷ ys) long each =
+    let first : x ≡ y = each 0 x y refl refl in
+    let rest : xs ≡ ys = same-list xs ys (omega (arith, long)) (λ k a b here there. each (suc k) a b here there) in
+    rw (first, rest) refl
+
+pub one-list : (plan : Topology) (rows others : List Chain) → AreRows plan rows → AreRows plan others → rows ≡ others
+one-list plan rows others first second =
+    same-list rows others (first.counted ∙ sym second.counted)
+    (λ element row other here there. one-row plan element row other (first.each element row here) (second.each element other there))

@@ -7,11 +7,16 @@ use Rattle.sync_ql.specs.declared.levels.NetOption.{NetOption}
 use Rattle.sync_ql.specs.declared.levels.NetOption.TheVariants.{I, II}
 use Rattle.sync_ql.specs.declared.levels.Level.{Level}
 use Rattle.sync_ql.specs.Level.{place_of, place_of_name}
+use Rattle.sync_topo.specs.declared.event.Event.{Event}
 use Rattle.sync_topo.specs.Topology.{Topology}
+use Rattle.sync_topo.specs.Events.{IsEventList}
 use Rattle.sync_topo.specs.Lines.{sender_of, receiver_of, IsNominated}
 use Rattle.sync_topo.specs.Hops.{Hops}
 use Rattle.net_rules.specs.Settings.{own_level}
-use Rattle.net_rules.specs.Walks.{TraceEnd, at_source, at_clock, at_loop}
+use Rattle.net_rules.specs.Walks.{TraceEnd, at_source, at_clock, at_loop, IsTrace}
+use Rattle.net_rules.specs.Signals.{signals_by}
+use Rattle.net_rules.specs.History.{out_at}
+use Rattle.net_rules.specs.Safety.{taken_in}
 use Rattle.reach_rules.specs.declared.chain.Chain.{Chain}
 
 -- the name of the least level of a filter
@@ -83,3 +88,11 @@ abbrev pub IsOrigin : TraceEnd → Type 0
 IsOrigin (at_source source) = ⊤
 IsOrigin (at_clock clock) = ⊤
 IsOrigin (at_loop again) = ⊥
+
+-- whatever list of events the plan may have, in every millisecond each trace of an element that ends so is within its row
+abbrev pub AreBounds : Topology → List Chain → Type 0
+AreBounds plan rows =
+    (events : List Event) → IsEventList plan events → (t element : ℕ) (row : Chain) → slice_get rows element ≡ Some row
+    → (lines : List ℕ) (end : TraceEnd)
+    → IsTrace plan (taken_in plan (signals_by plan events) (out_at plan (signals_by plan events)) t) element lines end
+    → IsOrigin end → IsWithin plan row lines

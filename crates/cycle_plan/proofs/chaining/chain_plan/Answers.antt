@@ -3,6 +3,7 @@ use Rattle.sync_topo.specs.declared.returns.Returns.TheVariants.{Barred}
 use Rattle.sync_topo.specs.Lines.{is_nominated}
 use Rattle.sync_topo.specs.Hops.{hops}
 use Rattle.rank_cert.specs.Ranks.{rank_at, rank_of}
+use Rattle.net_rules.proofs.WalkLaws.{no_cycle}
 use Rattle.cycle_plan.specs.Rings.{numbers}
 use Rattle.cycle_plan.proofs.HopFacts.{hop_parts}
 use Rattle.cycle_plan.proofs.Walks.{ranks_rise}
@@ -27,3 +28,7 @@ returns-clause-rising c = (
   ranks_rise (hops c.args.plan.now) (is_nominated c.args.plan.now) (rank_at c.in_ok-ranking.ranking.ranks)
       (λ line next hop. (hop_parts Barred c.args.plan.now line next hop).1) c.in_ok-ranking.ensures.peeled (c.in-None.ensures.none refl),
 )
+
+pub returns-clause-acyclic : goal.returns-clause-acyclic
+returns-clause-acyclic c = λ lines.
+    let rising = returns-clause-rising c in no_cycle (hops c.args.plan.now) rising.0 rising.1 lines

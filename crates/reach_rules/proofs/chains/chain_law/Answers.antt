@@ -1,4 +1,4 @@
-use Rattle.reach_rules.proofs.ChainLaws.{chain-here, origin-here, rising-here, any-here, settled-here}
+use Rattle.reach_rules.proofs.ChainLaws.{chain-here, origin-here, rising-here, any-here, settled-here, rows-bound, one-list}
 use Rattle.reach_rules.proofs.chains.chain_law.Goals as goal
 
 pub returns-clause-chain : goal.returns-clause-chain
@@ -15,3 +15,9 @@ returns-clause-any c = any-here
 
 pub returns-clause-settled : goal.returns-clause-settled
 returns-clause-settled c = settled-here
+
+pub returns-clause-rows : goal.returns-clause-rows
+returns-clause-rows c = rows-bound
+
+pub returns-clause-one : goal.returns-clause-one
+returns-clause-one c = one-list
