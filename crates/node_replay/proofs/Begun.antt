@@ -3,7 +3,6 @@ use Rattle.std.proofs.Common.{◌≡◌, ◌≤◌, ℕ, true, List, [], ◌∷�
 use Rattle.std.specs.Prelude.{unwrap_or}
 use Rattle.std.specs.Option.{option_map_or}
 use Rattle.sync_ql.specs.Level.{do_not_use_of}
-use Rattle.sync_ql.specs.Told.{moments_until}
 use Rattle.sync_ql.proofs.DoNotUse.{do_not_use-option}
 use Rattle.sync_element.specs.ElementState.{ElementState}
 use Rattle.sync_element.proofs.ElementSteps.{stands-new}
