@@ -6,7 +6,6 @@ use Rattle.sync_text.specs.Each.{Each}
 use Rattle.node_rules.proofs.OptionLaws.{planned-option}
 use Rattle.sync_text.proofs.Each.{Each-any, Each-made}
 use Rattle.sync_ql.specs.Level.{do_not_use_of}
-use Rattle.sync_ql.specs.Told.{moments_until}
 use Rattle.sync_ql.proofs.DoNotUse.{do_not_use-option}
 use Rattle.sync_element.specs.ElementState.{ElementState}
 use Rattle.sync_element.proofs.ElementSteps.{stands-new}
