@@ -105,7 +105,8 @@ impl DueTimes {
     }
 
     /// The first of all times, and the place of an object that is due then. It takes time by the
-    /// logarithm of the number of objects, and none where no object is due.
+    /// logarithm of the number of objects, and none where no object is due; only where the first is
+    /// the last number of all, 2^64 - 1, it looks at all times.
     ///
     /// `None` exactly where no object is due. This project's own.
     pub fn first(&self) -> Option<Due>
