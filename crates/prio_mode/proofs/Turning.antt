@@ -52,7 +52,6 @@ module _ (plan : Topology) (now e : ℕ) (done : List ℕ) (before mid after : R
   pub walk-next : AreVisited plan now (done ++ e ∷ []) before after text text_then
   walk-next = record {
     counted = one.counted;
-    active = one.active ∙ walk.active;
     here = λ other among. elim (eqb_tells other e) [
       | inl same ↦
           subst (λ p. IsVisited plan now p (kept_at plan before p) (kept_at plan after p))

@@ -52,7 +52,6 @@ row_of plan now e was is = row_between plan now e was.one.shown is.one.shown
 pub record IsAloneVisited (plan : Topology) (now e : ℕ) (before after : Run)
     (text text_then : List ℕ) : Type 0 where
   pub counted : AreCounted plan after
-  pub active : after.tellings.active ≡ before.tellings.active
   pub here : IsVisited plan now e (kept_at plan before e) (kept_at plan after e)
   pub others : (other : ℕ) → other ≢ e → kept_at plan after other ≡ kept_at plan before other
   pub row : text_then ≡ text ++ row_of plan now e (kept_at plan before e) (kept_at plan after e)
@@ -61,7 +60,6 @@ pub record IsAloneVisited (plan : Topology) (now e : ℕ) (before after : Run)
 pub record AreVisited (plan : Topology) (now : ℕ) (order : List ℕ) (before after : Run)
     (text text_then : List ℕ) : Type 0 where
   pub counted : AreCounted plan after
-  pub active : after.tellings.active ≡ before.tellings.active
   pub here : (e : ℕ) → list_any (nat_eq e) order ≡ true
       → IsVisited plan now e (kept_at plan before e) (kept_at plan after e)
   pub others : (e : ℕ) → list_any (nat_eq e) order ≡ false
