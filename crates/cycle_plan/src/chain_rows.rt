@@ -8,7 +8,8 @@ use std::marker::Model;
 
 /// The longest chains into each element of a plan.
 ///
-/// Contracts see a list of three numbers for each element, in order: a [`Chain`]. This project's own.
+/// Contracts see a list of three numbers for each element, in order: a [`Chain`]. This project's
+/// own.
 #[derive(Drop)]
 pub struct Chains {
     pub(crate) reaches: Vec<Reach>,

@@ -26,10 +26,11 @@ pub enum Chained {
 /// The longest chains of timing into each element: the greatest number of lines, of lines since the
 /// last that begins at a filter, and of lines that begin at a filter; each from 0 to 8,000.
 ///
-/// `None` exactly where the plan has a cycle of hops: then chains have no end. The numbers are over all
-/// chains, so over all that any faults and commands can bring about. G.803's synchronization reference
-/// chain has at most 60 elements in all, 20 between two filters and 10 filters. The work grows with the
-/// lines and elements, and not with the hops. This project's own.
+/// `None` exactly where the plan has a cycle of hops: then chains have no end. The numbers are
+/// over all chains, so over all that any faults and commands can bring about. G.803's
+/// synchronization reference chain has at most 60 elements in all, 20 between two filters and 10
+/// filters. The work grows with the lines and elements, and not with the hops. This project's
+/// own.
 pub fn chains(alloc: Global, plan: &Plan) -> Result<Option<Chains>, NoMemory>
     ensures rows { IfOk result (λ chains. IfSome chains (AreRows plan.now)) }
     ensures acyclic { IfOk result (λ chains. IfSome chains (λ rows. (lines : List ℕ) →
@@ -43,8 +44,8 @@ pub fn chains(alloc: Global, plan: &Plan) -> Result<Option<Chains>, NoMemory>
     }
 }
 
-/// What [`chains`] gives or, where the plan has a cycle of hops, its first cycle, as the planner finds
-/// it.
+/// What [`chains`] gives or, where the plan has a cycle of hops, its first cycle, as the planner
+/// finds it.
 ///
 /// This project's own.
 pub fn chain_plan(alloc: Global, plan: &Plan) -> Result<Chained, NoMemory>

@@ -3,8 +3,8 @@
 ghost use Rattle.std.specs.Prelude.{◌≡◌};
 ghost use Rattle.cycle_plan.specs.Mosts.{no_most, most_but, raised_most};
 
-/// The greatest of one count over the chains into an element, and the greatest over those of them that
-/// come in by other bundles.
+/// The greatest of one count over the chains into an element, and the greatest over those of them
+/// that come in by other bundles.
 #[derive(Clone, Copy, Drop)]
 pub(crate) struct Most {
     /// The bundle by which a chain of the greatest count comes in.

@@ -14,13 +14,14 @@ ghost use Rattle.net_rules.specs.Settled.{IsSettled};
 ghost use Rattle.reach_rules.specs.declared.chain.Chain.{Chain};
 ghost use Rattle.reach_rules.specs.Chains.{IsOrigin, IsChain, IsRow, AreRows, IsWithin, AreBounds, one_more};
 
-/// The law of chains, in any millisecond, whatever comes from outside and whatever is sent. A trace that
-/// ends at a source or an own clock is a chain (`chain`), so it is within the element's row (`origin`);
-/// where ranks rise, no more lines stand on it before a line than the line's rank (`rising`). Any trace
-/// counts at most one more than the row (`any`): where it ends at an element that it met, its last line
-/// may go back over the one before. In a settled millisecond, where ranks rise, every trace is within the
-/// row (`settled`). So the rows of a plan bound every trace to a source or own clock, whatever list of
-/// events it may have (`rows`), and a plan has one list of rows (`one`).
+/// The law of chains, in any millisecond, whatever comes from outside and whatever is sent. A
+/// trace that ends at a source or an own clock is a chain (`chain`), so it is within the
+/// element's row (`origin`); where ranks rise, no more lines stand on it before a line than the
+/// line's rank (`rising`). Any trace counts at most one more than the row (`any`): where it ends
+/// at an element that it met, its last line may go back over the one before. In a settled
+/// millisecond, where ranks rise, every trace is within the row (`settled`). So the rows of a
+/// plan bound every trace to a source or own clock, whatever list of events it may have (`rows`),
+/// and a plan has one list of rows (`one`).
 ///
 /// After G.803, the synchronization reference chain.
 pub fn chain_law()
@@ -29,7 +30,8 @@ pub fn chain_law()
         IsTrace plan (taken_in plan signals out t) element lines end → IsOrigin end →
         IsChain plan element lines }
     ensures origin { (plan : Topology) (signals : Signals) (out : Levels) (element t : ℕ)
-        (row : Chain) (lines : List ℕ) (end : TraceEnd) → IsWellFormed plan → IsRow plan element row →
+        (row : Chain) (lines : List ℕ) (end : TraceEnd) → IsWellFormed plan →
+        IsRow plan element row →
         IsTrace plan (taken_in plan signals out t) element lines end → IsOrigin end →
         IsWithin plan row lines }
     ensures rising { (plan : Topology) (signals : Signals) (out : Levels) (rank : ℕ → ℕ)
@@ -38,7 +40,8 @@ pub fn chain_law()
         IsTrace plan (taken_in plan signals out t) element (after ++ line ∷ before) end →
         IsOrigin end → length before ≤ rank line }
     ensures any { (plan : Topology) (signals : Signals) (out : Levels) (element t : ℕ)
-        (row : Chain) (lines : List ℕ) (end : TraceEnd) → IsWellFormed plan → IsRow plan element row →
+        (row : Chain) (lines : List ℕ) (end : TraceEnd) → IsWellFormed plan →
+        IsRow plan element row →
         IsTrace plan (taken_in plan signals out t) element lines end →
         IsWithin plan (one_more row) lines }
     ensures settled { (plan : Topology) (signals : Signals) (out : Levels) (rank : ℕ → ℕ)
