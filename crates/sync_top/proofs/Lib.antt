@@ -2,9 +2,11 @@ pub mod Cuts
 pub mod OneText
 pub mod Verdicts
 pub mod PriorityAnswers
+pub mod ChainAnswers
 pub mod OneAnswer
 pub mod Accepted
 pub mod LoopFree
+pub mod ChainBounds
 pub mod Reports
 pub mod RowsOfHops
 pub mod LadderRises

@@ -19,7 +19,7 @@ use Rattle.rank_cert.specs.Ranks.{Ranks, rank_of}
 use Rattle.rank_cert.specs.CertificateText.{certificate_of}
 use Rattle.sync_top.specs.declared.status.Status.{Status}
 use Rattle.sync_top.specs.declared.status.Status.TheVariants.{Done, Refuted, Usage, BadPlan, BadCert, BadEvents, BadFrames, ReadFault, WriteFault, TooLong, NoMemory, Stopped}
-use Rattle.sync_top.specs.Form.{Form, check, rank, hops, nominate, decode, encode, pcap_decode, pcap_encode, gen, trial, sim, sweep, form_of, prio_check, prio_rank, prio_sim, node}
+use Rattle.sync_top.specs.Form.{Form, check, rank, chains, hops, nominate, decode, encode, pcap_decode, pcap_encode, gen, trial, sim, sweep, form_of, prio_check, prio_rank, prio_sim, node}
 use Rattle.sync_top.specs.Reading.{End, no_file, answered, file_limit, plan_in, Answered}
 use Rattle.sync_top.specs.Forms.Check.{ranks_in, documents, IsVerdict}
 use Rattle.sync_top.specs.Answer.{FormAnswer, IsAnswer, MissesFile}
@@ -45,7 +45,7 @@ plan-well bytes plan is = by (rows_in_file bytes) is
     by (Err error) given = cc
 
 -- so is the plan of a file
-file-well : (name : List ℕ) (files : Contents) (plan : Topology) → plan_in name files ≡ Ok plan → IsWellFormed plan
+pub file-well : (name : List ℕ) (files : Contents) (plan : Topology) → plan_in name files ≡ Ok plan → IsWellFormed plan
 file-well name files plan is = there (get files name) refl
   where
     read : (bytes : List ℕ) (o : Result Topology PlanFileErr) → plan_of bytes ≡ o → get files name ≡ Some bytes → nat_lt file_limit (length bytes) ≡ false → IsWellFormed plan
@@ -108,6 +108,7 @@ form-loop_free : (form : Option Form) (files : Contents) (text : List ℕ) → F
 form-loop_free None files text answer = tt
 form-loop_free (Some (check plan_name name)) files text answer = checked-loop_free plan_name name text files answer
 form-loop_free (Some (rank plan_name)) files text answer = tt
+form-loop_free (Some (chains plan_name)) files text answer = tt
 form-loop_free (Some (hops plan_name)) files text answer = tt
 form-loop_free (Some (nominate plan_name)) files text answer = tt
 form-loop_free (Some (decode option name)) files text answer = tt
@@ -174,6 +175,7 @@ form-never_loops None files text answer = tt
 form-never_loops (Some (prio_check plan_name name)) files text answer = checked-never_loops plan_name name text files answer
 form-never_loops (Some (check plan_name name)) files text answer = tt
 form-never_loops (Some (rank plan_name)) files text answer = tt
+form-never_loops (Some (chains plan_name)) files text answer = tt
 form-never_loops (Some (hops plan_name)) files text answer = tt
 form-never_loops (Some (nominate plan_name)) files text answer = tt
 form-never_loops (Some (decode option name)) files text answer = tt

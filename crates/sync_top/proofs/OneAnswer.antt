@@ -25,6 +25,7 @@ use Rattle.sync_top.specs.Form.{Form, check, rank, decode, encode, pcap_decode, 
 use Rattle.sync_top.specs.Reading.{End, no_file, answered, text_line, plan_in, Answered, IsText}
 use Rattle.sync_top.specs.Forms.Check.{documents, IsVerdict}
 use Rattle.sync_top.specs.Forms.Rank.{IsPlanned, cycle_text}
+use Rattle.sync_top.specs.Forms.Chains.{IsChained}
 use Rattle.sync_top.specs.Forms.Hops.{AreHopRows, hops_text}
 use Rattle.sync_top.specs.Forms.Nominate.{IsNominatedText}
 use Rattle.plan_file.specs.Spelling.{plan_text}
@@ -37,6 +38,7 @@ use Rattle.sync_sweep.specs.SweepText.{table_text}
 use Rattle.sync_sweep.proofs.OneSweep.{one-sweep}
 use Rattle.sync_top.specs.Answer.{FormAnswer, IsAnswer}
 use Rattle.sync_top.proofs.OneText.{same_text}
+use Rattle.sync_top.proofs.ChainAnswers.{one_chained}
 use Rattle.sync_top.proofs.PriorityAnswers.{one_priority_planned, one_priority_run}
 use Rattle.sync_top.specs.Forms.Priority.{IsPriorityVerdict, IsPriorityPlanned, IsPriorityRun}
 use Rattle.sync_top.specs.Forms.Node.{node_rows, AreFramesSent}
@@ -169,6 +171,8 @@ module _ (one_whole : (plan : Topology) (events : List Event) (until : ℕ) (tex
       one_answered (λ read. IsVerdict read.0 read.1) (λ read. one_verdict (hops read.0) read.0 read.1) (documents plan cert files) status other text another first second
   one_form (Some (rank plan)) files status other text another first second =
       one_answered IsPlanned one_planned (plan_in plan files) status other text another first second
+  one_form (Some (asked.chains plan)) files status other text another first second =
+      one_answered IsChained one_chained (plan_in plan files) status other text another first second
   one_form (Some (asked.hops plan)) files status other text another first second =
       one_answered AreHopRows one_hop_rows (plan_in plan files) status other text another first second
   one_form (Some (asked.nominate plan)) files status other text another first second =

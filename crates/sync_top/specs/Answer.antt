@@ -9,10 +9,11 @@ use Rattle.sync_top.specs.declared.status.Status.{Status}
 use Rattle.sync_top.specs.declared.status.Status.TheVariants.{Usage}
 use Rattle.capture_text.specs.Capture.{decoded_text, encoded_text}
 use Rattle.pcap_file.specs.Timed.{encoded_pcap}
-use Rattle.sync_top.specs.Form.{Form, check, rank, hops, nominate, decode, encode, pcap_decode, pcap_encode, gen, trial, form_of, sim, sweep, prio_check, prio_rank, prio_sim, node}
+use Rattle.sync_top.specs.Form.{Form, check, rank, chains, hops, nominate, decode, encode, pcap_decode, pcap_encode, gen, trial, form_of, sim, sweep, prio_check, prio_rank, prio_sim, node}
 use Rattle.sync_top.specs.Reading.{text_line, no_file, plan_in}
 use Rattle.sync_top.specs.Forms.Check.{documents, CheckAnswer}
 use Rattle.sync_top.specs.Forms.Rank.{RankAnswer}
+use Rattle.sync_top.specs.Forms.Chains.{ChainsAnswer}
 use Rattle.sync_top.specs.Forms.Hops.{HopsAnswer}
 use Rattle.sync_top.specs.Forms.Nominate.{NominateAnswer}
 use Rattle.sync_top.specs.Forms.Captures.{captured, CaptureAnswer, pcap_rows, PcapAnswer}
@@ -28,6 +29,7 @@ abbrev pub FormAnswer : Option Form → Contents → Status → List ℕ → Typ
 FormAnswer None files status text = (status ≡ Usage) × (text ≡ text_line (codes "usage"))
 FormAnswer (Some (check plan_name certificate_name)) files status text = CheckAnswer plan_name certificate_name files status text
 FormAnswer (Some (rank plan_name)) files status text = RankAnswer plan_name files status text
+FormAnswer (Some (chains plan_name)) files status text = ChainsAnswer plan_name files status text
 FormAnswer (Some (hops plan_name)) files status text = HopsAnswer plan_name files status text
 FormAnswer (Some (nominate plan_name)) files status text = NominateAnswer plan_name files status text
 FormAnswer (Some (decode option name)) files status text = CaptureAnswer decoded_text option name files status text
@@ -52,6 +54,7 @@ abbrev pub FormMissesFile : Option Form → Contents → Type 0
 FormMissesFile None files = ⊥
 FormMissesFile (Some (check plan_name certificate_name)) files = documents plan_name certificate_name files ≡ Err no_file
 FormMissesFile (Some (rank plan_name)) files = plan_in plan_name files ≡ Err no_file
+FormMissesFile (Some (chains plan_name)) files = plan_in plan_name files ≡ Err no_file
 FormMissesFile (Some (hops plan_name)) files = plan_in plan_name files ≡ Err no_file
 FormMissesFile (Some (nominate plan_name)) files = plan_in plan_name files ≡ Err no_file
 FormMissesFile (Some (decode option name)) files = captured decoded_text option name files ≡ Err no_file

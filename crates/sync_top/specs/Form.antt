@@ -13,6 +13,8 @@ pub data Form : Type 0 where
   check : List ℕ → List ℕ → Form
   -- the least ranks of a plan, or its first cycle
   rank : List ℕ → Form
+  -- the longest chains into each element of a plan, or its first cycle
+  chains : List ℕ → Form
   -- the hop counts of a plan
   hops : List ℕ → Form
   -- the plan with priorities by fewest hops
@@ -115,6 +117,7 @@ abbrev pub file_count : Option Form → ℕ
 file_count None = 0
 file_count (Some (check plan certificate)) = 2
 file_count (Some (rank plan)) = 1
+file_count (Some (chains plan)) = 1
 file_count (Some (hops plan)) = 1
 file_count (Some (nominate plan)) = 1
 file_count (Some (decode option name)) = 1
@@ -137,6 +140,7 @@ form_of (word ∷ second ∷ []) =
     else if bytes_eq word (codes "gen") then ladder_form gen second
     else if bytes_eq word (codes "trial") then ladder_form trial second
     else if bytes_eq word (codes "hops") then plan_form hops second
+    else if bytes_eq word (codes "chains") then plan_form chains second
     else if bytes_eq word (codes "nominate") then plan_form nominate second
     else if bytes_eq word (codes "prio-rank") then plan_form prio_rank second
     else None

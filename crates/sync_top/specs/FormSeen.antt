@@ -3,11 +3,12 @@ use Rattle.std.specs.Prelude.{◌≤◌, ⊤}
 use Rattle.sync_ql.specs.declared.limits.TheConstants.{LAST_MILLISECOND}
 use Rattle.sync_top.specs.declared.form.Form as declared
 use Rattle.sync_top.specs.declared.form.Form.TheVariants as word
-use Rattle.sync_top.specs.Form.{Form, check, rank, hops, nominate, decode, encode, pcap_decode, pcap_encode, gen, trial, sim, sweep, prio_check, prio_rank, prio_sim, node}
+use Rattle.sync_top.specs.Form.{Form, check, rank, chains, hops, nominate, decode, encode, pcap_decode, pcap_encode, gen, trial, sim, sweep, prio_check, prio_rank, prio_sim, node}
 
 abbrev pub seen : declared.Form → Form
 seen (word.Check plan certificate) = check plan.now certificate.now
 seen (word.Rank plan) = rank plan.now
+seen (word.Chains plan) = chains plan.now
 seen (word.Hops plan) = hops plan.now
 seen (word.Nominate plan) = nominate plan.now
 seen (word.Decode option name) = decode option name.now

@@ -20,6 +20,8 @@ pub(crate) enum Form<'a> {
     },
     /// The least ranks of a plan or its first cycle, by the name of its file.
     Rank(&'a str),
+    /// The longest chains into each element of a plan or its first cycle, by the name of its file.
+    Chains(&'a str),
     /// The hop counts of a plan, by the name of its file.
     Hops(&'a str),
     /// The plan with priorities by fewest hops, by the name of its file.
@@ -130,6 +132,9 @@ fn form_of_two<'a>(word: &str, second: &'a str) -> Option<Form<'a>>
     }
     if word == "hops" && !second.is_empty() {
         return Some(Form::Hops(second));
+    }
+    if word == "chains" && !second.is_empty() {
+        return Some(Form::Chains(second));
     }
     if word == "nominate" && !second.is_empty() {
         return Some(Form::Nominate(second));

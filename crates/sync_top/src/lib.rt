@@ -8,6 +8,7 @@
 //! shows it.
 #![tactic(auto)]
 
+mod chains;
 mod check;
 mod form;
 mod frames;

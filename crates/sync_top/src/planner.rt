@@ -27,7 +27,7 @@ fn put_line(alloc: Global, text: &mut Text, plan: &Plan, line: LineId) -> Result
 }
 
 /// The line on a cycle.
-fn cycle_text(alloc: Global, plan: &Plan, lines: &[LineId]) -> Result<Text, NoMemory>
+pub(crate) fn cycle_text(alloc: Global, plan: &Plan, lines: &[LineId]) -> Result<Text, NoMemory>
     requires { All (λ line. line < line_count plan.now) (map (λ line. line.0) lines.now) }
     ensures { IfOk result (λ text. text ≡ cycle_text plan.now (map (λ line. line.0) lines.now)) }
 {

@@ -7,9 +7,11 @@ ghost use Rattle.sync_top.specs.Status.{OnAnswer};
 ghost use Rattle.sync_top.specs.Form.{form_of, file_count, reads_file};
 ghost use Rattle.sync_top.specs.Answer.{across, IsAnswer, MissesFile, FirstEnds, HasFiles, Delivers, IsCut, MayFault, fault_text};
 ghost use Rattle.sync_top.specs.LoopFree.{IsCheckedLoopFree};
+ghost use Rattle.sync_top.specs.ChainBounds.{IsBoundedByChains};
 ghost use Rattle.sync_top.specs.Forms.Priority.{IsCheckedForPriority};
 ghost use Rattle.sync_top.specs.Work.{Replies, EndsIn, UsageWhere, status_of};
 
+use crate::chains::chains;
 use crate::check::check;
 use crate::form::{Form, form_of};
 use crate::frames::{decode, encode};
@@ -62,6 +64,7 @@ fn work<R: Threads + Sync, F: Folder, G: Gate + Sync>(
     match form_of(words) {
         Some(Form::Check { plan, cert }) => check(alloc, folder, plan, cert),
         Some(Form::Rank(plan)) => rank(alloc, folder, plan),
+        Some(Form::Chains(plan)) => chains(alloc, folder, plan),
         Some(Form::Hops(plan)) => hops(alloc, folder, plan),
         Some(Form::Nominate(plan)) => nominate_plan(alloc, folder, plan),
         Some(Form::Decode(option, name)) => decode(alloc, folder, option, name),
@@ -130,7 +133,8 @@ fn reply_to<R: Threads + Sync, F: Folder, G: Gate + Sync>(
 /// Runs the program: does what the words ask for, writes the answer, and gives the exit status.
 ///
 /// The words are those after the program's name. `check PLAN CERT` tests the ranks of a certificate
-/// on a plan, and `rank PLAN` gives the least ranks as a certificate, or the first cycle. `hops
+/// on a plan, and `rank PLAN` gives the least ranks as a certificate, or the first cycle. `chains
+/// PLAN` gives the longest chains of timing into each element, or the first cycle. `hops
 /// PLAN` gives the hop counts, and `nominate PLAN` the plan with priorities by fewest hops. `decode
 /// OPTION FILE` gives the rows of captured frames, and `encode OPTION FILE` the frames of rows.
 /// `pcap-decode OPTION FILE` and `pcap-encode OPTION FILE` do the same for a classic pcap capture
@@ -170,6 +174,12 @@ pub fn run<R: Threads + Sync, F: Folder, K: Sink, G: Gate + Sync>(
     // choose by priority alone, whatever happens.
     ensures accepted_never_loops { result ≡ Status.Done → IfSome (F.contents folder.old)
         (IsCheckedForPriority (form_of (map string_bytes words.now))) }
+
+    // Where `chains` is done, a plan was read, and whatever happens, each trace that ends at a
+    // source or an own clock has no more lines, no more since the last filter, and no more filters
+    // than the row of its element says.
+    ensures chains_are_bounds { result ≡ Status.Done → IfSome (F.contents folder.old)
+        (IsBoundedByChains (form_of (map string_bytes words.now))) }
 
     // Which words are a form doesn't depend on any file. Other words, `gen` and `trial` call the
     // folder not at all.
