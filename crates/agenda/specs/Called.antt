@@ -9,11 +9,11 @@ is_marked flags k = slice_index_or flags k false
 
 -- some places more are marked, and the others are due as they were
 pub record AreDueMarked (dues dues_then : List (Option ℕ)) (flags flags_then : List Bool) : Type 0
-    where
-  pub dues_count : length dues_then ≡ length dues
-  pub flags_count : length flags_then ≡ length flags
-  pub kept : (k : ℕ) → is_marked flags k ≡ true → is_marked flags_then k ≡ true
-  pub left : (k : ℕ) → is_marked flags_then k ≡ false → due_in dues_then k ≡ due_in dues k
+  where
+    pub dues_count : length dues_then ≡ length dues
+    pub flags_count : length flags_then ≡ length flags
+    pub kept : (k : ℕ) → is_marked flags k ≡ true → is_marked flags_then k ≡ true
+    pub left : (k : ℕ) → is_marked flags_then k ≡ false → due_in dues_then k ≡ due_in dues k
 
 -- just the marked places, each once, from the lowest on
 pub record AreInOrder (flags : List Bool) (order : List ℕ) : Type 0 where

@@ -125,9 +125,11 @@ module _ (net : NetState) (plan : Topology) (given rest here later : List Event)
     (turn : IsTurn net plan given rest here later until now due)
     (all : List Event) (from : ℕ) (told : AreTold plan all from until given) (begun : from ≤ net.next) where
   told-rest : AreTold plan all net.next until rest
-  told-rest = record
-      { ordered = told.ordered; here = λ t low high. told.here t (omega (arith, low, begun)) high
-      ∙ turn.left t low high }
+  told-rest = record {
+    ordered = told.ordered;
+    here = λ t low high. told.here t (omega (arith, low, begun)) high
+        ∙ turn.left t low high;
+  }
 
   quiet : NoneFrom net.next now all
   quiet = none-until plan all rest net.next until now due told-rest turn.next

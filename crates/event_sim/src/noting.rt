@@ -7,10 +7,10 @@ ghost use Rattle.event_sim.specs.Rows.{row_of};
 ghost use Rattle.event_sim.specs.Showing.{AreShown, AreSeen, AreRenewed, AreNoted, others_in};
 
 use crate::change::Change;
-use sync_ql::limits::MOST_ROWS;
 use crate::shown::{Shown, is_other, shown_of};
 use std::alloc::Global;
 use sync_net::Net;
+use sync_ql::limits::MOST_ROWS;
 use sync_text::NoMemory;
 
 // What each element of a network shows.

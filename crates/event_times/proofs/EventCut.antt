@@ -16,7 +16,7 @@ module _ (plan : Topology) (until count : ℕ) (events : List Event) (list : IsE
     (few : count ≤ length events)
     (here : (k : ℕ) (other : Event) → k < count → (slice_index_or events k other).at ≤ until)
     (later : (other : Event) → count < length events
-        → until < (slice_index_or events count other).at) where
+    → until < (slice_index_or events count other).at) where
   -- they stand in order up to it
   pub are-within : AreWithin plan 0 until (take count events)
   are-within = record {
@@ -30,7 +30,7 @@ module _ (plan : Topology) (until count : ℕ) (events : List Event) (list : IsE
     up_to = λ k other inside.
         let before : k < count = omega (arith, inside, length-take count events, few) in
         let same : slice_index_or (take count events) k other ≡ slice_index_or events k
-            other = get_or-take count events k other before in
+        other = get_or-take count events k other before in
         omega (arith, ap (λ (event : Event). event.at) same, here k other before);
   }
 
@@ -38,13 +38,13 @@ module _ (plan : Topology) (until count : ℕ) (events : List Event) (list : IsE
   back-later : All (λ event. until < event.at) (drop count events)
   back-later k other inside =
       let within_all : count + k < length events = omega
-          (arith, inside, length-drop count events) in
+      (arith, inside, length-drop count events) in
       let same : slice_index_or (drop count events) k other ≡ slice_index_or events (count + k)
-          other = get_or-drop count events k other in
+      other = get_or-drop count events k other in
       let first : until < (slice_index_or events count other).at = later other
-          (omega (arith, within_all)) in
+      (omega (arith, within_all)) in
       let order :
-          (slice_index_or events count other).at ≤ (slice_index_or events (count + k) other).at =
+      (slice_index_or events count other).at ≤ (slice_index_or events (count + k) other).at =
       in-order events list.in_order count (count + k) other (omega arith) within_all in
       omega (arith, ap (λ (event : Event). event.at) same, first, order)
 

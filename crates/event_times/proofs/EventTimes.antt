@@ -70,7 +70,7 @@ next-last next until last (e ∷ events) due event first in_order begun before s
       until_due = until_due;
       until_event = λ k other inside.
           let ordered : e.at ≤ (slice_index_or (e ∷ events) k other).at = in-order (e ∷ events)
-              in_order 0 k other (omega arith) inside in
+          in_order 0 k other (omega arith) inside in
           omega (arith, early, ordered);
       cause = causes cause;
     }
@@ -119,66 +119,66 @@ module _ (plan : Topology) (now until count : ℕ) (events : List Event)
     (within : AreWithin plan now until events) (few : count ≤ length events)
     (here : (k : ℕ) (other : Event) → k < count → (slice_index_or events k other).at ≤ now)
     (later : (other : Event) → count < length events → now < (slice_index_or events count other).at)
-    where
-  front-at : All (λ event. event.at ≡ now) (take count events)
-  front-at k other inside =
-      let before : k < count = omega (arith, inside, length-take count events, few) in
-      let same : slice_index_or (take count events) k other ≡ slice_index_or events k
-          other = get_or-take count events k other before in
-      let low : now ≤ (slice_index_or events k other).at = within.later k other
-          (omega (arith, before, few)) in
-      let high : (slice_index_or events k other).at ≤ now = here k other before in
-      ap (λ (event : Event). event.at) same ∙ omega (arith, low, high)
+  where
+    front-at : All (λ event. event.at ≡ now) (take count events)
+    front-at k other inside =
+        let before : k < count = omega (arith, inside, length-take count events, few) in
+        let same : slice_index_or (take count events) k other ≡ slice_index_or events k
+        other = get_or-take count events k other before in
+        let low : now ≤ (slice_index_or events k other).at = within.later k other
+        (omega (arith, before, few)) in
+        let high : (slice_index_or events k other).at ≤ now = here k other before in
+        ap (λ (event : Event). event.at) same ∙ omega (arith, low, high)
 
-  back-later : All (λ event. suc now ≤ event.at) (drop count events)
-  back-later k other inside =
-      let within_all : count + k < length events = omega
-          (arith, inside, length-drop count events) in
-      let same : slice_index_or (drop count events) k other ≡ slice_index_or events (count + k)
-          other = get_or-drop count events k other in
-      let first : now < (slice_index_or events count other).at = later other
-          (omega (arith, within_all)) in
-      let order :
-          (slice_index_or events count other).at ≤ (slice_index_or events (count + k) other).at =
-      in-order events within.list.in_order count (count + k) other (omega arith) within_all in
-      let result : suc now ≤ (slice_index_or events (count + k) other).at = omega
-          (arith, first, order) in
-      subst (λ (event : Event). suc now ≤ event.at) (sym same) result
+    back-later : All (λ event. suc now ≤ event.at) (drop count events)
+    back-later k other inside =
+        let within_all : count + k < length events = omega
+        (arith, inside, length-drop count events) in
+        let same : slice_index_or (drop count events) k other ≡ slice_index_or events (count + k)
+        other = get_or-drop count events k other in
+        let first : now < (slice_index_or events count other).at = later other
+        (omega (arith, within_all)) in
+        let order :
+        (slice_index_or events count other).at ≤ (slice_index_or events (count + k) other).at =
+        in-order events within.list.in_order count (count + k) other (omega arith) within_all in
+        let result : suc now ≤ (slice_index_or events (count + k) other).at = omega
+        (arith, first, order) in
+        subst (λ (event : Event). suc now ≤ event.at) (sym same) result
 
-  whole : (t : ℕ) → events_at t events ≡ events_at t (take count events) ++ events_at t
-      (drop count events)
-  whole t = ap (events_at t) (sym (take-append-drop count events))
-      ∙ filter-append (λ (event : Event). nat_eq event.at t) (take count events) (drop count events)
+    whole : (t : ℕ) → events_at t events ≡ events_at t (take count events) ++ events_at t
+        (drop count events)
+    whole t = ap (events_at t) (sym (take-append-drop count events))
+        ∙ filter-append (λ (event : Event). nat_eq event.at t) (take count events) (drop count events)
 
-  pub parted : AreParted plan now until events (take count events) (drop count events)
-  parted = record {
-    here = whole now
-        ∙ ap (λ (back : List Event). events_at now (take count events) ++ back)
-        (none-at now (drop count events)
-        (λ k other inside same. let late = back-later k other inside in absurd
-        (omega (arith, late, same))))
-        ∙ append-nil (events_at now (take count events))
-        ∙ all-at now (take count events) front-at;
-    rest = λ t after. whole t ∙ ap
-        (λ (front : List Event). front ++ events_at t (drop count events))
-        (none-at t (take count events)
-        (λ k other inside same. let at = front-at k other inside in absurd
-        (omega (arith, at, same, after))));
-    within = record {
-      list = record {
-        fit = All-drop (Fits plan) count events within.list.fit;
-        in_order = all_adjacent_from_non_decreasing (λ (event : Event). event.at)
-            (drop count events)
-            (IsNonDecreasingBy-drop (λ (event : Event). event.at) count events
-            (IsNonDecreasingBy-from_all_adjacent (λ (event : Event). event.at) events
-            within.list.in_order));
+    pub parted : AreParted plan now until events (take count events) (drop count events)
+    parted = record {
+      here = whole now
+          ∙ ap (λ (back : List Event). events_at now (take count events) ++ back)
+          (none-at now (drop count events)
+          (λ k other inside same. let late = back-later k other inside in absurd
+          (omega (arith, late, same))))
+          ∙ append-nil (events_at now (take count events))
+          ∙ all-at now (take count events) front-at;
+      rest = λ t after. whole t ∙ ap
+          (λ (front : List Event). front ++ events_at t (drop count events))
+          (none-at t (take count events)
+          (λ k other inside same. let at = front-at k other inside in absurd
+          (omega (arith, at, same, after))));
+      within = record {
+        list = record {
+          fit = All-drop (Fits plan) count events within.list.fit;
+          in_order = all_adjacent_from_non_decreasing (λ (event : Event). event.at)
+              (drop count events)
+              (IsNonDecreasingBy-drop (λ (event : Event). event.at) count events
+              (IsNonDecreasingBy-from_all_adjacent (λ (event : Event). event.at) events
+              within.list.in_order));
+        };
+        later = back-later;
+        up_to = All-drop (λ event. event.at ≤ until) count events within.up_to;
       };
-      later = back-later;
-      up_to = All-drop (λ event. event.at ≤ until) count events within.up_to;
-    };
-    fit = All-take (Fits plan) count events within.list.fit;
-    at = front-at;
-  }
+      fit = All-take (Fits plan) count events within.list.fit;
+      at = front-at;
+    }
 
 -- none of the events that are left is earlier than the next time
 pub within-from : (plan : Topology) (next until now : ℕ) (rest : List Event) (due : Option ℕ)

@@ -39,27 +39,43 @@ joined-order before told from first second early late =
         let result : (slice_index_or before i other).at ≤ (slice_index_or before j other).at =
         IsNonDecreasingBy-from_all_adjacent (λ (event : Event). event.at) before first i j other
         order two in
-        omega (arith, result, ap (λ (event : Event). event.at) (at-first i other one), ap
-        (λ (event : Event). event.at) (at-first j other two))
+        omega (
+          arith,
+          result,
+          ap (λ (event : Event). event.at) (at-first i other one),
+          ap
+              (λ (event : Event). event.at) (at-first j other two),
+        )
     by i j other order inside (yes one) (no two) =
         let beyond : length before ≤ j = omega (arith, two) in
         let low : (slice_index_or before i other).at < from = early i other one in
         let high : from ≤ (slice_index_or told (j - length before) other).at = late
-            (j - length before) other (omega (arith, inside, beyond)) in
-        omega (arith, low, high, ap (λ (event : Event). event.at) (at-first i other one), ap
-        (λ (event : Event). event.at) (at-second j other beyond))
+        (j - length before) other (omega (arith, inside, beyond)) in
+        omega (
+          arith,
+          low,
+          high,
+          ap (λ (event : Event). event.at) (at-first i other one),
+          ap
+              (λ (event : Event). event.at) (at-second j other beyond),
+        )
     by i j other order inside (no one) (yes two) = absurd (omega (arith, one, two, order))
     by i j other order inside (no one) (no two) =
         let before_i : length before ≤ i = omega (arith, one) in
         let before_j : length before ≤ j = omega (arith, two) in
         let result :
-            (slice_index_or told (i - length before) other).at ≤ (slice_index_or told
-            (j - length before) other).at =
+        (slice_index_or told (i - length before) other).at ≤ (slice_index_or told
+        (j - length before) other).at =
         IsNonDecreasingBy-from_all_adjacent (λ (event : Event). event.at) told second
         (i - length before) (j - length before) other (omega (arith, order))
         (omega (arith, inside, before_j)) in
-        omega (arith, result, ap (λ (event : Event). event.at) (at-second i other before_i), ap
-        (λ (event : Event). event.at) (at-second j other before_j))
+        omega (
+          arith,
+          result,
+          ap (λ (event : Event). event.at) (at-second i other before_i),
+          ap
+              (λ (event : Event). event.at) (at-second j other before_j),
+        )
 
 -- events that follow others are those of their milliseconds
 pub followed : (plan : Topology) (before told : List Event) (from until : ℕ)

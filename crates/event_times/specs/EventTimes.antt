@@ -37,9 +37,9 @@ pub record IsNextTime (next : ℕ) (rest : List Event) (due : Option ℕ) (until
 
 -- the events at a millisecond, and the later ones
 pub record AreParted (plan : Topology) (now until : ℕ) (events told later : List Event) : Type 0
-    where
-  pub here : events_at now events ≡ told
-  pub rest : (t : ℕ) → now < t → events_at t events ≡ events_at t later
-  pub within : AreWithin plan (suc now) until later
-  pub fit : All (Fits plan) told
-  pub at : All (λ event. event.at ≡ now) told
+  where
+    pub here : events_at now events ≡ told
+    pub rest : (t : ℕ) → now < t → events_at t events ≡ events_at t later
+    pub within : AreWithin plan (suc now) until later
+    pub fit : All (Fits plan) told
+    pub at : All (λ event. event.at ≡ now) told

@@ -46,7 +46,12 @@ fn tell_rows(
     Ok(())
 }
 
-fn tell_row(told: &mut Rows<InputEvent>, ids: &[InputId], element: u32, row: NodeRow) -> Result<(), NoMemory>
+fn tell_row(
+    told: &mut Rows<InputEvent>,
+    ids: &[InputId],
+    element: u32,
+    row: NodeRow,
+) -> Result<(), NoMemory>
     requires ids { length ids.now ≤ MOST_INPUTS }
     ensures { OnOk result (told.new ≡ told.old ++ filter_map (row_word ids.now element) (row ∷ [])) }
 {

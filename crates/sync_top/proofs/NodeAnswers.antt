@@ -1,21 +1,13 @@
 -- What one element sends for a file is one answer, and what is written is that answer.
 use Rattle.std.proofs.Common.{◌≡◌, ℕ, Bool, List, Option, None, Some, Ok, Err, refl, sym, ap, ◌∙◌, inl, inr}
 use Rattle.std.specs.Prelude.{◌⊎◌, IfSome}
-use Rattle.sync_edge.specs.Contents.{Contents}
 use Rattle.sync_topo.specs.Topology.{Topology}
 use Rattle.node_file.specs.declared.row.NodeRow.{NodeRow}
 use Rattle.node_rules.specs.NodeText.{AllFit, IsLastFit, whole_text, stopped_text}
 use Rattle.node_replay.proofs.OneText.{not-both, one-last}
 use Rattle.sync_top.specs.declared.status.Status.{Status}
 use Rattle.sync_top.specs.declared.status.Status.TheVariants.{Done, Refuted, Usage, BadPlan, BadCert, BadEvents, BadFrames, ReadFault, WriteFault, TooLong, NoMemory, Stopped}
-use Rattle.node_file.specs.declared.error.NodeErr.{NodeErr}
-use Rattle.node_file.specs.NodeFile.{rows_of}
-use Rattle.sync_top.specs.Form.{node}
-use Rattle.sync_top.specs.Reading.{text_line}
-use Rattle.sync_top.specs.Forms.Node.{node_bytes, node_refusal, AreFramesSent, IsNodeReply, NodeAnswer}
-use Rattle.sync_top.specs.Answer.{FormMissesFile}
-use Rattle.sync_top.specs.Work.{EndsIn}
-use Rattle.sync_top.proofs.Cuts.{outside}
+use Rattle.sync_top.specs.Forms.Node.{AreFramesSent}
 
 -- what may be written
 abbrev Whole : Topology → ℕ → List NodeRow → ℕ → Status → List ℕ → Type 0

@@ -221,7 +221,8 @@ module _ (one_whole : (plan : Topology) (events : List Event) (until : ℕ) (tex
   -- a form has one answer
   one_form : (form : Option Form) (files : Contents) → IsOne (FormAnswer form files)
   one_form None files status other text another first second = (first.0 ∙ sym second.0, first.1 ∙ sym second.1)
-  one_form (Some form) files = one_answered (meaning form).Answers (one_meaning form) ((meaning form).reading.read files)
+  one_form (Some form) files status other text another first second =
+      one_answered (meaning form).Answers (one_meaning form) ((meaning form).reading.read files) status other text another first second
 
   pub one_status : (words : List (List ℕ)) (files : Contents) (status other : Status) (text another : List ℕ) → IsAnswer words files status text
       → IsAnswer words files other another → status ≡ other

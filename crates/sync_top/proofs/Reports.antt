@@ -1,7 +1,5 @@
 -- What a run writes is the report of the plan and the events.
 use Rattle.std.proofs.Common.{◌≡◌, ◌≤◌, ℕ, suc, Bool, List, length, Option, None, Some, Ok, ap, subst, ◌∙◌}
-use Rattle.std.specs.Prelude.{IfSome}
-use Rattle.sync_edge.specs.Contents.{Contents}
 use Rattle.sync_topo.specs.declared.event.Event.{Event}
 use Rattle.sync_topo.specs.Topology.{Topology}
 use Rattle.sync_ql.specs.declared.limits.TheConstants.{MOST_ROWS}
@@ -16,11 +14,7 @@ use Rattle.event_sim.specs.Answers.{IsLastFit}
 use Rattle.trace_report.specs.Report.{IsReportText}
 use Rattle.sync_top.specs.declared.status.Status.{Status}
 use Rattle.sync_top.specs.declared.status.Status.TheVariants as status
-use Rattle.sync_top.specs.Form.{sim}
-use Rattle.sync_top.specs.Forms.Sim.{plan_and_events, IsReport, SimAnswer}
-use Rattle.sync_top.specs.Answer.{FormMissesFile}
-use Rattle.sync_top.specs.Work.{EndsIn}
-use Rattle.sync_top.proofs.Cuts.{outside}
+use Rattle.sync_top.specs.Forms.Sim.{IsReport}
 
 -- all changes up to the end fit
 pub whole : (run : SimState) (plan : Topology) (events : List Event) (until : ℕ) (text : List ℕ) → run.net.plan ≡ plan → run.watch ≡ Changes

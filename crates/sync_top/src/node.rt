@@ -81,7 +81,7 @@ fn received_in<F: Folder>(
 }
 
 /// The plan, its element and the bytes of a file, in this order.
-fn node_bytes<F: Folder>(
+pub(crate) fn node_bytes<F: Folder>(
     alloc: Global,
     folder: &mut F,
     plan: &str,
