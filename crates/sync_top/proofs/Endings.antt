@@ -1,5 +1,5 @@
 -- How the work of a form ends: with a reply to what was read, or with what ended the reading.
-use Rattle.std.proofs.Common.{◌≡◌, ◌≤◌, ◌+◌, ℕ, Bool, List, Option, None, Some, Result, Ok, Err, refl, sym, subst, arith}
+use Rattle.std.proofs.Common.{◌≡◌, ℕ, Bool, List, Option, None, Some, Result, Ok, Err, refl, sym, subst, arith}
 use Rattle.std.specs.Prelude.{⊤, IfOk, IfSome, codes}
 use Rattle.sync_text.specs.declared.errors.NoMemory as wanting
 use Rattle.sync_edge.specs.Contents.{Contents}
@@ -12,7 +12,7 @@ use Rattle.sync_top.specs.declared.reply.Reply.{Reply}
 use Rattle.sync_top.specs.declared.reply.Stop.{Stop}
 use Rattle.sync_top.specs.declared.reply.Stop.TheVariants.{Ended, OutOfMemory}
 use Rattle.sync_top.specs.Form.{Form}
-use Rattle.sync_top.specs.Reading.{End, no_file, answered, Reading, one_file, no_files, text_line}
+use Rattle.sync_top.specs.Reading.{End, no_file, answered, one_file, no_files, text_line}
 use Rattle.sync_top.specs.Answer.{Outside, meaning, FormAnswer, FormMissesFile, IsAnswer, MissesFile}
 use Rattle.sync_top.proofs.Cuts.{outside}
 use Rattle.sync_top.specs.Work.{EndsIn, Gets, HasRead, WorkFacts, Works, ends_in, replied}

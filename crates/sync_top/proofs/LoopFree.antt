@@ -9,7 +9,6 @@ use Rattle.sync_topo.specs.Topology.{Topology}
 use Rattle.sync_topo.specs.PlanRows.{plan_of_rows}
 use Rattle.sync_topo.specs.WellFormed.{IsWellFormed}
 use Rattle.sync_topo.proofs.Accepted.{accepted-well_formed}
-use Rattle.net_rules.specs.Safety.{IsLoopFree}
 use Rattle.net_rules.proofs.FinalLaws.{loop_free}
 use Rattle.plan_file.specs.declared.error.PlanFileErr.{PlanFileErr}
 use Rattle.sync_text.specs.Chain.{◌>>=◌}
@@ -28,7 +27,6 @@ use Rattle.sync_top.specs.Forms.Check.{ranks_in, documents, IsVerdictOver}
 use Rattle.sync_top.specs.Answer.{FormAnswer, IsAnswer, MissesFile}
 use Rattle.sync_top.specs.LoopFree.{IsCheckedLoopFree}
 use Rattle.sync_top.specs.Forms.Priority.{IsCheckedForPriority}
-use Rattle.prio_mode.specs.PriorityLoops.{NeverLoops}
 use Rattle.prio_mode.proofs.LoopLaws.{never_loops}
 use Rattle.sync_top.specs.Work.{EndsIn}
 use Rattle.sync_top.proofs.Accepted.{never_done}

@@ -1,17 +1,17 @@
 -- That words over some files have one answer.
-use Rattle.std.proofs.Common.{◌≡◌, ◌≤◌, ℕ, suc, length, List, ◌++◌, Option, Some, None, Result, Ok, Err, refl, sym, ◌∙◌, ap, inl, inr, arith}
-use Rattle.std.specs.Prelude.{◌⊎◌, codes}
+use Rattle.std.proofs.Common.{◌≡◌, ◌≤◌, ℕ, suc, length, List, Option, Some, None, Result, Ok, Err, refl, sym, ◌∙◌, ap, inl, inr, arith}
+use Rattle.std.specs.Prelude.{◌⊎◌}
 use Rattle.sync_edge.specs.Contents.{Contents}
 use Rattle.sync_topo.specs.declared.event.Event.{Event}
 use Rattle.sync_topo.specs.Topology.{Topology}
-use Rattle.sync_topo.specs.Lines.{line_name, is_nominated}
+use Rattle.sync_topo.specs.Lines.{is_nominated}
 use Rattle.sync_topo.specs.Hops.{hops, hops_any, IsRising}
 use Rattle.sync_topo.specs.Ranks.{AreLeastRanks, IsFirstCycle}
 use Rattle.rank_cert.specs.Ranks.{Ranks, rank_at, rank_of}
 use Rattle.rank_cert.specs.CertificateText.{certificate_text}
 use Rattle.cycle_plan.proofs.OneCycle.{one_cycle}
 use Rattle.sync_topo.specs.declared.returns.Returns.TheVariants.{Barred}
-use Rattle.sync_top.proofs.Verdicts.{Same, IsOne, one_verdict, no_first_cycle}
+use Rattle.sync_top.proofs.Verdicts.{IsOne, one_verdict, no_first_cycle}
 use Rattle.sync_ql.specs.declared.limits.TheConstants.{MOST_ROWS}
 use Rattle.event_sim.specs.Rows.{rows_until}
 use Rattle.event_sim.specs.Answers.{IsLastFit}
@@ -49,7 +49,6 @@ use Rattle.sync_top.specs.Answer.{PlanAnswer, RanksAnswer, EventsAnswer, FramesA
 use Rattle.sync_top.proofs.OneText.{same_text}
 use Rattle.sync_top.proofs.ChainAnswers.{one_chained}
 use Rattle.sync_top.proofs.PriorityAnswers.{one_priority_planned, one_priority_run}
-use Rattle.sync_top.specs.Forms.Priority.{IsPriorityPlanned, IsPriorityRun}
 use Rattle.sync_top.specs.Forms.Node.{accepted_rows, AreFramesSent, IsNodeReply}
 use Rattle.sync_top.proofs.NodeAnswers.{one_sent}
 use Rattle.plan_gen.specs.Ladder.{ladder}

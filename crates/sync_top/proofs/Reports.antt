@@ -1,5 +1,5 @@
 -- What a run writes is the report of the plan and the events.
-use Rattle.std.proofs.Common.{◌≡◌, ◌≤◌, ℕ, suc, Bool, List, length, Option, None, Some, Ok, ap, subst, ◌∙◌}
+use Rattle.std.proofs.Common.{◌≡◌, ◌≤◌, ℕ, suc, List, length, Option, Some, ap, subst, ◌∙◌}
 use Rattle.sync_topo.specs.declared.event.Event.{Event}
 use Rattle.sync_topo.specs.Topology.{Topology}
 use Rattle.sync_ql.specs.declared.limits.TheConstants.{MOST_ROWS}
@@ -12,7 +12,6 @@ use Rattle.event_sim.specs.SimState.{SimState, first_after}
 use Rattle.event_sim.specs.Standing.{StandsFor, watched_rows}
 use Rattle.event_sim.specs.Answers.{IsLastFit}
 use Rattle.trace_report.specs.Report.{IsReportText}
-use Rattle.sync_top.specs.declared.status.Status.{Status}
 use Rattle.sync_top.specs.declared.status.Status.TheVariants as status
 use Rattle.sync_top.specs.Forms.Sim.{IsReport}
 

@@ -1,4 +1,4 @@
-use Rattle.std.proofs.Common.{Ok, Err, subst}
+use Rattle.std.proofs.Common.{subst}
 use Rattle.std.specs.Prelude.{IfOk}
 use Rattle.sync_top.specs.Work.{ends_in}
 use Rattle.sync_top.specs.Form.{on_events}

@@ -1,4 +1,3 @@
-use Rattle.std.proofs.Common.{refl}
 use Rattle.std.specs.Prelude.{⊤}
 use Rattle.sync_top.specs.Form.{on_ladder}
 use Rattle.sync_top.proofs.Endings.{worked, no-read}

@@ -1,4 +1,3 @@
-use Rattle.std.proofs.Common.{Ok, Err}
 use Rattle.sync_top.specs.Form.{on_ranks}
 use Rattle.sync_top.specs.Answer.{across}
 use Rattle.sync_top.proofs.Endings.{worked, ended}
