@@ -68,6 +68,16 @@ def test_tables() -> None:
     hops = murdjohe.hops(MESH / "topology.toml").result.rows
     assert hops[2] == reports.Hop("hub-north", 1, "N1>hub-north")
     assert murdjohe.hops(b'[[element]]\nname = "A"\n').result.rows == (reports.Hop("A", None, None),)
+    plan = b'[[element]]\nname = "A"\n[[element]]\nname = "B"\nown = "QL-SSU-A"\n[[element]]\nname = "C"\n'
+    for name, a, b in ((b"L1", b"A", b"B"), (b"L2", b"B", b"C")):
+        plan += b'[[link]]\nname = "%b"\na = "%b"\nb = "%b"\npriority_b = 1\n' % (name, a, b)
+    assert murdjohe.chains(plan).result.rows == (
+        reports.Chain("A", 0, 0, 0),
+        reports.Chain("B", 1, 1, 0),
+        reports.Chain("C", 2, 1, 1),
+    )
+    ring = murdjohe.chains(MESH.parent / "ring" / "plan.toml").result
+    assert (ring.rows, ring.ring) == (None, ("L1>B", "L2>C", "L3>A"))
     cuts = murdjohe.sweep(MESH / "redundant.toml", 60_000, "400s").result.rows
     assert [cut.link for cut in cuts] == ["C", "N1", "S2", "H", "A1", "A2", "A3", "A4"]
     assert all(cut.is_settled and cut.locked == 7 and cut.bound is None for cut in cuts)

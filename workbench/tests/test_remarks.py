@@ -2,6 +2,7 @@
 
 from __future__ import annotations
 
+import itertools
 from pathlib import Path
 
 import pytest
@@ -61,6 +62,19 @@ def test_elements_without_a_way_to_a_clock_are_named() -> None:
     assert said("nominate", "-", stdin=CHAIN + SOURCE) == said("hops", "-", stdin=CHAIN + SOURCE)
 
 
+def test_chains_are_held_against_the_reference_chain() -> None:
+    assert said("chains", "-", stdin=CHAIN + SOURCE) == [
+        "whatever fails, no chain is longer than G.803's 60 lines, 20 since a filter and 10 filters"
+    ]
+    names = [f"E{number}" for number in range(23)]
+    plan = "".join(f'[[element]]\nname = "{name}"\n' for name in names)
+    for one, other in itertools.pairwise(names):
+        plan += f'[[link]]\nname = "{one}-{other}"\na = "{one}"\nb = "{other}"\npriority_b = 1\n'
+    assert said("chains", "-", stdin=plan) == [
+        "2 elements have chains of more than G.803's 20 lines since a filter: E21, E22"
+    ]
+
+
 def test_a_plan_without_a_clock_is_told() -> None:
     assert said("rank", "-", stdin=CHAIN)[1:] == ["no source is nominated, so nothing ever has a clock"]
     assert said("rank", "-", stdin=CHAIN + SOURCE + "priority = 0\n")[1:] == [
@@ -68,7 +82,7 @@ def test_a_plan_without_a_clock_is_told() -> None:
     ]
 
 
-@pytest.mark.parametrize("form", ["rank", "hops", "nominate", "prio-rank"])
+@pytest.mark.parametrize("form", ["rank", "chains", "hops", "nominate", "prio-rank"])
 def test_an_empty_plan_is_told(form: str) -> None:
     assert any("the plan is empty" in line or "0 elements" in line for line in said(form, "-"))
 

@@ -2,3 +2,4 @@ pub mod Tournaments
 pub mod FirstDues
 pub mod MarkedPlaces
 pub mod SortedPlaces
+pub mod InOrder

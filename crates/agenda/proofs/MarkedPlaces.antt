@@ -113,3 +113,8 @@ not_before i xs apart within = list_any_none (nat_eq (slice_index xs i)) (take i
     let earlier : j < i = omega (arith, inside, length-take i xs) in
     let other : nat_eq (slice_index_or xs j d) (slice_index_or xs i d) ≡ false = apart_from_distinct nat_eq xs j i d apart earlier within in
     rw (get_or-take i xs j d earlier, get_or_default xs i 0 d within) (nat_eq_equiv.symm (slice_index_or xs i d) (slice_index_or xs j d) ∙ other))
+
+-- flags of just the places that marks list are theirs
+pub same_flags : (flags : List Bool) (marked : Marked) → AreListed marked → length flags ≡ length marked.flags
+    → ((k : ℕ) → slice_index_or flags k false ≡ list_any (nat_eq k) marked.listed) → flags ≡ marked.flags
+same_flags flags marked all count given = ext_get_or false flags marked.flags count (λ k within. given k ∙ sym (all.listed k))

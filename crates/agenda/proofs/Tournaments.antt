@@ -102,3 +102,20 @@ last_has winner nobody n player rounds P Q all has first second (suc left) k eno
           | yes right ↦ second (slice_index_or rounds (2 * j) nobody) (slice_index_or rounds (2 * j + 1) nobody) left_has right_has (subst (λ m. Q (slice_index_or rounds m nobody)) (let e : k ≡ 2 * j + 1 = omega arith in e) here)
           | no even ↦ first (slice_index_or rounds (2 * j) nobody) (slice_index_or rounds (2 * j + 1) nobody) left_has right_has (subst (λ m. Q (slice_index_or rounds m nobody)) (let e : k ≡ 2 * j = omega arith in e) here)
         ]
+
+-- where the winner at a place is the one that stands there, none is stale
+pub with_same : {A : Type 0} (winner : A → A → A) (nobody : A) (n : ℕ) (player : ℕ → A) (rounds : List A) (k : ℕ) → IsTournament winner nobody n player rounds k
+    → slice_index_or rounds k nobody ≡ winner (slice_index_or rounds (2 * k) nobody) (slice_index_or rounds (2 * k + 1) nobody) → IsTournament winner nobody n player rounds 0
+with_same winner nobody n player rounds k all same = record {
+  room = all.room;
+  players = all.players;
+  winners = λ j more inside apart. at j more inside (nat_eq j k) refl;
+}
+  where
+    at : (j : ℕ) → 0 < j → j < n → (b : Bool) → nat_eq j k ≡ b → slice_index_or rounds j nobody ≡ winner (slice_index_or rounds (2 * j) nobody) (slice_index_or rounds (2 * j + 1) nobody)
+    at j more inside true is =
+        let here : k ≡ j = grind (arith, nat_tests) in
+        subst (λ m. slice_index_or rounds m nobody ≡ winner (slice_index_or rounds (2 * m) nobody) (slice_index_or rounds (2 * m + 1) nobody)) here same
+    at j more inside false is =
+        let other : j ≢ k = grind (arith, nat_tests) in
+        all.winners j more inside other

@@ -1,15 +1,19 @@
 -- Private to this crate: what is true of the times that are kept.
-use Rattle.std.specs.Prelude.{◌≤◌, ℕ, List, length, Option, None}
+use Rattle.std.specs.Prelude.{◌≡◌, ◌≤◌, ℕ, List, length, min, Option}
 use Rattle.agenda.specs.declared.limits.TheConstants.{MOST_PLACES}
+use Rattle.agenda.specs.declared.due_times.TheConstants.{NEVER}
 use Rattle.agenda.specs.declared.due_times.DueTimes.TheInside.{Inside}
 use Rattle.agenda.specs.Tournament.{IsTournament}
-use Rattle.agenda.specs.EarlierDue.{earlier, due_at}
+use Rattle.agenda.specs.DueTimes.{due_count}
+use Rattle.agenda.specs.EarlierDue.{number_at}
 
 -- the times of the objects, by place
 abbrev pub times_in : Inside → List (Option ℕ)
 times_in d = d.times.items
 
--- they are few enough, and stand in a tournament whose winner is the first
+-- they are few enough, stand in a tournament whose winner is the first, and those that are due are
+-- counted
 pub record IsKept (d : Inside) : Type 0 where
   pub few : length d.times.items ≤ MOST_PLACES
-  pub first : IsTournament earlier None (length d.times.items) (due_at d.times.items) d.rounds.items 0
+  pub first : IsTournament min NEVER (length d.times.items) (number_at d.times.items) d.rounds.items 0
+  pub count : d.due ≡ due_count d.times.items

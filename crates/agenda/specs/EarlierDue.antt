@@ -1,19 +1,15 @@
--- Private to this crate: which of two objects is due first.
-use Rattle.std.specs.Prelude.{ℕ, nat_lt, if◌then◌else◌, List, Option, None, Some}
+-- Private to this crate: the number by which an object stands in a tournament of due times.
+use Rattle.std.specs.Prelude.{◌≡◌, ◌≤◌, ◌<◌, ℕ, List, length, Option, Some, unwrap_or}
 use Rattle.agenda.specs.declared.due_times.Due.{Due}
+use Rattle.agenda.specs.declared.due_times.TheConstants.{NEVER}
 use Rattle.agenda.specs.DueTimes.{due_in}
 
--- the earlier of two, of which None never comes
-abbrev pub earlier : Option Due → Option Due → Option Due
-earlier None b = b
-earlier (Some a) None = Some a
-earlier (Some a) (Some b) = if nat_lt b.at a.at then Some b else Some a
+-- the time of the object at a place, or the last number, by which one that isn't due stands too
+abbrev pub number_at : List (Option ℕ) → ℕ → ℕ
+number_at times i = unwrap_or (due_in times i) NEVER
 
--- the object at a place, with its time
-abbrev pub due_of : ℕ → Option ℕ → Option Due
-due_of place None = None
-due_of place (Some at) = Some (record { at = at; place = place })
-
--- so of a list of times
-abbrev pub due_at : List (Option ℕ) → ℕ → Option Due
-due_at times i = due_of i (due_in times i)
+-- an object of a list, which is due at that number at the latest
+pub record IsListed (times : List (Option ℕ)) (due : Due) : Type 0 where
+  pub within : due.place < length times
+  pub ends : due_in times due.place ≡ Some due.at
+  pub in_range : due.at ≤ NEVER

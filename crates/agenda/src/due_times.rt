@@ -1,15 +1,17 @@
 //! When each object is due, with the first of these times at hand.
 
-ghost use Rattle.std.specs.Prelude.{◌≡◌, ◌≤◌, ◌<◌, ◌+◌, ℕ, None, Option, IsNone, IfSome, IfOk, MatchOption, length, replicate, slice_set};
+ghost use Rattle.std.specs.Prelude.{◌≡◌, ◌≤◌, ◌<◌, ◌+◌, ℕ, None, Option, IsNone, IfSome, IfOk, MatchOption, length, min, replicate, slice_index_or, slice_set};
 ghost use Rattle.agenda.specs.Tournament.{IsTournament, with_player};
 ghost use Rattle.agenda.specs.DueTimes.{due_in, due_count, IsFirst, IsTaken, AreLater};
-ghost use Rattle.agenda.specs.EarlierDue.{earlier, due_of};
-ghost use Rattle.agenda.specs.declared.due_times.Due.{Due};
+ghost use Rattle.agenda.specs.EarlierDue.{IsListed};
 
 use crate::limits::MOST_PLACES;
 use std::alloc::Global;
 use std::marker::Model;
 use sync_text::NoMemory;
+
+/// By this number an object that isn't due stands in a tournament; one may be due then, too.
+const NEVER: u64 = u64::MAX;
 
 /// When an object is due, and the place of that object.
 #[derive(Clone, Copy, Debug, PartialEq, Eq)]
@@ -28,7 +30,9 @@ pub struct DueTimes {
     times: Vec<Option<u64>>,
     /// A tournament among the objects: their times in the second half, and before each two the
     /// earlier one; at place 1 the first.
-    rounds: Vec<Option<Due>>,
+    rounds: Vec<u64>,
+    /// How many objects are due.
+    due: usize,
 }
 
 impl Model for DueTimes {
@@ -53,7 +57,11 @@ impl DueTimes {
     {
         let times = no_times(alloc, count)?;
         let rounds = no_rounds(alloc, count)?;
-        Ok(DueTimes { times, rounds })
+        Ok(DueTimes {
+            times,
+            rounds,
+            due: 0,
+        })
     }
 
     /// The same times once more. It takes memory for them. This project's own.
@@ -66,7 +74,11 @@ impl DueTimes {
         let Ok(rounds) = Vec::from_slice(alloc, self.rounds.as_slice()) else {
             return Err(NoMemory);
         };
-        Ok(DueTimes { times, rounds })
+        Ok(DueTimes {
+            times,
+            rounds,
+            due: self.due,
+        })
     }
 
     /// Renews when the object at a place is due, or that it isn't. It takes time by the logarithm of the
@@ -77,35 +89,45 @@ impl DueTimes {
         requires place { place < length self.old }
         ensures { self.new ≡ slice_set self.old place due }
     {
-        if self.times[place as usize] == due {
+        let before = self.times[place as usize];
+        if before == due {
             return;
         }
         let count = self.times.len();
         self.times[place as usize] = due;
+        self.due = self.due - usize::from(before.is_some()) + usize::from(due.is_some());
         renew(
             self.rounds.as_mut_slice(),
             count,
             place as usize,
-            due_of(place, due),
+            due.unwrap_or(NEVER),
         );
     }
 
-    /// The first of all times, and the place of an object that is due then. It takes the same time for
-    /// any number of objects.
+    /// The first of all times, and the place of an object that is due then. It takes time by the
+    /// logarithm of the number of objects, and none where no object is due; only where the first is
+    /// the last number of all, 2^64 - 1, it looks at all times.
     ///
     /// `None` exactly where no object is due. This project's own.
     pub fn first(&self) -> Option<Due>
         ensures { MatchOption result ((i : ℕ) → i < length self.now → due_in self.now i ≡ None)
             (IsFirst self.now) }
     {
-        if self.times.is_empty() {
+        if self.due == 0 {
             return None;
         }
-        self.rounds[1]
+        let at = self.rounds[1];
+        if at == NEVER {
+            return any_due(self.times.as_slice());
+        }
+        Some(Due {
+            at,
+            place: place_of(self.rounds.as_slice(), self.times.len()),
+        })
     }
 
     /// Takes out an object that is due at `now` or before it, if there is one; that object isn't due
-    /// afterwards. It takes the time of `set`, and no memory.
+    /// afterwards. It takes the time of `set` where there is one, and no memory.
     ///
     /// This project's own.
     pub fn take(&mut self, now: u64) -> Option<u32>
@@ -114,6 +136,9 @@ impl DueTimes {
         ensures none { IsNone result → AreLater now self.old }
         ensures kept { IsNone result → self.new ≡ self.old }
     {
+        if self.due > 0 && self.rounds[1] > now {
+            return None;
+        }
         match self.first() {
             Some(due) if due.at <= now => {
                 self.set(due.place, None);
@@ -124,40 +149,73 @@ impl DueTimes {
     }
 }
 
-fn due_of(place: u32, time: Option<u64>) -> Option<Due>
-    ensures { result ≡ due_of place time }
+// The first of a list of times that an object is due at, where none is due before the last number.
+fn any_due(times: &[Option<u64>]) -> Option<Due>
+    requires few { length times.now ≤ MOST_PLACES }
+    ensures { MatchOption result ((i : ℕ) → i < length times.now → due_in times.now i ≡ None)
+        (IsListed times.now) }
 {
-    match time {
-        Some(at) => Some(Due { at, place }),
-        None => None,
+    for place in 0..times.len() {
+        if let Some(at) = times[place] {
+            return Some(due_at(at, place as u32));
+        }
     }
+    None
 }
 
-// The one of two that comes first.
-fn earlier(one: Option<Due>, other: Option<Due>) -> Option<Due>
-    ensures { result ≡ earlier one other }
+fn due_at(at: u64, place: u32) -> Due
+    ensures at { result.at ≡ at }
+    ensures place { result.place ≡ place }
+    ensures in_range { at ≤ NEVER }
 {
-    match (one, other) {
-        (Some(a), Some(b)) if b.at < a.at => Some(b),
-        (None, _) => other,
-        _ => one,
-    }
+    Due { at, place }
 }
 
-// Another time comes to a place of a tournament, and its winners are found again, up to the last.
-fn renew(rounds: &mut [Option<Due>], count: usize, place: usize, player: Option<Due>)
+// The place of a player that stands by the number of the last winner.
+fn place_of(rounds: &[u64], count: usize) -> u32
+    requires room { length rounds.now ≡ count + count }
+    requires few { count ≤ MOST_PLACES }
+    requires some { 0 < count }
+    ensures within { result < count }
+    ensures winner { (players : ℕ → ℕ) → IsTournament min NEVER count players rounds.now 0 →
+        players result ≡ slice_index_or rounds.now 1 NEVER }
+{
+    let first = rounds[1];
+    let mut round = 1;
+    while round < count {
+        round *= 2;
+        if rounds[round] != first {
+            round += 1;
+        }
+    }
+    (round - count) as u32
+}
+
+// The earlier of two.
+fn earlier(one: u64, other: u64) -> u64
+    ensures { result ≡ min one other }
+{
+    one.min(other)
+}
+
+// Another number comes to a place of a tournament, and its winners are found again, up to the first
+// that stays.
+fn renew(rounds: &mut [u64], count: usize, place: usize, player: u64)
     requires room { length rounds.old ≡ count + count }
     requires few { count ≤ MOST_PLACES }
     requires place { place < count }
     ensures room { length rounds.new ≡ length rounds.old }
-    ensures renewed { (players : ℕ → Option Due) →
-        IsTournament earlier None count players rounds.old 0 →
-        IsTournament earlier None count (with_player players place player) rounds.new 0 }
+    ensures renewed { (players : ℕ → ℕ) → IsTournament min NEVER count players rounds.old 0 →
+        IsTournament min NEVER count (with_player players place player) rounds.new 0 }
 {
     rounds[count + place] = player;
     let mut round = (count + place) / 2;
     while 0 < round {
-        rounds[round] = earlier(rounds[2 * round], rounds[2 * round + 1]);
+        let winner = earlier(rounds[2 * round], rounds[2 * round + 1]);
+        if rounds[round] == winner {
+            return;
+        }
+        rounds[round] = winner;
         round /= 2;
     }
 }
@@ -171,11 +229,11 @@ fn no_times(alloc: Global, count: usize) -> Result<Vec<Option<u64>>, NoMemory>
     }
 }
 
-fn no_rounds(alloc: Global, count: usize) -> Result<Vec<Option<Due>>, NoMemory>
+fn no_rounds(alloc: Global, count: usize) -> Result<Vec<u64>, NoMemory>
     requires few { count ≤ MOST_PLACES }
-    ensures { IfOk result (λ rounds. rounds.items ≡ replicate (count + count) None) }
+    ensures { IfOk result (λ rounds. rounds.items ≡ replicate (count + count) NEVER) }
 {
-    match vec![in alloc; None; count + count] {
+    match vec![in alloc; NEVER; count + count] {
         Ok(rounds) => Ok(rounds),
         Err(_) => Err(NoMemory),
     }

@@ -9,15 +9,18 @@
 //!   place beside the places that are listed (`Marked`): just those with a flag, none of them twice
 //!   (`AreListed`).
 //!
-//! Only their `new` and `try_clone` take memory. [`walks::walk_law`] is of a walk over listed places, and
-//! `limits` has how many places there may be. This project's own. The tests show that memory is found, and go
-//! through orders of taking and of marking that are written by hand.
+//! [`mark_due`] marks what is due and takes it out, and [`in_order`] gives the marked places from the
+//! lowest on (`Called`). Only that list, `new` and `try_clone` take memory. [`walks::walk_law`] is of a
+//! walk over listed places, and `limits` has how many places there may be. This project's own. The tests
+//! show that memory is found, and go through orders of taking and of marking that are written by hand.
 #![tactic(auto)]
 
+mod called;
 mod due_times;
 pub mod limits;
 mod marks;
 pub mod walks;
 
+pub use called::{first_due, in_order, mark_all, mark_due};
 pub use due_times::{Due, DueTimes};
 pub use marks::Marks;

@@ -60,13 +60,14 @@ impl Marks {
         Ok(Marks { flags, listed })
     }
 
-    /// Becomes the same as other marks of as many places. It takes no memory. This project's own.
+    /// Becomes the same as other marks of as many places. It takes time by the number of places that
+    /// either has marked, and no memory. This project's own.
     pub fn copy_from(&mut self, other: &Marks)
         requires count { length self.old.flags ≡ length other.now.flags }
         ensures { self.new ≡ other.now }
     {
-        self.flags.copy_from_slice(other.flags.as_slice());
-        self.listed.clear();
+        self.clear();
+        give(self.flags.as_mut_slice(), other.listed.as_slice());
         self.listed
             .extend_from_slice(other.listed.as_slice())
             .unwrap();
@@ -131,6 +132,18 @@ fn take_away(flags: &mut [bool], listed: &[u32])
 {
     for place in listed {
         flags[*place as usize] = false;
+    }
+}
+
+// Gives a flag to each of these places; no place has one yet.
+fn give(flags: &mut [bool], listed: &[u32])
+    requires within { All (λ k. k < length flags.old) listed.now }
+    requires none { flags.old ≡ replicate (length flags.old) false }
+    ensures count { length flags.new ≡ length flags.old }
+    ensures flags { (k : ℕ) → slice_index_or flags.new k false ≡ list_any (nat_eq k) listed.now }
+{
+    for place in listed {
+        flags[*place as usize] = true;
     }
 }
 

@@ -3,6 +3,7 @@ use Rattle.std.proofs.Common.{◌≡◌, ◌<◌, ◌-◌, ℕ, zero, suc, Bool,
 use Rattle.std.specs.List.{All, list_all}
 use Rattle.std.proofs.lemmas.Bool.{cases_Bool, and_parts, ltb-true, eqb-true}
 use Rattle.std.proofs.lemmas.List.Elements.{All-get_or, All-weaker}
+use Rattle.capture_text.proofs.ReadingLemmas.{sized}
 use Rattle.hex.specs.Hex.{IsBytes, decode_of, decode_sized, encode_lower, encode_with, is_hex_digit}
 use Rattle.hex.proofs.HexLemmas.{decode_of-encode_lower, decode_of-ok, decode_sized-ok, decode_sized-twice}
 use Rattle.sync_ql.specs.declared.levels.NetOption.{NetOption}
@@ -43,14 +44,6 @@ pub record IsSendable (pdu : Pdu) : Type 0 where
   pub small : pdu.code < 16
   pub behind : IfSome pdu.extended AreOctets
   pub enhanced : IfSome pdu.extended (λ extended. extended.code < 256)
-
--- a row says what can be sent
-sized : (text : List ℕ) (n : ℕ) (octets : List ℕ) → decode_sized text n ≡ Ok octets → (length octets ≡ n) × IsBytes octets
-sized text n octets is =
-    let twice = decode_sized-ok text n octets is in
-    let ok = decode_of-ok text octets (sym (decode_sized-twice text n twice) ∙ is) in
-    let len = ok.2 in
-    (omega (arith, len, twice), ok.3)
 
 enhanced_bound : (found : Option Level) → enhanced_or_none found < 256
 enhanced_bound (Some level) = enhanced_of-bound level

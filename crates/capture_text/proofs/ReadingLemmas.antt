@@ -94,7 +94,7 @@ one_octet (octet ∷ []) one = refl
 one_octet [] one = absurd (omega (arith, one))
 one_octet (octet ∷ next ∷ octets) one = absurd (omega (arith, one))
 
-sized : (text : List ℕ) (n : ℕ) (octets : List ℕ) → decode_sized text n ≡ Ok octets → (length octets ≡ n) × IsBytes octets
+pub sized : (text : List ℕ) (n : ℕ) (octets : List ℕ) → decode_sized text n ≡ Ok octets → (length octets ≡ n) × IsBytes octets
 sized text n octets is =
     let twice = decode_sized-ok text n octets is in
     let ok = decode_of-ok text octets (sym (decode_sized-twice text n twice) ∙ is) in

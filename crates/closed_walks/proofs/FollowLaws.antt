@@ -4,12 +4,13 @@ use Rattle.std.specs.Prelude.{slice_set}
 use Rattle.std.proofs.lemmas.Bool.{true≢false}
 use Rattle.std.proofs.lemmas.Bool.Decides.{eqb_tells}
 use Rattle.std.proofs.lemmas.List.{get_or-set_same, get_or-set_other, append-nil}
+use Rattle.sync_text.specs.Each.{Each}
 use Rattle.sync_topo.specs.declared.input.InputId.{InputId}
 use Rattle.sync_topo.specs.declared.input.InputId.TheVariants.{Line, Source}
 use Rattle.sync_topo.specs.declared.input.LineId.{LineId}
 use Rattle.sync_topo.specs.Topology.{Topology}
 use Rattle.sync_topo.specs.Lines.{sender_of}
-use Rattle.net_rules.specs.Walks.{Taken, Each, TraceEnd, at_source, at_clock, at_loop, EndsAt, IsTraceAfter, IsTrace}
+use Rattle.net_rules.specs.Walks.{Taken, TraceEnd, at_source, at_clock, at_loop, EndsAt, IsTraceAfter, IsTrace}
 use Rattle.net_rules.proofs.TraceLaws.{met_or}
 use Rattle.closed_walks.specs.declared.traced.End.{End}
 use Rattle.closed_walks.specs.declared.traced.End.TheVariants as end_as

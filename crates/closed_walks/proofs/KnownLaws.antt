@@ -6,6 +6,8 @@ use Rattle.std.proofs.lemmas.Bool.{true≢false}
 use Rattle.std.proofs.lemmas.Bool.Decides.{eqb_tells}
 use Rattle.std.proofs.lemmas.List.{get_or-set_same, get_or-set_other, length-set, length-replicate}
 use Rattle.std.proofs.lemmas.Option.{none-some, same_Some}
+use Rattle.sync_text.proofs.Each.{Each-append}
+use Rattle.sync_text.specs.Each.{Each}
 use Rattle.sync_topo.specs.declared.input.InputId.{InputId}
 use Rattle.sync_topo.specs.declared.input.LineId.{LineId}
 use Rattle.sync_topo.specs.Topology.{Topology}
@@ -13,9 +15,8 @@ use Rattle.sync_topo.specs.Lines.{line_input, line_count, sender_of, receiver_of
 use Rattle.sync_topo.specs.WellFormed.{IsWellFormed}
 use Rattle.net_rules.specs.Inputs.{IsInputOf}
 use Rattle.net_rules.specs.GoingBack.{line_before, ComesBack}
-use Rattle.net_rules.specs.Walks.{Taken, Each, AreApart, IsOneOf, TraceEnd, at_source, at_clock, at_loop, EndsAt, IsTraceAfter, IsTrace}
+use Rattle.net_rules.specs.Walks.{Taken, AreApart, IsOneOf, TraceEnd, at_source, at_clock, at_loop, EndsAt, IsTraceAfter, IsTrace}
 use Rattle.net_rules.proofs.BackWalk.{AreOwn}
-use Rattle.net_rules.proofs.Lists.{Each-append}
 use Rattle.net_rules.proofs.WalkLaws.{line_input-same}
 use Rattle.net_rules.proofs.PlanLaws.{sender-within, receiver-within}
 use Rattle.net_rules.proofs.TraceLaws.{has_trace, at_most}

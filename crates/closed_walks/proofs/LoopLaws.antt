@@ -5,15 +5,16 @@ use Rattle.std.proofs.Math.Decide.{dec_lt}
 use Rattle.std.proofs.lemmas.Bool.{true≢false}
 use Rattle.std.proofs.lemmas.Bool.Decides.{eqb_tells}
 use Rattle.std.proofs.lemmas.Option.{same_Some, slice_get_cases}
+use Rattle.sync_text.proofs.Each.{Each-map, Each-append}
+use Rattle.sync_text.specs.Each.{Each}
 use Rattle.sync_topo.specs.declared.input.InputId.{InputId}
 use Rattle.sync_topo.specs.declared.input.InputId.TheVariants.{Line}
 use Rattle.sync_topo.specs.declared.input.LineId.{LineId}
 use Rattle.sync_topo.specs.Topology.{Topology}
 use Rattle.sync_topo.specs.Lines.{line_input, sender_of, receiver_of}
 use Rattle.net_rules.specs.GoingBack.{line_before, lines_before, ComesBack}
-use Rattle.net_rules.specs.Walks.{Taken, Each, IsTaken, TraceEnd, at_source, at_clock, at_loop, IsTrace}
+use Rattle.net_rules.specs.Walks.{Taken, IsTaken, TraceEnd, at_source, at_clock, at_loop, IsTrace}
 use Rattle.net_rules.proofs.BackWalk.{AreOwn, walk-back, back-walk}
-use Rattle.net_rules.proofs.Lists.{Each-map, Each-append}
 use Rattle.net_rules.proofs.WalkLaws.{line_input-same}
 use Rattle.closed_walks.specs.declared.traced.End.{End}
 use Rattle.closed_walks.specs.declared.traced.End.TheVariants as end_as

@@ -1,7 +1,8 @@
 -- There is one list of all closed walks.
 use Rattle.std.proofs.Common.{◌≡◌, ◌<◌, ℕ, List, [], ◌∷◌, refl, sym, ap, ◌∙◌, inl, inr, arith}
+use Rattle.sync_text.specs.Each.{Each}
 use Rattle.sync_topo.specs.Topology.{Topology}
-use Rattle.net_rules.specs.Walks.{Taken, Each}
+use Rattle.net_rules.specs.Walks.{Taken}
 use Rattle.closed_walks.specs.Loops.{IsLoop, IsListed, AreInOrder, AreLoops, first_line}
 
 -- a walk of a list has what each has

@@ -2,11 +2,12 @@
 use Rattle.std.proofs.Common.{◌≡◌, ◌≢◌, ◌≤◌, ◌<◌, ◌+◌, ◌-◌, ℕ, zero, suc, List, [], ◌∷◌, length, Some, ap, sym, subst, ◌∙◌, inl, inr, arith, refl}
 use Rattle.std.proofs.Math.Decide.{dec_lt}
 use Rattle.std.proofs.lemmas.Option.{none-some, same_Some}
+use Rattle.sync_text.specs.Each.{Each}
 use Rattle.sync_topo.specs.declared.input.InputId.TheVariants.{Source}
 use Rattle.sync_topo.specs.Topology.{Topology}
 use Rattle.sync_topo.specs.Lines.{line_input, sender_of, receiver_of}
 use Rattle.sync_topo.specs.Ranks.{Leads}
-use Rattle.net_rules.specs.Walks.{Taken, Each, IsOneOf, IsTaken, Joins, IsClosedWalk, TraceEnd, at_source, at_clock, at_loop, EndsAt, IsTraceAfter, IsTrace}
+use Rattle.net_rules.specs.Walks.{Taken, IsOneOf, IsTaken, Joins, IsClosedWalk, TraceEnd, at_source, at_clock, at_loop, EndsAt, IsTraceAfter, IsTrace}
 use Rattle.net_rules.specs.GoingBack.{line_taken, line_before, lines_before, ComesBack}
 use Rattle.net_rules.proofs.BackWalk.{AreOwn, walk-back}
 use Rattle.net_rules.proofs.WalkLaws.{line_input-same}

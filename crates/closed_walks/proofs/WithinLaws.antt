@@ -3,6 +3,7 @@ use Rattle.std.proofs.Common.{◌≡◌, ◌<◌, ℕ, zero, suc, List, [], ◌�
 use Rattle.std.specs.Prelude.{slice_get}
 use Rattle.std.specs.List.{All}
 use Rattle.std.proofs.lemmas.Option.{slice_get-get_or}
+use Rattle.sync_text.specs.Each.{Each}
 use Rattle.sync_topo.specs.declared.input.InputId.{InputId}
 use Rattle.sync_text.specs.declared.errors.NoMemory.{NoMemory}
 use Rattle.sync_topo.specs.declared.input.LineId.{LineId}
@@ -10,7 +11,7 @@ use Rattle.sync_topo.specs.Topology.{Topology}
 use Rattle.sync_topo.specs.Lines.{sender_of, receiver_of}
 use Rattle.sync_topo.specs.WellFormed.{IsWellFormed}
 use Rattle.net_rules.specs.Inputs.{IsInputOf}
-use Rattle.net_rules.specs.Walks.{Each, IsTaken, IsClosedWalk, TraceEnd, at_source, at_clock, at_loop, IsTraceAfter}
+use Rattle.net_rules.specs.Walks.{IsTaken, IsClosedWalk, TraceEnd, at_source, at_clock, at_loop, IsTraceAfter}
 use Rattle.closed_walks.specs.declared.traced.End.{End}
 use Rattle.closed_walks.specs.declared.traced.End.TheVariants.{Source, OwnClock, Loop}
 use Rattle.closed_walks.specs.declared.traced.Ending.{Ending}

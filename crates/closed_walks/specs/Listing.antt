@@ -1,10 +1,11 @@
 -- Private to this crate: listing the loops, line by line.
 use Rattle.std.specs.Prelude.{◌≡◌, ◌<◌, ◌⊎◌, ℕ, Bool, true, List, [], ◌∷◌, ◌++◌}
+use Rattle.sync_text.specs.Each.{Each}
 use Rattle.sync_topo.specs.declared.input.LineId.{LineId}
 use Rattle.sync_topo.specs.Topology.{Topology}
 use Rattle.sync_topo.specs.Lines.{sender_of, receiver_of}
 use Rattle.net_rules.specs.GoingBack.{line_before, ComesBack}
-use Rattle.net_rules.specs.Walks.{Taken, Each, IsTaken}
+use Rattle.net_rules.specs.Walks.{Taken, IsTaken}
 use Rattle.closed_walks.specs.Following.{is_met}
 use Rattle.closed_walks.specs.Loops.{first_line, IsLoop, IsListed, AreInOrder}
 

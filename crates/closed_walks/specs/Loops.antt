@@ -1,7 +1,8 @@
 -- All closed walks, each once. This project's own.
 use Rattle.std.specs.Prelude.{◌≡◌, ◌<◌, ◌⊎◌, ℕ, List, [], ◌∷◌, ⊤}
+use Rattle.sync_text.specs.Each.{Each}
 use Rattle.sync_topo.specs.Topology.{Topology}
-use Rattle.net_rules.specs.Walks.{Taken, Each, IsClosedWalk}
+use Rattle.net_rules.specs.Walks.{Taken, IsClosedWalk}
 
 -- the first line of a walk, which is lower than its others
 abbrev pub first_line : List ℕ → ℕ

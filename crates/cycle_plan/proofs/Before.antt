@@ -4,10 +4,11 @@ use Rattle.std.specs.Prelude.{◌≢◌, ◌&&◌, is_none, find}
 use Rattle.std.specs.List.{range_with_len}
 use Rattle.std.proofs.lemmas.Bool.{true≢false, cases_lt, cases_eq, and_from, and_parts}
 use Rattle.std.proofs.lemmas.Option.{same_Some}
+use Rattle.sync_text.proofs.Ranges.{find_range-Some, find_range-None}
 use Rattle.sync_topo.specs.Topology.{Topology}
 use Rattle.sync_topo.specs.Ranks.{IsResidue, IsBefore, IsLowestResidue, StepsBack}
 use Rattle.sync_topo.specs.Lines.{line_count, is_nominated, IsNominated, sender_of, inputs_of}
-use Rattle.sync_topo.proofs.LineLaws.{IsNominated-within, find_range-Some, find_range-None}
+use Rattle.sync_topo.proofs.LineLaws.{IsNominated-within}
 use Rattle.rank_cert.specs.Ranks.{Ranks, rank_at}
 use Rattle.sync_topo.specs.declared.input.InputId.{InputId}
 use Rattle.sync_topo.specs.declared.returns.Returns.{Returns}

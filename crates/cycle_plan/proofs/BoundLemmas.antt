@@ -1,19 +1,19 @@
 -- The parts of the settling bound: one line or element more, and what they come to.
-use Rattle.std.proofs.Common.{◌≡◌, ℕ, ◌+◌, ◌*◌, ◌/◌, ◌%◌, ◌<◌, ◌≤◌, suc, Bool, true, false, max, List, ◌∷◌, [], length, Option, None, Some, refl, sym, ap, ◌∙◌, inl, inr, ◌⊎◌, arith}
-use Rattle.std.specs.Prelude.{◌≢◌, ◌==◌, slice_get, unwrap_or, IsTrue, if◌then◌else◌, ◌||◌, ◌&&◌}
-use Rattle.std.proofs.lemmas.Bool.{and_parts, or_cases, cases_lt, cases_Bool, cases_eq, eqb-true, eq-eqb}
+use Rattle.std.proofs.Common.{◌≡◌, ℕ, ◌+◌, ◌/◌, ◌<◌, ◌≤◌, suc, Bool, true, false, max, List, ◌∷◌, [], length, Option, None, Some, refl, sym, ap, ◌∙◌, inl, inr, ◌⊎◌, arith}
+use Rattle.std.specs.Prelude.{◌≢◌, ◌==◌, slice_get, unwrap_or, IsTrue, if◌then◌else◌, ◌&&◌}
+use Rattle.std.proofs.lemmas.Bool.{and_parts, or_cases, cases_lt, cases_Bool, eqb-true, eq-eqb}
 use Rattle.std.proofs.lemmas.Option.{same_Some, none-some, slice_get_within}
 use Rattle.sync_topo.specs.declared.link.Link.{Link}
 use Rattle.sync_topo.specs.declared.element.Element.{Element}
 use Rattle.sync_topo.specs.Topology.{Topology}
-use Rattle.sync_topo.specs.Lines.{line_count, link_of, ends_at_b, sender_of, receiver_of, is_nominated, IsNominated}
+use Rattle.sync_topo.specs.Lines.{line_count, ends_at_b, sender_of, receiver_of, is_nominated}
 use Rattle.sync_topo.specs.Bundles.{line_bundle, bundle_of, bundle_name, is_same_bundle, are_of_one_bundle, join_same}
 use Rattle.sync_topo.specs.Hops.{hops, goes_back}
-use Rattle.sync_topo.specs.Ranks.{AreLeastRanks, IsLeastRank, IsFirstCycle, HasWalk, IsResidue}
+use Rattle.sync_topo.specs.Ranks.{AreLeastRanks, IsFirstCycle}
 use Rattle.sync_topo.specs.WellFormed.{IsWellFormed}
 use Rattle.sync_topo.proofs.LineLaws.{IsNominated-within}
 use Rattle.sync_topo.proofs.LineNames.{link_there}
-use Rattle.net_rules.specs.Settling.{IsOneWay, IsDelay, IsRank, IsWait, IsGreatest, IsSettlingBound}
+use Rattle.net_rules.specs.Settling.{IsRank, IsWait, IsGreatest, IsSettlingBound}
 use Rattle.rank_cert.specs.Ranks.{Ranks, rank_at}
 use Rattle.net_rules.proofs.Backs.{hop-nominates}
 use Rattle.cycle_plan.proofs.Walks.{one_least, residue_nominated}

@@ -7,9 +7,10 @@ use Rattle.std.proofs.lemmas.Bool.{true≢false, cases_eq}
 use Rattle.std.proofs.lemmas.List.Elements.{All-push, Contains-push, Contains-append_left}
 use Rattle.std.proofs.lemmas.List.Sums.{sum_by-set, count_by-le-length}
 use Rattle.std.proofs.lemmas.Option.{none-some, same_Some, slice_get-get_or}
+use Rattle.rank_cert.proofs.RuleLaws.{some-rank}
 use Rattle.sync_topo.specs.Topology.{Topology}
 use Rattle.sync_topo.specs.Ranks.{HopTest}
-use Rattle.sync_topo.specs.Lines.{line_count, IsNominated, receiver_of, sender_of, inputs_of}
+use Rattle.sync_topo.specs.Lines.{line_count, line_id, IsNominated, receiver_of, sender_of, inputs_of}
 use Rattle.rank_cert.specs.Ranks.{Ranks, rank_at}
 use Rattle.sync_topo.specs.declared.input.InputId.{InputId}
 use Rattle.sync_topo.specs.declared.returns.Returns.{Returns}
@@ -19,6 +20,7 @@ use Rattle.cycle_plan.specs.Peeling.{IsOpenInto, IsNext, left_over, IsRanking, I
 use Rattle.cycle_plan.specs.declared.inputs.Watch.{Watch}
 use Rattle.cycle_plan.specs.declared.ranking.Ranking.{Ranking}
 use Rattle.cycle_plan.proofs.HopFacts.{hop_parts}
+use Rattle.cycle_plan.proofs.OrderLemmas.{IsOrder-given}
 
 -- no rank is lost or changed
 abbrev pub Grows : (ℕ → Option ℕ) → (ℕ → Option ℕ) → Type 0
@@ -55,11 +57,6 @@ left_over-set ranks line rank inside none =
     let one : gap (get_or ranks line None) ≡ 1 = rw is refl in
     omega (arith, counts, one)
 
--- what is no gap is a rank
-rank_from : (o : Option ℕ) → is_none o ≡ false → (rank : ℕ) × (o ≡ Some rank)
-rank_from None never = absurd (true≢false never)
-rank_from (Some rank) some = (rank, refl)
-
 -- an input that isn't open stays so
 closed-grows : (before after : Ranks) (inputs : List InputId) (place : ℕ) → Grows (rank_at before) (rank_at after)
     → is_open before inputs place ≡ false → is_open after inputs place ≡ false
@@ -69,7 +66,7 @@ closed-grows before after inputs place grows closed = cases (line_at inputs plac
         → option_map_or (λ line. is_none (rank_at after line)) o false ≡ false
     cases None e = refl
     cases (Some line) e =
-        let some = rank_from (rank_at before line) e in rw (grows line some.0 some.1) refl
+        let some = some-rank (rank_at before line) e in rw (grows line some.0 some.1) refl
 
 -- a line without a rank had none
 open-grows : (before after : Ranks) (inputs : List InputId) (place line : ℕ) → Grows (rank_at before) (rank_at after) → IsOpenLine after inputs place line
@@ -150,8 +147,8 @@ IsRanking-given returns plan before after line rank ranking nominated within non
 pub IsMore-given : (returns : Returns) (plan : Topology) (before after : Ranking) (line rank : ℕ) → IsPeeling returns plan before → IsNominated plan line → line < line_count plan
     → rank_at before.ranks line ≡ None → IsNext (hops_by returns plan) (rank_at before.ranks) line rank → IsGiven plan before.ranks after.ranks line rank
     → receiver_of plan line < length plan.elements → after.waiting.items ≡ before.waiting.items ++ receiver_of plan line ∷ [] → after.watches ≡ before.watches
-    → IsMore returns plan before after
-IsMore-given returns plan before after line rank peeling nominated within none next given receiver waiting watches =
+    → after.order.items ≡ before.order.items ++ line_id line ∷ [] → IsMore returns plan before after
+IsMore-given returns plan before after line rank peeling nominated within none next given receiver waiting watches order =
     let grows = Grows-given plan before.ranks after.ranks line rank none given in
     let less : left_over after.ranks + 1 ≡ left_over before.ranks =
     rw given.set (left_over-set before.ranks line rank (rw peeling.ranked.counted within) none) in
@@ -169,6 +166,7 @@ IsMore-given returns plan before after line rank peeling nominated within none n
               done = λ is_done other other_nominated sent left. was.done is_done other other_nominated sent (fewer (rank_at before.ranks) (rank_at after.ranks) grows other left);
             };
         waiting = rw waiting (All-push (λ e. e < length plan.elements) before.waiting.items (receiver_of plan line) peeling.waiting receiver);
+        ordered = rw order (IsOrder-given returns plan before.ranks after.ranks before.order.items (line_id line) rank peeling.ordered nominated less next given.others);
       };
       grows = grows;
       keeps = λ other kept. elim kept [

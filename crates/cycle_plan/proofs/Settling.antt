@@ -1,19 +1,17 @@
 -- When the lines out of an element can be ranked, and when they are held.
 use Rattle.std.proofs.Common.{◌≡◌, ℕ, zero, suc, ◌<◌, ◌≤◌, Bool, true, false, List, [], ◌∷◌, ◌++◌, length, Option, Some, None, refl, sym, ap, subst, ◌∙◌, inl, inr, arith, eq-eqb}
-use Rattle.std.specs.Prelude.{◌≢◌, slice_get, slice_set, if◌then◌else◌, Vec}
-use Rattle.std.specs.List.{All, Contains}
-use Rattle.std.proofs.lemmas.List.Elements.{Contains-append_cases, All-contains}
-use Rattle.sync_topo.specs.declared.input.LineId.{LineId}
+use Rattle.std.specs.Prelude.{◌≢◌, slice_get, slice_set, if◌then◌else◌}
+use Rattle.std.specs.List.{Contains}
+use Rattle.std.proofs.lemmas.List.Elements.{Contains-append_cases}
 use Rattle.sync_topo.specs.declared.returns.Returns.{Returns}
 use Rattle.sync_topo.specs.Hops.{HopsBy, hops_by}
 use Rattle.cycle_plan.specs.Numbers.{number_in, number_out}
-use Rattle.std.specs.declared.alloc.Global.{Global}
 use Rattle.std.proofs.lemmas.Bool.{cases_lt, cases_eq, eqb-true}
 use Rattle.std.proofs.lemmas.List.{get_or-set_same, get_or-set_other, length-set}
 use Rattle.std.proofs.lemmas.Option.{same_Some, slice_get-get_or, slice_get_within}
 use Rattle.sync_topo.specs.Topology.{Topology}
 use Rattle.sync_topo.specs.WellFormed.{IsWellFormed}
-use Rattle.sync_topo.specs.Lines.{line_count, is_nominated, IsNominated, sender_of, inputs_of}
+use Rattle.sync_topo.specs.Lines.{is_nominated, IsNominated, sender_of, inputs_of}
 use Rattle.sync_topo.proofs.LineLaws.{IsNominated-within}
 use Rattle.rank_cert.specs.Ranks.{Ranks, rank_at}
 use Rattle.sync_topo.specs.declared.input.InputId.{InputId}
@@ -214,8 +212,8 @@ IsMore-trans returns plan one two three first second = record {
 -- an element's watch is set
 pub IsMore-watch : (returns : Returns) (plan : Topology) (before after : Ranking) (element : ℕ) (watch : Watch) → IsPeeling returns plan before → element < length plan.elements
     → IsWatched returns plan before.ranks element watch → after.ranks ≡ before.ranks → after.waiting ≡ before.waiting
-    → after.watches.items ≡ slice_set before.watches.items element watch → IsMore returns plan before after
-IsMore-watch returns plan before after element watch peeling within watched ranks waiting watches = record {
+    → after.watches.items ≡ slice_set before.watches.items element watch → after.order ≡ before.order → IsMore returns plan before after
+IsMore-watch returns plan before after element watch peeling within watched ranks waiting watches order = record {
   peeling = record {
     ranked = rw ranks peeling.ranked;
     watches = rw watches (length-set before.watches.items element watch ∙ peeling.watches);
@@ -239,6 +237,7 @@ IsMore-watch returns plan before after element watch peeling within watched rank
           rw ranks (peeling.watched other other_watch stood)
     ];
     waiting = rw waiting peeling.waiting;
+    ordered = rw (ranks, order) peeling.ordered;
   };
   grows = λ line rank ranked. rw ranks ranked;
   keeps = λ line kept. rw (ranks, waiting) kept;

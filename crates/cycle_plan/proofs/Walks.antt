@@ -30,7 +30,7 @@ least_of hop rank_at exact line rank ranked = record {
 }
 
 -- a rank that isn't none
-some_rank : (o : Option ℕ) → o ≢ None → (rank : ℕ) × (o ≡ Some rank)
+pub some_rank : (o : Option ℕ) → o ≢ None → (rank : ℕ) × (o ≡ Some rank)
 some_rank None never = absurd (never refl)
 some_rank (Some rank) some = (rank, refl)
 

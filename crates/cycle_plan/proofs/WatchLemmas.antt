@@ -4,6 +4,7 @@ use Rattle.std.specs.Prelude.{◌≢◌, ◌⊎◌, ◌&&◌, is_none}
 use Rattle.std.specs.Option.{option_map_or}
 use Rattle.std.proofs.lemmas.Bool.{true≢false, cases_lt, cases_eq, and_parts, eqb-false, not-true, ne_eqb}
 use Rattle.std.proofs.lemmas.Option.{none-some, same_Some}
+use Rattle.rank_cert.proofs.RuleLaws.{is_none-of}
 use Rattle.sync_topo.specs.Topology.{Topology}
 use Rattle.rank_cert.specs.Ranks.{Ranks, rank_at}
 use Rattle.sync_topo.specs.declared.input.InputId.{InputId}
@@ -13,10 +14,6 @@ use Rattle.cycle_plan.specs.Inputs.{line_at, is_open, is_other, IsOpenLine, IsWa
 use Rattle.cycle_plan.specs.declared.inputs.Watch.{Watch}
 use Rattle.cycle_plan.proofs.HopFacts.{line_at_within}
 
-none_from : (o : Option ℕ) → is_none o ≡ true → o ≡ None
-none_from None e = refl
-none_from (Some rank) e = absurd (true≢false (sym e))
-
 -- an open input is a line without a rank
 pub open_line : (ranks : Ranks) (inputs : List InputId) (place : ℕ) → is_open ranks inputs place ≡ true → (line : ℕ) × IsOpenLine ranks inputs place line
 open_line ranks inputs place is_it = cases (line_at inputs place) refl is_it
@@ -24,7 +21,7 @@ open_line ranks inputs place is_it = cases (line_at inputs place) refl is_it
     cases : (o : Option ℕ) → line_at inputs place ≡ o → option_map_or (λ line. is_none (rank_at ranks line)) o false ≡ true
         → (line : ℕ) × IsOpenLine ranks inputs place line
     cases None at e = absurd (true≢false (sym e))
-    cases (Some line) at e = (line, record { here = at; unranked = none_from (rank_at ranks line) e })
+    cases (Some line) at e = (line, record { here = at; unranked = is_none-of (rank_at ranks line) e })
 
 -- the line that stands at an open place has no rank
 pub line_at_open : (ranks : Ranks) (inputs : List InputId) (place line : ℕ) → line_at inputs place ≡ Some line → is_open ranks inputs place ≡ true
@@ -62,7 +59,7 @@ other_line returns plan ranks inputs bundle place is_it = cases (line_at inputs 
     cases None at e = absurd (true≢false (sym e))
     cases (Some line) at e =
         let parts = and_parts (is_none (rank_at ranks line)) (not (nat_eq (number_in returns plan line) bundle)) e in
-        (line, record { here = at; unranked = none_from (rank_at ranks line) parts.0 }, eqb-false _ _ (not-true _ parts.1))
+        (line, record { here = at; unranked = is_none-of (rank_at ranks line) parts.0 }, eqb-false _ _ (not-true _ parts.1))
 
 -- where no line stands, though an open one would stand there inside the list, the list has ended
 pub past_end : (ranks : Ranks) (inputs : List InputId) (place : ℕ) → (place < length inputs → is_open ranks inputs place ≡ true) → line_at inputs place ≡ None

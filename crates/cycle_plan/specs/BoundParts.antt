@@ -4,7 +4,7 @@ use Rattle.sync_topo.specs.declared.element.Element.{Element}
 use Rattle.sync_topo.specs.Topology.{Topology}
 use Rattle.sync_topo.specs.Lines.{delay_of, receiver_of, IsNominated}
 use Rattle.sync_topo.specs.Bundles.{line_bundle}
-use Rattle.net_rules.specs.Settling.{IsDelay, IsRank, IsWait}
+use Rattle.net_rules.specs.Settling.{IsDelay, IsWait}
 use Rattle.rank_cert.specs.Ranks.{Ranks, rank_at}
 
 -- the receiver that is kept for a bundle

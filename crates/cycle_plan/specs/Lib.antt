@@ -4,5 +4,7 @@ pub mod Repeats
 pub mod Inputs
 pub mod Tops
 pub mod Peeling
+pub mod Mosts
+pub mod Chained
 pub mod Rings
 pub mod BoundParts

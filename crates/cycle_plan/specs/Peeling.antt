@@ -1,10 +1,12 @@
 -- How lines get their ranks one after another: what only private clauses cite.
-use Rattle.std.specs.Prelude.{◌≡◌, ◌≢◌, ℕ, ◌+◌, ◌*◌, ◌<◌, ◌≤◌, ◌⊎◌, Bool, true, ◌==◌, IsTrue, length, Option, Some, None, slice_get, is_none}
+use Rattle.std.specs.Prelude.{◌≡◌, ◌≢◌, ℕ, ◌+◌, ◌*◌, ◌<◌, ◌≤◌, ◌⊎◌, Bool, true, ◌==◌, IsTrue, List, length, Option, Some, None, slice_get, is_none}
+use Rattle.std.specs.Option.{option_map}
 use Rattle.std.specs.List.{All, Contains, count_by}
 use Rattle.sync_topo.specs.Topology.{Topology}
 use Rattle.sync_topo.specs.Lines.{line_count, IsNominated, sender_of, receiver_of, inputs_of}
 use Rattle.sync_topo.specs.Ranks.{HopTest}
 use Rattle.rank_cert.specs.Ranks.{Ranks, rank_at}
+use Rattle.sync_topo.specs.declared.input.LineId.{LineId}
 use Rattle.sync_topo.specs.declared.returns.Returns.{Returns}
 use Rattle.sync_topo.specs.Hops.{HopsBy, hops_by}
 use Rattle.cycle_plan.specs.Numbers.{number_in, number_out}
@@ -40,6 +42,23 @@ pub record IsRanking (returns : Returns) (plan : Topology) (ranks : Ranks) : Typ
   pub only : (line rank : ℕ) → rank_at ranks line ≡ Some rank → IsNominated plan line
   pub below : (line rank : ℕ) → rank_at ranks line ≡ Some rank → rank + left_over ranks < line_count plan
 
+-- the line at a place of an order, if one stands there
+abbrev pub line_in : List LineId → ℕ → Option ℕ
+line_in order place = option_map (λ line. line.0) (slice_get order place)
+
+-- a line stands among the first n of an order
+pub record IsAmongFirst (order : List LineId) (n line : ℕ) : Type 0 where
+  pub place : ℕ
+  pub early : place < n
+  pub there : line_in order place ≡ Some line
+
+-- just the lines that have ranks, each after all that hop to it
+pub record IsOrder (returns : Returns) (plan : Topology) (ranks : Ranks) (order : List LineId) : Type 0 where
+  pub few : length order + left_over ranks ≤ line_count plan
+  pub only : (place line : ℕ) → line_in order place ≡ Some line → IsNominated plan line
+  pub each : (line rank : ℕ) → rank_at ranks line ≡ Some rank → IsAmongFirst order (length order) line
+  pub after : (place line from : ℕ) → line_in order place ≡ Some line → HopsBy returns plan from line → IsAmongFirst order place from
+
 -- a nominated line into the element that has no rank
 pub record IsOpenInto (plan : Topology) (ranks : Ranks) (element line : ℕ) : Type 0 where
   pub nominated : IsNominated plan line
@@ -60,6 +79,7 @@ pub record IsPeeling (returns : Returns) (plan : Topology) (ranking : Ranking) :
   pub watches : length ranking.watches.items ≡ length plan.elements
   pub watched : (element : ℕ) (watch : Watch) → slice_get ranking.watches.items element ≡ Some watch → IsWatched returns plan ranking.ranks element watch
   pub waiting : All (λ element. element < length plan.elements) ranking.waiting.items
+  pub ordered : IsOrder returns plan ranking.ranks ranking.order.items
 
 -- a line hops to the line that has no rank
 abbrev pub IsHeld : Returns → Topology → Ranks → ℕ → Type 0

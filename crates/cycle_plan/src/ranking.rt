@@ -26,6 +26,8 @@ pub(crate) struct Ranking {
     pub(crate) watches: Vec<Watch>,
     /// The elements to look at, since a line into them was ranked.
     pub(crate) waiting: Vec<u32>,
+    /// The lines that have ranks, each after all that hop to it.
+    pub(crate) order: Vec<LineId>,
 }
 
 impl Ranking {
@@ -54,10 +56,14 @@ impl Ranking {
             return Err(NoMemory);
         };
         let waiting = all_elements(alloc, plan)?;
+        let Ok(order) = Vec::with_capacity(alloc, plan.lines() as usize) else {
+            return Err(NoMemory);
+        };
         Ok(Ranking {
             ranks,
             watches,
             waiting,
+            order,
         })
     }
 
@@ -81,6 +87,9 @@ impl Ranking {
     {
         let receiver = plan.to(line);
         let Ok(()) = self.waiting.push(receiver) else {
+            return Err(NoMemory);
+        };
+        let Ok(()) = self.order.push(line) else {
             return Err(NoMemory);
         };
         self.ranks.set(line, Some(rank));

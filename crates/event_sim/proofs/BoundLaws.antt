@@ -10,17 +10,18 @@ use Rattle.std.proofs.lemmas.List.Folds.{list_any_at}
 use Rattle.std.proofs.lemmas.List.Sums.{sum_by-append, length-filter}
 use Rattle.std.proofs.lemmas.Map.Made.{length-le_from_is_member}
 use Rattle.std.proofs.lemmas.Map.Views.{any-filter_same}
+use Rattle.sync_text.proofs.Each.{each-all}
+use Rattle.sync_text.specs.Each.{Each}
 use Rattle.sync_element.specs.ElementState.{ElementState}
 use Rattle.sync_topo.specs.declared.event.Event.{Event}
 use Rattle.sync_topo.specs.Topology.{Topology}
 use Rattle.net_rules.specs.Signals.{events_at}
 use Rattle.net_rules.specs.Activity.{is_active, is_busy}
-use Rattle.net_rules.specs.Walks.{Each}
-use Rattle.net_rules.proofs.EventLaws.{each-all}
 use Rattle.sync_net.specs.NetState.{NetState}
 use Rattle.sync_net.specs.Evaluated.{AreAloneEvaluated}
 use Rattle.event_sim.specs.Bounds.{milliseconds, turns_in, active_times, active_pairs}
-use Rattle.event_sim.specs.Running.{IsTurnBound, IsBound, IsNextTime}
+use Rattle.event_times.specs.EventTimes.{IsNextTime}
+use Rattle.event_sim.specs.Running.{IsTurnBound, IsBound}
 
 -- a range in two parts
 range-append : (from a b : ℕ) → range_with_len from (a + b) ≡ range_with_len from a ++ range_with_len (from + a) b

@@ -1,8 +1,5 @@
-pub mod ShownLemmas
 pub mod RowLaws
 pub mod NotingLaws
-pub mod EventTimes
-mod EventCut
 pub mod BoundLaws
 pub mod RunLaws
 pub mod LaterRows

@@ -25,13 +25,6 @@ use Rattle.event_sim.specs.Rows.{is_other, shown_after, row_of}
 use Rattle.event_sim.specs.Showing.{Shows, kept_in, AreSeen, AreRenewed, others_in}
 use Rattle.event_sim.proofs.RowLaws.{other-same}
 
--- of distinct places the one at an index doesn't come before it
-pub not-before : (i : ℕ) (xs : List ℕ) → IsDistinct nat_eq xs → i < length xs → list_any (nat_eq (slice_index xs i)) (take i xs) ≡ false
-not-before i xs apart within = list_any_none (nat_eq (slice_index xs i)) (take i xs) (λ j d inside.
-    let earlier : j < i = omega (arith, inside, length-take i xs) in
-    let other : nat_eq (slice_index_or xs j d) (slice_index_or xs i d) ≡ false = apart_from_distinct nat_eq xs j i d apart earlier within in
-    rw (get_or-take i xs j d earlier, get_or_default xs i 0 d within) (nat_eq_equiv.symm (slice_index_or xs i d) (slice_index_or xs j d) ∙ other))
-
 -- at first nothing was looked at
 pub seen-none : (net : NetState) (was : List Shown) (listed : List ℕ) → listed ≡ [] → AreSeen net [] was was listed
 seen-none net was listed none = record {

@@ -5,6 +5,9 @@ use Rattle.std.specs.Prelude.{slice_index_or, nat_eq}
 use Rattle.std.specs.List.{range_with_len, list_any}
 use Rattle.std.proofs.Math.Decide.{dec_lt}
 use Rattle.std.proofs.lemmas.List.{append-nil}
+use Rattle.sync_text.proofs.Each.{Each-map, Each-range, Each-filter}
+use Rattle.sync_text.specs.Each.{Each}
+use Rattle.sync_ql.proofs.SameMoments.{same_option}
 use Rattle.sync_ql.specs.declared.levels.NetOption.{NetOption}
 use Rattle.sync_ql.specs.declared.levels.NetOption.TheVariants.{I, II}
 use Rattle.sync_ql.specs.Messages.{is_same_option}
@@ -14,27 +17,21 @@ use Rattle.sync_topo.specs.Topology.{Topology}
 use Rattle.sync_topo.proofs.Lists.{filter_range_agree}
 use Rattle.net_rules.specs.Signals.{signals_by}
 use Rattle.net_rules.specs.History.{element_past, out_at}
-use Rattle.net_rules.specs.Walks.{Each}
-use Rattle.net_rules.proofs.Lists.{Each-map, Each-range, Each-filter, map-same}
+use Rattle.net_rules.proofs.Lists.{map-same}
 use Rattle.sync_net.specs.NetState.{NetState}
 use Rattle.sync_net.specs.Standing.{ElementStands, StandsFor}
 use Rattle.sync_net.specs.Evaluated.{AreAloneEvaluated}
 use Rattle.sync_net.proofs.QuietGap.{some_element}
 use Rattle.sync_net.proofs.StageLaws.{same-place}
 use Rattle.shown_words.proofs.SameLaws.{same-mode, same-state, same-taken}
-use Rattle.event_sim.specs.declared.limits.TheConstants.{MOST_CHANGES}
+use Rattle.sync_ql.specs.declared.limits.TheConstants.{MOST_ROWS}
 use Rattle.event_sim.specs.declared.shown.Shown.{Shown}
 use Rattle.event_sim.specs.Rows.{is_other, shown_after, shown_by, has_changed, changed_in, row_of, rows_in, rows_until}
 use Rattle.event_sim.specs.Showing.{Shows, kept_in, AreShown, AreRenewed, others_in, rows_between}
 
--- what is shown is not other than itself
-same-option : (option : NetOption) → is_same_option option option ≡ true
-same-option I = refl
-same-option II = refl
-
 pub other-same : (shown : Shown) → is_other shown shown ≡ false
 unfolding is_other
-other-same shown = rw (same-mode shown.mode, same-taken shown.input, same-option shown.level.option, same-place shown.level.place, same-state shown.state) refl
+other-same shown = rw (same-mode shown.mode, same-taken shown.input, same_option shown.level.option, same-place shown.level.place, same-state shown.state) refl
 
 -- the law of sync_net on elements: one of a network stands for what the network stands for
 pub record HasElements : Type 0 where
@@ -109,7 +106,7 @@ turn-rows law net net_then was now events t before after same is is_then =
 pub shown-then : (net net_then : NetState) (was now : List Shown) → net_then.plan ≡ net.plan → AreAloneEvaluated net net_then
     → AreShown net was → AreRenewed net_then was now → AreShown net_then now
 shown-then net net_then was now same alone are renewed = record {
-  few = subst (λ (plan : Topology). length plan.elements ≤ MOST_CHANGES) (sym same) are.few;
+  few = subst (λ (plan : Topology). length plan.elements ≤ MOST_ROWS) (sym same) are.few;
   count = renewed.count ∙ are.count ∙ ap (λ (plan : Topology). length plan.elements) (sym same);
   each = λ place other within. by place other within (list_any (nat_eq place) net_then.evaluated) refl;
 }

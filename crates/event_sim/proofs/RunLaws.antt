@@ -1,11 +1,10 @@
 -- A run from one millisecond in which something happens to the next.
 use Rattle.std.proofs.Common.{◌≡◌, ◌≤◌, ◌<◌, ◌+◌, ℕ, zero, suc, Bool, true, false, ◌||◌, cond, List, [], ◌++◌, length, refl, ap, sym, subst, ◌∙◌, arith}
-use Rattle.std.specs.Prelude.{nat_eq, slice_index_or, if◌then◌else◌, Option, None, Some, IfSome}
+use Rattle.std.specs.Prelude.{nat_eq, slice_index_or, if◌then◌else◌, Option, IfSome}
 use Rattle.std.specs.List.{All, range_with_len}
 use Rattle.std.proofs.lemmas.List.{length-append, length-map}
 use Rattle.std.proofs.lemmas.List.FromFn.{length-range_with_len}
 use Rattle.std.proofs.lemmas.List.Sums.{length-filter, count_by-le-length}
-use Rattle.sync_topo.specs.Events.{IsEventList}
 use Rattle.sync_topo.specs.declared.event.Event.{Event}
 use Rattle.sync_topo.specs.Topology.{Topology}
 use Rattle.net_rules.specs.Signals.{events_at}
@@ -13,7 +12,7 @@ use Rattle.net_rules.specs.Activity.{is_active, is_busy}
 use Rattle.sync_net.specs.NetState.{NetState}
 use Rattle.sync_net.specs.Standing.{StandsFor, NoneFrom}
 use Rattle.sync_net.specs.Evaluated.{IsContinued, AreAloneEvaluated}
-use Rattle.event_sim.specs.declared.limits.TheConstants.{MOST_CHANGES}
+use Rattle.sync_ql.specs.declared.limits.TheConstants.{MOST_ROWS}
 use Rattle.event_sim.specs.declared.shown.Shown.{Shown}
 use Rattle.event_sim.specs.declared.change.Change.{Change}
 use Rattle.event_sim.specs.declared.change.Watch.{Watch}
@@ -24,11 +23,11 @@ use Rattle.event_sim.specs.Changes.{IsChangeOf}
 use Rattle.sync_net.proofs.QuietGap.{some_element}
 use Rattle.event_sim.proofs.NotingLaws.{others-within}
 use Rattle.std.proofs.lemmas.List.Elements.{All-append, All-map}
-use Rattle.event_sim.specs.Standing.{AreTold, AreWithin}
+use Rattle.event_times.specs.EventTimes.{AreTold, AreHere, IsNextTime, AreParted}
 use Rattle.event_sim.specs.Showing.{AreShown, AreShownIf, AreNoted, kept_in, others_in, rows_between}
-use Rattle.event_sim.specs.Running.{IsKeptBy, RunStands, IsAfterTurn, AreHere, IsTurnBound, IsNextTime, AreParted}
+use Rattle.event_sim.specs.Running.{IsKeptBy, RunStands, IsAfterTurn, IsTurnBound}
 use Rattle.event_sim.proofs.RowLaws.{HasElements, quiet-rows, turn-rows}
-use Rattle.event_sim.proofs.EventTimes.{none-at}
+use Rattle.event_times.proofs.EventTimes.{sooner, none-until, are-here}
 use Rattle.event_sim.proofs.BoundLaws.{turn-bound, turn-counts}
 
 -- a step goes on from the millisecond before
@@ -63,7 +62,7 @@ turn-noted law net net_then was now before after t told fits same steps shown sh
     by false noted = record {
       stands = stands;
       rows = noted.rows ∙ run.rows ∙ ap (λ (plan : Topology). rows_until plan all t) (sym same);
-      full = subst (λ (all_rows : List Change). MOST_CHANGES < length all_rows) (sym rows) noted.many;
+      full = subst (λ (all_rows : List Change). MOST_ROWS < length all_rows) (sym rows) noted.many;
     }
 
 -- what it makes of a run whose changes aren't
@@ -96,11 +95,6 @@ pub record IsTurn (net : NetState) (plan : Topology) (given rest here later : Li
       → IfSome due (λ d. n ≤ d) → StandsFor net all n
   pub busy : IfSome due (λ d. (all : List Event) (n : ℕ) → StandsFor net all n → 0 < net.next → n ≤ d → NoneFrom n d all → is_busy net.plan all d ≡ true)
 
--- none of the events that are left is earlier
-pub within-from : (plan : Topology) (next until now : ℕ) (rest : List Event) (due : Option ℕ) → IsNextTime next rest due until now
-    → AreWithin plan next until rest → AreWithin plan now until rest
-within-from plan next until now rest due is within = record { list = within.list; later = is.until_event; up_to = within.up_to }
-
 pub the-turn : (net : NetState) (plan : Topology) (given rest here later : List Event) (until now next : ℕ) (due : Option ℕ)
     → net.plan ≡ plan → next ≡ net.next → IsNextTime next rest due until now
     → ((t : ℕ) → next ≤ t → t ≤ until → events_at t given ≡ events_at t rest)
@@ -130,23 +124,22 @@ kept-more one two three first second = record {
 module _ (net : NetState) (plan : Topology) (given rest here later : List Event) (until now : ℕ) (due : Option ℕ)
     (turn : IsTurn net plan given rest here later until now due)
     (all : List Event) (from : ℕ) (told : AreTold plan all from until given) (begun : from ≤ net.next) where
-  here-of : (t : ℕ) → net.next ≤ t → t ≤ until → events_at t all ≡ events_at t rest
-  here-of t low high = told.here t (omega (arith, low, begun)) high ∙ turn.left t low high
+  told-rest : AreTold plan all net.next until rest
+  told-rest = record {
+    ordered = told.ordered;
+    here = λ t low high. told.here t (omega (arith, low, begun)) high
+        ∙ turn.left t low high;
+  }
 
-  none-until : NoneFrom net.next now all
-  none-until t low high =
-      here-of t low (omega (arith, high, turn.next.up_to))
-      ∙ none-at t rest (λ k other inside at. let late = turn.next.until_event k other inside in absurd (omega (arith, late, at, high)))
-
-  sooner : (o : Option ℕ) (k : ℕ) → k ≤ now → IfSome o (λ d. now ≤ d) → IfSome o (λ d. k ≤ d)
-  sooner None k high is = tt
-  sooner (Some d) k high is = omega (arith, high, is)
+  quiet : NoneFrom net.next now all
+  quiet = none-until plan all rest net.next until now due told-rest turn.next
 
   -- the network stands for each millisecond up to it
   stands-until : StandsFor net all net.next → (k : ℕ) → net.next ≤ k → k ≤ now → StandsFor net all k
   stands-until stands k low high =
       turn.gap all net.next k stands low (λ none. let first = turn.next.first none in omega (arith, first, high))
-      (λ t after before. none-until t after (omega (arith, before, high))) (sooner due k high turn.next.until_due)
+      (λ t after before. quiet t after (omega (arith, before, high)))
+      (sooner due k now high turn.next.until_due)
 
   -- and no row comes meanwhile
   pub run-until : HasElements → (watch : Watch) (shown : List Shown) (changes : List Change) → AreShownIf watch net shown
@@ -159,27 +152,27 @@ module _ (net : NetState) (plan : Topology) (given rest here later : List Event)
 
   -- its events are those that stand there
   pub turn-here : AreHere net.plan all now here
-  turn-here = record {
-    ordered = subst (λ (p : Topology). IsEventList p all) (sym turn.same) told.ordered;
-    here = here-of now turn.next.later turn.next.up_to ∙ turn.parted.here;
-  }
+  turn-here =
+      subst (λ (p : Topology). AreHere p all now here) (sym turn.same)
+      (are-here plan all rest net.next until now due told-rest turn.next here later turn.parted)
 
   -- and the step at it is counted
   pub turn-counted : StandsFor net all net.next → (net_then : NetState) → net_then.later_steps ≡ (if nat_eq net.next 0 then 0 else net.later_steps + 1)
       → net_then.later_steps ≤ net.later_steps + cond (is_busy plan all now || nat_eq now until) 1 0
   turn-counted stands net_then stepped =
-      turn-counts plan all rest net.next until now due turn.next (here-of now turn.next.later turn.next.up_to)
+      turn-counts plan all rest net.next until now due turn.next
+      (told-rest.here now turn.next.later turn.next.up_to)
       (λ is_due started.
       let busy : (every : List Event) (n : ℕ) → StandsFor net every n → 0 < net.next → n ≤ now → NoneFrom n now every → is_busy net.plan every now ≡ true =
       subst (λ (o : Option ℕ). IfSome o (λ d. (every : List Event) (n : ℕ) → StandsFor net every n → 0 < net.next → n ≤ d → NoneFrom n d every → is_busy net.plan every d ≡ true))
       is_due turn.busy in
       subst (λ (p : Topology). is_busy p all now ≡ true) turn.same
-      (busy all net.next stands (omega (arith, started)) turn.next.later none-until))
+      (busy all net.next stands (omega (arith, started)) turn.next.later quiet))
       net.later_steps net_then.later_steps stepped
 
 -- rows that don't fit come after the first millisecond
-pub turn-late : (plan : Topology) (t next : ℕ) (was now : List Shown) (before : List Change) → length plan.elements ≤ MOST_CHANGES
-    → (next ≡ 0 → before ≡ []) → next ≤ t → MOST_CHANGES < length (before ++ rows_between plan t was now) → 0 < t
+pub turn-late : (plan : Topology) (t next : ℕ) (was now : List Shown) (before : List Change) → length plan.elements ≤ MOST_ROWS
+    → (next ≡ 0 → before ≡ []) → next ≤ t → MOST_ROWS < length (before ++ rows_between plan t was now) → 0 < t
 turn-late plan zero next was now before few first early many =
     let none : before ≡ [] = first (omega (arith, early)) in
     let differs = λ (place : ℕ). is_other (kept_in plan was place) (kept_in plan now place) in

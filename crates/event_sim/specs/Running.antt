@@ -1,22 +1,19 @@
 -- Private to this crate: what a run keeps, and how far it has come.
-use Rattle.std.specs.Prelude.{◌≡◌, ◌≤◌, ◌<◌, ◌+◌, ◌⊎◌, ℕ, suc, Bool, true, false, nat_eq, cond, List, [], length, slice_index_or, Option, Some, IfSome, count_by}
-use Rattle.std.specs.List.{All, list_any, range_with_len}
+use Rattle.std.specs.Prelude.{◌≡◌, ◌≤◌, ◌<◌, ◌+◌, ℕ, suc, Bool, true, false, cond, List, [], length, slice_index_or, count_by}
+use Rattle.std.specs.List.{range_with_len}
 use Rattle.sync_ql.specs.declared.limits.TheConstants.{LAST_MILLISECOND}
 use Rattle.sync_element.specs.ElementState.{ElementState}
 use Rattle.sync_topo.specs.declared.event.Event.{Event}
-use Rattle.sync_topo.specs.Topology.{Topology}
-use Rattle.sync_topo.specs.Events.{IsEventList, Fits}
 use Rattle.net_rules.specs.Activity.{is_active}
-use Rattle.net_rules.specs.Signals.{events_at}
 use Rattle.sync_net.specs.NetState.{NetState}
 use Rattle.sync_net.specs.Standing as Net
-use Rattle.event_sim.specs.declared.limits.TheConstants.{MOST_CHANGES}
+use Rattle.sync_ql.specs.declared.limits.TheConstants.{MOST_ROWS}
 use Rattle.event_sim.specs.declared.change.Change.{Change}
 use Rattle.event_sim.specs.declared.change.Watch.{Watch}
 use Rattle.event_sim.specs.declared.change.Watch.TheVariants.{Nothing}
 use Rattle.event_sim.specs.declared.running.Run.{Run}
 use Rattle.event_sim.specs.Rows.{rows_until}
-use Rattle.event_sim.specs.Standing.{watched_rows, AreWithin}
+use Rattle.event_sim.specs.Standing.{watched_rows}
 use Rattle.event_sim.specs.Answers.{AreTooMany}
 use Rattle.event_sim.specs.Bounds.{turns_in, active_times, active_pairs}
 use Rattle.event_sim.specs.Showing.{AreShownIf}
@@ -25,7 +22,7 @@ use Rattle.event_sim.specs.Showing.{AreShownIf}
 pub record IsOpen (run : Run) : Type 0 where
   pub live : run.net.spent ≡ false
   pub in_range : run.net.next ≤ LAST_MILLISECOND + 1
-  pub few : length run.changes.items ≤ MOST_CHANGES
+  pub few : length run.changes.items ≤ MOST_ROWS
   pub first : run.net.next ≡ 0 → run.changes.items ≡ []
   pub shown : AreShownIf run.watch run.net run.shown.items
 
@@ -51,11 +48,6 @@ abbrev pub IsAfterTurn : Bool → Watch → NetState → List Change → List Ev
 IsAfterTurn true watch net changes events t = RunStands watch net changes events (suc t)
 IsAfterTurn false watch net changes events t = IsCut watch net changes events t
 
--- of all events, these stand at a millisecond
-pub record AreHere (plan : Topology) (all : List Event) (t : ℕ) (told : List Event) : Type 0 where
-  pub ordered : IsEventList plan all
-  pub here : events_at t all ≡ told
-
 -- what a step in a millisecond may cost
 pub record IsTurnBound (events : List Event) (t : ℕ) (before after : NetState) (ticks ticks_then : ℕ) : Type 0 where
   pub work : ticks_then ≤ ticks + count_by (λ element. is_active before.plan events element t) (range_with_len 0 (length before.plan.elements))
@@ -70,21 +62,3 @@ pub record IsBound (events : List Event) (until : ℕ) (before after : NetState)
   pub counts : (element : ℕ) (other : ElementState) → element < length before.plan.elements
       → (slice_index_or after.elements element other).later_steps
       ≤ (slice_index_or before.elements element other).later_steps + active_times before.plan events element before.next after.next
-
--- the next millisecond in which a step is made: none of these events, and nothing that is due, is
--- earlier; and there is a cause for it
-pub record IsNextTime (next : ℕ) (rest : List Event) (due : Option ℕ) (until now : ℕ) : Type 0 where
-  pub first : next ≡ 0 → now ≡ 0
-  pub later : next ≤ now
-  pub up_to : now ≤ until
-  pub until_due : IfSome due (λ d. now ≤ d)
-  pub until_event : All (λ event. now ≤ event.at) rest
-  pub cause : (next ≡ 0) ⊎ ((now ≡ until) ⊎ ((list_any (λ event. nat_eq event.at now) rest ≡ true) ⊎ (due ≡ Some now)))
-
--- the events at a millisecond, and the later ones
-pub record AreParted (plan : Topology) (now until : ℕ) (events told later : List Event) : Type 0 where
-  pub here : events_at now events ≡ told
-  pub rest : (t : ℕ) → now < t → events_at t events ≡ events_at t later
-  pub within : AreWithin plan (suc now) until later
-  pub fit : All (Fits plan) told
-  pub at : All (λ event. event.at ≡ now) told

@@ -1,10 +1,7 @@
 -- What a simulator has to do with its plan and all events.
-use Rattle.std.specs.Prelude.{◌≡◌, ◌≤◌, ℕ, List, []}
-use Rattle.std.specs.List.{All}
+use Rattle.std.specs.Prelude.{◌≡◌, ℕ, List, []}
 use Rattle.sync_topo.specs.declared.event.Event.{Event}
 use Rattle.sync_topo.specs.Topology.{Topology}
-use Rattle.sync_topo.specs.Events.{IsEventList}
-use Rattle.net_rules.specs.Signals.{events_at}
 use Rattle.sync_net.specs.Standing as Net
 use Rattle.event_sim.specs.declared.change.Change.{Change}
 use Rattle.event_sim.specs.declared.change.Watch.{Watch}
@@ -23,15 +20,3 @@ watched_rows Nothing plan events n = []
 pub record StandsFor (sim : SimState) (events : List Event) : Type 0 where
   pub net : Net.StandsFor sim.net events sim.net.next
   pub rows : sim.changes ≡ watched_rows sim.watch sim.net.plan events (first_after sim.reached)
-
--- of all events of a plan, just those that are told stand from one millisecond up to another, which is
--- included
-pub record AreTold (plan : Topology) (all : List Event) (from until : ℕ) (told : List Event) : Type 0 where
-  pub ordered : IsEventList plan all
-  pub here : (t : ℕ) → from ≤ t → t ≤ until → events_at t all ≡ events_at t told
-
--- events stand in order from one millisecond up to another, which is included
-pub record AreWithin (plan : Topology) (from until : ℕ) (events : List Event) : Type 0 where
-  pub list : IsEventList plan events
-  pub later : All (λ event. from ≤ event.at) events
-  pub up_to : All (λ event. event.at ≤ until) events

@@ -7,8 +7,9 @@ ghost use Rattle.sync_topo.specs.declared.event.Event.{Event};
 ghost use Rattle.sync_topo.specs.Topology.{Topology};
 ghost use Rattle.sync_topo.specs.Events.{IsEventList};
 ghost use Rattle.sync_topo.specs.WellFormed.{IsWellFormed};
+ghost use Rattle.event_times.specs.EventTimes.{AreTold, AreWithin};
 ghost use Rattle.event_sim.specs.SimState.{SimState, first_after};
-ghost use Rattle.event_sim.specs.Standing.{StandsFor, AreTold, AreWithin};
+ghost use Rattle.event_sim.specs.Standing.{StandsFor};
 
 /// The laws of a run in several advances. A simulator that stands for some events stands for them
 /// and any that are later than its network's last millisecond; and of events that were told before,

@@ -24,15 +24,13 @@
 
 mod change;
 mod crossing;
-mod events;
 mod laws;
-pub mod limits;
 mod noting;
 mod running;
 mod shown;
 mod sim;
 
 pub use change::{Change, Reach, Watch};
-pub use events::events_until;
+pub use event_times::events_until;
 pub use laws::later_events_law;
 pub use sim::Sim;

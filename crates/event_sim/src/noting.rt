@@ -7,10 +7,10 @@ ghost use Rattle.event_sim.specs.Rows.{row_of};
 ghost use Rattle.event_sim.specs.Showing.{AreShown, AreSeen, AreRenewed, AreNoted, others_in};
 
 use crate::change::Change;
-use crate::limits::MOST_CHANGES;
 use crate::shown::{Shown, is_other, shown_of};
 use std::alloc::Global;
 use sync_net::Net;
+use sync_ql::limits::MOST_ROWS;
 use sync_text::NoMemory;
 
 // What each element of a network shows.
@@ -140,13 +140,13 @@ pub fn note_changes(
     requires count { length shown.old.items ≡ length net.now.plan.elements }
     requires within { All (λ place. place < length net.now.plan.elements) net.now.evaluated }
     requires apart { IsDistinct nat_eq net.now.evaluated }
-    requires few { length changes.old.items ≤ MOST_CHANGES }
+    requires few { length changes.old.items ≤ MOST_ROWS }
     ensures renewed { OnOk result (AreRenewed net.now shown.old.items shown.new.items) }
     ensures noted { IfOk result (λ fits. AreNoted fits net.now now shown.old.items shown.new.items
         changes.old.items changes.new.items) }
 {
     find_changed(net, shown, changed)?;
-    if MOST_CHANGES - changes.len() < changed.len() {
+    if MOST_ROWS - changes.len() < changed.len() {
         return Ok(false);
     }
     add_rows(changes, now, changed.as_slice(), shown.as_slice())?;

@@ -5,20 +5,19 @@ ghost use Rattle.sync_topo.specs.declared.event.Event.{Event};
 ghost use Rattle.sync_topo.specs.Events.{Fits};
 ghost use Rattle.sync_net.specs.NetState.{IsInTime};
 ghost use Rattle.sync_net.specs.Standing.{StandsFor};
+ghost use Rattle.event_times.specs.EventTimes.{AreTold, AreWithin, AreHere};
 ghost use Rattle.event_sim.specs.Changes.{IsChangeOf};
-ghost use Rattle.event_sim.specs.Standing.{AreTold, AreWithin};
 ghost use Rattle.event_sim.specs.Answers.{OnUntil, IfStopped};
-ghost use Rattle.event_sim.specs.Running.{IsOpen, IsKeptBy, RunStands, IsCut, IsAfterTurn, AreHere, IsTurnBound, IsBound};
+ghost use Rattle.event_sim.specs.Running.{IsOpen, IsKeptBy, RunStands, IsCut, IsAfterTurn, IsTurnBound, IsBound};
 
 use crate::change::{Change, Reach, Watch};
-use crate::events::{next_time, split_at_time};
-use crate::limits::MOST_CHANGES;
 use crate::noting::note_changes;
 use crate::shown::Shown;
+use event_times::{next_time, split_at_time};
 use std::alloc::Global;
 use std::sync::ledger::Ledger;
 use sync_net::{Net, elements_law};
-use sync_ql::limits::LAST_MILLISECOND;
+use sync_ql::limits::{LAST_MILLISECOND, MOST_ROWS};
 use sync_text::{NoMemory, Steps};
 use sync_topo::Event;
 
@@ -90,7 +89,7 @@ impl Run<'_> {
         ensures kept { OnOk result (IsKeptBy self.old self.new) }
         ensures live { OnOk result (self.new.net.spent ≡ false) }
         ensures of_plan { OnOk result (All (IsChangeOf self.new.net.plan) self.new.changes.items) }
-        ensures few { OnOk result (length self.new.changes.items ≤ MOST_CHANGES) }
+        ensures few { OnOk result (length self.new.changes.items ≤ MOST_ROWS) }
         ensures going { IfOk result (λ fits. IsTrue fits → IsOpen self.new) }
         ensures watched { IfOk result (λ fits. fits ≡ false → self.new.watch ≡ Watch.Changes) }
         ensures late { IfOk result (λ fits. fits ≡ false → 0 < now) }
@@ -138,7 +137,7 @@ impl Run<'_> {
         ensures kept { OnOk result (IsKeptBy self.old self.new) }
         ensures live { OnOk result (self.new.net.spent ≡ false) }
         ensures of_plan { OnOk result (All (IsChangeOf self.new.net.plan) self.new.changes.items) }
-        ensures few { OnOk result (length self.new.changes.items ≤ MOST_CHANGES) }
+        ensures few { OnOk result (length self.new.changes.items ≤ MOST_ROWS) }
         ensures going { OnUntil result (IsOpen self.new) }
         ensures until { OnUntil result (self.new.net.next ≡ suc until) }
         ensures stopped { IfStopped result (λ t. (t < until) × (self.new.net.next ≡ suc (suc t))

@@ -4,20 +4,20 @@ ghost use Rattle.std.specs.Prelude.{◌≡◌, ◌≤◌, ◌<◌, ◌+◌, ℕ,
 ghost use Rattle.event_sim.specs.Changes.{IsChangeOf};
 ghost use Rattle.sync_element.specs.ElementState.{ElementState};
 ghost use Rattle.sync_topo.specs.declared.event.Event.{Event};
+ghost use Rattle.event_times.specs.EventTimes.{AreTold, AreWithin};
 ghost use Rattle.event_sim.specs.SimState.{first_after};
-ghost use Rattle.event_sim.specs.Standing.{StandsFor, AreTold, AreWithin};
+ghost use Rattle.event_sim.specs.Standing.{StandsFor};
 ghost use Rattle.event_sim.specs.Answers.{is_stopped, OnUntil, IfStopped, IsLastFit};
 ghost use Rattle.event_sim.specs.Bounds.{turns_in, active_times, active_pairs};
 
 use crate::change::{Change, Reach, Watch};
-use crate::limits::MOST_CHANGES;
 use crate::noting::first_shown;
 use crate::running::Run;
 use std::alloc::Global;
 use std::marker::Model;
 use std::sync::ledger::Ledger;
 use sync_net::Net;
-use sync_ql::limits::LAST_MILLISECOND;
+use sync_ql::limits::{LAST_MILLISECOND, MOST_ROWS};
 use sync_text::{NoMemory, Steps};
 use sync_topo::{Event, Plan};
 
@@ -130,7 +130,7 @@ impl<'a> Sim<'a> {
         ensures watched { IfStopped result (λ t. self.old.watch ≡ Watch.Changes) }
         ensures unwatched { OnOk result (self.old.watch ≡ Watch.Nothing →
             self.new.changes ≡ self.old.changes) }
-        ensures few { OnOk result (length self.new.changes ≤ MOST_CHANGES) }
+        ensures few { OnOk result (length self.new.changes ≤ MOST_ROWS) }
         ensures stands { OnOk result ((all : List Event) →
             AreTold self.old.net.plan all (first_after self.old.reached) until events.now →
             StandsFor self.old all → StandsFor self.new all) }

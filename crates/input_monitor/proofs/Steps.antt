@@ -30,7 +30,7 @@ lasts_until next now Failed later runs in_time = tt
 lasts_until next now (Restoring left) later runs in_time = omega arith
 
 -- what is left is all that changes while a time runs
-IsSameKind-later_by : (k : ℕ) (c : Cond) → IsSameKind c (later_by k c)
+pub IsSameKind-later_by : (k : ℕ) (c : Cond) → IsSameKind c (later_by k c)
 IsSameKind-later_by k Good = tt
 IsSameKind-later_by k (HoldOff left) = tt
 IsSameKind-later_by k Failed = tt

@@ -1,18 +1,20 @@
 -- What each call makes of a line.
 use Rattle.std.proofs.Common.{◌≡◌, ◌≤◌, ◌<◌, ℕ, suc, ◌+◌, ◌-◌, ◌*◌, Bool, true, false, not, ◌&&◌, nat_eq, if◌then◌else◌, List, [], ◌∷◌, ◌++◌, length, map, Option, None, Some, IfSome, is_some, refl, ap, sym, subst, ◌∙◌, arith}
 use Rattle.std.proofs.lemmas.List.{append-nil}
+use Rattle.std.specs.Cmp.{first_so}
+use Rattle.sync_text.proofs.Each.{Each-map, Each-append}
+use Rattle.sync_text.specs.Each.{Each}
 use Rattle.sync_ql.specs.declared.levels.Level.{Level}
 use Rattle.sync_ql.specs.Pasts.{first_within}
 use Rattle.sync_ql.specs.Messages.{LineMoment, said_in, said, is_same_level, is_news, came, arrivals, unchanged, line_until}
 use Rattle.sync_ql.proofs.Delivered.{same-is}
 use Rattle.link_model.specs.declared.word.Word.{Word}
-use Rattle.link_model.specs.Each.{Each}
 use Rattle.link_model.specs.Calls.{turned, with_up, with_esmc, with_level}
 use Rattle.link_model.specs.Kept.{WordsKept, Kept, all_words, taken_in, heard_of, lost, cut_at, said_from, ended, ended_arrived, new_word, arrival_of, loss_of, due_of, IsOrdered}
 use Rattle.link_model.specs.StandsFor.{IsOfPast, IsAfter, SaysTheSame, SaysTheSameIfUp}
 use Rattle.link_model.specs.Whole.{next_of, seen, IsWhole}
 use Rattle.link_model.proofs.Times.{not_equal}
-use Rattle.link_model.proofs.Pasts.{Each-map, Each-append, said-unchanged, said-down, no-news, news-none}
+use Rattle.link_model.proofs.Pasts.{said-unchanged, said-down, no-news, news-none}
 use Rattle.link_model.proofs.Ordering.{kept_words, Each-over, words_of-ended, ordered-lost, ordered-said, due-arrival}
 use Rattle.link_model.proofs.Telling.{goes-down, comes-up, says-same, says-other}
 use Rattle.link_model.proofs.Standing.{taken, next-is, next-low, each-taken, each-lost, ready, said-before, length-until, until-next, quiet-until, IsAt, gap-kept, at-call}
@@ -80,10 +82,6 @@ same_if_up true x before same up = by x.up refl
     by true is = sym (said-turned-up x is) ∙ same
     by false is = silent-turned-up x is ∙ sym (said-down x is) ∙ same
 
-first_part : (a b : Bool) → (a && b) ≡ true → a ≡ true
-first_part true b both = refl
-first_part false b both = both
-
 pub stands-up : (d turn now : ℕ) (up : Bool) (k : Kept) (past : List LineMoment) → turn ≤ 4 * now → IfSome (due_of d (next_of turn) k.words) (λ due. now ≤ due) → IsWhole d turn k → IsAfter (seen d turn k) past
     → IsAfter (seen d (4 * now + 1) (record { now = turned k.now up k.now.esmc; words = words_up d now up k.words })) (with_up up (line_until (suc now) past))
 stands-up d turn now up k past early due is stands =
@@ -92,7 +90,7 @@ stands-up d turn now up k past early due is stands =
       turn_low = omega (arith, long);
       turn_high = omega (arith, long);
       before_esmc = λ soon. same_if_up up x q (said-unchanged q);
-      before_say = λ soon speaks. same_if_up up x q (said-unchanged q) (first_part up x.esmc speaks);
+      before_say = λ soon speaks. same_if_up up x q (said-unchanged q) (first_so up x.esmc speaks);
       kept = subst (λ m. IsOfPast d (record { now = turned m up m.esmc; words = words_up d now up k.words }) (turned x up x.esmc ∷ q)) (sym quiet.now) (by up);
     })
   where
@@ -165,7 +163,7 @@ no_part true both = cc
 no_part false both = cc
 
 says_esmc : (on : Bool) (x : LineMoment) (before : List LineMoment) → SaysTheSameIfUp (x ∷ before) → SaysTheSame (turned x x.up on ∷ before)
-says_esmc true x before same speaks = sym (same_on x.up x.esmc x.level) ∙ same (first_part x.up true speaks)
+says_esmc true x before same speaks = sym (same_on x.up x.esmc x.level) ∙ same (first_so x.up true speaks)
 says_esmc false x before same speaks = absurd (no_part x.up speaks)
 
 turns_esmc : (d now : ℕ) (on : Bool) (k : WordsKept) (x : LineMoment) (before : List LineMoment) → 1 ≤ d → length before ≡ now → SaysTheSameIfUp (x ∷ before)

@@ -4,6 +4,7 @@ use Rattle.std.proofs.Math.Decide.{dec_lt}
 use Rattle.std.proofs.Common.{◌≡◌, ◌≤◌, ◌<◌, ◌⊎◌, inl, inr, ℕ, zero, suc, ◌+◌, ◌-◌, ◌*◌, Bool, true, false, ◌&&◌, ◌||◌, nat_lt, nat_le, if◌then◌else◌, List, [], ◌∷◌, length, map, slice_index_or, Option, None, Some, IfSome, is_some, is_none, refl, ap, sym, subst, ◌∙◌, arith}
 use Rattle.std.specs.List.{list_any}
 use Rattle.std.specs.Option.{option_or}
+use Rattle.sync_text.specs.Each.{Each}
 use Rattle.sync_ql.specs.declared.levels.Level.{Level}
 use Rattle.sync_ql.specs.declared.levels.NetOption.{NetOption}
 use Rattle.sync_ql.specs.Told.{IsOfOption}
@@ -11,13 +12,12 @@ use Rattle.sync_ql.specs.FirstChange.{IsNextChange, IsFirstChange}
 use Rattle.sync_ql.specs.Pasts.{first_within}
 use Rattle.sync_ql.specs.Messages.{LineMoment, heard_at, delivered, on_way_at, unchanged, after_unchanged, line_until, hearing_time, IsSameOnLine, has_arrived, is_lost, IsLineDue}
 use Rattle.link_model.specs.declared.word.Word.{Word}
-use Rattle.link_model.specs.Each.{Each}
 use Rattle.link_model.specs.Carried.{HasLevel}
 use Rattle.link_model.specs.Spoken.{is_before, says, spoken, end_before, second_before, last_of, last_sent, message_of}
 use Rattle.link_model.specs.Kept.{Kept, words_of, heard_of, lost_from, if_later, loss_of, arrival_of, first_of, due_of, IsWord, IsChain, IsOrdered}
 use Rattle.link_model.specs.StandsFor.{IsOfPast, IsAfter}
 use Rattle.link_model.specs.Whole.{next_of, seen, IsWhole}
-use Rattle.link_model.proofs.Times.{below, within, not_within, is_below, is_not_below, is_within, is_not_within, last-near}
+use Rattle.link_model.proofs.Times.{below, within, not_within, is_below, is_not_below, is_within, is_not_within, last-near, end-over}
 use Rattle.link_model.proofs.Pasts.{delivered-early, delivered-more, delivered-first}
 use Rattle.link_model.proofs.Ordering.{kept_words, words_rest, chain_rest, later-than}
 use Rattle.link_model.proofs.Standing.{next-is, taken, quiet-until, length-until, at-call}
@@ -26,9 +26,6 @@ use Rattle.link_model.proofs.Standing.{next-is, taken, quiet-until, length-until
 abbrev pub until_loss : Option ℕ → ℕ → Bool
 until_loss None k = true
 until_loss (Some lost) k = nat_le k lost
-
-end-here : (u n : ℕ) → u ≤ n → end_before (Some u) n ≡ u
-end-here u n over = grind (arith, nat_tests)
 
 end-later : (u n : ℕ) → n ≤ u → end_before (Some u) n ≡ n
 end-later u n early = grind (arith, nat_tests)
@@ -40,13 +37,13 @@ alive d w None k is came =
 alive d w (Some u) k is came = elim (dec_lt u (k - d)) [
   | yes over ↦
       ap (λ e. nat_le k (d + (if nat_lt (second_before e) w.sent then w.sent else second_before e) + 5000))
-      (end-here u (k - d) (omega (arith, over)) ∙ sym (end-here u u (omega arith)))
+      (end-over u (k - d) (omega (arith, over)) ∙ sym (end-over u u (omega arith)))
       ∙ ap (λ until. nat_le k (d + last_of w.sent until u + 5000)) (sym is)
   | no not_over ↦
       let near = last-near w.sent (Some u) (k - d) in
       let same = end-later u (k - d) (omega (arith, not_over)) in
       let near_end = last-near w.sent (Some u) u in
-      let same_end = end-here u u (omega arith) in
+      let same_end = end-over u u (omega arith) in
       let last_is : last_of w.sent w.until u ≡ last_of w.sent (Some u) u = ap (λ until. last_of w.sent until u) is in
       within k (d + last_of w.sent (Some u) (k - d) + 5000) (omega (arith, near, same, came))
       ∙ sym (within k (d + last_of w.sent w.until u + 5000) (omega (arith, near_end, same_end, last_is, not_over, came)))
@@ -281,7 +278,7 @@ still_heard : (d n s : ℕ) (w : Word) (until : Option ℕ) → w.until ≡ unti
 still_heard d n s w None is late before = refl
 still_heard d n s w (Some u) is late before =
     let near = last-near w.sent (Some u) u in
-    let same = end-here u u (omega arith) in
+    let same = end-over u u (omega arith) in
     let last_is : last_of w.sent w.until u ≡ last_of w.sent (Some u) u = ap (λ until. last_of w.sent until u) is in
     let less = is_below s u before in
     within n (d + last_of w.sent w.until u + 5000) (omega (arith, near, same, last_is, less, late))

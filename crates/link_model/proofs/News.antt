@@ -1,10 +1,12 @@
 -- What becomes of the messages on their way, if nothing is told.
 use Rattle.std.proofs.Common.{◌≡◌, ◌≤◌, ◌<◌, ℕ, zero, suc, ◌+◌, ◌-◌, Bool, true, false, ◌&&◌, nat_le, if◌then◌else◌, List, [], ◌∷◌, ◌++◌, length, drop, take, filter, slice_index_or, Option, None, Some, refl, ap, sym, subst, ◌∙◌, arith}
+use Rattle.std.specs.Cmp.{first_so}
+use Rattle.sync_text.specs.Each.{Each}
+use Rattle.sync_text.proofs.Each.{Each-both, Each-append, Each-map}
 use Rattle.sync_ql.specs.declared.levels.Level.{Level}
 use Rattle.sync_ql.specs.Messages.{LineMoment, Message, said_in, said, is_news, was_up, came, delivered, message_in, news_since_down, on_way_at, unchanged, after_unchanged, line_until}
-use Rattle.link_model.specs.Each.{Each}
 use Rattle.link_model.proofs.Times.{is_within}
-use Rattle.link_model.proofs.Pasts.{IsPastNews, all-news, Each-append, Each-map, came-news}
+use Rattle.link_model.proofs.Pasts.{IsPastNews, all-news, came-news}
 
 -- since a message went out the line was up; and it said the level of the message
 pub record WasSaid (past : List LineMoment) (message : Message) (ago : ℕ) : Type 0 where
@@ -17,10 +19,6 @@ WasSent past message = (ago : ℕ) → message.sent + suc ago ≡ length past �
 up_more : (a b : Bool) → a ≡ true → b ≡ true → (a && b) ≡ true
 up_more true b up rest = rest
 up_more false b up rest = cc
-
-head_up : (a b : Bool) → (a && b) ≡ true → a ≡ true
-head_up true b both = refl
-head_up false b both = cc
 
 sent-earlier : (now : LineMoment) (before : List LineMoment) (message : Message) → now.up ≡ true → message.sent < length before → WasSent before message → WasSent (now ∷ before) message
 sent-earlier now before message up less sent zero same = absurd (omega (arith, same, less))
@@ -38,10 +36,6 @@ new_is_sent now before None false up says = tt
 new_is_sent now before (Some level) false up says = tt
 new_is_sent now before (Some level) true up says = (sent-here now before level up says, tt)
 
-each-both : {A : Type 0} (P Q : A → Type 0) (xs : List A) → Each P xs → Each Q xs → Each (λ x. P x × Q x) xs
-each-both P Q [] all others = tt
-each-both P Q (x ∷ xs) all others = ((all.0, others.0), each-both P Q xs all.1 others.1)
-
 all-sent : (past : List LineMoment) → Each (WasSent past) (news_since_down past)
 all-sent [] = tt
 all-sent (now ∷ before) = by (all-sent before) now.up refl
@@ -51,7 +45,7 @@ all-sent (now ∷ before) = by (all-sent before) now.up refl
     by sent true up = Each-append (WasSent (now ∷ before)) (news_since_down before) (message_in (length before) (said_in now) (is_news (now ∷ before)))
         (Each-map (λ message. IsPastNews before message × WasSent before message) (WasSent (now ∷ before))
         (λ message was. sent-earlier now before message up was.0.0 was.1) (news_since_down before)
-        (each-both (IsPastNews before) (WasSent before) (news_since_down before) (all-news before) sent))
+        (Each-both (IsPastNews before) (WasSent before) (news_since_down before) (all-news before) sent))
         (new_is_sent now before (said_in now) (is_news (now ∷ before)) up refl)
 
 -- milliseconds in which nothing is told
@@ -68,7 +62,7 @@ up-after (suc d) (suc j) ago past same up was =
 
 up-now : (ago : ℕ) (past : List LineMoment) → was_up (take (suc ago) past) ≡ true → (unchanged past).up ≡ true
 up-now ago [] was = refl
-up-now ago (now ∷ before) was = head_up now.up (was_up (take ago before)) was
+up-now ago (now ∷ before) was = first_so now.up (was_up (take ago before)) was
 
 -- what is on its way: it arrives, and as news
 abbrev Arrives : ℕ → List LineMoment → Message → Type 0
@@ -119,7 +113,7 @@ each-arrives delay past =
     (λ message. nat_le (length past) (message.sent + delay))
     (λ message late was. arrives delay past message (is_within (length past) (message.sent + delay) late) was.0 was.1)
     (news_since_down past)
-    (each-both (IsPastNews past) (WasSent past) (news_since_down past) (all-news past) (all-sent past))
+    (Each-both (IsPastNews past) (WasSent past) (news_since_down past) (all-news past) (all-sent past))
 
 each-at : (P : Message → Type 0) (xs : List Message) → Each P xs → (k : ℕ) (d : Message) → k < length xs → P (slice_index_or xs k d)
 each-at P [] all k d within = absurd (omega (arith, within))

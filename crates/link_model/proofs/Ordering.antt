@@ -2,13 +2,13 @@
 use Rattle.std.proofs.lemmas.Bool.Decides.{nat_tests}
 use Rattle.std.proofs.Common.{◌≡◌, ◌≤◌, ◌<◌, ℕ, suc, ◌+◌, ◌-◌, Bool, true, false, nat_eq, nat_lt, if◌then◌else◌, List, [], ◌∷◌, ◌++◌, map, Option, None, Some, IfSome, refl, sym, subst, arith}
 use Rattle.std.proofs.lemmas.List.{append-nil}
+use Rattle.sync_text.proofs.Each.{Each-map, Each-append}
+use Rattle.sync_text.specs.Each.{Each}
 use Rattle.sync_ql.specs.declared.levels.Level.{Level}
 use Rattle.link_model.specs.declared.word.Word.{Word}
-use Rattle.link_model.specs.Each.{Each}
 use Rattle.link_model.specs.Spoken.{end_before}
 use Rattle.link_model.specs.Kept.{WordsKept, words_of, all_words, taken_in, lost, ended_at, ended, ended_arrived, new_word, arrival_of, first_of, IsWord, EndsBy, IsChain, IsOrdered}
 use Rattle.link_model.proofs.Times.{is_equal, is_not_equal, not_equal, end-within}
-use Rattle.link_model.proofs.Pasts.{Each-map, Each-append}
 
 abbrev pub kept_words : Option Word → List Word → WordsKept
 kept_words a ws = record { arrived = a; on_way = ws }

@@ -1,25 +1,15 @@
 -- Pasts of a line: one more millisecond, and those in which nothing is told.
-use Rattle.std.proofs.Math.Bool.{and-true}
+use Rattle.std.proofs.Math.Bool.{and-true, and-false}
 use Rattle.std.proofs.Common.{◌≡◌, ◌≤◌, ◌<◌, ℕ, zero, suc, ◌+◌, ◌%◌, Bool, true, false, ◌&&◌, nat_eq, nat_le, if◌then◌else◌, List, [], ◌∷◌, ◌++◌, length, drop, take, filter, Option, None, Some, is_some, refl, ap, sym, ◌∙◌, arith}
 use Rattle.std.proofs.lemmas.List.{append-nil}
+use Rattle.sync_text.specs.Each.{Each}
+use Rattle.sync_ql.proofs.SameMoments.{same_level}
+use Rattle.sync_text.proofs.Each.{Each-map, Each-append}
 use Rattle.sync_ql.specs.declared.levels.NetOption.{NetOption}
 use Rattle.sync_ql.specs.declared.levels.NetOption.TheVariants.{I, II}
 use Rattle.sync_ql.specs.declared.levels.Level.{Level}
 use Rattle.sync_ql.specs.Messages.{LineMoment, Message, said_in, said, is_same_option, is_same_level, is_news, is_sent, was_up, came, delivered, message_in, news_since_down, unchanged, after_unchanged, second}
-use Rattle.link_model.specs.Each.{Each}
 use Rattle.link_model.proofs.Times.{within, equal, is_within}
-
-same_option-same : (a : NetOption) → is_same_option a a ≡ true
-same_option-same I = refl
-same_option-same II = refl
-
-pub same_level-same : (a : Option Level) → is_same_level a a ≡ true
-same_level-same None = refl
-same_level-same (Some a) = rw (same_option-same a.option, equal a.place a.place refl) refl
-
-and_false : (b : Bool) → (b && false) ≡ false
-and_false true = refl
-and_false false = refl
 
 -- milliseconds in which nothing is told
 pub length-after : (j : ℕ) (past : List LineMoment) → length (after_unchanged j past) ≡ j + length past
@@ -52,7 +42,7 @@ message_in-old n (Some level) = refl
 
 pub no-news : (now : LineMoment) (before : List LineMoment) → said_in now ≡ said before → is_news (now ∷ before) ≡ false
 no-news now before same =
-    rw (← same) (rw (same_level-same (said_in now)) (and_false (is_some (said_in now))))
+    rw (← same) (rw (same_level (said_in now)) (and-false (is_some (said_in now))))
 
 pub news-none : (now : LineMoment) (before : List LineMoment) → said_in now ≡ None → is_news (now ∷ before) ≡ false
 news-none now before silent = rw silent refl
@@ -71,15 +61,6 @@ news-unchanged (now ∷ before) = by now.up refl
     by : (up : Bool) → now.up ≡ up → news_since_down (now ∷ now ∷ before) ≡ news_since_down (now ∷ before)
     by true up = news-old now (now ∷ before) up (no-news now (now ∷ before) refl)
     by false up = rw up refl
-
--- all of them are news
-pub Each-append : {A : Type 0} (P : A → Type 0) (xs ys : List A) → Each P xs → Each P ys → Each P (xs ++ ys)
-Each-append P [] ys all others = others
-Each-append P (x ∷ xs) ys all others = (all.0, Each-append P xs ys all.1 others)
-
-pub Each-map : {A : Type 0} (P Q : A → Type 0) → ((x : A) → P x → Q x) → (xs : List A) → Each P xs → Each Q xs
-Each-map P Q from [] all = tt
-Each-map P Q from (x ∷ xs) all = (from x all.0, Each-map P Q from xs all.1)
 
 filter_one : {A : Type 0} (P : A → Type 0) (x : A) (xs : List A) (b : Bool) → P x → Each P xs → Each P (if b then x ∷ xs else xs)
 filter_one P x xs true one all = (one, all)

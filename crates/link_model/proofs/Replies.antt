@@ -1,11 +1,11 @@
 -- The invariant and what is due after each call, and the levels that are kept.
 use Rattle.std.proofs.Common.{◌≡◌, ◌≤◌, ◌<◌, ℕ, ◌+◌, ◌*◌, Bool, Option, IfSome, List, sym, subst, arith}
+use Rattle.sync_text.specs.Each.{Each}
 use Rattle.sync_ql.specs.declared.levels.NetOption.{NetOption}
 use Rattle.sync_ql.specs.declared.levels.Level.{Level}
 use Rattle.sync_ql.specs.declared.limits.TheConstants.{LAST_MILLISECOND}
 use Rattle.sync_ql.specs.Messages.{LineMoment}
 use Rattle.link_model.specs.declared.word.Word.{Word}
-use Rattle.link_model.specs.Each.{Each}
 use Rattle.link_model.specs.Kept.{WordsKept, Kept, all_words, due_of}
 use Rattle.link_model.specs.StandsFor.{IsAfter}
 use Rattle.link_model.specs.Whole.{next_of, seen, IsWhole}

@@ -3,16 +3,17 @@ use Rattle.std.proofs.lemmas.Bool.Decides.{nat_tests}
 use Rattle.std.proofs.Math.Decide.{dec_lt}
 use Rattle.std.proofs.Common.{◌≡◌, ◌≤◌, ◌<◌, ℕ, zero, suc, ◌+◌, ◌-◌, ◌%◌, Bool, true, false, nat_eq, nat_le, if◌then◌else◌, List, [], ◌∷◌, length, drop, map, filter, Option, None, Some, IfSome, refl, ap, sym, subst, ◌∙◌, arith}
 use Rattle.std.specs.Option.{option_or}
+use Rattle.sync_text.proofs.Each.{Each-map}
+use Rattle.sync_text.specs.Each.{Each}
 use Rattle.sync_ql.specs.declared.levels.Level.{Level}
 use Rattle.sync_ql.specs.Pasts.{first_within}
 use Rattle.sync_ql.specs.Messages.{LineMoment, is_news, came, arrivals, delivered, news_since_down, on_way_at, unchanged, after_unchanged, second}
 use Rattle.link_model.specs.declared.word.Word.{Word}
-use Rattle.link_model.specs.Each.{Each}
 use Rattle.link_model.specs.Spoken.{is_before, said_by, spoken, last_of, last_sent, message_of}
 use Rattle.link_model.specs.Kept.{Kept, words_of, heard_of, IsWord, EndsBy, IsChain, IsOrdered}
 use Rattle.link_model.specs.StandsFor.{IsOfPast}
 use Rattle.link_model.proofs.Times.{within, not_within, below, not_below, is_below, said_by-early, said_by-over, said_by-now, last-over, last-again, last-first, last-within}
-use Rattle.link_model.proofs.Pasts.{length-after, unchanged-after, after-after, news-unchanged, Each-map, Each-filter, IsPastNews, all-news, filter-later, filter-all, delivered-early, came-undelivered, came-news, came-again}
+use Rattle.link_model.proofs.Pasts.{length-after, unchanged-after, after-after, news-unchanged, Each-filter, IsPastNews, all-news, filter-later, filter-all, delivered-early, came-undelivered, came-news, came-again}
 use Rattle.link_model.proofs.Ordering.{kept_words, if_some, Each-over, words_rest, chain_rest, after-first}
 
 abbrev pub kept : LineMoment → Option Word → List Word → Kept

@@ -3,12 +3,12 @@ use Rattle.std.proofs.lemmas.Bool.Decides.{nat_tests}
 use Rattle.std.proofs.Math.Decide.{dec_lt}
 use Rattle.std.proofs.Common.{◌≡◌, ◌≤◌, ◌<◌, ℕ, suc, ◌+◌, ◌-◌, Bool, true, false, not, ◌&&◌, nat_le, if◌then◌else◌, List, [], ◌∷◌, ◌++◌, length, map, filter, Option, None, Some, IfSome, is_some, refl, ap, sym, ◌∙◌, arith}
 use Rattle.std.specs.Option.{option_or}
+use Rattle.sync_text.specs.Each.{Each}
 use Rattle.sync_ql.specs.declared.levels.Level.{Level}
 use Rattle.sync_ql.specs.Pasts.{first_within}
 use Rattle.sync_ql.specs.Messages.{LineMoment, Message, said_in, said, is_same_level, is_news, came, arrivals, delivered, message_in, news_since_down, on_way_at, after_unchanged}
 use Rattle.sync_ql.proofs.Delivered.{came-head}
 use Rattle.link_model.specs.declared.word.Word.{Word}
-use Rattle.link_model.specs.Each.{Each}
 use Rattle.link_model.specs.Spoken.{is_before, said_by, spoken, end_before, last_sent, message_of}
 use Rattle.link_model.specs.Kept.{Kept, words_of, heard_of, cut_at, cut_arrived, lost, ended_at, ended, ended_arrived, new_word, IsWord, IsOrdered}
 use Rattle.link_model.specs.StandsFor.{IsOfPast}

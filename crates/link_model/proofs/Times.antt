@@ -1,6 +1,7 @@
 -- When a word is said, and when its last message went out.
 use Rattle.std.proofs.lemmas.Bool.Decides.{nat_tests}
 use Rattle.std.proofs.Common.{◌≡◌, ◌≤◌, ◌<◌, ℕ, suc, ◌+◌, ◌-◌, ◌%◌, Bool, true, false, ◌&&◌, nat_eq, nat_lt, nat_le, if◌then◌else◌, Option, None, Some, refl, ap, sym, ◌∙◌, arith}
+use Rattle.std.proofs.Math.Bool.{and-false}
 use Rattle.sync_ql.specs.Messages.{second}
 use Rattle.link_model.specs.declared.word.Word.{Word}
 use Rattle.link_model.specs.Spoken.{is_before, said_by, end_before, second_before, last_of}
@@ -46,18 +47,14 @@ is_not_equal a b other same = grind (arith, nat_tests)
 pub said_by-early : (w : Word) (s : ℕ) → s < w.sent → said_by w s ≡ None
 said_by-early w s early = rw (not_within w.sent s early) refl
 
-and_false : (b : Bool) → (b && false) ≡ false
-and_false true = refl
-and_false false = refl
-
 pub said_by-over : (w : Word) (s : ℕ) → is_before s w.until ≡ false → said_by w s ≡ None
-said_by-over w s over = rw (over, and_false (nat_le w.sent s)) refl
+said_by-over w s over = rw (over, and-false (nat_le w.sent s)) refl
 
 pub said_by-now : (w : Word) (s : ℕ) → w.sent ≤ s → is_before s w.until ≡ true → said_by w s ≡ Some w.level
 said_by-now w s from before = rw (within w.sent s from, before) refl
 
 -- the end of a word, or a millisecond if that is earlier
-end-over : (u n : ℕ) → u ≤ n → end_before (Some u) n ≡ u
+pub end-over : (u n : ℕ) → u ≤ n → end_before (Some u) n ≡ u
 end-over u n over = grind (arith, nat_tests)
 
 end-before : (until : Option ℕ) (r n : ℕ) → n ≤ suc r → is_before r until ≡ true → end_before until n ≡ n

@@ -1,11 +1,11 @@
 -- Private to this crate: what a line keeps, and what becomes of it. No clause elsewhere looks into it.
 use Rattle.std.specs.Prelude.{◌≤◌, ◌<◌, ◌+◌, ◌-◌, ℕ, Bool, false, nat_eq, nat_lt, nat_le, if◌then◌else◌, List, [], ◌∷◌, ◌++◌, map, Option, None, Some, IfSome, ⊤}
+use Rattle.sync_text.specs.Each.{Each}
 use Rattle.sync_ql.specs.declared.levels.Level.{Level}
 use Rattle.sync_ql.specs.declared.limits.TheConstants.{LAST_MILLISECOND}
 use Rattle.sync_ql.specs.Messages.{LineMoment, hearing_time}
 use Rattle.link_model.specs.declared.word.Word.{Word}
 use Rattle.link_model.specs.declared.words.Words.{Words}
-use Rattle.link_model.specs.Each.{Each}
 use Rattle.link_model.specs.Spoken.{end_before, last_sent}
 
 -- the word that arrived last, and those on their way, the oldest first

@@ -1,4 +1,3 @@
-pub mod Each
 pub mod Spoken
 pub mod Kept
 pub mod LineState

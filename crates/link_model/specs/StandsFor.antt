@@ -1,9 +1,9 @@
 -- What a line has to do with the milliseconds that were.
 use Rattle.std.specs.Prelude.{◌≡◌, ◌≤◌, ◌<◌, ℕ, suc, ◌+◌, ◌*◌, true, ◌&&◌, List, [], ◌∷◌, length, map, ⊤}
+use Rattle.sync_text.specs.Each.{Each}
 use Rattle.sync_ql.specs.declared.levels.NetOption.{NetOption}
 use Rattle.sync_ql.specs.Pasts.{first_within}
 use Rattle.sync_ql.specs.Messages.{LineMoment, said_in, said, arrivals, delivered, on_way_at, unchanged, after_unchanged}
-use Rattle.link_model.specs.Each.{Each}
 use Rattle.link_model.specs.Spoken.{spoken, message_of}
 use Rattle.link_model.specs.Kept.{Kept, all_words, heard_of}
 use Rattle.link_model.specs.LineState.{LineState}

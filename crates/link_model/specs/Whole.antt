@@ -1,9 +1,9 @@
 -- Private to this crate: how a line is seen, and what is true of every one.
 use Rattle.std.specs.Prelude.{◌≤◌, ℕ, ◌+◌, ◌*◌, ◌/◌}
+use Rattle.sync_text.specs.Each.{Each}
 use Rattle.sync_ql.specs.declared.limits.TheConstants.{LEAST_DELAY, GREATEST_DELAY, LAST_MILLISECOND}
 use Rattle.link_model.specs.declared.line.Line.TheInside.{Inside}
 use Rattle.link_model.specs.Kept.{Kept, words_kept, all_words, due_of, IsOrdered}
-use Rattle.link_model.specs.Each.{Each}
 use Rattle.link_model.specs.LineState.{LineState}
 
 -- the first millisecond that no call has told of

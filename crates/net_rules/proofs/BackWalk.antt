@@ -1,10 +1,11 @@
 -- A closed walk is found by going back from its first line, and there is one for each first line.
 use Rattle.std.proofs.Common.{◌≡◌, ◌≢◌, ◌≤◌, ◌<◌, ◌+◌, ◌-◌, ℕ, zero, suc, List, [], ◌∷◌, length, Some, ap, sym, subst, ◌∙◌, arith}
 use Rattle.std.proofs.Math.Decide.{dec_lt}
+use Rattle.sync_text.specs.Each.{Each}
 use Rattle.sync_topo.specs.Topology.{Topology}
 use Rattle.sync_topo.specs.Lines.{line_input, sender_of, receiver_of}
 use Rattle.sync_topo.specs.Ranks.{Leads}
-use Rattle.net_rules.specs.Walks.{Taken, Each, AreApart, IsTaken, Joins, IsClosedWalk}
+use Rattle.net_rules.specs.Walks.{Taken, AreApart, IsTaken, Joins, IsClosedWalk}
 use Rattle.net_rules.specs.GoingBack.{line_taken, line_before, lines_before, ComesBack}
 
 -- what an element takes is an input of its own

@@ -16,7 +16,7 @@ use Rattle.sync_ql.specs.Taken.{MayBeTaken, AreAlike, AllAlike}
 use Rattle.sync_ql.proofs.Choices.{standing_manual-again, choice-again}
 use Rattle.sync_ql.proofs.SameChoice.{standing_alike, choice_alike}
 use Rattle.sync_ql.proofs.TakenInputs.{taken_may_be_taken}
-use Rattle.sync_ql.proofs.QuietMoments.{seen, seen_at, commanded, candidates_at-same, switches_at-cons, selection_at-cons}
+use Rattle.sync_ql.proofs.QuietMoments.{seen, seen_at, commanded, candidates_at-same, switches_at-cons, selection_at-cons, at_end-again, or-again}
 
 -- an input has one level and is failed or not alike after both pasts, or is failed after both
 abbrev pub IsAlikeAfter : Settings → List Moment → List Moment → ℕ → Type 0
@@ -54,9 +54,6 @@ candidates_alike : (settings : Settings) (s : Switches) (past past_then : List M
 candidates_alike settings s past past_then alike =
     range_alike (seen settings s past) (seen settings s past_then) 0 (length settings.priorities)
     (λ k low high. seen_alike settings s past past_then k (alike k (omega (arith, high))))
-
-at_end-again : (inputs : List Candidate) (s : Switches) → at_end inputs (at_end inputs s) ≡ at_end inputs s
-at_end-again inputs s = ap (λ manual. record { locked = s.locked; forced = s.forced; manual = manual }) (standing_manual-again inputs s.manual)
 
 at_end-alike : (inputs others : List Candidate) (s : Switches) → AllAlike inputs others → at_end others s ≡ at_end inputs s
 at_end-alike inputs others s alike = ap (λ manual. record { locked = s.locked; forced = s.forced; manual = manual }) (sym (standing_alike inputs others alike s.manual))
@@ -102,10 +99,6 @@ level_same : (own : Level) (taken : Option ℕ) (levels levels_then : ℕ → Op
     → unwrap_or (option_and_then levels_then taken) own ≡ unwrap_or (option_and_then levels taken) own
 level_same own None levels levels_then same = refl
 level_same own (Some i) levels levels_then same = ap (λ level. unwrap_or level own) same
-
-or-again : (b c : Bool) → (b || (b || c)) ≡ (b || c)
-or-again true c = refl
-or-again false c = refl
 
 was_locked-stays : (settings : Settings) (now next : Moment) (before : List Moment) → selection_at settings (next ∷ now ∷ before) ≡ selection_at settings (now ∷ before)
     → was_locked settings (next ∷ now ∷ before) ≡ was_locked settings (now ∷ before)

@@ -6,6 +6,9 @@ use Rattle.std.specs.Option.{option_or}
 use Rattle.std.proofs.Math.Decide.{dec_lt}
 use Rattle.std.proofs.lemmas.Bool.{true≢false, le-ltb, lt-ltb, ne_eqb, or_parts}
 use Rattle.std.proofs.lemmas.List.Elements.{All-head, All-tail}
+use Rattle.sync_text.specs.Each.{Each}
+use Rattle.sync_text.proofs.Options.{is_some-false}
+use Rattle.sync_text.proofs.Each.{each-all, Each-map}
 use Rattle.sync_topo.specs.declared.input.InputId.{InputId}
 use Rattle.sync_topo.specs.declared.input.InputId.TheVariants.{Source}
 use Rattle.sync_topo.specs.declared.event.What.{What}
@@ -13,15 +16,9 @@ use Rattle.sync_topo.specs.declared.event.Event.{Event}
 use Rattle.sync_topo.specs.Topology.{Topology}
 use Rattle.sync_topo.specs.Lines.{line_input, delay_of}
 use Rattle.net_rules.specs.Signals.{events_before, events_at, last_word, says_up, says_esmc, says_level, command_to, up_at, esmc_at, said_at, source_level_before, source_level_at, planned_level, signals_by}
-use Rattle.net_rules.specs.Walks.{Each}
 use Rattle.net_rules.specs.Facing.{IsStill}
 use Rattle.net_rules.specs.Staying.{IsQuietAfter, AreStillBefore}
 use Rattle.net_rules.specs.Settling.{NoneAfter, switches_line, IsUnswitched, AreUnswitchedBefore}
-use Rattle.net_rules.proofs.Lists.{Each-map}
-
-pub each-all : {A : Type 0} (P : A → Type 0) (xs : List A) → All P xs → Each P xs
-each-all P [] all = tt
-each-all P (x ∷ xs) all = (All-head P x xs all, each-all P xs (All-tail P x xs all))
 
 -- two tests that differ only at events that don't speak of a matter leave its last word
 pub last_word-filter : {A : Type 0} (says : What → Option A) (p q : Event → Bool) (events : List Event)
@@ -114,10 +111,6 @@ quiet-after plan events t none = record {
   commands = λ element u after. ap (filter_map (λ event. command_to plan element event.what)) (none-at events (suc u) (not-later events t u none after));
 }
 
-is_none-none : {A : Type 0} (o : Option A) → is_some o ≡ false → o ≡ None
-is_none-none None none = refl
-is_none-none (Some x) none = cc
-
 -- an event at a millisecond doesn't switch a line
 abbrev LeavesLine : ℕ → ℕ → Event → Type 0
 LeavesLine line t event = IsTrue (switches_line line event.what) → event.at ≢ t
@@ -131,7 +124,7 @@ leaves line t event other = of (switches_line line event.what) refl
     of true is = (inl (other is), inl (other is))
     of false is =
         let both = or_parts (is_some (says_up (line_input line) event.what)) (is_some (says_esmc line event.what)) is in
-        (inr (is_none-none (says_up (line_input line) event.what) both.0), inr (is_none-none (says_esmc line event.what) both.1))
+        (inr (is_some-false (says_up (line_input line) event.what) both.0), inr (is_some-false (says_esmc line event.what) both.1))
 
 line-same : (plan : Topology) (events : List Event) (line t : ℕ) → Each (LeavesLine line (suc t)) events
     → (up_at events (line_input line) (suc t) ≡ up_at events (line_input line) t) × (esmc_at events line (suc t) ≡ esmc_at events line t)
@@ -165,3 +158,8 @@ still-before plan events t none line nominated = record {
         Each-map (λ event. IsTrue (switches_line line event.what) → event.at + delay_of plan line ≤ t) (LeavesLine line (suc u))
         (λ event early switches same. let ended = early switches in omega (arith, ended, same, after, before)) events
         (each-all (λ event. IsTrue (switches_line line event.what) → event.at + delay_of plan line ≤ t) events (none line nominated))
+
+-- of events that are not before a millisecond none is before it
+pub none-before : (n : ℕ) (events : List Event) → Each (λ event. n ≤ event.at) events → events_before n events ≡ []
+none-before n [] late = refl
+none-before n (event ∷ events) late = rw (le-ltb event.at n late.0, none-before n events late.1) refl

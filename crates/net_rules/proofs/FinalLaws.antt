@@ -20,6 +20,7 @@ use Rattle.net_rules.specs.Facing.{Faces}
 use Rattle.net_rules.specs.Staying.{IsSameAt}
 use Rattle.net_rules.specs.Settling.{NoneAfter, IsUnswitched, AreUnswitchedBefore, IsSettlingBound}
 use Rattle.std.specs.Prelude.{IfSome, IsTrue}
+use Rattle.sync_ql.proofs.SameMoments.{line_moment}
 use Rattle.sync_ql.specs.declared.levels.Level.{Level}
 use Rattle.sync_ql.specs.Condition.{Signal}
 use Rattle.sync_topo.specs.declared.input.InputId.{InputId}
@@ -31,7 +32,7 @@ use Rattle.net_rules.proofs.WalkLaws.{pair_or_cycle}
 use Rattle.net_rules.proofs.PlanLaws.{IsDelayed-well, sender-within}
 use Rattle.net_rules.proofs.HistoryLaws.{out_at-sent, until_same, element-past-same, same_inputs-until}
 use Rattle.net_rules.proofs.PairLaws.{pair-short-still}
-use Rattle.net_rules.proofs.SettledLaws.{rising-loop_free, no-pair}
+use Rattle.net_rules.proofs.SettledLaws.{rising-loop_free}
 use Rattle.net_rules.proofs.QuietLaws.{settled-stays}
 use Rattle.net_rules.proofs.BoundLaws.{bound-settles}
 use Rattle.net_rules.proofs.OrderLaws.{later-same, touch-same}
@@ -121,21 +122,11 @@ traced-here plan signals out element t well within =
     (λ receiver line takes. sender-within plan well line (IsNominated-within plan line (taken-is plan signals out receiver t (line_input line) takes).of.nominated)) element within in
     (trace.lines, trace.end, trace.is)
 
--- no facing pair stands in a settled millisecond, with or without ranks
-pub settled-unpaired : (plan : Topology) (signals : Signals) (out : Levels) (t : ℕ) → Obeys plan signals out → IsSettled plan signals out t
-    → (lines : List ℕ) → IsClosedWalk plan (taken_in plan signals out t) lines → IsFacingPair plan lines → ⊥
-settled-unpaired = no-pair
-
--- lines and inputs to which the same comes from outside are the same
-line-moments : (up up_then esmc esmc_then : Bool) (level level_then : Level) → up ≡ up_then → esmc ≡ esmc_then → level ≡ level_then
-    → ◌≡◌ {A = LineMoment} (record { up = up; esmc = esmc; level = Some level }) (record { up = up_then; esmc = esmc_then; level = Some level_then })
-line-moments up up_then esmc esmc_then level level_then a b c = rw (a, b, c) refl
-
 lines-same : (plan : Topology) (signals others : Signals) (t : ℕ) → IsWellFormed plan → IsSameUntil plan t signals others
     → (line s : ℕ) → IsNominated plan line → s ≤ t
     → line_moment_at signals (out_at plan signals) line s ≡ line_moment_at others (out_at plan others) line s
 lines-same plan signals others t well same line s nominated until =
-    line-moments _ _ _ _ _ _ (same.up (line_input line) s (IsNominated-within plan line nominated) nominated until) (same.esmc line s nominated until)
+    line_moment _ _ _ _ _ _ (same.up (line_input line) s (IsNominated-within plan line nominated) nominated until) (same.esmc line s nominated until)
     (until_same plan (IsDelayed-well plan well) (sender-within plan well) signals others t same line s (IsNominated-within plan line nominated) until)
 
 signal : (up up_then clear clear_then : Bool) → up ≡ up_then → clear ≡ clear_then → ◌≡◌ {A = Signal} (record { up = up; clear = clear }) (record { up = up_then; clear = clear_then })

@@ -1,5 +1,7 @@
 -- There is one history that obeys the rules, and it looks back alone.
 use Rattle.std.proofs.Common.{◌≡◌, ◌≤◌, ◌<◌, ℕ, zero, suc, Bool, List, ◌∷◌, length, Option, Some, refl, ap, sym, ◌∙◌, arith}
+use Rattle.sync_text.proofs.Each.{Each-map}
+use Rattle.sync_ql.proofs.SameMoments.{line_moment, input_moment, moment}
 use Rattle.sync_ql.specs.declared.levels.Level.{Level}
 use Rattle.sync_ql.specs.Pasts.{past_of}
 use Rattle.sync_ql.specs.Messages.{LineMoment, heard_at}
@@ -16,7 +18,7 @@ use Rattle.net_rules.specs.Inputs.{IsInputOf}
 use Rattle.net_rules.specs.Sameness.{IsSameUntil}
 use Rattle.net_rules.specs.History.{Levels, line_moment_at, heard, input_level, moment_at, element_past, sent_by, sent_level, Obeys, rounds, out_at}
 use Rattle.net_rules.specs.Settings.{input_by}
-use Rattle.net_rules.proofs.Lists.{Each-map, map-same, past-same}
+use Rattle.net_rules.proofs.Lists.{map-same, past-same}
 use Rattle.net_rules.proofs.InputLaws.{inputs-are}
 
 -- messages take at least one millisecond on each nominated line
@@ -57,10 +59,6 @@ sooner plan signals others t s early same = record {
 pub line-input_of : (plan : Topology) (line : ℕ) → IsNominated plan line → IsInputOf plan (receiver_of plan line) (line_input line)
 line-input_of plan line nominated = record { has = IsNominated-within plan line nominated; nominated = nominated; of_element = refl }
 
-line_moment : (up up_then esmc esmc_then : Bool) (level level_then : Level) → up ≡ up_then → esmc ≡ esmc_then → level ≡ level_then
-    → ◌≡◌ {A = LineMoment} (record { up = up; esmc = esmc; level = Some level }) (record { up = up_then; esmc = esmc_then; level = Some level_then })
-line_moment up up_then esmc esmc_then level level_then a b c = rw (a, b, c) refl
-
 -- the level heard on a line up to t, where the levels sent before t are the same
 pub heard-same : (plan : Topology) → IsDelayed plan → (signals others : Signals) (out other : Levels) (t line s : ℕ) → s ≤ t
     → SameInputs plan signals others t → AgreeBefore plan t out other → IsNominated plan line
@@ -76,10 +74,6 @@ heard-same plan delayed signals others out other t line s until same agree nomin
     (delayed line nominated) (same.up (line_input line) s (receiver_of plan line) of until)
     ∙ ap (λ past. heard_at (delay_of plan line) (line_moment_at others other line s ∷ past)) before
 
-input_moment : (up up_then clear clear_then : Bool) (level level_then : Option Level) → up ≡ up_then → clear ≡ clear_then → level ≡ level_then
-    → ◌≡◌ {A = InputMoment} (record { signal = record { up = up; clear = clear }; level = level }) (record { signal = record { up = up_then; clear = clear_then }; level = level_then })
-input_moment up up_then clear clear_then level level_then a b c = rw (a, b, c) refl
-
 -- an input in a millisecond up to t is the same
 input-same : (plan : Topology) → IsDelayed plan → (signals others : Signals) (out other : Levels) (t element s : ℕ) → s ≤ t
     → SameInputs plan signals others t → AgreeBefore plan t out other → (input : InputId) → IsInputOf plan element input
@@ -90,10 +84,6 @@ input-same plan delayed signals others out other t element s until same agree (L
 input-same plan delayed signals others out other t element s until same agree (Source source) is =
     input_moment _ _ _ _ _ _ (same.up (Source source) s element is until) (same.clear (Source source) s element is until)
     (ap Some (same.source_level source s element is until))
-
-moment : (inputs inputs_then : List InputMoment) (commands commands_then : List Cmd) → inputs ≡ inputs_then → commands ≡ commands_then
-    → ◌≡◌ {A = Moment} (record { inputs = inputs; commands = commands }) (record { inputs = inputs_then; commands = commands_then })
-moment inputs inputs_then commands commands_then a b = rw (a, b) refl
 
 -- so an element's milliseconds up to t are the same
 pub moment-same : (plan : Topology) → IsDelayed plan → (signals others : Signals) (out other : Levels) (t element s : ℕ) → s ≤ t

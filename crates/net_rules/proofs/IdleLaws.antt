@@ -5,6 +5,8 @@ use Rattle.std.specs.List.{list_any, filter_map, range_with_len}
 use Rattle.std.proofs.Math.Decide.{dec_lt}
 use Rattle.std.proofs.lemmas.Bool.{or_parts}
 use Rattle.std.proofs.lemmas.Bool.Decides.{eqb_tells}
+use Rattle.sync_text.proofs.Each.{Each-map}
+use Rattle.sync_text.specs.Each.{Each}
 use Rattle.sync_ql.specs.declared.levels.Level.{Level}
 use Rattle.sync_ql.specs.Messages.{is_same_level}
 use Rattle.sync_ql.specs.Quiet.{IsSameOutput}
@@ -22,8 +24,6 @@ use Rattle.net_rules.specs.Inputs.{IsInputOf}
 use Rattle.net_rules.specs.History.{Levels, settings_of, heard, element_past, failed_by, Obeys, out_at}
 use Rattle.net_rules.specs.Staying.{IsSameAt}
 use Rattle.net_rules.specs.Activity.{touches, is_touched, is_other, failed_changes, heard_changes, is_active_in, is_active, news_arrives, is_busy}
-use Rattle.net_rules.specs.Walks.{Each}
-use Rattle.net_rules.proofs.Lists.{Each-map}
 use Rattle.net_rules.proofs.InputLaws.{each-input}
 use Rattle.net_rules.proofs.EventLaws.{same-before, up-same}
 use Rattle.net_rules.proofs.TouchLaws.{up-silent, level-silent, command-silent}
@@ -54,7 +54,7 @@ untouched-is plan (event ∷ events) element t none = by (eqb_tells event.at t) 
       | inr other ↦ (inl other.1, rest (rw (other.0) at none))
     ]
 
-says-none : {A : Type 0} (plan : Topology) (events : List Event) (element t : ℕ) (says : What → Option A)
+pub says-none : {A : Type 0} (plan : Topology) (events : List Event) (element t : ℕ) (says : What → Option A)
     → ((what : What) → touches plan element what ≡ false → says what ≡ None) → IsUntouched plan events element t
     → Each (λ event. (event.at ≢ t) ⊎ (says event.what ≡ None)) events
 says-none plan events element t says silent untouched =
@@ -107,7 +107,7 @@ same-failed false false none = refl
 same-failed true false none = cc
 same-failed false true none = cc
 
-same-heard : (a b : Option Level) → not (is_same_level a b) ≡ false → a ≡ b
+pub same-heard : (a b : Option Level) → not (is_same_level a b) ≡ false → a ≡ b
 same-heard a b none = same-is a b (of (is_same_level a b) none)
   where
     of : (same : Bool) → not same ≡ false → same ≡ true

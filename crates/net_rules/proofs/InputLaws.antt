@@ -4,13 +4,13 @@ use Rattle.std.specs.Prelude.{nat_lt, ◌==◌}
 use Rattle.std.specs.List.{range_with_len}
 use Rattle.std.proofs.lemmas.Bool.{and_parts, eqb-true, eq-eqb}
 use Rattle.std.specs.Cmp.Derive.{both_true}
+use Rattle.sync_text.proofs.Each.{Each-map, Each-append, Each-made, Each-range, Each-filter, Each-parts, Each-unmade, Each-kept}
+use Rattle.sync_text.specs.Each.{Each}
 use Rattle.sync_topo.specs.declared.input.InputId.{InputId}
 use Rattle.sync_topo.specs.declared.input.InputId.TheVariants.{Line, Source}
 use Rattle.sync_topo.specs.Topology.{Topology}
 use Rattle.sync_topo.specs.Lines.{line_count, line_input, is_nominated, receiver_of, source_priority, element_of_source, lines_into, sources_at, inputs_of}
 use Rattle.net_rules.specs.Inputs.{IsInputOf}
-use Rattle.net_rules.specs.Walks.{Each}
-use Rattle.net_rules.proofs.Lists.{Each-map, Each-append, Each-made, Each-range, Each-filter, Each-parts, Each-unmade, Each-kept}
 
 line_is : (plan : Topology) (element line : ℕ) → (line < line_count plan) × ((is_nominated plan line && receiver_of plan line == element) ≡ true)
     → IsInputOf plan element (line_input line)

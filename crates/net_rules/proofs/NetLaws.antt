@@ -2,6 +2,7 @@
 use Rattle.std.proofs.Common.{◌≡◌, ◌<◌, ℕ, suc, Bool, true, false, List, length, Option, None, Some, IfSome, slice_get, refl, ap, sym, subst, ◌∙◌, inl, inr, arith}
 use Rattle.std.specs.Prelude.{unwrap_or, option_and_then, if◌then◌else◌}
 use Rattle.std.proofs.lemmas.Option.{slice_get_cases, none-some}
+use Rattle.sync_text.proofs.Each.{each-at}
 use Rattle.sync_ql.specs.declared.levels.NetOption.{NetOption}
 use Rattle.sync_ql.specs.declared.levels.NetOption.TheVariants.{I, II}
 use Rattle.sync_ql.specs.declared.levels.Level.{Level}
@@ -22,7 +23,6 @@ use Rattle.net_rules.specs.Settings.{timers_of, signal_at, input_by}
 use Rattle.net_rules.specs.Walks.{IsTaken}
 use Rattle.net_rules.specs.Safety.{taken_in}
 use Rattle.net_rules.proofs.InputLaws.{inputs-are}
-use Rattle.net_rules.proofs.Lists.{each-at}
 use Rattle.net_rules.proofs.SettingLaws.{input-by, signals-by, priorities-by}
 
 -- an input of an element in a millisecond, and its signals up to one
@@ -143,10 +143,6 @@ not-taken plan signals out element t none =
 pub taken-nominated : (plan : Topology) (signals : Signals) (out : Levels) (t line : ℕ) → IsTaken plan (taken_in plan signals out t) line
     → IsNominated plan line
 taken-nominated plan signals out t line taken = (taken-is plan signals out (receiver_of plan line) t (line_input line) taken).of.nominated
-
-do_not_use-option : (option : NetOption) → (do_not_use_of option).option ≡ option
-do_not_use-option I = refl
-do_not_use-option II = refl
 
 pub not_above : (option : NetOption) → IsBetter (do_not_use_of option) (do_not_use_of (do_not_use_of option).option) → ⊥
 not_above I above = absurd (omega (arith, above))

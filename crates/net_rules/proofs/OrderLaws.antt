@@ -7,6 +7,8 @@ use Rattle.std.specs.Option.{option_or}
 use Rattle.std.proofs.lemmas.Bool.{le-ltb, ne_eqb}
 use Rattle.std.proofs.lemmas.List.Elements.{filter-append}
 use Rattle.std.proofs.lemmas.Option.{slice_get_cases}
+use Rattle.sync_text.proofs.Each.{Each-map, each-all}
+use Rattle.sync_text.specs.Each.{Each}
 use Rattle.sync_topo.specs.declared.input.InputId.{InputId}
 use Rattle.sync_topo.specs.declared.input.InputId.TheVariants.{Line, Source}
 use Rattle.sync_topo.specs.declared.event.What.{What}
@@ -19,9 +21,6 @@ use Rattle.net_rules.specs.Signals.{events_before, events_at, last_word, says_up
 use Rattle.net_rules.specs.Inputs.{IsInputOf}
 use Rattle.net_rules.specs.Sameness.{IsSameUntil}
 use Rattle.net_rules.specs.Activity.{touches, TouchAlike}
-use Rattle.net_rules.specs.Walks.{Each}
-use Rattle.net_rules.proofs.Lists.{Each-map}
-use Rattle.net_rules.proofs.EventLaws.{each-all}
 use Rattle.net_rules.proofs.PlanLaws.{receiver-within}
 use Rattle.net_rules.proofs.TouchLaws.{up-silent, esmc-silent, level-silent, clear-silent, command-silent}
 
@@ -121,7 +120,7 @@ word-same plan element says p events others silent same =
     ∙ ap (λ kept. last_word says (filter p kept)) same
     ∙ sym (touched-word says (touching plan element) p others (λ event none. silent event.what none))
 
-input-within : (plan : Topology) → IsWellFormed plan → (input : InputId) → IsInput plan input → element_of plan input < length plan.elements
+pub input-within : (plan : Topology) → IsWellFormed plan → (input : InputId) → IsInput plan input → element_of plan input < length plan.elements
 input-within plan well (Line line) has = receiver-within plan well line.0 has
 input-within plan well (Source source) has = elim (slice_get_cases plan.sources source).1 [
   | inl there ↦ rw (there.2) ((well.sources_fit source there.0 there.2).at_is_element)

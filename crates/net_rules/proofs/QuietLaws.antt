@@ -5,6 +5,7 @@ use Rattle.std.proofs.Math.Decide.{dec_lt}
 use Rattle.std.proofs.lemmas.Bool.{true≢false, le-ltb}
 use Rattle.std.proofs.lemmas.List.{length-map}
 use Rattle.std.proofs.lemmas.Option.{same_Some, none-some, slice_get_cases}
+use Rattle.sync_text.proofs.Each.{each-at}
 use Rattle.sync_ql.specs.declared.levels.Level.{Level}
 use Rattle.sync_ql.specs.Level.{do_not_use_of}
 use Rattle.sync_ql.specs.Pasts.{past_of, first_within}
@@ -29,7 +30,6 @@ use Rattle.net_rules.specs.Staying.{IsQuietAfter, AreStillBefore, IsSameAt}
 use Rattle.net_rules.proofs.ElementLaws.{IsAlikeAfter, AreAllAlikeAfter, output-stays}
 use Rattle.net_rules.proofs.InputLaws.{inputs-are}
 use Rattle.net_rules.proofs.NetLaws.{failed-at, level-at}
-use Rattle.net_rules.proofs.Lists.{each-at}
 use Rattle.net_rules.proofs.HistoryLaws.{IsDelayed}
 use Rattle.net_rules.proofs.Arrivals.{came-or_not, sent-said, unheard}
 use Rattle.net_rules.proofs.PairLaws.{speaks-said, speaks-up, silent-said, is_heard, still-speaks}

@@ -4,6 +4,7 @@ use Rattle.std.specs.Prelude.{unwrap_or, option_and_then}
 use Rattle.std.specs.List.{list_any, range_with_len}
 use Rattle.std.proofs.lemmas.List.{length-map}
 use Rattle.std.proofs.lemmas.Option.{none-some}
+use Rattle.sync_text.proofs.Each.{each-at}
 use Rattle.sync_ql.specs.declared.levels.Level.{Level}
 use Rattle.sync_ql.specs.declared.rules.InputEvent.{InputEvent}
 use Rattle.sync_ql.specs.Pasts.{past_of}
@@ -17,7 +18,7 @@ use Rattle.net_rules.specs.Signals.{Signals}
 use Rattle.net_rules.specs.Inputs.{IsInputOf}
 use Rattle.net_rules.specs.Settings.{Setting, InputLevels, settings_by, signal_at, input_by, moment_by, taken_with}
 use Rattle.net_rules.proofs.InputLaws.{inputs-are}
-use Rattle.net_rules.proofs.Lists.{each-at, map-at, map-places}
+use Rattle.net_rules.proofs.Lists.{map-at, map-places}
 
 -- an input of an element in a millisecond
 pub input-by : (plan : Topology) (signals : Signals) (levels : InputLevels) (element t i : ℕ) (input : InputId)

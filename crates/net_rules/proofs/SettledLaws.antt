@@ -4,6 +4,7 @@ use Rattle.std.specs.Prelude.{if◌then◌else◌}
 use Rattle.std.proofs.Math.Decide.{dec_lt}
 use Rattle.std.proofs.lemmas.Bool.{true≢false}
 use Rattle.std.proofs.lemmas.Option.{same_Some, none-some}
+use Rattle.sync_text.specs.Each.{Each}
 use Rattle.sync_ql.specs.declared.levels.Level.{Level}
 use Rattle.sync_ql.specs.Level.{do_not_use_of, IsBetter}
 use Rattle.sync_ql.specs.Pasts.{past_of}
@@ -18,7 +19,7 @@ use Rattle.sync_topo.proofs.LineLaws.{IsNominated-within}
 use Rattle.net_rules.specs.Signals.{Signals, speaks_at}
 use Rattle.net_rules.specs.History.{Levels, line_moment_at, heard, taken_at, level_at, is_way_back, sent_level, Obeys, settings_of}
 use Rattle.net_rules.specs.Settings.{own_level}
-use Rattle.net_rules.specs.Walks.{Each, IsOneOf, IsClosedWalk, IsFacingPair, TraceEnd, at_source, at_clock, at_loop, IsTraceAfter}
+use Rattle.net_rules.specs.Walks.{IsOneOf, IsClosedWalk, IsFacingPair, TraceEnd, at_source, at_clock, at_loop, IsTraceAfter}
 use Rattle.net_rules.specs.Settled.{IsSettled}
 use Rattle.net_rules.specs.Safety.{taken_in, IsEndLevel, IsLoopFreeAt}
 use Rattle.net_rules.proofs.Backs.{hop-or_back}

@@ -4,12 +4,13 @@ use Rattle.std.specs.Prelude.{nat_eq, if◌then◌else◌}
 use Rattle.std.proofs.lemmas.Bool.{ne_eqb}
 use Rattle.std.proofs.lemmas.Bool.Decides.{eqb_tells}
 use Rattle.std.proofs.lemmas.Option.{same_Some, none-some}
+use Rattle.sync_text.proofs.Each.{Each-map}
+use Rattle.sync_text.specs.Each.{Each}
 use Rattle.sync_topo.specs.declared.input.InputId.{InputId}
 use Rattle.sync_topo.specs.declared.input.InputId.TheVariants.{Line, Source}
 use Rattle.sync_topo.specs.Topology.{Topology}
 use Rattle.sync_topo.specs.Lines.{line_input, sender_of}
-use Rattle.net_rules.specs.Walks.{Taken, Each, IsOneOf, AreApart, TraceEnd, at_source, at_clock, at_loop, EndsAt, IsTraceAfter}
-use Rattle.net_rules.proofs.Lists.{Each-map}
+use Rattle.net_rules.specs.Walks.{Taken, IsOneOf, AreApart, TraceEnd, at_source, at_clock, at_loop, EndsAt, IsTraceAfter}
 use Rattle.net_rules.proofs.WalkLaws.{line_input-same}
 
 not_met : (n : ℕ) (xs : List ℕ) → Each (λ other. n ≢ other) xs → IsOneOf n xs → ⊥

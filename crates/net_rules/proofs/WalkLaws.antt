@@ -2,6 +2,8 @@
 use Rattle.std.proofs.Common.{◌≡◌, ◌≢◌, ◌<◌, ◌⊎◌, ℕ, List, [], ◌∷◌, ◌++◌, ap, sym, ◌∙◌, inl, inr, arith}
 use Rattle.std.specs.Prelude.{IsTrue}
 use Rattle.std.proofs.lemmas.Option.{same_Some}
+use Rattle.sync_text.proofs.Each.{Each-map, Each-both}
+use Rattle.sync_text.specs.Each.{Each}
 use Rattle.sync_topo.specs.declared.input.InputId.{InputId}
 use Rattle.sync_topo.specs.declared.input.InputId.TheVariants.{Line, Source}
 use Rattle.sync_topo.specs.Topology.{Topology}
@@ -9,8 +11,7 @@ use Rattle.sync_topo.specs.Lines.{line_input, receiver_of, IsNominated}
 use Rattle.sync_topo.specs.Hops.{hops, Hops, IsRising, IsCycle}
 use Rattle.sync_topo.specs.Ranks.{HopTest, Walks, Circles, Rises, Leads}
 use Rattle.sync_topo.specs.WellFormed.{IsWellFormed}
-use Rattle.net_rules.specs.Walks.{Taken, Each, AreApart, IsTaken, Joins, IsClosedWalkFrom, IsClosedWalk, IsFacingPair}
-use Rattle.net_rules.proofs.Lists.{Each-map, Each-both}
+use Rattle.net_rules.specs.Walks.{Taken, AreApart, IsTaken, Joins, IsClosedWalkFrom, IsClosedWalk, IsFacingPair}
 use Rattle.net_rules.proofs.Backs.{back-receiver, back-again, back-other, hop-or_back}
 
 -- what is taken is nominated

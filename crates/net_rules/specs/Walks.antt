@@ -1,6 +1,7 @@
 -- Closed walks, facing pairs and traces: over what each element takes in one millisecond.
 -- This project's own; that timing must not go round is after G.781 and G.803.
 use Rattle.std.specs.Prelude.{◌≡◌, ◌≢◌, ◌⊎◌, ℕ, IsTrue, List, [], ◌∷◌, Option, None, Some, ⊤}
+use Rattle.sync_text.specs.Each.{Each}
 use Rattle.sync_topo.specs.declared.input.InputId.{InputId}
 use Rattle.sync_topo.specs.declared.input.InputId.TheVariants.{Source}
 use Rattle.sync_topo.specs.Topology.{Topology}
@@ -11,11 +12,6 @@ use Rattle.sync_topo.specs.Ranks.{Leads}
 -- the input that each element takes, or none
 abbrev pub Taken : Type 0
 Taken = ℕ → Option InputId
-
--- it holds of each of a list
-abbrev pub Each : {A : Type 0} → (A → Type 0) → List A → Type 0
-Each P [] = ⊤
-Each P (x ∷ xs) = P x × Each P xs
 
 -- none stands twice in a list
 abbrev pub AreApart : List ℕ → Type 0

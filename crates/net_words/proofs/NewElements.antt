@@ -8,6 +8,7 @@ use Rattle.std.proofs.Math.Seq.{get_or-append_seam}
 use Rattle.std.proofs.lemmas.Bool.{ltb-true}
 use Rattle.std.proofs.lemmas.List.{length-append}
 use Rattle.std.proofs.lemmas.List.Elements.{All-map, All-nil, All-cons}
+use Rattle.sync_text.proofs.Each.{all-each, Each-map}
 use Rattle.sync_ql.specs.declared.levels.NetOption.{NetOption}
 use Rattle.sync_ql.specs.declared.levels.NetOption.TheVariants.{I, II}
 use Rattle.sync_ql.specs.declared.levels.Level.{Level}
@@ -26,8 +27,6 @@ use Rattle.sync_topo.specs.WellFormed.{IsWellFormed}
 use Rattle.net_rules.specs.Signals.{planned_level}
 use Rattle.net_rules.specs.Settings.{Setting, settings_by}
 use Rattle.net_rules.specs.Inputs.{IsInputOf}
-use Rattle.net_rules.specs.Walks.{Each}
-use Rattle.net_rules.proofs.Lists.{Each-map}
 use Rattle.net_rules.proofs.InputLaws.{inputs-are}
 use Rattle.net_words.specs.declared.elements.Chooses.{Chooses}
 use Rattle.net_words.specs.declared.elements.Chooses.TheVariants.{ByLevel, ByPriority}
@@ -49,11 +48,6 @@ each-more P n xs ys x before more last = subst (AreEach P (n + 1)) (sym more) (r
   ];
 })
 
--- what holds of each of a list holds at each of its places
-all-from : {A : Type 0} (P : A → Type 0) (xs : List A) → Each P xs → All P xs
-all-from P [] each = All-nil P
-all-from P (x ∷ xs) each = All-cons P x xs each.0 (all-from P xs each.1)
-
 -- a list made twice over is made once
 map-map : {A B C : Type 0} (f : A → B) (g : B → C) (xs : List A) → map g (map f xs) ≡ map (λ x. g (f x)) xs
 map-map f g [] = refl
@@ -64,7 +58,7 @@ pub priorities-fit : (setting : Setting) (plan : Topology) (place : ℕ) (config
 priorities-fit setting plan place configs is =
     subst (All (λ input. 1 ≤ input.priority)) (sym is)
     (All-map (λ input. 1 ≤ input.priority) (config_by setting plan) (inputs_of plan place)
-    (all-from (λ input. 1 ≤ (config_by setting plan input).priority) (inputs_of plan place)
+    (all-each (λ input. 1 ≤ (config_by setting plan input).priority) (inputs_of plan place)
     (Each-map (IsInputOf plan place) (λ input. 1 ≤ (config_by setting plan input).priority) (λ input of. ltb-true 0 (config_by setting plan input).priority of.nominated) (inputs_of plan place) (inputs-are plan place))))
 
 -- the level that the plan gives a source is of its option
@@ -94,7 +88,7 @@ firsts-fit chooses plan place own configs well own_is is =
     subst (λ o. All (λ input. IsOfOption o input.first) configs) (sym own_is)
     (subst (All (λ input. IsOfOption plan.option input.first)) (sym is)
     (All-map (λ input. IsOfOption plan.option input.first) (config_by setting plan) (inputs_of plan place)
-    (all-from (λ input. IsOfOption plan.option (setting.first input)) (inputs_of plan place)
+    (all-each (λ input. IsOfOption plan.option (setting.first input)) (inputs_of plan place)
     (Each-map (IsInputOf plan place) (λ input. IsOfOption plan.option (setting.first input)) (λ input of. first-fits chooses plan place input well of) (inputs_of plan place) (inputs-are plan place)))))
 
 -- an element set to what the plan says has the plan's settings

@@ -4,6 +4,9 @@ use Rattle.std.specs.Prelude.{unwrap_or, slice_index_or}
 use Rattle.std.specs.Option.{option_or}
 use Rattle.std.proofs.Math.Decide.{dec_lt}
 use Rattle.std.proofs.lemmas.Bool.{le-ltb, lt-ltb, ne_eqb, eq-eqb}
+use Rattle.sync_text.specs.Each.{Each}
+use Rattle.net_rules.proofs.EventLaws.{none-before}
+use Rattle.sync_text.proofs.Options.{option_or-assoc, unwrap_or-option_or}
 use Rattle.sync_ql.specs.Pasts.{past_of}
 use Rattle.sync_ql.specs.Condition.{is_up}
 use Rattle.sync_topo.specs.declared.input.InputId.{InputId}
@@ -13,7 +16,6 @@ use Rattle.sync_topo.specs.Topology.{Topology}
 use Rattle.sync_topo.specs.Events.{IsInOrder}
 use Rattle.net_rules.specs.Signals.{events_before, events_at, last_word, says_up as says_input_up, signals_by, up_at}
 use Rattle.net_rules.specs.Settings.{signal_at}
-use Rattle.net_rules.specs.Walks.{Each}
 use Rattle.net_words.specs.Before.{up_before}
 
 -- what follows a list in order is in order
@@ -34,11 +36,6 @@ not-before bound (event ∷ events) first ordered =
           (in-order-tail event events ordered),
     )
 
--- of events that are not before a millisecond none is before it
-pub none-before : (n : ℕ) (events : List Event) → Each (λ event. n ≤ event.at) events → events_before n events ≡ []
-none-before n [] late = refl
-none-before n (event ∷ events) late = rw (le-ltb event.at n late.0, none-before n events late.1) refl
-
 each-late : (events : List Event) → Each (λ event. 0 ≤ event.at) events
 each-late [] = tt
 each-late (event ∷ events) = (omega arith, each-late events)
@@ -47,17 +44,9 @@ each-late (event ∷ events) = (omega arith, each-late events)
 pub none-before-0 : (events : List Event) → events_before 0 events ≡ []
 none-before-0 events = none-before 0 events (each-late events)
 
-or-assoc : {A : Type 0} (a b c : Option A) → option_or (option_or a b) c ≡ option_or a (option_or b c)
-or-assoc None b c = refl
-or-assoc (Some x) b c = refl
-
 or-none : {A : Type 0} (a b : Option A) → b ≡ None → option_or a b ≡ a
 or-none None b none = none
 or-none (Some x) b none = refl
-
-pub unwrap_or-or : {A : Type 0} (later now : Option A) (before : A) → unwrap_or (option_or later now) before ≡ unwrap_or later (unwrap_or now before)
-unwrap_or-or None now before = refl
-unwrap_or-or (Some x) now before = refl
 
 -- so it is with one event more in front
 split-step : {A : Type 0} (says : What → Option A) (n : ℕ) (event : Event) (events : List Event) → IsInOrder (event ∷ events)
@@ -67,7 +56,7 @@ split-step says n event events ordered rest = elim (dec_lt event.at n) [
   | yes before ↦
       rw (lt-ltb event.at (suc n) (omega (arith, before)), lt-ltb event.at n before, ne_eqb event.at n (λ same. omega (arith, same, before)))
       (ap (λ o. option_or o (says event.what)) rest
-      ∙ or-assoc (last_word says (events_at n events)) (last_word says (events_before n events)) (says event.what))
+      ∙ option_or-assoc (last_word says (events_at n events)) (last_word says (events_before n events)) (says event.what))
   | no not_early ↦ elim (dec_lt n event.at) [
     | yes after ↦
         rw (le-ltb event.at (suc n) (omega (arith, after)), le-ltb event.at n (omega (arith, after)), ne_eqb event.at n (λ same. omega (arith, same, after)))
@@ -99,7 +88,7 @@ pub word-until : {A : Type 0} (says : What → Option A) (first : A) (all events
     ≡ unwrap_or (last_word says events) (unwrap_or (last_word says (events_before n all)) first)
 word-until says first all events n ordered at =
     ap (λ o. unwrap_or o first) (until-split says n all ordered)
-    ∙ unwrap_or-or (last_word says (events_at n all)) (last_word says (events_before n all)) first
+    ∙ unwrap_or-option_or (last_word says (events_at n all)) (last_word says (events_before n all)) first
     ∙ ap (λ es. unwrap_or (last_word says es) (unwrap_or (last_word says (events_before n all)) first)) at
 
 -- an input is up after n milliseconds of its past as the events before them say

@@ -7,6 +7,7 @@ use Rattle.std.proofs.lemmas.Bool.{true≢false, eq-eqb, ne_eqb}
 use Rattle.std.proofs.lemmas.Bool.Decides.{eqb_tells}
 use Rattle.std.proofs.lemmas.List.Folds.{list_any-append}
 use Rattle.std.proofs.lemmas.Option.{same_Some}
+use Rattle.std.proofs.Math.Bool.{or-false}
 use Rattle.sync_ql.specs.declared.levels.Level.{Level}
 use Rattle.sync_ql.specs.declared.rules.Cmd.{Cmd}
 use Rattle.sync_ql.specs.declared.rules.Cmd.TheVariants as command
@@ -107,10 +108,6 @@ level-at i IsForced None = refl
 level-at i IsForced (Some k) = sym (if-none (nat_eq k i))
 level-at i IsManual None = refl
 level-at i IsManual (Some k) = sym (if-none (nat_eq k i))
-
-or-false : (b : Bool) → (b || false) ≡ b
-or-false true = refl
-or-false false = refl
 
 if-true : (b : Bool) → (if b then true else false) ≡ b
 if-true true = refl

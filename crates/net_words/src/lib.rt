@@ -1,9 +1,10 @@
 //! What the elements of a plan are told, and the elements that were told nothing.
 //!
 //! [`new_elements`] makes the elements of a plan by what they choose by ([`Chooses`]): by level, or by
-//! priority alone. [`Tellings`] keeps what each is told in a millisecond ([`Told`]) and which are told
-//! something; [`tell_events`] tells the elements of inputs what events say of these, in the words of one
-//! element (`sync_ql`), and [`tell_input`] one [`Saying`] of one input.
+//! priority alone. [`Tellings`] keeps what each is told in a millisecond and which are told something;
+//! [`tell_events`] tells the elements of inputs what events say of these, in the words of one element
+//! (`sync_ql`), and [`tell_input`] one [`Saying`] of one input. [`taken_of`] is the input of the plan
+//! that an element takes, and [`step_alone`] a step of it that nobody counts.
 //!
 //! A network, a run by priority alone and the replay of one element stand on it.
 #![tactic(auto)]
@@ -11,13 +12,13 @@
 mod elements;
 mod places;
 mod saying;
+mod taking;
 mod tellings;
-mod told;
 mod wording;
 
 pub use elements::{Chooses, new_element, new_elements};
 pub use places::{InputPlace, input_place};
 pub use saying::{Saying, said_as};
+pub use taking::{step_alone, taken_of};
 pub use tellings::{Tellings, new_tellings};
-pub use told::Told;
 pub use wording::{tell_events, tell_input};

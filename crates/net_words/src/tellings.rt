@@ -5,7 +5,6 @@ ghost use Rattle.agenda.specs.Marked.{none_marked};
 ghost use Rattle.net_words.specs.Words.{only_to};
 ghost use Rattle.net_words.specs.Tellings.{AreTold};
 
-use crate::told::Told;
 use agenda::Marks;
 use std::alloc::Global;
 use sync_ql::rules::InputEvent;
@@ -18,7 +17,7 @@ use sync_topo::Plan;
 #[derive(Debug, Drop)]
 pub struct Tellings {
     /// What each element is told.
-    pub changes: Vec<Told>,
+    pub changes: Vec<Rows<InputEvent>>,
     /// The elements that are told something.
     pub active: Marks,
 }
@@ -48,7 +47,7 @@ pub fn new_tellings(alloc: Global, plan: &Plan) -> Result<Tellings, NoMemory>
 {
     let mut changes = Rows::with_capacity(alloc, plan.elements() as usize)?;
     for _element in 0..plan.elements() {
-        changes.push(Told::new(alloc))?;
+        changes.push(Rows::new(alloc))?;
     }
     let active = Marks::new(alloc, plan.elements() as usize)?;
     Ok(Tellings {

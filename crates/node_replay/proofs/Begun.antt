@@ -2,8 +2,10 @@
 use Rattle.std.proofs.Common.{◌≡◌, ◌≤◌, ℕ, true, List, [], ◌∷◌, map, Option, None, Some, IfSome, slice_get, refl, ap, sym, subst, ◌∙◌, arith}
 use Rattle.std.specs.Prelude.{unwrap_or}
 use Rattle.std.specs.Option.{option_map_or}
+use Rattle.sync_text.specs.Each.{Each}
+use Rattle.node_rules.proofs.OptionLaws.{planned-option}
+use Rattle.sync_text.proofs.Each.{Each-any, Each-made}
 use Rattle.sync_ql.specs.Level.{do_not_use_of}
-use Rattle.sync_ql.specs.Told.{moments_until}
 use Rattle.sync_ql.proofs.DoNotUse.{do_not_use-option}
 use Rattle.sync_element.specs.ElementState.{ElementState}
 use Rattle.sync_element.proofs.ElementSteps.{stands-new}
@@ -15,8 +17,6 @@ use Rattle.sync_topo.specs.Lines.{inputs_of}
 use Rattle.sync_topo.specs.WellFormed.{IsWellFormed}
 use Rattle.net_rules.specs.Signals.{planned_level, last_word, says_up, says_esmc, says_level}
 use Rattle.net_rules.specs.History.{by_levels, settings_of, moment_at}
-use Rattle.net_rules.specs.Walks.{Each}
-use Rattle.net_rules.proofs.Lists.{Each-made}
 use Rattle.net_words.proofs.SplitWords.{none-before-0}
 use Rattle.node_file.specs.declared.row.NodeRow.{NodeRow}
 use Rattle.node_file.specs.NodeRow.{events_in}
@@ -37,21 +37,9 @@ lines-same : (xs : List ℕ) → map (λ (out : OutKept). out.line.0) (map new_o
 lines-same [] = refl
 lines-same (x ∷ xs) = ap (λ ys. x ∷ ys) (lines-same xs)
 
--- the level that the plan gives a source is of its option
-planned-fits : (plan : Topology) (source : ℕ) → IsWellFormed plan → (planned_level plan source).option ≡ plan.option
-planned-fits plan source well = of (slice_get plan.sources source) refl
-  where
-    of : (o : Option sources.Source) → slice_get plan.sources source ≡ o → (option_map_or (λ s. s.level) o (do_not_use_of plan.option)).option ≡ plan.option
-    of None is = do_not_use-option plan.option
-    of (Some found) is = (well.sources_fit source found is).of_option
-
 new-kept : (plan : Topology) (input : InputId) → IsWellFormed plan → IsKeptOf plan.option (new_input plan input)
 new-kept plan (Line line) well = record { level = tt; last = tt }
-new-kept plan (Source source) well = record { level = planned-fits plan source well; last = planned-fits plan source well }
-
-each-any : {A : Type 0} (P : A → Type 0) → ((x : A) → P x) → (xs : List A) → Each P xs
-each-any P all [] = tt
-each-any P all (x ∷ xs) = (all x, each-any P all xs)
+new-kept plan (Source source) well = record { level = planned-option plan source well; last = planned-option plan source well }
 
 pub begun : (plan : Topology) (place : ℕ) (run : Run) → IsWellFormed plan → IsNewElement (by_levels plan) plan place run.element → Shows plan place run.element run.shown
     → run.inputs.items ≡ map (new_input plan) (inputs_of plan place) → run.outs.items ≡ map new_out (lines_out plan place)
@@ -62,7 +50,7 @@ begun plan place run well new shows inputs outs next wake rows = record {
   settings = new.settings;
   ids = ap (map (λ (input : InputKept). input.id)) inputs ∙ ids-same plan (inputs_of plan place);
   options = subst (Each (IsKeptOf plan.option)) (sym inputs)
-      (Each-made (IsKeptOf plan.option) (new_input plan) (inputs_of plan place) (each-any (λ input. IsKeptOf plan.option (new_input plan input)) (λ input. new-kept plan input well) (inputs_of plan place)));
+      (Each-made (IsKeptOf plan.option) (new_input plan) (inputs_of plan place) (Each-any (λ input. IsKeptOf plan.option (new_input plan input)) (λ input. new-kept plan input well) (inputs_of plan place)));
   lines = ap (map (λ (out : OutKept). out.line.0)) outs ∙ lines-same (lines_out plan place);
   shows = shows;
   rows = omega (arith, rows);
@@ -107,9 +95,9 @@ pub begun-stands : (plan : Topology) (place : ℕ) (run : Run) → IsNewElement 
 begun-stands plan place run new inputs outs text count rows = record {
   element = new-past plan place rows run.element new;
   inputs = subst (Each (IsInputAt plan rows 0)) (sym inputs)
-      (Each-made (IsInputAt plan rows 0) (new_input plan) (inputs_of plan place) (each-any (λ input. IsInputAt plan rows 0 (new_input plan input)) (new-input-at plan rows) (inputs_of plan place)));
+      (Each-made (IsInputAt plan rows 0) (new_input plan) (inputs_of plan place) (Each-any (λ input. IsInputAt plan rows 0 (new_input plan input)) (new-input-at plan rows) (inputs_of plan place)));
   outs = subst (Each (IsOutAt plan rows place 0)) (sym outs)
-      (Each-made (IsOutAt plan rows place 0) new_out (lines_out plan place) (each-any (λ line. IsOutAt plan rows place 0 (new_out line)) (new-out-at plan rows place) (lines_out plan place)));
+      (Each-made (IsOutAt plan rows place 0) new_out (lines_out plan place) (Each-any (λ line. IsOutAt plan rows place 0 (new_out line)) (new-out-at plan rows place) (lines_out plan place)));
   text = text;
   count = count;
 }

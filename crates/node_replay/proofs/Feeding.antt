@@ -5,8 +5,8 @@ use Rattle.std.proofs.lemmas.Bool.Decides.{nat_tests}
 use Rattle.std.proofs.lemmas.List.{append_assoc, append-nil, take-append-drop, length-append}
 use Rattle.node_file.specs.declared.error.NodeErr.{NodeErr}
 use Rattle.std.specs.Prelude.{◌==◌, IfSome, MatchOption}
+use Rattle.sync_text.specs.Each.{Each}
 use Rattle.sync_topo.specs.Topology.{Topology}
-use Rattle.net_rules.specs.Walks.{Each}
 use Rattle.node_file.specs.declared.row.NodeRow.{NodeRow}
 use Rattle.node_file.specs.NodeRow.{IsRowOf}
 use Rattle.node_file.specs.Cutting.{LinesRead, HaveRead, AreRefused, with_row, time_after}

@@ -4,6 +4,8 @@ use Rattle.std.specs.Prelude.{nat_eq, if◌then◌else◌, option_map}
 use Rattle.std.specs.List.{All, filter_map, cons_option}
 use Rattle.std.proofs.lemmas.List.{length-map}
 use Rattle.std.proofs.lemmas.Option.{slice_get_within}
+use Rattle.sync_text.proofs.Each.{Each-append, all-each}
+use Rattle.sync_text.specs.Each.{Each}
 use Rattle.sync_ql.specs.declared.rules.Cmd.TheVariants as command
 use Rattle.sync_ql.specs.declared.rules.InputEvent.{InputEvent}
 use Rattle.sync_ql.specs.declared.rules.InputEvent.TheVariants as tell
@@ -16,8 +18,6 @@ use Rattle.sync_topo.specs.Topology.{Topology}
 use Rattle.sync_topo.specs.Lines.{inputs_of}
 use Rattle.sync_topo.specs.WellFormed.{IsWellFormed}
 use Rattle.net_rules.specs.History.{settings_of}
-use Rattle.net_rules.specs.Walks.{Each}
-use Rattle.net_rules.proofs.Lists.{Each-append}
 use Rattle.net_rules.proofs.NetLaws.{many-inputs}
 use Rattle.net_words.proofs.PlaceLemmas.{found-at}
 use Rattle.net_rules.proofs.OwnLevels.{own-option}
@@ -27,7 +27,6 @@ use Rattle.node_file.specs.declared.row.NodeRow.{NodeRow}
 use Rattle.node_replay.specs.declared.inputs.InputKept.{InputKept}
 use Rattle.node_replay.specs.Telling.{place_in, word_of, row_word, told_from, all_told}
 use Rattle.node_replay.specs.Running.{IsKeptOf}
-use Rattle.node_replay.proofs.KeptLevels.{all-each}
 
 -- a level of the plan's option is one of the element's own
 own-level : (plan : Topology) (element : ℕ) (level : Option Level) → IsWellFormed plan → element < length plan.elements

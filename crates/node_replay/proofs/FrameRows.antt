@@ -4,6 +4,7 @@ use Rattle.std.specs.Prelude.{nat_eq, nat_lt, ◌%◌, is_some, codes, if◌then
 use Rattle.std.specs.Fmt.{decimal}
 use Rattle.std.specs.List.{filter_map, cons_option}
 use Rattle.std.proofs.lemmas.Bool.{lt-ltb}
+use Rattle.sync_text.specs.Each.{Each}
 use Rattle.hex.specs.Hex.{encode_lower}
 use Rattle.sync_ql.specs.declared.levels.Level.{Level}
 use Rattle.sync_ql.specs.Messages.{said, second, is_same_level}
@@ -11,7 +12,6 @@ use Rattle.sync_ql.proofs.Delivered.{length-past_of}
 use Rattle.sync_topo.specs.declared.input.LineId.{LineId}
 use Rattle.sync_topo.specs.Topology.{Topology}
 use Rattle.sync_topo.specs.Lines.{line_name}
-use Rattle.net_rules.specs.Walks.{Each}
 use Rattle.esmc_frame.specs.Frame.{written_frame}
 use Rattle.node_file.specs.declared.row.NodeRow.{NodeRow}
 use Rattle.node_replay.specs.declared.outs.OutKept.{OutKept}

@@ -3,6 +3,9 @@ use Rattle.std.proofs.Common.{◌≡◌, ◌≤◌, ◌<◌, ◌+◌, ◌-◌, �
 use Rattle.std.specs.Prelude.{nat_eq}
 use Rattle.std.specs.List.{filter_map, cons_option, concat}
 use Rattle.std.proofs.lemmas.Bool.{eq-eqb}
+use Rattle.sync_text.proofs.Each.{Each-map}
+use Rattle.sync_text.specs.Each.{Each}
+use Rattle.sync_ql.proofs.SameMoments.{same_option}
 use Rattle.sync_ql.specs.declared.levels.NetOption.{NetOption}
 use Rattle.sync_ql.specs.declared.levels.NetOption.TheVariants.{I, II}
 use Rattle.sync_ql.specs.declared.levels.Level.{Level}
@@ -12,8 +15,6 @@ use Rattle.sync_topo.specs.declared.input.LineId.{LineId}
 use Rattle.sync_topo.specs.declared.input.InputId.{InputId}
 use Rattle.sync_topo.specs.declared.input.InputId.TheVariants.{Line, Source}
 use Rattle.sync_topo.specs.Topology.{Topology}
-use Rattle.net_rules.specs.Walks.{Each}
-use Rattle.net_rules.proofs.Lists.{Each-map}
 use Rattle.node_file.specs.declared.row.NodeRow.{NodeRow}
 use Rattle.node_file.specs.NodeRow.{rows_at}
 use Rattle.node_replay.specs.declared.inputs.LastWord.{LastWord}
@@ -49,14 +50,9 @@ inputs-same : (m : ℕ) (inputs : List InputKept) → AreSteady inputs m → map
 inputs-same m [] steady = refl
 inputs-same m (input ∷ inputs) steady = rw (input-same m input steady.0, inputs-same m inputs steady.1) refl
 
--- nothing is other than itself
-same-option : (option : NetOption) → is_same_option option option ≡ true
-same-option I = refl
-same-option II = refl
-
 same-level : (level : Option Level) → is_same_level level level ≡ true
 same-level None = refl
-same-level (Some level) = rw (same-option level.option, eq-eqb level.place level.place refl) refl
+same-level (Some level) = rw (same_option level.option, eq-eqb level.place level.place refl) refl
 
 -- and no line has news
 no-frame : (t : ℕ) (line : LineId) (said : Option Level) → nat_eq (t % second) 0 ≡ false → frame_for t line said (not (is_same_level said said)) ≡ None

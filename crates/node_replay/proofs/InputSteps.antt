@@ -3,6 +3,8 @@ use Rattle.std.proofs.Common.{◌≡◌, ◌<◌, ◌-◌, ℕ, zero, suc, Bool,
 use Rattle.std.specs.Prelude.{unwrap_or, nat_lt, if◌then◌else◌, option_and_then}
 use Rattle.std.proofs.Math.Decide.{dec_lt}
 use Rattle.std.proofs.lemmas.Bool.{le-ltb, lt-ltb}
+use Rattle.sync_text.proofs.Each.{Each-map, Each-made}
+use Rattle.sync_text.specs.Each.{Each}
 use Rattle.sync_ql.specs.declared.levels.Level.{Level}
 use Rattle.sync_ql.specs.Pasts.{past_of, first_within}
 use Rattle.sync_ql.specs.Messages.{hearing_time}
@@ -11,8 +13,6 @@ use Rattle.sync_topo.specs.declared.input.InputId.TheVariants.{Line, Source}
 use Rattle.sync_topo.specs.Topology.{Topology}
 use Rattle.sync_topo.specs.Events.{IsInOrder}
 use Rattle.net_rules.specs.Signals.{events_at, last_word, says_up, says_level, planned_level, source_level_before, up_at, said_at}
-use Rattle.net_rules.specs.Walks.{Each}
-use Rattle.net_rules.proofs.Lists.{Each-map, Each-made}
 use Rattle.net_words.specs.Before.{up_before, said_before}
 use Rattle.net_words.proofs.SplitWords.{word-until}
 use Rattle.node_file.specs.declared.row.NodeRow.{NodeRow}

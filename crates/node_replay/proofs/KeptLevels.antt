@@ -4,6 +4,8 @@ use Rattle.std.specs.Prelude.{nat_lt, nat_eq, ◌==◌, if◌then◌else◌}
 use Rattle.std.specs.List.{All, cons_option, range_with_len}
 use Rattle.std.specs.Option.{option_or}
 use Rattle.std.proofs.lemmas.List.Elements.{All-nil, All-cons}
+use Rattle.sync_text.specs.Each.{Each}
+use Rattle.sync_text.proofs.Each.{all-each, Each-map, Each-made, Each-unmade, Each-range, Each-filter}
 use Rattle.sync_ql.specs.declared.levels.NetOption.{NetOption}
 use Rattle.sync_ql.specs.declared.levels.Level.{Level}
 use Rattle.sync_ql.specs.Told.{IsOfOption}
@@ -15,8 +17,6 @@ use Rattle.sync_topo.specs.Topology.{Topology}
 use Rattle.sync_topo.specs.Events.{MayHappen}
 use Rattle.sync_topo.specs.Lines.{line_count, sender_of}
 use Rattle.net_rules.specs.Signals.{last_word, says_level}
-use Rattle.net_rules.specs.Walks.{Each}
-use Rattle.net_rules.proofs.Lists.{Each-map, Each-made, Each-unmade, Each-range, Each-filter}
 use Rattle.node_file.specs.declared.row.NodeWord.{NodeWord}
 use Rattle.node_file.specs.declared.row.NodeWord.TheVariants.{Frame, Happens}
 use Rattle.node_file.specs.declared.row.NodeRow.{NodeRow}
@@ -29,15 +29,6 @@ use Rattle.node_rules.specs.NodeText.{lines_out}
 use Rattle.node_replay.specs.Keeping.{heard_of, word_or, said_or, said_in, last_after, level_after, up_then, last_then, input_after, row_says}
 use Rattle.node_replay.specs.Running.{IsKeptOf}
 use Rattle.node_replay.proofs.RowWords.{word-more}
-
--- what holds of each of a list holds at each of its places, and the other way round
-pub all-each : {A : Type 0} (P : A → Type 0) (xs : List A) → Each P xs → All P xs
-all-each P [] each = All-nil P
-all-each P (x ∷ xs) each = All-cons P x xs each.0 (all-each P xs each.1)
-
-pub each-all : {A : Type 0} (P : A → Type 0) (xs : List A) → All P xs → Each P xs
-each-all P [] all = tt
-each-all P (x ∷ xs) all = (all 0 x (omega arith), each-all P xs (λ k d within. all (suc k) d (omega (arith, within))))
 
 -- the levels of frames, and those said of a source, are of the plan's option
 frames-fit : (plan : Topology) (element line : ℕ) (here : List NodeRow) → Each (IsRowOf plan element) here → Each (IsOfOption plan.option) (frames_on line here)

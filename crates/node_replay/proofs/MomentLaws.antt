@@ -7,6 +7,8 @@ use Rattle.std.proofs.lemmas.Bool.{eq-eqb, ne_eqb}
 use Rattle.std.proofs.lemmas.List.Folds.{list_any-append}
 use Rattle.std.proofs.lemmas.Option.{same_Some, none-some}
 use Rattle.std.proofs.Math.Bool.{or-false}
+use Rattle.sync_text.proofs.Each.{each-at}
+use Rattle.sync_text.specs.Each.{Each}
 use Rattle.sync_ql.specs.declared.rules.Cmd.{Cmd}
 use Rattle.sync_ql.specs.declared.rules.Cmd.TheVariants as command
 use Rattle.sync_ql.specs.declared.rules.InputEvent.{InputEvent}
@@ -24,9 +26,7 @@ use Rattle.sync_topo.specs.Lines.{inputs_of, place_at, is_same_input}
 use Rattle.net_rules.specs.Signals.{events_at, clears as clears_input, command_to, up_at, source_level_at}
 use Rattle.net_rules.specs.History.{by_levels, settings_of, input_level, moment_at}
 use Rattle.net_rules.specs.Settings.{signal_at}
-use Rattle.net_rules.specs.Walks.{Each}
 use Rattle.net_rules.proofs.SettingLaws.{level_until, IsSaid, told-by}
-use Rattle.net_rules.proofs.Lists.{each-at}
 use Rattle.net_words.specs.declared.saying.Saying.TheVariants.{IsCleared}
 use Rattle.net_words.specs.Words.{word_at}
 use Rattle.net_words.specs.Before.{up_before}

@@ -2,6 +2,8 @@
 use Rattle.std.proofs.Common.{◌≡◌, ◌<◌, ℕ, suc, Bool, true, ◌&&◌, List, map, None, Some, ap, sym, ◌∙◌}
 use Rattle.std.specs.Prelude.{unwrap_or, ◌==◌, if◌then◌else◌}
 use Rattle.std.proofs.lemmas.Bool.{eqb-true}
+use Rattle.sync_text.proofs.Each.{Each-map, Each-made, Each-both}
+use Rattle.sync_text.specs.Each.{Each}
 use Rattle.sync_ql.specs.Level.{do_not_use_of}
 use Rattle.sync_ql.specs.Messages.{said}
 use Rattle.sync_ql.specs.Moment.{Moment}
@@ -12,8 +14,6 @@ use Rattle.sync_topo.specs.Topology.{Topology}
 use Rattle.sync_topo.specs.Lines.{line_count, sender_of}
 use Rattle.net_rules.specs.Signals.{last_word, says_esmc, up_at, esmc_at}
 use Rattle.net_rules.specs.History.{settings_of, taken_by, is_way_back}
-use Rattle.net_rules.specs.Walks.{Each}
-use Rattle.net_rules.proofs.Lists.{Each-map, Each-made, Each-both}
 use Rattle.net_words.specs.Before.{up_before, esmc_before}
 use Rattle.net_words.proofs.SplitWords.{word-until}
 use Rattle.node_file.specs.declared.row.NodeRow.{NodeRow}

@@ -6,12 +6,11 @@ use Rattle.std.specs.List.{filter_map, cons_option, concat, range_with_len}
 use Rattle.std.proofs.Math.ListN.{get_or, set}
 use Rattle.std.proofs.Math.Seq.{drop-cons, get_or-append_seam, set-append_seam}
 use Rattle.std.proofs.lemmas.List.{length-map, length-take-le, map_more}
-use Rattle.sync_text.proofs.Options.{option_or-none, option_or-assoc}
+use Rattle.sync_text.proofs.Options.{option_or-none, option_or-assoc, unwrap_or-option_or}
 use Rattle.sync_ql.specs.declared.levels.Level.{Level}
 use Rattle.sync_ql.specs.declared.rules.InputEvent.{InputEvent}
 use Rattle.sync_topo.specs.declared.event.What.{What}
 use Rattle.net_rules.specs.Signals.{last_word}
-use Rattle.net_words.proofs.SplitWords.{unwrap_or-or}
 use Rattle.node_file.specs.declared.row.NodeWord.{NodeWord}
 use Rattle.node_file.specs.declared.row.NodeWord.TheVariants.{Frame, Happens}
 use Rattle.node_file.specs.declared.row.NodeRow.{NodeRow}
@@ -51,7 +50,7 @@ pub step-word : {A : Type 0} (says : What → Option A) (here : List NodeRow) (i
     → after ≡ unwrap_or (row_says says row) before → unwrap_or (last_word says (events_in (drop (i + 1) here))) after ≡ whole
 step-word says here i row before after whole within at so_far is =
     ap (unwrap_or (last_word says (events_in (drop (i + 1) here)))) is
-    ∙ sym (unwrap_or-or (last_word says (events_in (drop (i + 1) here))) (row_says says row) before)
+    ∙ sym (unwrap_or-option_or (last_word says (events_in (drop (i + 1) here))) (row_says says row) before)
     ∙ ap (λ o. unwrap_or o before) (sym (word-more says row (drop (i + 1) here)))
     ∙ ap (λ rows. unwrap_or (last_word says (events_in rows)) before) (sym (drop-at here i row within at))
     ∙ so_far
@@ -98,9 +97,6 @@ end-said says here i now whole past is = sym (ap (λ rows. option_or (last_word 
 pub end-frame : (line : ℕ) (here : List NodeRow) (i : ℕ) (now whole : Option (Option Level)) → length here ≤ i
     → option_or (last_of (frames_on line (drop i here))) now ≡ whole → now ≡ whole
 end-frame line here i now whole past is = sym (ap (λ rows. option_or (last_of (frames_on line rows)) now) (drop-end here i past)) ∙ is
-
-pub first-said : {A : Type 0} (o : Option A) → option_or o None ≡ o
-first-said o = option_or-none o
 
 -- some are made from a list, one after another
 cons-append : {A : Type 0} (o : Option A) (xs : List A) → cons_option o xs ≡ cons_option o [] ++ xs

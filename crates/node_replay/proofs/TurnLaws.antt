@@ -5,6 +5,8 @@ use Rattle.std.specs.List.{All, filter_map, cons_option, concat, range_with_len}
 use Rattle.std.proofs.Math.Decide.{dec_lt}
 use Rattle.std.proofs.lemmas.List.{length-map, length-append}
 use Rattle.std.proofs.lemmas.List.Folds.{concat-append}
+use Rattle.sync_text.proofs.Each.{Each-map, all-each, each-all}
+use Rattle.sync_text.specs.Each.{Each}
 use Rattle.sync_ql.specs.declared.levels.Level.{Level}
 use Rattle.sync_ql.specs.declared.limits.TheConstants.{LAST_MILLISECOND}
 use Rattle.sync_ql.specs.Messages.{second, is_same_level}
@@ -14,8 +16,6 @@ use Rattle.sync_topo.specs.declared.input.InputId.TheVariants.{Line, Source}
 use Rattle.sync_topo.specs.Topology.{Topology}
 use Rattle.sync_topo.specs.WellFormed.{IsWellFormed}
 use Rattle.sync_topo.specs.Lines.{line_count, sender_of}
-use Rattle.net_rules.specs.Walks.{Each}
-use Rattle.net_rules.proofs.Lists.{Each-map}
 use Rattle.node_file.specs.declared.row.NodeRow.{NodeRow}
 use Rattle.node_file.specs.NodeRow.{IsRowOf}
 use Rattle.node_replay.specs.declared.inputs.LastWord.{LastWord}
@@ -24,11 +24,12 @@ use Rattle.node_replay.specs.declared.outs.OutKept.{OutKept}
 use Rattle.node_replay.specs.declared.shown.Shown.{Shown}
 use Rattle.node_replay.specs.declared.frames.Sent.{Sent}
 use Rattle.node_replay.specs.declared.running.Run.{Run}
-use Rattle.node_rules.specs.NodeText.{lines_out, frame_row, sending_at, rows_before, most_rows}
+use Rattle.sync_ql.specs.declared.limits.TheConstants.{MOST_ROWS}
+use Rattle.node_rules.specs.NodeText.{lines_out, frame_row, sending_at, rows_before}
 use Rattle.node_replay.specs.Keeping.{heard_of, level_after, up_then, last_then, input_after, out_after, frame_for, frame_of, sent_row}
 use Rattle.node_replay.specs.Running.{Shows, IsOfPast, IsInputAt, IsOutAt, IsKeptOf, AreSteady, AreGiven, IsRun, RunStands, RunHolds, AreHere}
 use Rattle.node_replay.specs.Turning.{IsTaken, IsWritten}
-use Rattle.node_replay.proofs.KeptLevels.{all-each, each-all, kept-all, ids-after, outs-lines}
+use Rattle.node_replay.proofs.KeptLevels.{kept-all, ids-after, outs-lines}
 use Rattle.node_replay.proofs.InputSteps.{inputs-step, events-here}
 use Rattle.node_replay.proofs.MomentLaws.{moment-told}
 use Rattle.node_replay.proofs.ElementPasts.{stepped-past, gives}
@@ -74,7 +75,7 @@ taken-run plan place here before after run in_range rows taken = record {
   options = subst (Each (IsKeptOf plan.option)) (sym taken.inputs) (kept-all plan place here before.next before.inputs.items rows run.options);
   lines = ap (map (λ (out : OutKept). out.line.0)) taken.outs ∙ lines-after plan here after.shown before.outs.items ∙ run.lines;
   shows = taken.shows;
-  rows = subst (λ n. n ≤ most_rows) (sym taken.rows) run.rows;
+  rows = subst (λ n. n ≤ MOST_ROWS) (sym taken.rows) run.rows;
   in_range = (let next = taken.next in omega (arith, next, in_range));
   first = λ never. (let next = taken.stepped.next in absurd (omega (arith, next, never)));
   wakes_first = λ never. (let next = taken.next in absurd (omega (arith, next, never)));
@@ -108,7 +109,7 @@ written-run plan place now frames before after run written = record {
   options = subst (Each (IsKeptOf plan.option)) (sym written.inputs) run.options;
   lines = ap (map (λ (out : OutKept). out.line.0)) written.outs ∙ run.lines;
   shows = subst (λ e. Shows plan place e after.shown) (sym written.element) (subst (Shows plan place before.element) (sym written.shown) run.shows);
-  rows = elim (fits-or-not (before.rows + length frames) most_rows) [
+  rows = elim (fits-or-not (before.rows + length frames) MOST_ROWS) [
     | inl fits ↦ (let is = (written.fits fits).0 in omega (arith, is, fits))
     | inr full ↦ (let is = (written.full full).0 in let few = run.rows in omega (arith, is, few))
   ];
@@ -224,7 +225,7 @@ module _ (plan : Topology) (place : ℕ) (here rows : List NodeRow) (before mid 
   pub turn-holds : (until : ℕ) → before.next ≤ until → before.stopped ≡ None → IsWritten plan place before.next (filter_map (frame_of before.next) mid.outs.items) mid after
       → RunHolds plan rows place until (suc before.next) after after.stopped
   unfolding now
-  turn-holds until early going written = elim (fits-or-not (mid.rows + length (filter_map (frame_of before.next) mid.outs.items)) most_rows) [
+  turn-holds until early going written = elim (fits-or-not (mid.rows + length (filter_map (frame_of before.next) mid.outs.items)) MOST_ROWS) [
     | inl fits ↦
         let fitted = written.fits fits in
         subst (RunHolds plan rows place until (suc before.next) after) (sym (fitted.2 ∙ taken.stopped ∙ going)) (record {
@@ -243,8 +244,8 @@ module _ (plan : Topology) (place : ℕ) (here rows : List NodeRow) (before mid 
         subst (RunHolds plan rows place until (suc before.next) after) (sym is_full.2) (record {
           fit = record {
             before = omega (arith, begun, early);
-            fit = subst (λ n. length (rows_before plan rows place n) ≤ most_rows) (sym same) (subst (λ n. n ≤ most_rows) stands.count run.rows);
-            full = subst (λ n. most_rows < length (rows_before plan rows place (suc n))) (sym same) (subst (λ n. most_rows < n) (sym count-then) full);
+            fit = subst (λ n. length (rows_before plan rows place n) ≤ MOST_ROWS) (sym same) (subst (λ n. n ≤ MOST_ROWS) stands.count run.rows);
+            full = subst (λ n. MOST_ROWS < length (rows_before plan rows place (suc n))) (sym same) (subst (λ n. MOST_ROWS < n) (sym count-then) full);
           };
           text = is_full.1 ∙ taken.text ∙ stands.text ∙ sym (ap (λ n. concat (rows_before plan rows place n)) same);
         })
@@ -255,6 +256,6 @@ module _ (plan : Topology) (place : ℕ) (here rows : List NodeRow) (before mid 
       cases (suc n) is = inl (omega arith)
 
       later : (0 < before.next) ⊎ (mid.rows ≡ 0) → length (filter_map (frame_of before.next) mid.outs.items) ≤ 8000
-          → most_rows < mid.rows + length (filter_map (frame_of before.next) mid.outs.items) → 0 < before.next
+          → MOST_ROWS < mid.rows + length (filter_map (frame_of before.next) mid.outs.items) → 0 < before.next
       later (inl some) few full = some
       later (inr none) few full = absurd (omega (arith, none, few, full))

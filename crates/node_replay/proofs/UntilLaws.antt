@@ -4,6 +4,7 @@ use Rattle.std.specs.Prelude.{unwrap_or, codes, option_and_then, if◌then◌els
 use Rattle.std.specs.Fmt.{decimal}
 use Rattle.std.specs.List.{list_any, filter_map, concat}
 use Rattle.std.specs.Option.{option_or}
+use Rattle.sync_text.proofs.Each.{Each-any}
 use Rattle.hex.specs.Hex.{encode_lower}
 use Rattle.sync_ql.specs.Pasts.{first_within}
 use Rattle.sync_ql.specs.Messages.{hearing_time, is_sent}
@@ -16,7 +17,6 @@ use Rattle.sync_topo.specs.Lines.{line_input, line_name, inputs_of}
 use Rattle.net_rules.specs.Signals.{events_at, events_before, last_word, says_up, says_esmc, says_level, clears, command_to, planned_level, up_at, esmc_at, said_at, source_level_at, source_level_before}
 use Rattle.net_rules.specs.History.{input_level, moment_at, sent_by}
 use Rattle.net_rules.specs.Settings.{input_by}
-use Rattle.net_rules.specs.Walks.{Each}
 use Rattle.net_rules.proofs.Lists.{map-same, past-same}
 use Rattle.net_words.proofs.SplitWords.{none-before-0, until-split}
 use Rattle.esmc_frame.specs.Frame.{written_frame}
@@ -26,14 +26,11 @@ use Rattle.node_replay.specs.declared.replayed.Replayed.{Replayed}
 use Rattle.node_replay.specs.declared.replayed.NodeEnd.{NodeEnd}
 use Rattle.node_replay.specs.declared.replayed.NodeEnd.TheVariants.{Until, Stopped}
 use Rattle.node_rules.specs.Replay.{signals_in, last_of, counted, heard_in, node_past, node_out, out_moment, out_past, sends_frame, is_event}
-use Rattle.node_rules.specs.NodeText.{carried, frame_row, lines_out, sending_at, rows_before, most_rows}
+use Rattle.sync_ql.specs.declared.limits.TheConstants.{MOST_ROWS}
+use Rattle.node_rules.specs.NodeText.{carried, frame_row, lines_out, sending_at, rows_before}
 use Rattle.node_replay.specs.Rows.{AreInOrder}
 use Rattle.node_replay.specs.Replayed.{IsEnded, IsReplayed}
 use Rattle.node_replay.proofs.EventOrder.{events-at, events-in-order}
-
-each-any : {A : Type 0} (P : A → Type 0) → ((x : A) → P x) → (xs : List A) → Each P xs
-each-any P all [] = tt
-each-any P all (x ∷ xs) = (all x, each-any P all xs)
 
 filter-same : (p q : ℕ → Bool) → ((n : ℕ) → p n ≡ q n) → (xs : List ℕ) → filter p xs ≡ filter q xs
 filter-same p q same [] = refl
@@ -95,7 +92,7 @@ module _ (plan : Topology) (rows others : List NodeRow) (element until : ℕ) (r
   moment-same t early =
       rw (
         map-same (input_by (signals_in plan rows) (input_level (signals_in plan rows) (heard_in plan rows)) t) (input_by (signals_in plan others) (input_level (signals_in plan others) (heard_in plan others)) t) (inputs_of plan element)
-            (each-any (λ input. input_by (signals_in plan rows) (input_level (signals_in plan rows) (heard_in plan rows)) t input ≡ input_by (signals_in plan others) (input_level (signals_in plan others) (heard_in plan others)) t input) one (inputs_of plan element)),
+            (Each-any (λ input. input_by (signals_in plan rows) (input_level (signals_in plan rows) (heard_in plan rows)) t input ≡ input_by (signals_in plan others) (input_level (signals_in plan others) (heard_in plan others)) t input) one (inputs_of plan element)),
         ap (filter_map (λ (event : Event). command_to plan element event.what)) (events-same t early),
       ) refl
     where
@@ -132,20 +129,20 @@ module _ (plan : Topology) (rows others : List NodeRow) (element until : ℕ) (r
       (filter-same (λ line. sends_frame plan rows element line t) (λ line. sends_frame plan others element line t) (λ line. ap is_sent (lines-same line t now)) (lines_out plan element))
       ∙ ap (λ made. rows_before plan others element t ++ made)
       (map-same (frame_row plan rows element t) (frame_row plan others element t) (sending_at plan others element t)
-      (each-any (λ line. frame_row plan rows element t line ≡ frame_row plan others element t line) (λ line. row-same t line now) (sending_at plan others element t)))
+      (Each-any (λ line. frame_row plan rows element t line ≡ frame_row plan others element t line) (λ line. row-same t line now) (sending_at plan others element t)))
 
   ended-same : (text : List ℕ) (end : NodeEnd) → IsEnded plan element until rows text end → IsEnded plan element until others text end
   ended-same text Until is =
       let all = rows-same (suc until) (omega arith) in
-      (subst (λ made. length made ≤ most_rows) all is.0, is.1 ∙ ap concat all)
+      (subst (λ made. length made ≤ MOST_ROWS) all is.0, is.1 ∙ ap concat all)
   ended-same text (Stopped last) is =
       let early = is.0.before in
       let fit = rows-same (suc last) (omega (arith, early)) in
       let full = rows-same (suc (suc last)) (omega (arith, early)) in (
         record {
           before = early;
-          fit = subst (λ made. length made ≤ most_rows) fit is.0.fit;
-          full = subst (λ made. most_rows < length made) full is.0.full;
+          fit = subst (λ made. length made ≤ MOST_ROWS) fit is.0.fit;
+          full = subst (λ made. MOST_ROWS < length made) full is.0.full;
         },
         is.1 ∙ ap (λ made. concat made ++ codes "stopped," ++ decimal last ++ codes "\n") fit,
       )

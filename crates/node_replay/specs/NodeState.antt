@@ -1,6 +1,6 @@
 -- What contracts see of an element that is replayed on the bytes of a file.
 use Rattle.std.specs.Prelude.{◌≤◌, ℕ, Bool, List}
-use Rattle.net_rules.specs.Walks.{Each}
+use Rattle.sync_text.specs.Each.{Each}
 use Rattle.node_file.specs.declared.row.NodeRow.{NodeRow}
 use Rattle.node_file.specs.Cutting.{LinesRead, HaveRead}
 use Rattle.node_replay.specs.Rows.{IsRowList}

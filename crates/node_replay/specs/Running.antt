@@ -1,9 +1,10 @@
 -- Private to this crate: what a run keeps, and how far it has come.
 use Rattle.std.specs.Prelude.{◌≡◌, ◌≤◌, ◌<◌, ◌+◌, ◌%◌, ℕ, zero, suc, false, ◌&&◌, nat_eq, List, [], length, map, Option, None, Some, IfSome, option_and_then}
 use Rattle.std.specs.List.{concat}
+use Rattle.sync_text.specs.Each.{Each}
 use Rattle.sync_ql.specs.declared.levels.NetOption.{NetOption}
 use Rattle.sync_ql.specs.declared.levels.Level.{Level}
-use Rattle.sync_ql.specs.declared.limits.TheConstants.{LAST_MILLISECOND}
+use Rattle.sync_ql.specs.declared.limits.TheConstants.{LAST_MILLISECOND, MOST_ROWS}
 use Rattle.sync_ql.specs.Pasts.{past_of, first_within}
 use Rattle.sync_ql.specs.Messages.{hearing_time, second, said}
 use Rattle.sync_ql.specs.Moment.{Moment}
@@ -19,7 +20,6 @@ use Rattle.sync_topo.specs.Lines.{inputs_of, IsInput}
 use Rattle.sync_topo.specs.WellFormed.{IsWellFormed}
 use Rattle.net_rules.specs.Signals.{source_level_before}
 use Rattle.net_rules.specs.History.{settings_of, moment_at, taken_by}
-use Rattle.net_rules.specs.Walks.{Each}
 use Rattle.net_words.specs.Before.{up_before, esmc_before, said_before}
 use Rattle.node_file.specs.declared.row.NodeRow.{NodeRow}
 use Rattle.node_file.specs.NodeRow.{events_in, rows_at}
@@ -29,7 +29,7 @@ use Rattle.node_replay.specs.declared.outs.OutKept.{OutKept}
 use Rattle.node_replay.specs.declared.shown.Shown.{Shown}
 use Rattle.node_replay.specs.declared.running.Run.{Run}
 use Rattle.node_rules.specs.Replay.{counted, signals_in, heard_in, out_past}
-use Rattle.node_rules.specs.NodeText.{lines_out, rows_before, most_rows, IsLastFit, whole_text}
+use Rattle.node_rules.specs.NodeText.{lines_out, rows_before, IsLastFit, whole_text}
 use Rattle.node_replay.specs.Rows.{IsRowList}
 use Rattle.node_replay.specs.Keeping.{word_or, said_in, said_by, level_after}
 
@@ -93,7 +93,7 @@ pub record IsRun (plan : Topology) (place : ℕ) (run : Run) : Type 0 where
   pub options : Each (IsKeptOf plan.option) run.inputs.items
   pub lines : map (λ out. out.line.0) run.outs.items ≡ lines_out plan place
   pub shows : Shows plan place run.element run.shown
-  pub rows : run.rows ≤ most_rows
+  pub rows : run.rows ≤ MOST_ROWS
   pub in_range : run.next ≤ LAST_MILLISECOND + 1
   pub first : run.element.next ≡ 0 → run.next ≡ 0
   pub wakes_first : run.next ≡ 0 → run.wake ≡ 0

@@ -9,7 +9,7 @@ use Rattle.node_file.specs.declared.row.NodeRow.{NodeRow}
 use Rattle.node_replay.specs.declared.inputs.InputKept.{InputKept}
 use Rattle.node_replay.specs.declared.frames.Sent.{Sent}
 use Rattle.node_replay.specs.declared.running.Run.{Run}
-use Rattle.node_rules.specs.NodeText.{most_rows}
+use Rattle.sync_ql.specs.declared.limits.TheConstants.{MOST_ROWS}
 use Rattle.node_replay.specs.Keeping.{heard_of, input_after, out_after, sent_row}
 use Rattle.node_replay.specs.Telling.{all_told}
 use Rattle.node_replay.specs.Running.{Shows}
@@ -41,8 +41,8 @@ pub record IsWritten (plan : Topology) (place now : ℕ) (frames : List Sent) (b
   pub outs : after.outs.items ≡ before.outs.items
   pub next : after.next ≡ before.next
   pub wake : after.wake ≡ before.wake
-  pub fits : before.rows + length frames ≤ most_rows
+  pub fits : before.rows + length frames ≤ MOST_ROWS
       → (after.rows ≡ before.rows + length frames) × (after.text ≡ before.text ++ concat (map (sent_row plan place now) frames))
       × (after.stopped ≡ before.stopped)
-  pub full : most_rows < before.rows + length frames
+  pub full : MOST_ROWS < before.rows + length frames
       → (after.rows ≡ before.rows) × (after.text ≡ before.text) × (after.stopped ≡ Some (now - 1))

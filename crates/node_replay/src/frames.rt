@@ -13,7 +13,7 @@ use crate::outs::OutKept;
 use esmc_frame::{Extended, FRAME, Pdu, encode};
 use std::alloc::Global;
 use sync_ql::limits::SECOND;
-use sync_ql::{Level, NOT_ENHANCED, NetOption, code_of, enhanced_of};
+use sync_ql::{Level, NOT_ENHANCED, code_of, enhanced_of, is_same_heard};
 use sync_text::{NoMemory, Rows, Text};
 use sync_topo::{InputId, LineId, Plan};
 
@@ -32,7 +32,7 @@ pub(crate) fn frame_of(now: u64, out: OutKept) -> Option<Sent>
     ensures { result ≡ frame_of now out }
 {
     let level = out.said?;
-    let news = !is_same_level(out.said, out.was);
+    let news = !is_same_heard(out.said, out.was);
     if !news && now % SECOND != 0 {
         return None;
     }
@@ -41,28 +41,6 @@ pub(crate) fn frame_of(now: u64, out: OutKept) -> Option<Sent>
         level,
         event: news && 0 < now,
     })
-}
-
-fn is_same_level(one: Option<Level>, other: Option<Level>) -> bool
-    ensures { result ≡ is_same_level one other }
-{
-    match (one, other) {
-        (Some(one), Some(other)) => {
-            is_same_option(one.option, other.option) && one.place == other.place
-        }
-        (None, None) => true,
-        _ => false,
-    }
-}
-
-fn is_same_option(one: NetOption, other: NetOption) -> bool
-    ensures { result ≡ is_same_option one other }
-{
-    match (one, other) {
-        (NetOption::I, NetOption::I) => true,
-        (NetOption::II, NetOption::II) => true,
-        _ => false,
-    }
 }
 
 /// The frames that go out in a millisecond, in order of lines.

@@ -5,7 +5,6 @@ ghost use Rattle.std.specs.Fmt.{decimal};
 ghost use Rattle.sync_topo.specs.Topology.{Topology};
 ghost use Rattle.node_file.specs.declared.row.NodeRow.{NodeRow};
 ghost use Rattle.node_file.specs.NodeRow.{IsRowOf};
-ghost use Rattle.node_rules.specs.NodeText.{most_rows};
 ghost use Rattle.node_replay.specs.Rows.{IsRowList};
 ghost use Rattle.node_replay.specs.Running.{RunHolds};
 ghost use Rattle.node_replay.specs.Collecting.{IsWhole, StandsAt, IsAfter};
@@ -16,7 +15,7 @@ use crate::running::Run;
 use crate::starting::new_run;
 use node_file::NodeRow;
 use std::alloc::Global;
-use sync_ql::limits::LAST_MILLISECOND;
+use sync_ql::limits::{LAST_MILLISECOND, MOST_ROWS};
 use sync_text::{NoMemory, Rows, Text};
 use sync_topo::Plan;
 
@@ -103,7 +102,7 @@ impl Parts {
     /// Makes all milliseconds that are left.
     fn run_out(&mut self, alloc: Global, plan: &Plan) -> Result<(), NoMemory>
         requires whole { IsWhole plan.now self.old }
-        ensures rows { OnOk result (self.new.run.rows ≤ most_rows) }
+        ensures rows { OnOk result (self.new.run.rows ≤ MOST_ROWS) }
         ensures holds { OnOk result ((rows : List NodeRow) → IsAfter plan.now self.old rows →
             RunHolds plan.now rows self.old.element self.old.until (suc self.old.until)
             self.new.run self.new.run.stopped) }
@@ -134,7 +133,7 @@ impl Parts {
 
 /// The text of a run that has come to its end.
 fn ended(run: Run) -> Result<Replayed, NoMemory>
-    requires rows { run.rows ≤ most_rows }
+    requires rows { run.rows ≤ MOST_ROWS }
     ensures { (plan : Topology) (rows : List NodeRow) (element until : ℕ) →
         RunHolds plan rows element until (suc until) run run.stopped →
         IfOk result (IsReplayed plan element until rows) }

@@ -1,12 +1,11 @@
 //! A run of the element, one millisecond in which something happens after another.
 
 ghost use Rattle.std.specs.Prelude.{◌≡◌, ◌≤◌, ◌<◌, ◌+◌, ◌%◌, ℕ, suc, true, false, nat_eq, List, [], All, length, None, Some, IfSome, OnOk};
+ghost use Rattle.sync_text.specs.Each.{Each};
 ghost use Rattle.sync_ql.specs.Messages.{second};
 ghost use Rattle.sync_topo.specs.Lines.{line_count};
-ghost use Rattle.net_rules.specs.Walks.{Each};
 ghost use Rattle.node_file.specs.declared.row.NodeRow.{NodeRow};
 ghost use Rattle.node_file.specs.NodeRow.{IsRowOf};
-ghost use Rattle.node_rules.specs.NodeText.{most_rows};
 ghost use Rattle.node_replay.specs.Keeping.{heard_of};
 ghost use Rattle.node_replay.specs.Running.{IsRun, RunStands, RunHolds, AreHere, AreAway};
 ghost use Rattle.node_replay.specs.Turning.{IsWake, IsTaken, IsWritten};
@@ -14,18 +13,16 @@ ghost use Rattle.node_replay.specs.Turning.{IsWake, IsTaken, IsWritten};
 use crate::frames::{Sent, frames_of, put_frames};
 use crate::inputs::{InputKept, loss_of, note_inputs};
 use crate::outs::{OutKept, note_outs};
-use crate::shown::{Shown, shown_of, step_told};
+use crate::shown::{Shown, shown_of};
 use crate::telling::tell_all;
-use net_words::Told;
+use net_words::step_alone;
 use node_file::NodeRow;
 use std::alloc::Global;
 use sync_element::Element;
-use sync_ql::limits::{LAST_MILLISECOND, SECOND};
-use sync_text::{NoMemory, Text};
+use sync_ql::limits::{LAST_MILLISECOND, MOST_ROWS, SECOND};
+use sync_ql::rules::InputEvent;
+use sync_text::{NoMemory, Rows, Text};
 use sync_topo::Plan;
-
-/// The greatest number of rows that are written.
-const MOST_ROWS: u64 = 200_000;
 
 /// The element with its inputs and the lines out of it, and the frames that it sent so far.
 #[derive(Debug, Drop)]
@@ -35,7 +32,7 @@ pub(crate) struct Run {
     pub(crate) inputs: Vec<InputKept>,
     pub(crate) outs: Vec<OutKept>,
     /// What the element was told last, which keeps its room.
-    pub(crate) told: Told,
+    pub(crate) told: Rows<InputEvent>,
     /// The first millisecond that isn't made.
     pub(crate) next: u64,
     /// Up to this millisecond nothing changes, if no row comes.
@@ -106,7 +103,7 @@ impl Run {
         note_inputs(self.inputs.as_mut_slice(), here, now);
         let inputs = self.inputs.as_slice();
         tell_all(&mut self.told, plan.inputs(place), place, here, inputs)?;
-        step_told(&mut self.element, now, self.told.as_slice());
+        step_alone(&mut self.element, now, self.told.as_slice());
         let shown = shown_of(plan, place, &self.element);
         note_outs(plan, self.outs.as_mut_slice(), here, shown);
         self.shown = shown;
@@ -151,12 +148,12 @@ impl Run {
         now: u64,
         frames: &[Sent],
     ) -> Result<(), NoMemory>
-        requires rows { self.old.rows ≤ most_rows }
+        requires rows { self.old.rows ≤ MOST_ROWS }
         requires lines { All (λ sent. sent.line.0 < line_count plan.now) frames.now }
         ensures { OnOk result (IsWritten plan.now place now frames.now self.old self.new) }
     {
         let rows = self.rows + frames.len() as u64;
-        if MOST_ROWS < rows {
+        if (MOST_ROWS as u64) < rows {
             self.stopped = Some(now.saturating_sub(1));
             return Ok(());
         }

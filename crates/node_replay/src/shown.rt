@@ -1,20 +1,14 @@
 //! What the element gives its lines.
 
-ghost use Rattle.std.specs.Prelude.{◌≡◌, ◌≤◌, ◌<◌, IfSome, All, length, option_and_then, slice_get};
-ghost use Rattle.sync_ql.specs.Told.{FitsElement};
-ghost use Rattle.sync_element.specs.ElementState.{IsInTime};
-ghost use Rattle.sync_element.specs.StandsAfter.{IsStepped};
+ghost use Rattle.std.specs.Prelude.{◌≡◌, ◌<◌, IfSome, length};
 ghost use Rattle.sync_topo.specs.Lines.{line_count, IsInput};
 ghost use Rattle.net_rules.specs.History.{settings_of, is_way_back};
 ghost use Rattle.node_replay.specs.Keeping.{level_out};
 ghost use Rattle.node_replay.specs.Running.{Shows};
 
-use std::marker::Brand;
-use std::sync::ledger::{Blank, Ledger};
-use sync_element::{Element, InputEvent};
-use sync_ql::limits::LAST_MILLISECOND;
+use net_words::taken_of;
+use sync_element::Element;
 use sync_ql::{Level, do_not_use};
-use sync_text::Steps;
 use sync_topo::{InputId, LineId, Plan};
 
 /// The input that an element takes, and its level.
@@ -31,18 +25,8 @@ pub(crate) fn shown_of(plan: &Plan, place: u32, element: &Element) -> Shown
     ensures { Shows plan.now place element.now result }
 {
     Shown {
-        taken: input_at(plan.inputs(place), element.selected()),
+        taken: taken_of(plan, place, element),
         level: element.level(),
-    }
-}
-
-/// The input at a place.
-fn input_at(inputs: &[InputId], place: Option<u32>) -> Option<InputId>
-    ensures { result ≡ option_and_then (slice_get inputs.now) place }
-{
-    match place {
-        Some(place) => inputs.get(place as usize).copied(),
-        None => None,
     }
 }
 
@@ -70,29 +54,4 @@ fn is_way_back(plan: &Plan, taken: Option<InputId>, line: LineId) -> bool
         }
         _ => false,
     }
-}
-
-/// Lets an element make a step in which it is told these words.
-pub(crate) fn step_told(element: &mut Element, now: u64, words: &[InputEvent])
-    requires in_time { IsInTime element.old now }
-    requires in_range { now ≤ LAST_MILLISECOND }
-    requires fits { All (FitsElement element.old.settings) words.now }
-    ensures stepped { IsStepped now words.now element.old element.new }
-{
-    step::<Brand>(element, now, words, Blank::new(1));
-}
-
-/// A step that nobody counts.
-fn step<L: Ledger>(element: &mut Element, now: u64, words: &[InputEvent], blank: Blank)
-    requires name { blank.name ≡ L.name }
-    requires parts { blank.parts ≡ L.parts }
-    requires some { 0 < blank.parts }
-    requires in_time { IsInTime element.old now }
-    requires in_range { now ≤ LAST_MILLISECOND }
-    requires fits { All (FitsElement element.old.settings) words.now }
-    ensures stepped { IsStepped now words.now element.old element.new }
-{
-    let mut steps = Steps::<L>::new(blank);
-    element.step(now, words, &mut steps);
-    let _due = element.due();
 }

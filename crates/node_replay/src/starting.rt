@@ -12,7 +12,7 @@ use crate::inputs::{InputKept, LastWord};
 use crate::outs::OutKept;
 use crate::running::Run;
 use crate::shown::shown_of;
-use net_words::{Chooses, Told, new_element};
+use net_words::{Chooses, new_element};
 use std::alloc::Global;
 use sync_ql::Level;
 use sync_text::{NoMemory, Rows, Text};
@@ -36,7 +36,7 @@ pub(crate) fn new_run(alloc: Global, plan: &Plan, place: u32) -> Result<Run, NoM
         shown,
         inputs: inputs.into_vec(),
         outs: outs.into_vec(),
-        told: Told::new(alloc),
+        told: Rows::new(alloc),
         next: 0,
         wake: 0,
         text: Text::new(alloc),

@@ -6,17 +6,16 @@ ghost use Rattle.sync_topo.specs.Lines.{is_same_input};
 ghost use Rattle.node_replay.specs.Telling.{place_in, word_of, row_word, told_from, all_told};
 
 use crate::inputs::InputKept;
-use net_words::Told;
 use node_file::{NodeRow, NodeWord};
 use sync_ql::limits::MOST_INPUTS;
 use sync_ql::rules::{Cmd, InputEvent};
-use sync_text::NoMemory;
-use sync_topo::{InputId, What};
+use sync_text::{NoMemory, Rows};
+use sync_topo::{InputId, What, is_same_input};
 
 /// Tells the element the commands of a millisecond, whose wait-to-restore times are cleared, and of
 /// each input whether it is up and which level it has.
 pub(crate) fn tell_all(
-    told: &mut Told,
+    told: &mut Rows<InputEvent>,
     ids: &[InputId],
     element: u32,
     here: &[NodeRow],
@@ -33,7 +32,7 @@ pub(crate) fn tell_all(
 }
 
 fn tell_rows(
-    told: &mut Told,
+    told: &mut Rows<InputEvent>,
     ids: &[InputId],
     element: u32,
     here: &[NodeRow],
@@ -47,7 +46,12 @@ fn tell_rows(
     Ok(())
 }
 
-fn tell_row(told: &mut Told, ids: &[InputId], element: u32, row: NodeRow) -> Result<(), NoMemory>
+fn tell_row(
+    told: &mut Rows<InputEvent>,
+    ids: &[InputId],
+    element: u32,
+    row: NodeRow,
+) -> Result<(), NoMemory>
     requires ids { length ids.now ≤ MOST_INPUTS }
     ensures { OnOk result (told.new ≡ told.old ++ filter_map (row_word ids.now element) (row ∷ [])) }
 {
@@ -97,20 +101,10 @@ fn place_of(ids: &[InputId], input: InputId) -> Option<u32>
 fn place_among(ids: &[InputId], input: InputId) -> Option<usize>
     ensures { result ≡ place_in ids.now input }
 {
-    ids.iter().position(|other| is_same(input, *other))
+    ids.iter().position(|other| is_same_input(input, *other))
 }
 
-fn is_same(input: InputId, other: InputId) -> bool
-    ensures { result ≡ is_same_input input other }
-{
-    match (input, other) {
-        (InputId::Line(line), InputId::Line(other)) => line.0 == other.0,
-        (InputId::Source(source), InputId::Source(other)) => source == other,
-        _ => false,
-    }
-}
-
-fn tell_inputs(told: &mut Told, inputs: &[InputKept]) -> Result<(), NoMemory>
+fn tell_inputs(told: &mut Rows<InputEvent>, inputs: &[InputKept]) -> Result<(), NoMemory>
     requires few { length inputs.now ≤ MOST_INPUTS }
     ensures { OnOk result (told.new ≡ told.old ++ told_from 0 inputs.now) }
 {
@@ -120,7 +114,7 @@ fn tell_inputs(told: &mut Told, inputs: &[InputKept]) -> Result<(), NoMemory>
     Ok(())
 }
 
-fn tell_input(told: &mut Told, place: u32, input: InputKept) -> Result<(), NoMemory>
+fn tell_input(told: &mut Rows<InputEvent>, place: u32, input: InputKept) -> Result<(), NoMemory>
     ensures { OnOk result (told.new ≡ told.old ++ told_from place (input ∷ [])) }
 {
     told.push(InputEvent::Signal(place, input.up))?;

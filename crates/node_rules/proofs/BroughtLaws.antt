@@ -10,6 +10,9 @@ use Rattle.std.proofs.lemmas.Bool.Decides.{eqb_tells}
 use Rattle.std.proofs.lemmas.List.Elements.{filter-append, filter_map-append}
 use Rattle.std.proofs.lemmas.Grind.{flat_map-append}
 use Rattle.std.proofs.lemmas.List.Sorted.{IsNonDecreasingBy-from_all_adjacent}
+use Rattle.sync_text.specs.Each.{Each}
+use Rattle.net_rules.proofs.EventLaws.{none-before}
+use Rattle.sync_text.proofs.Each.{Each-any, Each-map, Each-append, Each-made, Each-filter}
 use Rattle.sync_ql.specs.declared.levels.Level.{Level}
 use Rattle.sync_topo.specs.declared.event.Part.TheVariants as part
 use Rattle.sync_topo.specs.declared.event.What.{What}
@@ -20,8 +23,6 @@ use Rattle.sync_topo.specs.Lines.{line_count, is_nominated, IsNominated, receive
 use Rattle.sync_topo.specs.Events.{IsInOrder}
 use Rattle.sync_topo.proofs.LineLaws.{IsNominated-within}
 use Rattle.net_rules.specs.Signals.{events_before, events_at}
-use Rattle.net_rules.specs.Walks.{Each}
-use Rattle.net_rules.proofs.Lists.{Each-map, Each-append, Each-made, Each-filter}
 use Rattle.node_file.specs.declared.row.NodeRow.{NodeRow}
 use Rattle.node_file.specs.NodeRow.{event_of, events_in, rows_at, said_on, frames_on}
 use Rattle.node_rules.specs.FromNetwork.{is_told_to, given_as, on_lines, told_to, AreGivenAs, frame_of, arriving, IsNodeFile}
@@ -46,10 +47,6 @@ rise (event ∷ events) ordered = (
     at-each : (others : List Event) → ((k : ℕ) (d : Event) → k < length others → event.at ≤ (get_or others k d).at) → Each (λ later. event.at ≤ later.at) others
     at-each [] after = tt
     at-each (other ∷ others) after = (after 0 other (omega arith), at-each others (λ k d within. after (suc k) d (omega (arith, within))))
-
-none-before : (n : ℕ) (events : List Event) → Each (λ event. n ≤ event.at) events → events_before n events ≡ []
-none-before n [] each = refl
-none-before n (event ∷ events) each = rw (le-ltb event.at n each.0, none-before n events each.1) refl
 
 -- one millisecond more
 one-more : (n : ℕ) (events : List Event) → Rise events → events_before (suc n) events ≡ events_before n events ++ events_at n events
@@ -181,10 +178,6 @@ kept-none t s (row ∷ rows) apart each = rw (each.0, apart) (kept-none t s rows
 pub Each-flat : {A B : Type 0} (P : B → Type 0) (f : A → List B) (xs : List A) → Each (λ x. Each P (f x)) xs → Each P (flat_map f xs)
 Each-flat P f [] each = tt
 Each-flat P f (x ∷ xs) each = Each-append P (f x) (flat_map f xs) each.0 (Each-flat P f xs each.1)
-
-pub Each-any : {A : Type 0} (P : A → Type 0) → ((x : A) → P x) → (xs : List A) → Each P xs
-Each-any P all [] = tt
-Each-any P all (x ∷ xs) = (all x, Each-any P all xs)
 
 pub given-at : (at : ℕ) (what : What) → Each (λ (one : Event). one.at ≡ at) (given_as (record { at = at; what = what }))
 given-at at (Down (part.Link link)) = (refl, (refl, tt))

@@ -4,6 +4,8 @@ use Rattle.std.specs.Prelude.{if◌then◌else◌, nat_lt, nat_eq, ◌==◌}
 use Rattle.std.specs.List.{All, range_with_len}
 use Rattle.std.proofs.lemmas.Bool.{and_parts, eqb-true}
 use Rattle.std.proofs.lemmas.List.Elements.{All-nil, All-cons}
+use Rattle.sync_text.specs.Each.{Each}
+use Rattle.sync_text.proofs.Each.{all-each, Each-map, Each-both, Each-append, Each-made, Each-filter, each-all, Each-any}
 use Rattle.sync_ql.specs.declared.levels.NetOption.{NetOption}
 use Rattle.sync_ql.specs.declared.levels.Level.{Level}
 use Rattle.sync_ql.specs.declared.limits.TheConstants.{LAST_MILLISECOND}
@@ -23,16 +25,13 @@ use Rattle.sync_topo.specs.WellFormed.{IsWellFormed}
 use Rattle.net_rules.specs.Signals.{signals_by, events_at}
 use Rattle.net_rules.specs.History.{line_moment_at, out_at}
 use Rattle.net_rules.specs.Activity.{is_at}
-use Rattle.net_rules.specs.Walks.{Each}
-use Rattle.net_rules.proofs.Lists.{Each-map, Each-both, Each-append, Each-made, Each-filter}
-use Rattle.net_rules.proofs.EventLaws.{each-all}
 use Rattle.node_file.specs.declared.row.NodeRow.{NodeRow}
 use Rattle.node_file.specs.NodeRow.{is_at as is_at_input, is_of_element, IsRowOf}
 use Rattle.node_rules.specs.FromNetwork.{is_input_at, is_told_to, given_as, on_lines, told_to, frame_of, arriving}
 use Rattle.node_rules.specs.Brought.{event_row, arrival_row, told_rows, arrival_rows, brought_in, brought, AreInOrder}
 use Rattle.node_rules.proofs.ToldLaws.{even-told, odd-told}
 use Rattle.node_rules.proofs.OptionLaws.{out-option}
-use Rattle.node_rules.proofs.BroughtLaws.{Each-flat, Each-any, given-at, one-at}
+use Rattle.node_rules.proofs.BroughtLaws.{Each-flat, given-at, one-at}
 
 -- ---- order
 
@@ -63,10 +62,6 @@ in-order (row ∷ next ∷ rows) rises zero d within = rises.0.0
 in-order (row ∷ next ∷ rows) rises (suc k) d within =
     let more : suc k + 1 ≡ suc (k + 1) = omega arith in
     rw more (in-order (next ∷ rows) rises.1 k d (omega (arith, within)))
-
-all-each : {A : Type 0} (P : A → Type 0) (xs : List A) → Each P xs → All P xs
-all-each P [] each = All-nil P
-all-each P (x ∷ xs) each = All-cons P x xs each.0 (all-each P xs each.1)
 
 -- ---- what is told is of the element
 

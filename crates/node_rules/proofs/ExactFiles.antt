@@ -1,13 +1,13 @@
 -- A file that holds just what an element is told tells it just that.
 use Rattle.std.proofs.Common.{◌≡◌, ℕ, true, List, [], ◌∷◌, ◌++◌, reverse, refl, ap, sym, subst, ◌∙◌, inl, inr}
 use Rattle.std.proofs.lemmas.List.Elements.{filter-append}
+use Rattle.sync_text.proofs.Each.{Each-map, Each-filter}
+use Rattle.sync_text.specs.Each.{Each}
 use Rattle.sync_topo.specs.declared.event.Part.TheVariants as part
 use Rattle.sync_topo.specs.declared.event.What.{What}
 use Rattle.sync_topo.specs.declared.event.What.TheVariants.{Down, Up}
 use Rattle.sync_topo.specs.declared.event.Event.{Event}
 use Rattle.sync_topo.specs.Topology.{Topology}
-use Rattle.net_rules.specs.Walks.{Each}
-use Rattle.net_rules.proofs.Lists.{Each-map, Each-filter}
 use Rattle.node_rules.specs.FromNetwork.{is_told_to, given_as, told_to, AreGivenAs}
 use Rattle.node_rules.proofs.ToldLaws.{even-told, odd-told}
 

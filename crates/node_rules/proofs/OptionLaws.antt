@@ -2,6 +2,8 @@
 use Rattle.std.proofs.Common.{◌≡◌, ◌<◌, ℕ, zero, suc, Bool, true, false, ◌&&◌, List, [], ◌∷◌, map, get_or, Option, None, Some, refl, ap, sym, ◌∙◌, arith}
 use Rattle.std.specs.Prelude.{if◌then◌else◌, slice_get, unwrap_or, option_and_then, nat_lt, nat_eq}
 use Rattle.std.specs.Option.{option_map_or, option_or}
+use Rattle.sync_text.proofs.Each.{Each-map, Each-filter, each-all}
+use Rattle.sync_text.specs.Each.{Each}
 use Rattle.sync_ql.specs.declared.levels.NetOption.{NetOption}
 use Rattle.sync_ql.specs.declared.levels.Level.{Level}
 use Rattle.sync_ql.specs.Level.{do_not_use_of}
@@ -26,9 +28,6 @@ use Rattle.net_rules.specs.Signals.{Signals, signals_by, events_before, last_wor
 use Rattle.net_rules.specs.Inputs.{IsInputOf}
 use Rattle.net_rules.specs.History.{settings_of, line_moment_at, heard, input_level, moment_at, element_past, taken_by, is_way_back, sent_level, out_at}
 use Rattle.net_rules.specs.Settings.{input_by}
-use Rattle.net_rules.specs.Walks.{Each}
-use Rattle.net_rules.proofs.Lists.{Each-map, Each-filter}
-use Rattle.net_rules.proofs.EventLaws.{each-all}
 use Rattle.net_rules.proofs.InputLaws.{inputs-are}
 use Rattle.net_rules.proofs.Arrivals.{heard-said}
 use Rattle.net_rules.proofs.HistoryLaws.{out_at-sent}
@@ -44,7 +43,7 @@ own-option plan element well = of (slice_get plan.elements element) refl
     of None is = do_not_use-option plan.option
     of (Some e) is = (well.elements_fit element e is).own_is_clock_level.of_option
 
-planned-option : (plan : Topology) (source : ℕ) → IsWellFormed plan → (planned_level plan source).option ≡ plan.option
+pub planned-option : (plan : Topology) (source : ℕ) → IsWellFormed plan → (planned_level plan source).option ≡ plan.option
 planned-option plan source well = of (slice_get plan.sources source) refl
   where
     of : (o : Option declared.Source) → slice_get plan.sources source ≡ o → (option_map_or (λ (s : declared.Source). s.level) o (do_not_use_of plan.option)).option ≡ plan.option

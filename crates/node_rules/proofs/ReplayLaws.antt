@@ -2,6 +2,8 @@
 use Rattle.std.proofs.Common.{◌≡◌, ◌≤◌, ℕ, zero, suc, Bool, true, false, ◌&&◌, List, ◌∷◌, drop, take, Option, None, Some, option_map, refl, ap, sym, ◌∙◌, arith}
 use Rattle.std.specs.Prelude.{if◌then◌else◌, option_and_then}
 use Rattle.std.proofs.Math.Bool.{and-false}
+use Rattle.sync_text.proofs.Each.{Each-map}
+use Rattle.sync_ql.proofs.SameMoments.{line_moment, input_moment, moment}
 use Rattle.sync_ql.specs.declared.levels.Level.{Level}
 use Rattle.sync_ql.specs.declared.rules.Cmd.{Cmd}
 use Rattle.sync_ql.specs.Pasts.{past_of, first_within}
@@ -18,7 +20,7 @@ use Rattle.net_rules.specs.Signals.{Signals, signals_by}
 use Rattle.net_rules.specs.Inputs.{IsInputOf}
 use Rattle.net_rules.specs.History.{Levels, settings_of, line_moment_at, heard, input_level, moment_at, element_past, taken_by, taken_at, level_at, sent_by, sent_level, out_at}
 use Rattle.net_rules.specs.Settings.{input_by}
-use Rattle.net_rules.proofs.Lists.{Each-map, map-same, past-same}
+use Rattle.net_rules.proofs.Lists.{map-same, past-same}
 use Rattle.net_rules.proofs.InputLaws.{inputs-are}
 use Rattle.net_rules.proofs.HistoryLaws.{line-input_of, out_at-sent}
 use Rattle.net_rules.proofs.PlanLaws.{IsDelayed-well}
@@ -59,18 +61,6 @@ joined c (suc n) (suc m) = of (c m) (joined c n m)
     of (Some level) earlier = refl
 
 -- ---- moments
-
-input_moment : (up up_then clear clear_then : Bool) (level level_then : Option Level) → up ≡ up_then → clear ≡ clear_then → level ≡ level_then
-    → ◌≡◌ {A = InputMoment} (record { signal = record { up = up; clear = clear }; level = level }) (record { signal = record { up = up_then; clear = clear_then }; level = level_then })
-input_moment up up_then clear clear_then level level_then a b c = rw (a, b, c) refl
-
-moment : (inputs inputs_then : List InputMoment) (commands commands_then : List Cmd) → inputs ≡ inputs_then → commands ≡ commands_then
-    → ◌≡◌ {A = Moment} (record { inputs = inputs; commands = commands }) (record { inputs = inputs_then; commands = commands_then })
-moment inputs inputs_then commands commands_then a b = rw (a, b) refl
-
-line_moment : (up up_then esmc esmc_then : Bool) (level level_then : Level) → up ≡ up_then → esmc ≡ esmc_then → level ≡ level_then
-    → ◌≡◌ {A = LineMoment} (record { up = up; esmc = esmc; level = Some level }) (record { up = up_then; esmc = esmc_then; level = Some level_then })
-line_moment up up_then esmc esmc_then level level_then a b c = rw (a, b, c) refl
 
 module _ (plan : Topology) (events : List Event) (element until : ℕ) (rows : List NodeRow) (well : IsWellFormed plan) (is : IsNodeFile plan events element until rows) where
   -- the network's signals, and the levels that it sends

@@ -4,6 +4,8 @@ use Rattle.std.specs.Prelude.{codes, ◌==◌}
 use Rattle.std.specs.Fmt.{decimal}
 use Rattle.std.specs.List.{range_with_len}
 use Rattle.std.proofs.lemmas.Bool.{eqb-true}
+use Rattle.sync_text.proofs.Each.{Each-map, Each-range, Each-filter}
+use Rattle.sync_text.specs.Each.{Each}
 use Rattle.hex.specs.Hex.{encode_lower}
 use Rattle.sync_ql.specs.declared.levels.Level.{Level}
 use Rattle.sync_ql.specs.Messages.{LineMoment}
@@ -12,8 +14,7 @@ use Rattle.sync_topo.specs.Topology.{Topology}
 use Rattle.sync_topo.specs.Lines.{line_count, line_name, sender_of}
 use Rattle.sync_topo.specs.WellFormed.{IsWellFormed}
 use Rattle.esmc_frame.specs.Frame.{written_frame}
-use Rattle.net_rules.specs.Walks.{Each}
-use Rattle.net_rules.proofs.Lists.{Each-map, Each-range, Each-filter, map-same}
+use Rattle.net_rules.proofs.Lists.{map-same}
 use Rattle.node_file.specs.declared.row.NodeRow.{NodeRow}
 use Rattle.node_rules.specs.Replay.{is_event, sends_frame}
 use Rattle.node_rules.specs.NodeText.{carried, frame_row, lines_out, sending_at, rows_before}

@@ -6,6 +6,7 @@ use Rattle.std.proofs.lemmas.Bool.{true≢false, eqb-true, eq-eqb, ne_eqb, or_pa
 use Rattle.std.proofs.lemmas.Bool.Decides.{eqb_tells}
 use Rattle.std.proofs.lemmas.List.Quantifiers.{position-Some}
 use Rattle.std.proofs.lemmas.Option.{slice_get-get_or}
+use Rattle.sync_text.proofs.Each.{each-at}
 use Rattle.sync_ql.specs.declared.rules.Cmd.TheVariants as command
 use Rattle.sync_topo.specs.declared.input.InputId.{InputId}
 use Rattle.sync_topo.specs.declared.input.InputId.TheVariants.{Line, Source}
@@ -19,17 +20,8 @@ use Rattle.net_rules.specs.Signals.{is_of_part, says_up, says_esmc, says_level, 
 use Rattle.net_rules.specs.Inputs.{IsInputOf}
 use Rattle.net_rules.specs.Activity.{is_at, is_part_at}
 use Rattle.net_rules.proofs.InputLaws.{inputs-are}
-use Rattle.net_rules.proofs.Lists.{each-at}
-use Rattle.net_rules.proofs.TouchLaws.{input-is_at, up-silent, level-silent}
+use Rattle.net_rules.proofs.TouchLaws.{input-is_at, up-silent, level-silent, if_none, not_here}
 use Rattle.node_rules.specs.FromNetwork.{is_part_out, is_input_at, is_told_to}
-
-if_none : {A : Type 0} (b : Bool) (x : A) → b ≡ false → (if b then Some x else None) ≡ None
-if_none true x is = cc
-if_none false x is = refl
-
-not_here : (a b : Bool) → (a ≡ true → b ≡ true) → b ≡ false → a ≡ false
-not_here false b here none = refl
-not_here true b here none = absurd (true≢false (sym (here refl) ∙ none))
 
 either : (a b : Bool) → b ≡ true → (a || b) ≡ true
 either true b is = refl

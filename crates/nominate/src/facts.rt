@@ -6,10 +6,7 @@ ghost use Rattle.nominate.specs.Marks.{is_one_less, is_above, AreMarks};
 
 use crate::hops::Hops;
 use crate::search::is_root;
-use sync_topo::{LineId, Plan};
-
-/// The most elements that a plan has.
-const MOST_ELEMENTS: usize = 2000;
+use sync_topo::{LineId, MOST_ELEMENTS, Plan};
 
 /// Tests that the list is the counts that [`least_hops`](crate::least_hops) gives.
 ///

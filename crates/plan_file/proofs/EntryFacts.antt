@@ -4,6 +4,7 @@ use Rattle.std.specs.Prelude.{if◌then◌else◌}
 use Rattle.std.specs.List.{list_any}
 use Rattle.std.specs.Str.{bytes_eq}
 use Rattle.std.proofs.lemmas.List.Folds.{list_any-append}
+use Rattle.sync_topo.proofs.Lists.{list_any-map}
 use Rattle.toml.specs.Data.{Data, string, integer, float, boolean, datetime, array, table, Members, no_members, member}
 use Rattle.sync_topo.specs.declared.rows.ElementRow.{ElementRow}
 use Rattle.sync_topo.specs.declared.rows.LinkRow.{LinkRow}
@@ -19,13 +20,12 @@ use Rattle.plan_file.specs.Format.{Key, keys_of, is_text, is_integer}
 use Rattle.plan_file.specs.Rules.{has_only, keeps_kinds, refusal_of}
 use Rattle.plan_file.specs.Rows.{name_at, text_at, integer_at, element_row, link_row, source_row, row_at}
 use Rattle.plan_file.specs.Steps.{is_among, only_among, has_all, table_with, kind_at, of_kind, link_keys, named_bundle}
-use Rattle.plan_file.proofs.KeyFacts.{list_any_map}
 
 -- a key of the format is a required or an optional one
 is_key : (keys : List Key) (required optional : List (List ℕ)) → map (λ key. key.name) keys ≡ required ++ optional → (name : List ℕ)
     → list_any (λ key. bytes_eq key.name name) keys ≡ (is_among required name || is_among optional name)
 is_key keys required optional named name =
-    sym (list_any_map (λ known. bytes_eq known name) (λ (key : Key). key.name) keys)
+    sym (list_any-map (λ known. bytes_eq known name) (λ (key : Key). key.name) keys)
     ∙ ap (list_any (λ known. bytes_eq known name)) named
     ∙ list_any-append (λ known. bytes_eq known name) required optional
 

@@ -10,11 +10,6 @@ use Rattle.toml.specs.declared.value.Value.{Value}
 use Rattle.plan_file.specs.Rules.{data_of}
 use Rattle.plan_file.specs.Steps.{is_among, has_all, only_among}
 
--- a test of what a function makes of the items
-pub list_any_map : {A B : Type 0} (p : B → Bool) (f : A → B) (xs : List A) → list_any p (map f xs) ≡ list_any (λ x. p (f x)) xs
-list_any_map p f [] = refl
-list_any_map p f (x ∷ xs) = rw (list_any_map p f xs) refl
-
 entries_keys : (required optional : List (List ℕ)) (entries : List (String Global × Value))
     → only_among required optional (members_view entries) ≡ list_all (λ key. is_among required (string_bytes key) || is_among optional (string_bytes key)) (keys_of entries)
 entries_keys required optional [] = refl

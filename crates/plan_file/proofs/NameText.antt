@@ -88,9 +88,6 @@ escaped_bytes (byte ∷ bytes) all =
 pub name_bytes : (name : List ℕ) → is_name name ≡ true → list_all is_name_byte name ≡ true
 name_bytes name named = (and_parts _ _ named).1
 
-pub name_short : (name : List ℕ) → is_name name ≡ true → length name ≤ 32
-name_short name named = leb-true _ _ (and_parts _ _ (and_parts _ _ named).0).1
-
 pub key_of_name : (name : List ℕ) → is_name name ≡ true → key_text name ≡ name
 unfolding key_text
 key_of_name name named =

@@ -7,6 +7,7 @@ use Rattle.std.proofs.lemmas.Str.{IsAscii-append}
 use Rattle.std.proofs.lemmas.Str.Ascii.{IsAscii-nil, IsAscii-cons}
 use Rattle.std.proofs.lemmas.Fmt.{IsAscii-decimal, length-decimal-le}
 use Rattle.std.proofs.lemmas.Bool.{and_parts, ltb-true}
+use Rattle.sync_topo.proofs.NameLaws.{name-short}
 use Rattle.toml_writer.specs.Text.{key_text}
 use Rattle.toml.specs.Data.{Data, string, integer, float, boolean, datetime, array, table, no_items, item, Members, no_members, member}
 use Rattle.toml.specs.View.{items_of}
@@ -14,7 +15,7 @@ use Rattle.toml.specs.Tables.{Expression, key_value}
 use Rattle.toml.specs.Text.{IsValueText, IsLinesText, is_section, are_tables, pairs, sections, section, elements}
 use Rattle.sync_topo.specs.Names.{is_name}
 use Rattle.plan_file.specs.Spelling.{value_text, field_text, fields_text, header_text, row_text, rows_text, field_size, row_size, with_none}
-use Rattle.plan_file.proofs.NameText.{name_short, key_of_name, string_of_name, ascii_name}
+use Rattle.plan_file.proofs.NameText.{key_of_name, string_of_name, ascii_name}
 
 -- ---- fields that are plain: names and small numbers at keys that are names, and arrays without items
 
@@ -170,7 +171,7 @@ rows_ascii key fields (x ∷ xs) named plain =
 
 value_short : (value : Data) → IsPlainValue value → length (value_text value) ≤ 35
 value_short = by_value (λ value. length (value_text value) ≤ 35)
-    (λ name named. omega (arith, name_short name named, length-append name (codes "\"\n")))
+    (λ name named. omega (arith, name-short name named, length-append name (codes "\"\n")))
     (λ number small. digits_short number (length-decimal-le 10 number (lit< tt) (omega (arith, small)) (omega (arith, small))))
     (omega arith)
   where
@@ -180,14 +181,14 @@ value_short = by_value (λ value. length (value_text value) ≤ 35)
 pub fields_short : (fields : Members) → ArePlain fields → length (fields_text fields) ≤ count_of fields * field_size
 fields_short no_members plain = omega arith
 fields_short (member key value rest) plain =
-    let name = name_short key plain.0 in
+    let name = name-short key plain.0 in
     let here = value_short value plain.1.0 in
     let more = fields_short rest plain.1.1 in
     omega (arith, name, here, more, length-append key (codes " = " ++ value_text value), length-append (field_text key value) (fields_text rest))
 
 row_short : (key : List ℕ) (fields : Members) (count : ℕ) → is_name key ≡ true → ArePlain fields → count_of fields ≤ count → length (row_text key fields) ≤ row_size count
 row_short key fields count named plain few =
-    omega (arith, name_short key named, fields_short fields plain, few, length-append key (codes "]]\n"), length-append (header_text key) (fields_text fields))
+    omega (arith, name-short key named, fields_short fields plain, few, length-append key (codes "]]\n"), length-append (header_text key) (fields_text fields))
 
 pub rows_short : {A : Type 0} (key : List ℕ) (fields : A → Members) (items : List A) (count : ℕ) → is_name key ≡ true → RowsArePlain fields items
     → ((item : A) → count_of (fields item) ≤ count) → length (rows_text key fields items) ≤ length items * row_size count

@@ -5,6 +5,7 @@ use Rattle.std.specs.List.{list_all}
 use Rattle.std.proofs.lemmas.Option.{none-some, same_Some, slice_get-map}
 use Rattle.std.specs.Str.{IsAscii}
 use Rattle.std.proofs.lemmas.Str.{IsAscii-append, IsUtf8-from_ascii}
+use Rattle.sync_topo.proofs.Lists.{item_at}
 use Rattle.toml.specs.Data.{string, array, table, Members, member, is_before, items_are_sorted, members_are_sorted}
 use Rattle.toml.specs.View.{items_of}
 use Rattle.toml.specs.Tables.{Expression, key_value}
@@ -46,11 +47,6 @@ source_is_named plan j source well at =
     named_at (source_names plan.sources) j source.name well.sources_named (slice_get-map (λ (x : Source). x.name) plan.sources j ∙ ap (option_map (λ (x : Source). x.name)) at)
 
 -- ---- the tables of a plan are plain
-
-item_at : {A : Type 0} (xs : List A) (n : ℕ) → n < length xs → (x : A) × (slice_get xs n ≡ Some x)
-item_at [] n within = absurd (omega (arith, within))
-item_at (x ∷ xs) zero within = (x, refl)
-item_at (x ∷ xs) (suc n) within = item_at xs n (omega (arith, within))
 
 end_is_named : (plan : Topology) (e : ℕ) → IsWellFormed plan → e < length plan.elements → is_name (element_name plan e) ≡ true
 end_is_named plan e well within =

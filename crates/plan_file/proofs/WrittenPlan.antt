@@ -5,6 +5,7 @@ use Rattle.std.proofs.lemmas.Bool.{true≢false}
 use Rattle.std.specs.Str.{IsUtf8}
 use Rattle.std.proofs.lemmas.Str.{is_utf8-from_IsUtf8}
 use Rattle.std.proofs.lemmas.Simd.{map-map}
+use Rattle.plan_file.proofs.KeyFacts.{data_of_items}
 use Rattle.toml.specs.Data.{Data, string, array, table, Items, Members, member, depth, items_depth, members_depth, has_valid_dates, items_have_valid_dates, members_have_valid_dates}
 use Rattle.toml.specs.View.{items_of}
 use Rattle.toml.specs.Parse.{parse_document}
@@ -30,10 +31,6 @@ use Rattle.plan_file.specs.IsPlanText.{IsPlanText}
 use Rattle.plan_file.specs.Writing.{option_name, element_table, link_table, source_table, elements_data, links_data, sources_data, names_bundle, with_version, plan_document}
 
 -- ---- lists
-
-data_back : (entries : List Data) → data_of (items_of entries) ≡ entries
-data_back [] = refl
-data_back (entry ∷ entries) = ap (λ rest. entry ∷ rest) (data_back entries)
 
 pub map-pointwise : {A B : Type 0} (f g : A → B) (items : List A) → ((i : ℕ) (item : A) → slice_get items i ≡ Some item → f item ≡ g item) → map f items ≡ map g items
 map-pointwise f g [] same = refl
@@ -202,7 +199,7 @@ none_refused_two plan second =
     let sources : first_from Two Sources 1 (sources_data plan) ≡ None
     = none_from Two (λ source. table (source_table plan source)) Sources plan.sources 1 (λ i source row at. source_kept Two plan source row) in
     let head = head_kept Two plan.option (items_of (elements_data plan)) (items_of (links_data plan)) (items_of (sources_data plan)) true in
-    rw (head, data_back (elements_data plan), elements, data_back (links_data plan), links, data_back (sources_data plan), sources) refl
+    rw (head, data_of_items (elements_data plan), elements, data_of_items (links_data plan), links, data_of_items (sources_data plan), sources) refl
 
 rows_said_two : (plan : Topology) → names_bundle plan ≡ true
     → said_rows (head_of plan.option (items_of (elements_data plan)) (items_of (links_data plan)) (items_of (sources_data plan)) true) ≡ rows_of_plan plan
@@ -215,7 +212,7 @@ rows_said_two plan second =
     let sources : map source_row (sources_data plan) ≡ map (row_of_source plan) plan.sources
     = map-map source_row (λ source. table (source_table plan source)) plan.sources ∙ map-pointwise _ (row_of_source plan) plan.sources (λ i source at. source_said plan source) in
     let option = option_said plan.option (items_of (elements_data plan)) (items_of (links_data plan)) (items_of (sources_data plan)) true in
-    rw (option, data_back (elements_data plan), elements, data_back (links_data plan), links, data_back (sources_data plan), sources) refl
+    rw (option, data_of_items (elements_data plan), elements, data_of_items (links_data plan), links, data_of_items (sources_data plan), sources) refl
 
 none_refused_one : (plan : Topology) → names_bundle plan ≡ false → first_refusal (head_of plan.option (items_of (elements_data plan)) (items_of (links_data plan)) (items_of (sources_data plan)) false) ≡ None
 unfolding head_of
@@ -227,7 +224,7 @@ none_refused_one plan second =
     let sources : first_from One Sources 1 (sources_data plan) ≡ None
     = none_from One (λ source. table (source_table plan source)) Sources plan.sources 1 (λ i source row at. source_kept One plan source row) in
     let head = head_kept One plan.option (items_of (elements_data plan)) (items_of (links_data plan)) (items_of (sources_data plan)) false in
-    rw (head, data_back (elements_data plan), elements, data_back (links_data plan), links, data_back (sources_data plan), sources) refl
+    rw (head, data_of_items (elements_data plan), elements, data_of_items (links_data plan), links, data_of_items (sources_data plan), sources) refl
 
 rows_said_one : (plan : Topology) → names_bundle plan ≡ false
     → said_rows (head_of plan.option (items_of (elements_data plan)) (items_of (links_data plan)) (items_of (sources_data plan)) false) ≡ rows_of_plan plan
@@ -240,7 +237,7 @@ rows_said_one plan second =
     let sources : map source_row (sources_data plan) ≡ map (row_of_source plan) plan.sources
     = map-map source_row (λ source. table (source_table plan source)) plan.sources ∙ map-pointwise _ (row_of_source plan) plan.sources (λ i source at. source_said plan source) in
     let option = option_said plan.option (items_of (elements_data plan)) (items_of (links_data plan)) (items_of (sources_data plan)) false in
-    rw (option, data_back (elements_data plan), elements, data_back (links_data plan), links, data_back (sources_data plan), sources) refl
+    rw (option, data_of_items (elements_data plan), elements, data_of_items (links_data plan), links, data_of_items (sources_data plan), sources) refl
 
 none_refused : (plan : Topology) → first_refusal (plan_document plan) ≡ None
 unfolding head_of

@@ -13,6 +13,7 @@ use Rattle.std.proofs.lemmas.List.FromFn.{length-map-range_with_len}
 use Rattle.std.proofs.lemmas.Option.{none-some, same_Some}
 use Rattle.std.proofs.lemmas.Fmt.{decimal_injective, length-decimal-le, digits_decimal}
 use Rattle.std.proofs.lemmas.Simd.{map-map}
+use Rattle.sync_topo.proofs.WellFormedLemmas.{AreDistinct-push}
 use Rattle.sync_text.proofs.Decimals.{own}
 use Rattle.sync_ql.specs.declared.levels.NetOption.TheVariants.{I}
 use Rattle.sync_topo.specs.declared.element.Element.{Element}
@@ -26,7 +27,7 @@ use Rattle.sync_topo.specs.Rules.{is_bad_bundle_name}
 use Rattle.sync_topo.specs.WellFormed.{AreDistinct, IsElementOf, JoinsTwo, IsSourceOf, IsWellFormed}
 use Rattle.sync_topo.proofs.KeptRules.{inputs_counted}
 use Rattle.plan_gen.specs.Ladder.{numbered, ladder_element, ladder}
-use Rattle.plan_gen.proofs.Ranges.{range_at, range_get, list_all-range, list_any-range, AreDistinct-range, AreDistinct-last, filter_range-between}
+use Rattle.plan_gen.proofs.Ranges.{range_at, range_get, list_all-range, list_any-range, AreDistinct-range, filter_range-between}
 use Rattle.plan_gen.proofs.LadderLinks.{is_step, top_of, ladder_link, link_is_step, link_is_rail, rail_is_even, step_is_first_or_odd, links_by_number}
 
 -- ---- names
@@ -184,7 +185,7 @@ links_distinct : (m : ℕ) → m ≤ 1998 → AreDistinct (link_names (ladder (m
 links_distinct m few = rw (links_by_name m) (AreDistinct-range link_name (2 * m + 1) (λ i j before within. link_names_differ m i j few before within))
 
 sources_distinct : (m : ℕ) → AreDistinct (source_names (ladder (m + 2)).sources)
-sources_distinct m = AreDistinct-last (codes "P0" ∷ []) (codes "P1") (λ i j before within. absurd (omega (arith, before, within))) refl
+sources_distinct m = AreDistinct-push (codes "P0" ∷ []) (codes "P1") (λ i j before within. absurd (omega (arith, before, within))) refl
 
 no_links : (m j : ℕ) (source : Source) → slice_get (ladder (m + 2)).sources j ≡ Some source → is_named (link_names (ladder (m + 2)).links) source.name ≡ false
 no_links m zero source at =

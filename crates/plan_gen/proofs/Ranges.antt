@@ -42,19 +42,6 @@ AreDistinct-range f n differ i j before within same =
     let of_i = range_at f n i _ (same ∙ at_j) in
     differ i j before of_j.0 (of_i.1 ∙ sym of_j.1)
 
--- a name that none of them is may come last
-pub AreDistinct-last : (names : List (List ℕ)) (name : List ℕ) → AreDistinct names → is_named names name ≡ false → AreDistinct (names ++ name ∷ [])
-AreDistinct-last names name distinct fresh i j before within same =
-    let size : length (names ++ name ∷ []) ≡ length names + 1 = length-append names (name ∷ []) in
-    elim (cases_lt j (length names)) [
-      | inl inside ↦ distinct i j before inside (sym (slice_get-front names (name ∷ []) i (omega (arith, inside, before))) ∙ same ∙ slice_get-front names (name ∷ []) j inside)
-      | inr end ↦
-          let last : j ≡ length names = omega (arith, end, within, size) in
-          let stands : slice_get names i ≡ Some name
-          = sym (slice_get-front names (name ∷ []) i (omega (arith, last, before))) ∙ same ∙ rw last (slice_get-middle names name []) in
-          true≢false (sym (is_named-at names name i stands) ∙ fresh)
-    ]
-
 -- a filter keeps no more numbers of a range than there are between bounds within which all that pass lie
 pub filter_range-between : (p : ℕ → Bool) (low high start n : ℕ) → ((i : ℕ) → i < start + n → p i ≡ true → (low ≤ i) × (i < high))
     → (length (filter p (range_with_len start n)) ≤ high - low) × (length (filter p (range_with_len start n)) ≤ high - start)

@@ -5,7 +5,7 @@ ghost use Rattle.plan_gen.specs.Ladder.{ladder};
 use crate::rows::ladder_rows;
 use std::alloc::Global;
 use sync_text::NoMemory;
-use sync_topo::{Plan, PlanErr};
+use sync_topo::{MOST_ELEMENTS, Plan, PlanErr};
 
 /// The ladder of `n` elements, E0 at its foot.
 ///
@@ -16,7 +16,7 @@ use sync_topo::{Plan, PlanErr};
 /// This project's own.
 pub fn generate(alloc: Global, n: u32) -> Result<Plan, NoMemory>
     requires least { 2 ≤ n }
-    requires greatest { n ≤ 2000 }
+    requires greatest { n ≤ MOST_ELEMENTS }
     ensures ladder { IfOk result (λ plan. plan ≡ ladder n) }
 {
     let rows = ladder_rows(alloc, n)?;

@@ -1,5 +1,7 @@
-//! Tests of nomination that no run of the program shows, over what its crate makes public. No code stands here.
+//! Tests of planning that no run of the program shows, over what its crates make public. No code stands here.
 #![tactic(auto)]
 
+#[cfg(test)]
+mod longest;
 #[cfg(test)]
 mod nominations;

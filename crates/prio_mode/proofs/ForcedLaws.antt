@@ -8,6 +8,8 @@ use Rattle.std.proofs.lemmas.List.{get_or-replicate}
 use Rattle.std.proofs.lemmas.List.Elements.{All-nil, All-cons}
 use Rattle.std.proofs.lemmas.List.FromFn.{get_or-map-range_with_len}
 use Rattle.std.proofs.lemmas.Option.{slice_get_within}
+use Rattle.sync_text.proofs.Each.{Each-map, Each-unmade}
+use Rattle.sync_text.specs.Each.{Each}
 use Rattle.sync_ql.specs.declared.levels.NetOption.{NetOption}
 use Rattle.sync_ql.specs.declared.levels.NetOption.TheVariants.{I, II}
 use Rattle.sync_ql.specs.declared.rules.Cmd.{Cmd}
@@ -28,12 +30,12 @@ use Rattle.sync_topo.specs.Ranks.{IsFirstCycle}
 use Rattle.sync_topo.proofs.LineLaws.{IsNominated-within}
 use Rattle.net_rules.specs.Signals.{Signals, signals_by, events_at, last_word, says_up, up_at, command_to}
 use Rattle.net_rules.specs.Settings.{input_by}
-use Rattle.net_rules.specs.Walks.{Each, AreApart, IsOneOf, IsTaken}
-use Rattle.net_rules.proofs.Lists.{Each-map}
+use Rattle.net_rules.specs.Walks.{AreApart, IsOneOf, IsTaken}
 use Rattle.net_rules.proofs.SettingLaws.{input-by, priorities-by}
 use Rattle.sync_topo.specs.declared.returns.Returns.TheVariants.{Allowed}
 use Rattle.sync_topo.specs.Hops.{hops_any}
 use Rattle.sync_topo.proofs.HopLaws.{hop-meets}
+use Rattle.closed_walks.proofs.Rings.{each-one}
 use Rattle.prio_mode.specs.PriorityAlone.{priority_levels, priority_settings, priority_moment, priority_taken_at, priority_taken_in}
 use Rattle.net_words.specs.NewElements.{one_level, by_priority}
 use Rattle.prio_mode.specs.ForcedLoop.{forced_on, IsForcedLoop}
@@ -105,15 +107,6 @@ none-told plan element [] each = refl
 none-told plan element (line ∷ rest) each =
     rw (no-place-there plan element (line_input line) (λ is. each.0 is.of_element)) (none-told plan element rest each.1)
 
-each-one : (P : ℕ → Type 0) (xs : List ℕ) (x : ℕ) → Each P xs → IsOneOf x xs → P x
-each-one P [] x each among = absurd among
-each-one P (y ∷ xs) x each (inl same) = subst P (sym same) each.0
-each-one P (y ∷ xs) x each (inr more) = each-one P xs x each.1 more
-
-unmade : (P : ℕ → Type 0) (f : ℕ → ℕ) (xs : List ℕ) → Each P (map f xs) → Each (λ x. P (f x)) xs
-unmade P f [] each = tt
-unmade P f (x ∷ xs) each = (each.0, unmade P f xs each.1)
-
 one-told : (plan : Topology) (line place : ℕ) (lines : List ℕ) → place_at plan (receiver_of plan line) (line_input line) ≡ Some place
     → AreApart (map (receiver_of plan) lines) → IsOneOf line lines → told plan (receiver_of plan line) lines ≡ command.Forced place ∷ []
 one-told plan line place [] at apart among = absurd among
@@ -121,13 +114,14 @@ one-told plan line place (next ∷ rest) at apart (inl same) =
     let differ : Each (λ other. receiver_of plan other ≢ receiver_of plan line) rest =
     Each-map (λ other. receiver_of plan next ≢ receiver_of plan other) (λ other. receiver_of plan other ≢ receiver_of plan line)
     (λ other apart_from also. apart_from (ap (receiver_of plan) (sym same) ∙ sym also)) rest
-    (unmade (λ receiver. receiver_of plan next ≢ receiver) (receiver_of plan) rest apart.0) in
+    (Each-unmade (λ receiver. receiver_of plan next ≢ receiver) (receiver_of plan) rest apart.0) in
     let here : place_at plan (receiver_of plan line) (line_input next) ≡ Some place =
     subst (λ l. place_at plan (receiver_of plan line) (line_input l) ≡ Some place) same at in
     rw (here, none-told plan (receiver_of plan line) rest differ) refl
 one-told plan line place (next ∷ rest) at apart (inr more) =
     let differs = each-one (λ other. receiver_of plan next ≢ receiver_of plan other) rest line
-    (unmade (λ receiver. receiver_of plan next ≢ receiver) (receiver_of plan) rest apart.0) more in
+    (Each-unmade (λ receiver. receiver_of plan next ≢ receiver) (receiver_of plan) rest apart.0)
+    more in
     rw (no-place-there plan (receiver_of plan line) (line_input next) (λ is. differs is.of_element)) (one-told plan line place rest at apart.1 more)
 
 -- no forced switch says that an input is up or down

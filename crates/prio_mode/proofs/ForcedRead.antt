@@ -1,13 +1,12 @@
 -- The event file of forced switches is read back as these switches, and isn't too long.
-use Rattle.std.proofs.Common.{◌≡◌, ℕ, ◌+◌, ◌*◌, ◌<◌, ◌≤◌, zero, suc, true, false, List, [], ◌∷◌, ◌++◌, length, map, Option, Some, None, Ok, slice_get, refl, ap, sym, subst, ◌∙◌, inl, inr, arith, append_assoc}
-use Rattle.std.specs.Prelude.{◌≢◌, ◌||◌, nat_eq, nat_lt, codes, option_and_then, unwrap_or}
-use Rattle.std.specs.List.{concat, list_any, All, AllByRecursion, IsDistinct}
-use Rattle.std.proofs.lemmas.Bool.{true≢false}
-use Rattle.std.proofs.lemmas.Bool.Decides.{eqb_tells, nat_tests}
+use Rattle.std.proofs.Common.{◌≡◌, ℕ, ◌+◌, ◌*◌, ◌<◌, ◌≤◌, zero, suc, false, List, [], ◌∷◌, ◌++◌, length, map, Option, Some, None, Ok, slice_get, refl, ap, sym, ◌∙◌, arith, append_assoc}
+use Rattle.std.specs.Prelude.{nat_lt, codes, option_and_then, unwrap_or}
+use Rattle.std.specs.List.{concat}
+use Rattle.std.proofs.lemmas.Bool.Decides.{nat_tests}
 use Rattle.std.proofs.lemmas.List.{length-append, length-map}
-use Rattle.std.proofs.lemmas.Map.Keys.{IsDistinct-cons, IsDistinct-from_apart}
-use Rattle.std.proofs.lemmas.Map.Steps.{length-le_from_distinct_below}
 use Rattle.std.proofs.lemmas.Option.{slice_get-map}
+use Rattle.sync_text.proofs.Each.{Each-made, Each-map}
+use Rattle.sync_text.specs.Each.{Each}
 use Rattle.csv.specs.Writing.{default_writer, row_text, fields_text, is_blank, read_back}
 use Rattle.csv.proofs.RoundTrip.{rows_text}
 use Rattle.csv_records.specs.Records.{records_of}
@@ -19,8 +18,9 @@ use Rattle.sync_topo.specs.declared.event.What.TheVariants.{Forced}
 use Rattle.sync_topo.specs.Topology.{Topology}
 use Rattle.sync_topo.specs.Lines.{line_count, line_name, line_input, receiver_of}
 use Rattle.sync_topo.specs.WellFormed.{IsWellFormed}
-use Rattle.net_rules.specs.Walks.{Each, AreApart}
+use Rattle.net_rules.specs.Walks.{AreApart}
 use Rattle.net_rules.proofs.PlanLaws.{receiver-within}
+use Rattle.net_rules.proofs.TraceLaws.{at_most}
 use Rattle.rank_cert.proofs.OwnNames.{own-name}
 use Rattle.rank_cert.proofs.WrittenText.{name-plain}
 use Rattle.rank_cert.proofs.WrittenLength.{line-short}
@@ -32,11 +32,6 @@ use Rattle.prio_mode.specs.ForcedText.{forced_row, forced_text, forced_row_size,
 -- every one of some lines is a line of the plan
 abbrev pub AreWithin : Topology → List ℕ → Type 0
 AreWithin plan lines = Each (λ line. line < line_count plan) lines
-
--- what is said by places is said one after another
-pub each-within : (n : ℕ) (lines : List ℕ) → All (λ line. line < n) lines → Each (λ line. line < n) lines
-each-within n [] all = tt
-each-within n (line ∷ lines) all = (all 0 0 (omega arith), each-within n lines (λ i d inside. all (suc i) d (omega (arith, inside))))
 
 -- the record of a row, and of the header
 abbrev forced_record : Topology → ℕ → Fields
@@ -124,40 +119,15 @@ none-refused plan lines well within few i inside =
     rw (slice_get-map (forced_record plan) lines i, here.1, time-before plan lines i) (row-stands plan (i + 1) here.0 well here.2 (omega (arith, within_lines, few)))
 
 -- lines of different receivers are no more than there are elements
-apart-other : (n : ℕ) (rest : List ℕ) → Each (λ other. n ≢ other) rest → Each (λ other. nat_eq n other ≡ false) rest
-apart-other n [] apart = tt
-apart-other n (other ∷ rest) apart = (differs, apart-other n rest apart.1)
-  where
-    differs : nat_eq n other ≡ false
-    differs = elim (eqb_tells n other) [
-      | inl same ↦ absurd (apart.0 same.1)
-      | inr not_same ↦ not_same.0
-    ]
-
-apart-distinct : (ns : List ℕ) → AreApart ns → IsDistinct nat_eq ns
-apart-distinct [] apart = IsDistinct-from_apart nat_eq [] (λ i j d before within. absurd (omega (arith, within)))
-apart-distinct (n ∷ ns) apart = IsDistinct-cons nat_eq n ns (by_recursion ns (apart-other n ns apart.0)) (apart-distinct ns apart.1)
-  where
-    by_recursion : (rest : List ℕ) → Each (λ other. nat_eq n other ≡ false) rest → AllByRecursion (λ other. nat_eq n other ≡ false) rest
-    by_recursion [] each = tt
-    by_recursion (other ∷ rest) each = (each.0, by_recursion rest each.1)
-
-each-below : (n : ℕ) (ns : List ℕ) → Each (λ k. k < n) ns → (q : ℕ) → list_any (nat_eq q) ns ≡ true → q < n
-each-below n [] below q is = absurd (true≢false (sym is))
-each-below n (k ∷ ns) below q is = elim (eqb_tells q k) [
-  | inl same ↦ subst (λ m. m < n) (sym same.1) below.0
-  | inr differs ↦ each-below n ns below.1 q (sym (ap (λ b. b || list_any (nat_eq q) ns) differs.0) ∙ is)
-]
-
-few-lines : (plan : Topology) (lines : List ℕ) → IsWellFormed plan → AreWithin plan lines → AreApart (map (receiver_of plan) lines) → length lines ≤ 2000
+few-lines : (plan : Topology) (lines : List ℕ) → IsWellFormed plan → AreWithin plan lines
+    → AreApart (map (receiver_of plan) lines) → length lines ≤ 2000
 few-lines plan lines well within apart =
-    let few = length-le_from_distinct_below (map (receiver_of plan) lines) (length plan.elements) (apart-distinct (map (receiver_of plan) lines) apart)
-    (each-below (length plan.elements) (map (receiver_of plan) lines) (receivers lines within)) in
+    let few = at_most (length plan.elements) (map (receiver_of plan) lines) apart
+    (Each-made (λ k. k < length plan.elements) (receiver_of plan) lines
+    (Each-map (λ line. line < line_count plan)
+    (λ line. receiver_of plan line < length plan.elements)
+    (λ line inside. receiver-within plan well line inside) lines within)) in
     omega (arith, few, length-map lines (receiver_of plan), well.few_elements)
-  where
-    receivers : (ls : List ℕ) → AreWithin plan ls → Each (λ k. k < length plan.elements) (map (receiver_of plan) ls)
-    receivers [] each = tt
-    receivers (line ∷ ls) each = (receiver-within plan well line each.0, receivers ls each.1)
 
 -- what is written is read back
 pub read-back : (plan : Topology) (lines : List ℕ) → IsWellFormed plan → AreWithin plan lines → AreApart (map (receiver_of plan) lines)

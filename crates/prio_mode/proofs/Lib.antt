@@ -1,8 +1,5 @@
 pub mod LoopLaws
-pub mod EventTimes
-pub mod ShownLemmas
 pub mod Standing
-pub mod Visiting
 pub mod Turning
 pub mod Advancing
 pub mod NewRuns

@@ -1,11 +1,13 @@
 -- Where ranks rise over every hop, elements that choose by priority alone never go round in a loop.
 use Rattle.std.proofs.Common.{ℕ, suc, List, [], ◌∷◌}
 use Rattle.std.specs.Prelude.{IsTrue}
+use Rattle.sync_text.proofs.Each.{Each-map}
+use Rattle.sync_text.specs.Each.{Each}
 use Rattle.sync_topo.specs.Topology.{Topology}
 use Rattle.sync_topo.specs.Lines.{line_input, receiver_of, IsNominated}
 use Rattle.sync_topo.specs.Ranks.{Rises, Circles, Leads}
 use Rattle.net_rules.specs.Signals.{Signals, signals_by}
-use Rattle.net_rules.specs.Walks.{Taken, Each, IsTaken, Joins, IsClosedWalk}
+use Rattle.net_rules.specs.Walks.{Taken, IsTaken, Joins, IsClosedWalk}
 use Rattle.net_rules.proofs.SettingLaws.{taken-own}
 use Rattle.net_rules.proofs.WalkLaws.{AreNominated, walks-leads, no_cycle}
 use Rattle.sync_topo.specs.Hops.{hops_any}
@@ -26,16 +28,13 @@ hops_along plan line [] end each last joins = hop-any-from plan line end each.0 
 hops_along plan line (next ∷ rest) end each last joins =
     (hop-any-from plan line next each.0 each.1.0 joins.0, hops_along plan next rest end each.1 last joins.1)
 
-each_nominated : (plan : Topology) (taken : Taken) → AreNominated plan taken → (lines : List ℕ) → Each (IsTaken plan taken) lines → Each (IsNominated plan) lines
-each_nominated plan taken nominated [] each = tt
-each_nominated plan taken nominated (line ∷ rest) each = (nominated line each.0, each_nominated plan taken nominated rest each.1)
-
 -- a closed walk of nominated lines goes round in hops
 pub walk-circles : (plan : Topology) (taken : Taken) → AreNominated plan taken → (lines : List ℕ) → IsClosedWalk plan taken lines
     → Circles (hops_any plan) lines
 walk-circles plan taken nominated [] walk = walk
 walk-circles plan taken nominated (first ∷ rest) walk =
-    let each = each_nominated plan taken nominated (first ∷ rest) walk.each_taken in
+    let each =
+    Each-map (IsTaken plan taken) (IsNominated plan) nominated (first ∷ rest) walk.each_taken in
     walks-leads (hops_any plan) first rest first (hops_along plan first rest first each each.0 walk.joined)
 
 pub never_loops : (plan : Topology) (rank : ℕ → ℕ) → Rises (hops_any plan) rank → NeverLoops plan

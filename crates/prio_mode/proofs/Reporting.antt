@@ -1,14 +1,11 @@
 -- What a run shows at its end is what the elements take by the rules.
-use Rattle.std.proofs.Common.{◌≡◌, ◌≤◌, ◌<◌, ◌+◌, ℕ, suc, false, List, [], length, Option, None, Some, IfSome, refl, ap, sym, subst, ◌∙◌, inl, inr, arith}
-use Rattle.std.specs.Prelude.{◌++◌, codes, slice_index_or}
+use Rattle.std.proofs.Common.{◌≡◌, ◌≤◌, ◌<◌, ℕ, suc, List, length, Option, None, Some, IfSome, refl, ap, sym, subst, ◌∙◌, inl, inr, arith}
+use Rattle.std.specs.Prelude.{◌++◌, codes}
 use Rattle.std.proofs.Math.Path.{fun_ext}
 use Rattle.std.proofs.lemmas.Bool.{cases_lt}
 use Rattle.std.proofs.Math.ListN.{get_or-map}
 use Rattle.std.proofs.lemmas.List.{get_or_past, length-map}
 use Rattle.std.proofs.lemmas.Option.{slice_get_cases}
-use Rattle.sync_ql.specs.declared.rules.Mode.TheVariants.{Auto}
-use Rattle.sync_ql.specs.declared.rules.ClockState.TheVariants.{FreeRun}
-use Rattle.sync_element.specs.ElementState.{ElementState}
 use Rattle.sync_topo.specs.declared.event.Event.{Event}
 use Rattle.sync_topo.specs.declared.input.InputId.{InputId}
 use Rattle.sync_topo.specs.declared.input.InputId.TheVariants.{Line, Source}
@@ -24,11 +21,12 @@ use Rattle.closed_walks.specs.Taking.{taken_in_list, AreTaken}
 use Rattle.closed_walks.specs.Loops.{AreLoops}
 use Rattle.closed_walks.specs.WalkText.{walk_rows}
 use Rattle.prio_mode.specs.declared.shown.Shown.{Shown}
+use Rattle.prio_mode.specs.declared.shown.Seen.{Seen}
 use Rattle.prio_mode.specs.declared.running.Run.{Run}
 use Rattle.prio_mode.specs.PriorityAlone.{priority_settings, priority_past, priority_taken_at, priority_taken_in}
 use Rattle.prio_mode.specs.PriorityRows.{shown_after, rows_until}
 use Rattle.prio_mode.specs.PriorityReport.{IsPriorityReport}
-use Rattle.prio_mode.specs.Running.{IsRun, RunStands, element_in, shown_in, inputs_shown}
+use Rattle.prio_mode.specs.Running.{IsRun, RunStands, inputs_shown, kept_at, nobody}
 use Rattle.prio_mode.proofs.Standing.{shown-is}
 
 -- an input of the plan is of one of its elements
@@ -39,38 +37,20 @@ element-within plan (Source source) well has = elim (slice_get_cases plan.source
   | inr past ↦ absurd (omega (arith, has, past.0))
 ]
 
-any : Topology → ElementState
-any plan = record {
-  settings = priority_settings plan 0;
-  next = 0;
-  due = None;
-  later_steps = 0;
-  kept = record {
-    inputs = record { watched = []; dues = []; candidates = [] };
-    switches = record { locked = []; forced = None; manual = None };
-    selection = None;
-    was_locked = false;
-  };
-}
-
--- an element that shows nothing of itself
-abbrev nothing : Shown
-nothing = record { mode = Auto; input = None; state = FreeRun }
-
 -- what elements take by what they show
-abbrev taken_shown : List Shown → Taken
-taken_shown shown = taken_in_list (inputs_shown shown)
+abbrev taken_shown : List Seen → Taken
+taken_shown seen = taken_in_list (inputs_shown seen)
 
-shown-input : (shown : List Shown) (e : ℕ) → taken_shown shown e ≡ (slice_index_or shown e nothing).input
-shown-input shown e = get_or-map (λ (one : Shown). one.input) shown e nothing
-
-module _ (plan : Topology) (events : List Event) (until : ℕ) (run : Run) (well : IsWellFormed plan) (is : IsRun plan (until + 1) run) (stood : RunStands plan events (suc until) run) where
-  inside : (e : ℕ) → e < length plan.elements → (shown_in run e nothing).input ≡ priority_taken_in plan (signals_by plan events) until e
+module _ (plan : Topology) (events : List Event) (until : ℕ) (run : Run) (well : IsWellFormed plan)
+    (is : IsRun plan (suc until) run) (stood : RunStands plan events (suc until) run) where
+  inside : (e : ℕ) → e < length plan.elements
+      → (kept_at plan run e).one.shown.input ≡ priority_taken_in plan (signals_by plan events) until
+      e
   unfolding shown_after priority_taken_at
-  inside e within =
-      let ready = is.ready e (any plan) nothing within in
-      ap (λ (shown : Shown). shown.input)
-      (shown-is plan events e (suc until) (element_in run e (any plan)) (shown_in run e nothing) ready.shows (stood e (any plan) within))
+  inside e within = ap (λ (shown : Shown). shown.input)
+      (shown-is plan events e (suc until) (kept_at plan run e).one.element
+      (kept_at plan run e).one.shown
+      (is.ready e within).shows (stood e within))
 
   beyond : (e : ℕ) → length plan.elements ≤ e → (o : Option InputId) → priority_taken_in plan (signals_by plan events) until e ≡ o → o ≡ None
   unfolding priority_taken_at
@@ -81,19 +61,23 @@ module _ (plan : Topology) (events : List Event) (until : ℕ) (run : Run) (well
       let at = of.of_element in
       absurd (omega (arith, within, at, past))
 
-  taken-same : taken_shown run.shown.items ≡ priority_taken_in plan (signals_by plan events) until
-  taken-same = fun_ext (λ e. shown-input run.shown.items e ∙ elim (cases_lt e (length plan.elements)) [
-    | inl within ↦ inside e within
-    | inr past ↦
-        ap (λ (shown : Shown). shown.input) (get_or_past run.shown.items e nothing (let count = is.counted.shown in omega (arith, count, past)))
-        ∙ sym (beyond e past (priority_taken_in plan (signals_by plan events) until e) refl)
-  ])
+  taken-same : taken_shown run.seen.items ≡ priority_taken_in plan (signals_by plan events) until
+  taken-same = fun_ext
+      (λ e. get_or-map (λ (one : Seen). one.shown.input) run.seen.items e (nobody plan)
+      ∙ elim (cases_lt e (length plan.elements)) [
+        | inl within ↦ inside e within
+        | inr past ↦
+            ap (λ (one : Seen). one.shown.input)
+            (get_or_past run.seen.items e (nobody plan)
+            (let count = is.counted.seen in omega (arith, count, past)))
+            ∙ sym (beyond e past (priority_taken_in plan (signals_by plan events) until e) refl)
+      ])
 
   -- each element takes an input of its own
-  pub take-own : AreTaken plan (inputs_shown run.shown.items)
+  pub take-own : AreTaken plan (inputs_shown run.seen.items)
   unfolding priority_taken_at
   take-own = record {
-    count = length-map run.shown.items (λ (one : Shown). one.input) ∙ is.counted.shown;
+    count = length-map run.seen.items (λ (one : Seen). one.shown.input) ∙ is.counted.seen;
     own = λ e. subst (λ (taken : Taken). IfSome (taken e) (IsInputOf plan e)) (sym taken-same) (by e (priority_taken_in plan (signals_by plan events) until e) refl);
   }
     where
@@ -102,12 +86,15 @@ module _ (plan : Topology) (events : List Event) (until : ℕ) (run : Run) (well
       by e (Some input) taken = taken-own plan (priority_settings plan e) e (priority_past plan (signals_by plan events) e (suc until)) input taken
 
   -- the parts that were put are the report
-  pub reported : (shown : List Shown) (first second third whole : List ℕ) → shown ≡ run.shown.items → first ≡ codes "changes\n"
+  pub reported : (seen : List Seen) (first second third whole : List ℕ) → seen ≡ run.seen.items
+      → first ≡ codes "changes\n"
       → second ≡ first ++ rows_until plan events (suc until) → third ≡ second ++ codes "loops\n"
-      → (walks : List (List ℕ)) × AreLoops plan (taken_in_list (inputs_shown shown)) walks × (whole ≡ third ++ walk_rows plan walks)
+      → (walks : List (List ℕ)) × AreLoops plan (taken_in_list (inputs_shown seen)) walks ×
+      (whole ≡ third ++ walk_rows plan walks)
       → IsPriorityReport plan events until whole
-  reported shown first second third whole listed one two three put = record {
+  reported seen first second third whole listed one two three put = record {
     walks = put.0;
-    loops = subst (λ (taken : Taken). AreLoops plan taken put.0) taken-same (subst (λ (xs : List Shown). AreLoops plan (taken_shown xs) put.0) listed put.1);
+    loops = subst (λ (taken : Taken). AreLoops plan taken put.0) taken-same
+        (subst (λ (xs : List Seen). AreLoops plan (taken_shown xs) put.0) listed put.1);
     text_is = put.2 ∙ ap (λ front. front ++ walk_rows plan put.0) (three ∙ ap (λ front. front ++ codes "loops\n") (two ∙ ap (λ front. front ++ rows_until plan events (suc until)) one));
   }

@@ -1,10 +1,12 @@
 -- The first cycle over hops that include returns: none of its lines stands twice, and no two have one receiver.
 use Rattle.std.proofs.Common.{◌≡◌, ◌≢◌, ◌≤◌, ◌<◌, ℕ, List, [], ◌∷◌, map, refl, sym, subst, ◌∙◌, inl, inr, arith}
+use Rattle.sync_text.proofs.Each.{each-all}
+use Rattle.sync_text.specs.Each.{Each}
 use Rattle.sync_topo.specs.Topology.{Topology}
 use Rattle.sync_topo.specs.Lines.{receiver_of}
 use Rattle.sync_topo.specs.Ranks.{HopTest, IsBefore, Leads, IsFirstCycleFrom}
-use Rattle.net_rules.specs.Walks.{Each, AreApart, IsOneOf, Joins}
-use Rattle.net_rules.proofs.EventLaws.{each-all}
+use Rattle.net_rules.specs.Walks.{AreApart, IsOneOf, Joins}
+use Rattle.closed_walks.proofs.Rings.{each-one}
 use Rattle.cycle_plan.proofs.Back.{before_same}
 use Rattle.sync_topo.specs.declared.returns.Returns.TheVariants.{Allowed}
 use Rattle.sync_topo.specs.Hops.{hops_any}
@@ -34,11 +36,6 @@ stand_once R one first (next ∷ rest) end leads fresh = (
       let found = one_before R next rest end next leads.1 again in
       fresh (subst (λ line. IsOneOf line (next ∷ rest)) (one next found.0 first found.1 leads.0) found.2)),
 )
-
-not_lower : (n : ℕ) (xs : List ℕ) → Each (λ other. n < other) xs → IsOneOf n xs → ⊥
-not_lower n [] above among = among
-not_lower n (x ∷ xs) above (inl same) = absurd (omega (arith, above.0, same))
-not_lower n (x ∷ xs) above (inr more) = not_lower n xs above.1 more
 
 -- each line of the ring is before another
 abbrev pub IsFollowed : HopTest → ℕ → Type 0
@@ -77,7 +74,10 @@ receivers_apart plan (line ∷ rest) each apart =
 pub ring_apart : (hop : HopTest) (line : ℕ) (rest : List ℕ) → IsFirstCycleFrom hop line rest → AreApart (line ∷ rest)
 ring_apart hop line rest cycle =
     stand_once (IsBefore hop) (λ x one other. before_same hop x one other) line rest line cycle.ring
-    (not_lower line rest (each-all (λ other. line < other) rest cycle.lowest))
+    (λ among.
+    let above = each-one (λ other. line < other) rest line
+    (each-all (λ other. line < other) rest cycle.lowest) among in
+    omega (arith, above))
 
 pub ring_joins : (plan : Topology) (first : ℕ) (rest : List ℕ) (end : ℕ) → Leads (IsBefore (hops_any plan)) first rest end → Leads (Joins plan) first rest end
 ring_joins plan first [] end leads = (hop-meets Allowed plan first end leads.hops).joined

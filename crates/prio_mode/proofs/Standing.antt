@@ -1,6 +1,7 @@
 -- What an element stands for, by what it is told, and what it shows.
-use Rattle.std.proofs.Common.{◌≡◌, ℕ, zero, suc, true, false, List, [], Some, slice_get, refl, ap, sym, ◌∙◌}
-use Rattle.std.specs.Prelude.{unwrap_or, if◌then◌else◌}
+use Rattle.std.proofs.Common.{◌≡◌, ◌<◌, ℕ, zero, suc, true, false, List, [], Some, length, slice_get, refl, ap, sym, ◌∙◌}
+use Rattle.std.specs.Prelude.{slice_index_or, unwrap_or, if◌then◌else◌}
+use Rattle.std.specs.List.{All}
 use Rattle.sync_ql.specs.declared.rules.InputEvent.{InputEvent}
 use Rattle.sync_ql.specs.declared.rules.InputEvent.TheVariants as tell
 use Rattle.sync_ql.specs.Pasts.{past_of}
@@ -17,7 +18,9 @@ use Rattle.net_rules.specs.Signals.{signals_by, events_at, last_word, says_up as
 use Rattle.net_rules.specs.History.{settings_of}
 use Rattle.net_rules.specs.Settings.{signal_at}
 use Rattle.net_rules.proofs.SettingLaws.{level_until, IsSaid, told-by}
+use Rattle.sync_topo.specs.WellFormed.{IsWellFormed}
 use Rattle.net_words.specs.Words.{all_words}
+use Rattle.net_words.proofs.FitLaws.{all-fit}
 use Rattle.net_words.proofs.SplitWords.{word-until, past-up}
 use Rattle.net_words.proofs.WordLaws.{all-up, all-level, all-clear, all-commands}
 use Rattle.shown_words.proofs.SameLaws.{same-mode, same-state, same-taken}
@@ -82,9 +85,18 @@ no-row plan t place was shown same =
     ap (λ other. row_between plan t place other shown) same ∙ ap (λ b. if b then change_row plan t place shown else []) (not-other shown)
 
 -- words that fit an element by the plan fit it where priority alone counts
-pub fits-same : (plan : Topology) (place : ℕ) (event : InputEvent) → FitsElement (settings_of plan place) event → FitsElement (priority_settings plan place) event
+fits-same : (plan : Topology) (place : ℕ) (event : InputEvent)
+    → FitsElement (settings_of plan place) event → FitsElement (priority_settings plan place) event
 unfolding settings_of priority_settings
 fits-same plan place (tell.Signal i up) fits = fits
 fits-same plan place (tell.Heard i level) fits = fits
 fits-same plan place (tell.ClearWtr i) fits = fits
 fits-same plan place (tell.Command command) fits = fits
+
+-- so do the words that events of the plan say
+pub words-fit : (plan : Topology) (here : List Event) (e : ℕ) → IsWellFormed plan
+    → e < length plan.elements
+    → All (FitsElement (priority_settings plan e)) (all_words plan here e)
+words-fit plan here e well within k d inside =
+    fits-same plan e (slice_index_or (all_words plan here e) k d)
+    (all-fit plan e well within here k d inside)

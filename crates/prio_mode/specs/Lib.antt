@@ -7,5 +7,4 @@ pub mod ForcedText
 pub mod PriorityRows
 pub mod PriorityReport
 pub mod Running
-pub mod Configured
-pub mod EventTimes
+pub mod Visiting

@@ -18,7 +18,6 @@
 #![tactic(auto)]
 
 mod checking;
-mod events;
 mod forced;
 mod laws;
 mod loops;

@@ -1,86 +1,64 @@
 //! A run of a network of elements that choose by priority alone.
 
-ghost use Rattle.std.specs.Prelude.{◌≡◌, ◌≤◌, ◌<◌, ◌+◌, ◌++◌, ℕ, suc, true, false, List, OnOk, IfSome, All, length, slice_index_or};
-ghost use Rattle.sync_ql.specs.Told.{FitsElement};
-ghost use Rattle.sync_element.specs.ElementState.{ElementState};
+ghost use Rattle.std.specs.Prelude.{◌≡◌, ◌≤◌, ◌<◌, ◌+◌, ◌++◌, ℕ, suc, true, nat_eq, List, OnOk, All, length};
+ghost use Rattle.std.specs.List.{IsDistinct};
+ghost use Rattle.agenda.specs.Called.{is_marked};
 ghost use Rattle.sync_topo.specs.declared.event.Event.{Event};
 ghost use Rattle.sync_topo.specs.Events.{Fits};
-ghost use Rattle.net_words.specs.Tellings.{told_to, is_active, is_something};
-ghost use Rattle.prio_mode.specs.declared.shown.Shown.{Shown};
-ghost use Rattle.prio_mode.specs.EventTimes.{AreFrom};
-ghost use Rattle.prio_mode.specs.PriorityAlone.{priority_settings};
-ghost use Rattle.prio_mode.specs.PriorityRows.{rows_in, rows_until};
-ghost use Rattle.prio_mode.specs.Running.{AreCounted, IsRun, RunStands, IsReady, AreHere, IsVisited, element_in, shown_in};
+ghost use Rattle.event_times.specs.EventTimes.{AreHere, AreTold, AreWithin};
+ghost use Rattle.prio_mode.specs.Running.{AreCounted, IsRun, RunStands, HasRun, kept_at};
+ghost use Rattle.prio_mode.specs.Visiting.{CanStep, IsAloneVisited, AreVisited, AreCalled};
 
-use crate::events::{next_time, split_at_time};
 use crate::rows::put_if_other;
-use crate::shown::Shown;
+use crate::shown::Seen;
 use crate::stepping::step_told;
+use agenda::{DueTimes, Marks, first_due, in_order, mark_all, mark_due};
+use event_times::{next_time, split_at_time};
 use net_words::{Tellings, tell_events};
 use std::alloc::Global;
-use sync_element::Element;
 use sync_ql::limits::LAST_MILLISECOND;
 use sync_text::{NoMemory, Text};
 use sync_topo::{Event, Plan};
 
-/// The elements, what each shows, and what each is told.
+/// The elements with what each showed last, what each is told, and when each is due.
 #[derive(Debug, Drop)]
 pub(crate) struct Run {
-    pub(crate) elements: Vec<Element>,
-    pub(crate) shown: Vec<Shown>,
+    pub(crate) seen: Vec<Seen>,
     pub(crate) tellings: Tellings,
+    pub(crate) dues: DueTimes,
 }
 
-/// The first time at which an element is due.
-fn first_due(elements: &[Element]) -> Option<u64>
-    ensures until { (place : ℕ) (other : ElementState) → place < length elements.now →
-        (n : ℕ) → IfSome result (λ first. n ≤ first) →
-        IfSome (slice_index_or elements.now place other).due (λ due. n ≤ due) }
-    ensures from { (n : ℕ) → ((place : ℕ) (other : ElementState) → place < length elements.now →
-        IfSome (slice_index_or elements.now place other).due (λ due. n ≤ due)) →
-        IfSome result (λ first. n ≤ first) }
+/// Marks all elements in the first millisecond.
+fn mark_first(plan: &Plan, marks: &mut Marks, now: u64)
+    requires count { length marks.old.flags ≡ length plan.now.elements }
+    ensures count { length marks.new.flags ≡ length marks.old.flags }
+    ensures first { now ≡ 0 → (e : ℕ) → e < length plan.now.elements →
+        is_marked marks.new.flags e ≡ true }
 {
-    let mut first = None;
-    for element in elements {
-        first = earlier_due(first, element.due());
-    }
-    first
-}
-
-/// The earlier of two times, where there are some.
-fn earlier_due(one: Option<u64>, other: Option<u64>) -> Option<u64>
-    ensures until { (n : ℕ) → IfSome result (λ first. n ≤ first) →
-        IfSome one (λ due. n ≤ due) × IfSome other (λ due. n ≤ due) }
-    ensures from { (n : ℕ) → IfSome one (λ due. n ≤ due) → IfSome other (λ due. n ≤ due) →
-        IfSome result (λ first. n ≤ first) }
-{
-    match (one, other) {
-        (Some(a), Some(b)) if b < a => Some(b),
-        (None, _) => other,
-        _ => one,
+    if now == 0 {
+        mark_all(marks, plan.elements());
     }
 }
 
 impl Run {
-    /// An element has something to do: it is the first millisecond, or it is told something or due.
-    fn has_work(&self, place: u32, now: u64) -> bool
-        requires element { place < length self.now.elements.items }
-        requires flag { place < length self.now.tellings.active.flags }
-        ensures first { now ≡ 0 → result ≡ true }
-        ensures told { is_active self.now.tellings place ≡ true → result ≡ true }
-        ensures due { (other : ElementState) →
-            IfSome (element_in self.now place other).due (λ due. now ≤ due → result ≡ false → now + 1 ≤ due) }
+    /// Marks the elements that have something to do in a millisecond, and tells them what events
+    /// say.
+    fn call(&mut self, plan: &Plan, now: u64, here: &[Event]) -> Result<(), NoMemory>
+        requires run { IsRun plan.now now self.old }
+        requires fit { All (Fits plan.now) here.now }
+        ensures called { OnOk result (AreCalled plan.now now here.now self.old self.new) }
+        ensures can_step { OnOk result ((e : ℕ) → e < length plan.now.elements →
+            CanStep plan.now now e (kept_at plan.now self.new e)) }
     {
-        if now == 0 {
-            return true;
-        }
-        if self.tellings.active.is_marked(place) {
-            return true;
-        }
-        self.elements[place as usize].due() == Some(now)
+        self.tellings.active.clear();
+        mark_first(plan, &mut self.tellings.active, now);
+        mark_due(&mut self.dues, &mut self.tellings.active, now);
+        tell_events(plan, &mut self.tellings, here)?;
+        let _elements = plan.elements();
+        Ok(())
     }
 
-    /// Looks at one element in a millisecond, and writes its change.
+    /// Lets one element make its step, and writes its change.
     fn visit(
         &mut self,
         alloc: Global,
@@ -92,30 +70,43 @@ impl Run {
         requires counted { AreCounted plan.now self.old }
         requires within { place < length plan.now.elements }
         requires in_range { now ≤ LAST_MILLISECOND }
-        requires ready { (element : ElementState) (shown : Shown) →
-            IsReady plan.now place now (element_in self.old place element) (shown_in self.old place shown) }
-        requires flag { is_active self.old.tellings place ≡ is_something (told_to self.old.tellings place) }
-        requires fits { All (FitsElement (priority_settings plan.now place)) (told_to self.old.tellings place) }
-        ensures { OnOk result (IsVisited plan.now now place (told_to self.old.tellings place)
-            self.old self.new text.old text.new) }
+        requires can_step { CanStep plan.now now place (kept_at plan.now self.old place) }
+        ensures { OnOk result
+            (IsAloneVisited plan.now now place self.old self.new text.old text.new) }
     {
-        if !self.has_work(place, now) {
-            return Ok(());
-        }
         let i = place as usize;
-        let shown = step_told(
-            plan,
-            place,
-            &mut self.elements[i],
-            &mut self.tellings.changes[i],
-            now,
-        );
-        let was = self.shown[i];
-        self.shown[i] = shown;
+        let was = self.seen[i].shown;
+        let changes = &mut self.tellings.changes[i];
+        let (shown, due) = step_told(plan, place, &mut self.seen[i], changes, now);
+        self.dues.set(place, due);
         put_if_other(alloc, text, plan, now, place, was, shown)
     }
 
-    /// Makes a millisecond, in which these events stand.
+    /// Lets some elements do so, one after another.
+    fn visit_all(
+        &mut self,
+        alloc: Global,
+        plan: &Plan,
+        order: &[u32],
+        now: u64,
+        text: &mut Text,
+    ) -> Result<(), NoMemory>
+        requires counted { AreCounted plan.now self.old }
+        requires within { All (λ e. e < length plan.now.elements) order.now }
+        requires apart { IsDistinct nat_eq order.now }
+        requires in_range { now ≤ LAST_MILLISECOND }
+        requires can_step { (e : ℕ) → e < length plan.now.elements →
+            CanStep plan.now now e (kept_at plan.now self.old e) }
+        ensures { OnOk result
+            (AreVisited plan.now now order.now self.old self.new text.old text.new) }
+    {
+        for place in order {
+            self.visit(alloc, plan, *place, now, text)?;
+        }
+        Ok(())
+    }
+
+    /// Makes a millisecond, in which these events stand: only what has something to do is visited.
     fn turn(
         &mut self,
         alloc: Global,
@@ -127,16 +118,14 @@ impl Run {
         requires run { IsRun plan.now now self.old }
         requires in_range { now ≤ LAST_MILLISECOND }
         requires fit { All (Fits plan.now) here.now }
-        ensures run { OnOk result (IsRun plan.now (now + 1) self.new) }
-        ensures stands { OnOk result ((all : List Event) → AreHere plan.now all now here.now →
-            RunStands plan.now all now self.old →
-            RunStands plan.now all (suc now) self.new × (text.new ≡ text.old ++ rows_in plan.now all now)) }
+        ensures run { OnOk result (IsRun plan.now (suc now) self.new) }
+        ensures stands { OnOk result ((all : List Event) (first : List ℕ) →
+            AreHere plan.now all now here.now → HasRun plan.now all now self.old first text.old →
+            HasRun plan.now all (suc now) self.new first text.new) }
     {
-        tell_events(plan, &mut self.tellings, here)?;
-        for place in 0..plan.elements() {
-            self.visit(alloc, plan, place, now, text)?;
-        }
-        self.tellings.active.clear();
+        self.call(plan, now, here)?;
+        let order = in_order(alloc, &self.tellings.active)?;
+        self.visit_all(alloc, plan, order.as_slice(), now, text)?;
         Ok(())
     }
 
@@ -150,17 +139,17 @@ impl Run {
         text: &mut Text,
     ) -> Result<(), NoMemory>
         requires run { IsRun plan.now 0 self.old }
-        requires from { AreFrom plan.now 0 events.now }
-        requires stands { RunStands plan.now events.now 0 self.old }
+        requires within { AreWithin plan.now 0 until events.now }
         requires in_range { until ≤ LAST_MILLISECOND }
-        ensures run { OnOk result (IsRun plan.now (until + 1) self.new) }
-        ensures stands { OnOk result (RunStands plan.now events.now (suc until) self.new) }
-        ensures text { OnOk result (text.new ≡ text.old ++ rows_until plan.now events.now (suc until)) }
+        ensures run { OnOk result (IsRun plan.now (suc until) self.new) }
+        ensures stands { OnOk result ((all : List Event) → AreTold plan.now all 0 until events.now →
+            RunStands plan.now all 0 self.old →
+            HasRun plan.now all (suc until) self.new text.old text.new) }
     {
         let mut next = 0;
         let mut rest = events;
         while next <= until {
-            let now = next_time(next, rest, first_due(self.elements.as_slice()), until);
+            let now = next_time(next, rest, first_due(&self.dues), until);
             let (here, later) = split_at_time(rest, now);
             self.turn(alloc, plan, now, here, text)?;
             rest = later;

@@ -1,10 +1,11 @@
 //! What an element shows of itself.
 
-ghost use Rattle.std.specs.Prelude.{◌≡◌, ◌<◌, length, option_and_then, slice_get};
+ghost use Rattle.std.specs.Prelude.{◌≡◌, ◌<◌, length};
 ghost use Rattle.prio_mode.specs.PriorityAlone.{priority_settings};
 ghost use Rattle.prio_mode.specs.PriorityRows.{is_other};
 ghost use Rattle.prio_mode.specs.Running.{Shows};
 
+use net_words::taken_of;
 use shown_words::{is_same_mode, is_same_state, is_same_taken};
 use sync_element::Element;
 use sync_ql::rules::{ClockState, Mode};
@@ -18,7 +19,15 @@ pub(crate) struct Shown {
     pub(crate) state: ClockState,
 }
 
+/// An element, and what it showed last.
+#[derive(Debug, Drop)]
+pub(crate) struct Seen {
+    pub(crate) element: Element,
+    pub(crate) shown: Shown,
+}
+
 /// What an element of the plan shows.
+#[tactic(auto, unfolding(crate::specs::PriorityRows::shown_after))]
 pub(crate) fn shown_of(plan: &Plan, place: u32, element: &Element) -> Shown
     requires within { place < length plan.now.elements }
     requires settings { element.now.settings ≡ priority_settings plan.now place }
@@ -26,18 +35,8 @@ pub(crate) fn shown_of(plan: &Plan, place: u32, element: &Element) -> Shown
 {
     Shown {
         mode: element.mode(),
-        input: input_at(plan.inputs(place), element.selected()),
+        input: taken_of(plan, place, element),
         state: element.state(),
-    }
-}
-
-/// The input at a place.
-fn input_at(inputs: &[InputId], place: Option<u32>) -> Option<InputId>
-    ensures { result ≡ option_and_then (slice_get inputs.now) place }
-{
-    match place {
-        Some(place) => inputs.get(place as usize).copied(),
-        None => None,
     }
 }
 

@@ -6,6 +6,7 @@ ghost use Rattle.prio_mode.specs.PriorityReport.{IsPriorityReport};
 
 use crate::loops::put_loops;
 use crate::starting::new_run;
+use event_times::events_until;
 use std::alloc::Global;
 use sync_ql::limits::LAST_MILLISECOND;
 use sync_text::{NoMemory, Text};
@@ -27,8 +28,9 @@ pub fn prio_sim(alloc: Global, plan: &Plan, events: &[Event], until: u64) -> Res
     let mut text = Text::new(alloc);
     text.put(b"changes\n")?;
     let mut run = new_run(alloc, plan)?;
-    run.advance(alloc, plan, events, until, &mut text)?;
+    let told = events_until(events, until);
+    run.advance(alloc, plan, told, until, &mut text)?;
     text.put(b"loops\n")?;
-    put_loops(alloc, &mut text, plan, run.shown.as_slice())?;
+    put_loops(alloc, &mut text, plan, run.seen.as_slice())?;
     Ok(text)
 }

@@ -1,17 +1,16 @@
 //! A run before its first millisecond.
 
-ghost use Rattle.std.specs.Prelude.{◌≡◌, ◌<◌, ℕ, List, IfOk, length};
+ghost use Rattle.std.specs.Prelude.{◌<◌, ℕ, List, IfOk, length};
 ghost use Rattle.sync_topo.specs.declared.event.Event.{Event};
-ghost use Rattle.net_words.specs.NewElements.{AreEach, IsNewElement, by_priority};
-ghost use Rattle.prio_mode.specs.Configured.{AreShown};
-ghost use Rattle.prio_mode.specs.Running.{IsRun, RunStands};
+ghost use Rattle.net_words.specs.NewElements.{AreEach};
+ghost use Rattle.prio_mode.specs.Running.{IsNewSeen, IsRun, RunStands};
 
 use crate::running::Run;
-use crate::shown::{Shown, shown_of};
-use net_words::{Chooses, new_elements, new_tellings};
+use crate::shown::{Seen, shown_of};
+use agenda::DueTimes;
+use net_words::{Chooses, new_element, new_tellings};
 use std::alloc::Global;
-use sync_element::Element;
-use sync_text::NoMemory;
+use sync_text::{NoMemory, Rows};
 use sync_topo::Plan;
 
 /// A run of a plan, in which nothing was told.
@@ -19,27 +18,34 @@ pub(crate) fn new_run(alloc: Global, plan: &Plan) -> Result<Run, NoMemory>
     ensures run { IfOk result (IsRun plan.now 0) }
     ensures stands { IfOk result (λ run. (all : List Event) → RunStands plan.now all 0 run) }
 {
-    let elements = new_elements(alloc, plan, Chooses::ByPriority)?;
-    let shown = first_shown(alloc, plan, elements.as_slice())?;
+    let seen = all_seen(alloc, plan)?;
     let tellings = new_tellings(alloc, plan)?;
+    let dues = DueTimes::new(alloc, plan.elements() as usize)?;
     Ok(Run {
-        elements,
-        shown,
+        seen,
         tellings,
+        dues,
     })
 }
 
-/// What each element shows before it is told anything.
-fn first_shown(alloc: Global, plan: &Plan, elements: &[Element]) -> Result<Vec<Shown>, NoMemory>
-    requires new { AreEach (IsNewElement (by_priority plan.now) plan.now) (length plan.now.elements) elements.now }
-    ensures { IfOk result (λ shown. AreShown plan.now elements.now (length plan.now.elements) shown.items) }
+/// The elements, with what each shows before it is told anything.
+fn all_seen(alloc: Global, plan: &Plan) -> Result<Vec<Seen>, NoMemory>
+    ensures { IfOk result
+        (λ seen. AreEach (IsNewSeen plan.now) (length plan.now.elements) seen.items) }
 {
-    let mut shown = Vec::new(alloc);
+    let mut seen = Rows::with_capacity(alloc, plan.elements() as usize)?;
     for place in 0..plan.elements() {
-        let now = shown_of(plan, place, &elements[place as usize]);
-        let Ok(()) = shown.push(now) else {
-            return Err(NoMemory);
-        };
+        seen.push(new_seen(alloc, plan, place)?)?;
     }
-    Ok(shown)
+    Ok(seen.into_vec())
+}
+
+/// One element, with what it shows.
+fn new_seen(alloc: Global, plan: &Plan, place: u32) -> Result<Seen, NoMemory>
+    requires { place < length plan.now.elements }
+    ensures { IfOk result (IsNewSeen plan.now place) }
+{
+    let element = new_element(alloc, plan, place, Chooses::ByPriority)?;
+    let shown = shown_of(plan, place, &element);
+    Ok(Seen { element, shown })
 }

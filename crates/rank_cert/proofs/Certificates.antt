@@ -6,15 +6,17 @@ use Rattle.std.specs.Option.{option_and_then, option_map_or}
 use Rattle.std.proofs.lemmas.Bool.{true≢false}
 use Rattle.std.proofs.lemmas.Bool.Decides.{eqb_tells}
 use Rattle.std.proofs.lemmas.Option.{none-some, same_Some}
+use Rattle.csv_records.specs.FirstRefusal.{first_refusal}
+use Rattle.sync_text.proofs.Ranges.{find_range-None}
 use Rattle.csv_records.specs.Fields.{pair_of}
 use Rattle.sync_topo.specs.declared.input.LineId.{LineId}
 use Rattle.sync_topo.specs.Topology.{Topology}
 use Rattle.sync_topo.specs.Lines.{line_count, is_nominated, IsNominated, line_of_name}
-use Rattle.sync_topo.proofs.LineLaws.{IsNominated-within, find_range-None}
+use Rattle.sync_topo.proofs.LineLaws.{IsNominated-within}
 use Rattle.rank_cert.specs.declared.error.CertErr.TheVariants.{Missing}
 use Rattle.rank_cert.specs.Ranks.{Ranks, rank_at, IsRanked, RanksNoOther}
 use Rattle.rank_cert.specs.Rows.{Fields, line_in_row, if_nominated, is_row_of, rank_by_rows, ranks_by_rows}
-use Rattle.rank_cert.specs.CertificateText.{is_header, refusal_at, first_refusal, first_without, certificate_of_records}
+use Rattle.rank_cert.specs.CertificateText.{is_header, refusal_at, first_without, certificate_of_records}
 use Rattle.rank_cert.specs.RowsTaken.{AreRanksBy}
 
 -- no line has a rank before the first row

@@ -7,18 +7,13 @@ use Rattle.std.proofs.lemmas.Bool.{cases_lt, and_parts, true≢false}
 use Rattle.std.proofs.lemmas.Bool.Decides.{eqb_tells}
 use Rattle.std.proofs.lemmas.Option.{slice_get_within, slice_get-map, same_Some, none-some}
 use Rattle.std.proofs.lemmas.Slice.Eq.{bytes_eq-Decides}
+use Rattle.sync_text.proofs.Ranges.{find_range-first}
+use Rattle.sync_topo.proofs.Lists.{item_at}
 use Rattle.sync_topo.specs.declared.link.Link.{Link}
 use Rattle.sync_topo.specs.Topology.{Topology}
 use Rattle.sync_topo.specs.Lines.{line_count, receiver_of, line_name, line_of_name, element_name, ends_at_b}
 use Rattle.sync_topo.specs.Names.{is_name, is_name_byte}
 use Rattle.sync_topo.specs.WellFormed.{IsWellFormed, AreDistinct}
-use Rattle.rank_cert.proofs.Searches.{find_range-first}
-
--- a list has an item at each place below its length
-pub item_at : {A : Type 0} (xs : List A) (n : ℕ) → n < length xs → (x : A) × (slice_get xs n ≡ Some x)
-item_at [] n within = absurd (omega (arith, within))
-item_at (x ∷ xs) zero within = (x, refl)
-item_at (x ∷ xs) (suc n) within = item_at xs n (omega (arith, within))
 
 -- what passes all items passes each
 pub passes_at : {A : Type 0} (test : A → Bool) (xs : List A) (n : ℕ) (x : A) → list_all test xs ≡ true → slice_get xs n ≡ Some x → test x ≡ true

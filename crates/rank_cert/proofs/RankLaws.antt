@@ -4,6 +4,7 @@ use Rattle.std.specs.Prelude.{◌⊎◌, if◌then◌else◌}
 use Rattle.std.specs.Option.{option_map}
 use Rattle.std.specs.Cmp.Derive.{both_true}
 use Rattle.std.proofs.lemmas.Bool.{and_parts, true≢false, cases_lt, leb-true, le-leb, ltb-false, ltb-true}
+use Rattle.sync_text.proofs.Ranges.{find_range-Some, find_range-None}
 use Rattle.sync_topo.specs.Topology.{Topology}
 use Rattle.sync_topo.specs.declared.input.LineId.{LineId}
 use Rattle.sync_topo.specs.Lines.{line_count}
@@ -11,7 +12,6 @@ use Rattle.sync_topo.specs.Hops.{hops_by, HopsBy, IsRising, IsWalk, IsCycle}
 use Rattle.sync_topo.specs.Ranks.{Rises}
 use Rattle.sync_topo.specs.declared.returns.Returns.{Returns}
 use Rattle.sync_topo.proofs.HopLaws.{lines-of-hop}
-use Rattle.sync_topo.proofs.LineLaws.{find_range-Some, find_range-None}
 use Rattle.rank_cert.specs.Ranks.{Ranks, rank_of, IsFirstFallOver}
 use Rattle.rank_cert.specs.FirstFall.{falls, first_to, earlier, IsFirstBelow}
 

@@ -7,18 +7,21 @@ use Rattle.std.proofs.lemmas.Bool.{true≢false, and_parts, cases_lt}
 use Rattle.std.proofs.lemmas.Bool.Decides.{eqb_tells}
 use Rattle.std.proofs.lemmas.Option.{none-some, same_Some, slice_get_within, slice_get_past}
 use Rattle.std.proofs.lemmas.List.{length-map}
+use Rattle.sync_topo.proofs.Lists.{item_at}
+use Rattle.csv_records.specs.FirstRefusal.{first_refusal}
+use Rattle.sync_text.proofs.Ranges.{find_range-Some, find_range-None}
+use Rattle.sync_text.proofs.Options.{is_some-false}
 use Rattle.sync_topo.specs.declared.input.LineId.{LineId}
 use Rattle.sync_topo.specs.Topology.{Topology}
 use Rattle.sync_topo.specs.Lines.{line_count, is_nominated, IsNominated}
-use Rattle.sync_topo.proofs.LineLaws.{IsNominated-within, find_range-Some, find_range-None}
+use Rattle.sync_topo.proofs.LineLaws.{IsNominated-within}
 use Rattle.rank_cert.specs.declared.error.CertErr.{CertErr}
 use Rattle.rank_cert.specs.declared.error.CertErr.TheVariants.{Header, Row, Line, Twice, Missing, NoMemory}
 use Rattle.rank_cert.specs.Ranks.{Ranks, rank_at}
 use Rattle.rank_cert.specs.Rows.{Fields, rank_in_row, line_in_row, is_row_of, rank_for, rank_by_rows, ranks_by_rows}
-use Rattle.rank_cert.specs.CertificateText.{is_header, refusal_of, row_refusal, refusal_at, first_refusal, first_without, certificate_of_records}
+use Rattle.rank_cert.specs.CertificateText.{is_header, refusal_of, row_refusal, refusal_at, first_without, certificate_of_records}
 use Rattle.rank_cert.specs.Refusal.{Gives}
 use Rattle.rank_cert.specs.Rules.{row_at, HasLine, HasRow, IsSoundRow, IsSoundBefore, IsReached, IsFirstBroken, NamesLine, IsCertificateOf}
-use Rattle.rank_cert.proofs.OwnNames.{item_at}
 use Rattle.rank_cert.proofs.Certificates.{is_row_of-line, rank_by_rows-other}
 
 -- a row of a line is one
@@ -119,10 +122,6 @@ passes n is_taken (Some rank) (Some line) none = record { has_rank = refl; its_l
     free true e = absurd (none-some _ (sym e))
     free false e = refl
 
-nothing : {A : Type 0} (o : Option A) → is_some o ≡ false → o ≡ None
-nothing None e = refl
-nothing (Some x) e = absurd (true≢false e)
-
 has_rank-not : (o : Option ℕ) → IsSome o → o ≡ None → ⊥
 has_rank-not None some none = true≢false (sym some)
 has_rank-not (Some rank) some none = none-some rank (sym none)
@@ -141,7 +140,7 @@ sound-row plan first rows place row at none before =
       is_new = λ earlier before_it of_line.
           let found = row_at-line plan first rows earlier own.its_line of_line in
           let inside : slice_get (take place rows) found.0 ≡ Some found.1 = slice_get-take rows place found.0 found.1 (omega (arith, found.2)) found.3 in
-          let lost = no_row-of plan (take place rows) own.its_line found.0 found.1 (nothing _ own.is_free) inside found.4 in
+          let lost = no_row-of plan (take place rows) own.its_line found.0 found.1 (is_some-false _ own.is_free) inside found.4 in
           let ranked : IsSome (rank_in_row found.1) = rw (found.2, row_at-place first rows found.0 found.1 found.3) at (before earlier of_line.0 before_it) in
           has_rank-not (rank_in_row found.1) ranked lost;
     }
@@ -167,7 +166,7 @@ never-refuses : {E : Type 0} (refused_at : ℕ → Option E) (count : ℕ) → f
 never-refuses refused_at count none place within = cases (find (λ i. is_some (refused_at i)) (range_with_len 0 count)) refl none
   where
     cases : (o : Option ℕ) → find (λ i. is_some (refused_at i)) (range_with_len 0 count) ≡ o → option_and_then refused_at o ≡ None → refused_at place ≡ None
-    cases None f is = nothing (refused_at place) (find_range-None (λ i. is_some (refused_at i)) 0 count f place (omega arith) (omega arith))
+    cases None f is = is_some-false (refused_at place) (find_range-None (λ i. is_some (refused_at i)) 0 count f place (omega arith) (omega arith))
     cases (Some k) f is =
         let facts = find_range-Some (λ i. is_some (refused_at i)) 0 count k f in
         let never : false ≡ true = rw is at facts.0 in
@@ -230,7 +229,7 @@ refuses-first refused_at count e found = cases (find (λ place. is_some (refused
     cases None f is = absurd (none-some e is)
     cases (Some place) f is =
         let facts = find_range-Some (λ i. is_some (refused_at i)) 0 count place f in
-        record { place = place; within = omega (arith, facts.3); refused = is; before = λ i less. nothing (refused_at i) (facts.1 i (omega arith) less) }
+        record { place = place; within = omega (arith, facts.3); refused = is; before = λ i less. is_some-false (refused_at i) (facts.1 i (omega arith) less) }
 
 -- the ranks by rows, line by line
 rank_at-by_rows : (plan : Topology) (rows : List Fields) (line : ℕ) → line < line_count plan → rank_at (ranks_by_rows plan rows) line ≡ rank_by_rows plan rows line
@@ -276,11 +275,11 @@ no-row plan first rows line sound none = λ has.
     let ranked : IsSome (rank_in_row found.1) = rw (found.2, row_at-place first rows found.0 found.1 found.3) at own.has_rank in
     has_rank-not (rank_in_row found.1) ranked lost
 
-is_none-of : (o : Option ℕ) → is_none o ≡ true → o ≡ None
+pub is_none-of : (o : Option ℕ) → is_none o ≡ true → o ≡ None
 is_none-of None e = refl
 is_none-of (Some rank) e = absurd (true≢false (sym e))
 
-some-rank : (o : Option ℕ) → is_none o ≡ false → (rank : ℕ) × (o ≡ Some rank)
+pub some-rank : (o : Option ℕ) → is_none o ≡ false → (rank : ℕ) × (o ≡ Some rank)
 some-rank None e = absurd (true≢false e)
 some-rank (Some rank) e = (rank, refl)
 

@@ -6,6 +6,7 @@ use Rattle.std.specs.Fmt.{decimal}
 use Rattle.std.proofs.lemmas.Bool.{true≢false, and_parts, leb-true}
 use Rattle.std.proofs.lemmas.List.{length-append}
 use Rattle.std.proofs.lemmas.Fmt.{length-decimal-le}
+use Rattle.sync_topo.proofs.NameLaws.{name-short}
 use Rattle.sync_topo.specs.Topology.{Topology}
 use Rattle.sync_topo.specs.Lines.{line_count, is_nominated, line_name, element_name, receiver_of}
 use Rattle.sync_topo.specs.Names.{is_name}
@@ -27,10 +28,6 @@ rows-short p row size a (suc n) short = cases (p a) refl (rows-short p row size 
         let here = short a (omega arith) e in
         rw (e, length-append (row a) (concat (map row (filter p (range_with_len (a + 1) n))))) (omega (arith, here, rest))
     cases false e rest = rw e (omega (arith, rest))
-
--- a name has at most 32 bytes
-name-short : (name : List ℕ) → is_name name ≡ true → length name ≤ 32
-name-short name named = leb-true _ _ (and_parts _ _ (and_parts _ _ named).0).1
 
 element-short : (plan : Topology) (element : ℕ) → IsWellFormed plan → element < length plan.elements → length (element_name plan element) ≤ 32
 element-short plan element well within =

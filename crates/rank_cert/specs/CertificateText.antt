@@ -4,6 +4,7 @@ use Rattle.std.specs.Option.{option_and_then}
 use Rattle.std.specs.List.{range_with_len, concat}
 use Rattle.std.specs.Str.{bytes_eq}
 use Rattle.std.specs.Fmt.{decimal}
+use Rattle.csv_records.specs.FirstRefusal.{first_refusal}
 use Rattle.csv_records.specs.Records.{records_of}
 use Rattle.sync_topo.specs.Topology.{Topology}
 use Rattle.sync_topo.specs.Lines.{line_count, line_name, is_nominated}
@@ -31,10 +32,6 @@ row_refusal plan earlier n row = refusal_of n (λ line. is_some (rank_by_rows pl
 -- the same of the row at a place. Places count from 0, and the numbers of rows from 1
 abbrev pub refusal_at : Topology → List Fields → ℕ → Option CertErr
 refusal_at plan rows place = option_and_then (row_refusal plan (take place rows) (place + 1)) (slice_get rows place)
-
--- the first refusal at one of so many places
-abbrev pub first_refusal : {E : Type 0} → (ℕ → Option E) → ℕ → Option E
-first_refusal refusal_at count = option_and_then refusal_at (find (λ place. is_some (refusal_at place)) (range_with_len 0 count))
 
 -- the lowest-numbered nominated line without a rank
 abbrev pub first_without : Topology → Ranks → Option ℕ

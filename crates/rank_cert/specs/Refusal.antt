@@ -1,5 +1,6 @@
 -- What a refusal of a certificate is printed with, and what a call answers that may refuse.
-use Rattle.std.specs.Prelude.{◌≡◌, ℕ, ⊤, Option, Some, None, Result, Ok, Err}
+use Rattle.std.specs.Prelude.{ℕ, Bool, true, false, Option, Some, None, Result}
+use Rattle.sync_text.specs.Gives.{GivesBut, RefusesBut}
 use Rattle.rank_cert.specs.declared.error.CertErr.{CertErr}
 use Rattle.rank_cert.specs.declared.error.CertErr.TheVariants.{Header, Row, Line, Twice, Missing, NoMemory}
 
@@ -12,16 +13,15 @@ refusal_number (Twice n) = Some 37
 refusal_number (Missing line) = Some 38
 refusal_number NoMemory = None
 
+-- memory ran out
+abbrev pub is_want : CertErr → Bool
+is_want NoMemory = true
+is_want refusal = false
+
 -- the refusal is the definition's; want of memory says nothing
 abbrev pub Refuses : {A : Type 0} → CertErr → Result A CertErr → Type 0
-Refuses Header answer = answer ≡ Err Header
-Refuses (Row n) answer = answer ≡ Err (Row n)
-Refuses (Line n) answer = answer ≡ Err (Line n)
-Refuses (Twice n) answer = answer ≡ Err (Twice n)
-Refuses (Missing line) answer = answer ≡ Err (Missing line)
-Refuses NoMemory answer = ⊤
+Refuses error answer = RefusesBut is_want error answer
 
 -- the answer is the definition's, value or refusal; want of memory says nothing
 abbrev pub Gives : {A : Type 0} → Result A CertErr → Result A CertErr → Type 0
-Gives (Ok value) answer = answer ≡ Ok value
-Gives (Err error) answer = Refuses error answer
+Gives result answer = GivesBut is_want result answer

@@ -1,10 +1,11 @@
 // The certificate of a text.
 
 ghost use Rattle.std.specs.Prelude.{◌≡◌, ◌≢◌, ◌<◌, ◌&&◌, [], length, is_none, option_map, None, Some, Ok, Err, IfOk, IfErr, IfSome, OnOk};
+ghost use Rattle.csv_records.specs.FirstRefusal.{first_refusal};
 ghost use Rattle.sync_topo.specs.Lines.{line_count, is_nominated};
 ghost use Rattle.rank_cert.specs.Ranks.{Ranks, IsRanked, RanksNoOther, rank_at};
 ghost use Rattle.rank_cert.specs.Rows.{rank_in_row, line_in_row};
-ghost use Rattle.rank_cert.specs.CertificateText.{certificate_of, certificate_of_records, first_refusal, refusal_at, first_without, is_header};
+ghost use Rattle.rank_cert.specs.CertificateText.{certificate_of, certificate_of_records, refusal_at, first_without, is_header};
 ghost use Rattle.csv_records.specs.Records.{records_of};
 ghost use Rattle.rank_cert.specs.Rules.{IsFirstBroken, NamesLine, IsCertificateOf};
 ghost use Rattle.rank_cert.specs.RowsTaken.{refusal_after, AreRanksAfter, AreRanksBy};

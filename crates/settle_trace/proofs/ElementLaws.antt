@@ -3,6 +3,7 @@ use Rattle.std.proofs.Common.{◌≡◌, ◌<◌, ℕ, suc, ◌-◌, Bool, true,
 use Rattle.std.specs.Prelude.{IsTrue, ◌↔◌}
 use Rattle.std.proofs.lemmas.Bool.{true≢false}
 use Rattle.std.proofs.lemmas.Option.{none-some, slice_get_within, slice_get_cases}
+use Rattle.sync_text.proofs.Each.{each-at}
 use Rattle.sync_ql.specs.Condition.{is_up, failed_at, left_at, condition_of, condition_at}
 use Rattle.sync_ql.specs.Moment.{Moment, signals_of}
 use Rattle.sync_ql.specs.Quiet.{IsElementDue}
@@ -15,7 +16,6 @@ use Rattle.net_rules.specs.Signals.{Signals}
 use Rattle.net_rules.specs.History.{Levels, settings_of, element_past}
 use Rattle.net_rules.specs.Settled.{IsSteady}
 use Rattle.net_rules.proofs.NetLaws.{many-inputs}
-use Rattle.net_rules.proofs.Lists.{each-at}
 use Rattle.sync_net.specs.Standing.{ElementStands}
 use Rattle.sync_net.proofs.SteadyElements.{each-by, up-now, failed-now}
 use Rattle.settle_trace.specs.Resting.{AreSteady}

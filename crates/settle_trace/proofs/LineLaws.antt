@@ -3,20 +3,21 @@ use Rattle.std.proofs.Common.{◌≡◌, ◌≤◌, ℕ, suc, ◌-◌, Bool, tru
 use Rattle.std.specs.Prelude.{is_none, IsTrue, IsSome}
 use Rattle.std.proofs.lemmas.Bool.{and_parts, true≢false}
 use Rattle.std.specs.Cmp.Derive.{both_true}
+use Rattle.sync_text.proofs.Each.{Each-map}
+use Rattle.sync_text.specs.Each.{Each}
+use Rattle.sync_ql.proofs.SameMoments.{same_level}
 use Rattle.sync_ql.specs.declared.levels.Level.{Level}
 use Rattle.sync_ql.specs.Pasts.{past_of}
 use Rattle.sync_ql.specs.Messages.{LineMoment, Message, is_same_level, heard_at, on_way_at, unchanged, line_until, IsLineDue}
 use Rattle.sync_ql.proofs.Delivered.{length-past_of, same-is}
 use Rattle.link_model.specs.LineState.{LineState}
 use Rattle.link_model.specs.StandsFor as Line
-use Rattle.link_model.proofs.Pasts.{same_level-same, unchanged-after}
+use Rattle.link_model.proofs.Pasts.{unchanged-after}
 use Rattle.sync_topo.specs.Topology.{Topology}
 use Rattle.sync_topo.specs.Lines.{line_input, delay_of}
 use Rattle.net_rules.specs.Signals.{Signals}
 use Rattle.net_rules.specs.History.{Levels, line_moment_at, heard}
 use Rattle.net_rules.specs.Settled.{is_news_at, IsOnWay}
-use Rattle.net_rules.specs.Walks.{Each}
-use Rattle.net_rules.proofs.Lists.{Each-map}
 use Rattle.sync_net.specs.Standing.{LineStands}
 use Rattle.sync_net.proofs.QuietObjects.{line-until}
 use Rattle.settle_trace.specs.Resting.{hears_all, is_empty, at_rest, IsLineSettled}
@@ -41,7 +42,7 @@ each-hears None messages some each = cc
 each-hears (Some level) messages some each =
     list_all-each (λ m. is_same_level (Some m.level) (Some level)) messages
     (Each-map (HasHeard (Some level)) (λ m. is_same_level (Some m.level) (Some level) ≡ true)
-    (λ m same. subst (λ o. is_same_level (Some m.level) o ≡ true) (sym same) (same_level-same (Some m.level))) messages each)
+    (λ m same. subst (λ o. is_same_level (Some m.level) o ≡ true) (sym same) (same_level (Some m.level))) messages each)
 
 none-is : (level : Option Level) → is_none level ≡ true → level ≡ None
 none-is None is = refl

@@ -4,12 +4,12 @@ use Rattle.std.specs.Prelude.{IsTrue, nat_eq, if◌then◌else◌}
 use Rattle.std.proofs.Math.Decide.{dec_lt}
 use Rattle.std.proofs.lemmas.Option.{none-some, same_Some}
 use Rattle.std.proofs.lemmas.Bool.{ne_eqb}
+use Rattle.sync_text.proofs.Each.{Each-map}
 use Rattle.sync_topo.specs.declared.input.InputId.{InputId}
 use Rattle.sync_topo.specs.Topology.{Topology}
 use Rattle.sync_topo.specs.Lines.{IsInput, IsNominated, is_nominated_input, inputs_of}
 use Rattle.net_rules.specs.Signals.{Signals}
 use Rattle.net_rules.specs.Inputs.{IsInputOf}
-use Rattle.net_rules.proofs.Lists.{Each-map}
 use Rattle.net_rules.specs.History.{Levels}
 use Rattle.net_rules.specs.Settled.{IsSteady, IsSettledByNews}
 use Rattle.net_rules.proofs.InputLaws.{inputs-are}

@@ -1,6 +1,7 @@
 -- What elements take, by what they answer.
 use Rattle.std.proofs.Common.{◌≡◌, ◌<◌, ◌-◌, ℕ, zero, suc, List, [], ◌∷◌, slice_get, Option, None, Some, IfSome, ap, sym, subst, ◌∙◌, arith}
 use Rattle.std.specs.Prelude.{option_and_then}
+use Rattle.sync_text.proofs.Each.{item-if}
 use Rattle.sync_ql.specs.Moment.{Moment, selection_at}
 use Rattle.sync_ql.specs.Told.{moments_until}
 use Rattle.sync_element.specs.ElementState.{ElementState, IsInTime}
@@ -11,19 +12,8 @@ use Rattle.sync_topo.specs.Lines.{inputs_of}
 use Rattle.net_rules.specs.Signals.{Signals}
 use Rattle.net_rules.specs.Inputs.{IsInputOf}
 use Rattle.net_rules.specs.History.{Levels, settings_of, element_past, taken_at}
-use Rattle.net_rules.specs.Walks.{Each}
 use Rattle.net_rules.proofs.InputLaws.{inputs-are}
 use Rattle.sync_net.specs.Standing.{ElementStands}
-
--- what stands at a place of a list
-item-at : {A : Type 0} (P : A → Type 0) (xs : List A) (i : ℕ) → Each P xs → IfSome (slice_get xs i) P
-item-at P [] i each = tt
-item-at P (x ∷ xs) zero each = each.0
-item-at P (x ∷ xs) (suc i) each = item-at P xs i each.1
-
-item-if : {A : Type 0} (P : A → Type 0) (xs : List A) (place : Option ℕ) → Each P xs → IfSome (option_and_then (slice_get xs) place) P
-item-if P xs None each = tt
-item-if P xs (Some i) each = item-at P xs i each
 
 -- what is taken is an input of the element's own
 pub own-input : (plan : Topology) (element : ℕ) (place : Option ℕ) (answer : Option InputId)

@@ -1,11 +1,12 @@
 -- A trace by a list of what is taken is one of the millisecond of the last step.
 use Rattle.std.proofs.Common.{◌≡◌, ℕ, List, [], ◌∷◌, Option, sym, subst, ◌∙◌}
+use Rattle.sync_text.proofs.Each.{Each-map}
+use Rattle.sync_text.specs.Each.{Each}
 use Rattle.sync_topo.specs.declared.input.InputId.{InputId}
 use Rattle.sync_topo.specs.declared.event.Event.{Event}
 use Rattle.sync_topo.specs.Topology.{Topology}
 use Rattle.sync_topo.specs.Lines.{receiver_of}
-use Rattle.net_rules.specs.Walks.{Taken, Each, IsTaken, IsClosedWalk, IsFacingPair, TraceEnd, IsTrace}
-use Rattle.net_rules.proofs.Lists.{Each-map}
+use Rattle.net_rules.specs.Walks.{Taken, IsTaken, IsClosedWalk, IsFacingPair, TraceEnd, IsTrace}
 use Rattle.closed_walks.specs.Loops.{IsLoop, AreLoops}
 use Rattle.sync_net.specs.NetState.{NetState}
 use Rattle.sync_net.specs.Standing.{StandsFor}

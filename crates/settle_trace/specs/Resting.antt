@@ -1,6 +1,7 @@
 -- Private to this crate: when one element and one line are settled.
 use Rattle.std.specs.Prelude.{◌≡◌, ℕ, Bool, true, false, ◌&&◌, List, [], ◌∷◌, Option, None, Some, is_none, IsSome}
 use Rattle.std.specs.List.{list_all}
+use Rattle.sync_text.specs.Each.{Each}
 use Rattle.sync_ql.specs.declared.levels.Level.{Level}
 use Rattle.sync_ql.specs.Messages.{Message, is_same_level}
 use Rattle.sync_topo.specs.Topology.{Topology}
@@ -8,7 +9,6 @@ use Rattle.sync_topo.specs.Lines.{line_input, inputs_of}
 use Rattle.net_rules.specs.Signals.{Signals, speaks_at}
 use Rattle.net_rules.specs.History.{Levels, heard}
 use Rattle.net_rules.specs.Settled.{is_news_at, IsOnWay, IsSteady}
-use Rattle.net_rules.specs.Walks.{Each}
 
 -- a level is heard, and each message has it
 abbrev pub hears_all : Option Level → List Message → Bool

@@ -8,8 +8,8 @@ ghost use Rattle.link_model.specs.StandsFor.{StandsFor};
 ghost use Rattle.settle_trace.specs.Resting.{at_rest, hears_all};
 
 use link_model::{Line, Word};
-use sync_ql::Level;
 use sync_ql::limits::LAST_MILLISECOND;
+use sync_ql::{Level, is_same_level};
 
 // Whether nothing changes on a line by itself, by what is heard on it and on its way.
 pub fn is_at_rest(line: &Line, now: u64) -> bool
@@ -49,10 +49,4 @@ fn all_say(words: &[Word], level: Level) -> bool
     ensures { result ≡ list_all (λ word. is_same_level (Some word.level) (Some level)) words.now }
 {
     words.iter().all(|word| is_same_level(word.level, level))
-}
-
-fn is_same_level(one: Level, other: Level) -> bool
-    ensures { result ≡ is_same_level (Some one) (Some other) }
-{
-    one.option == other.option && one.place == other.place
 }

@@ -2,9 +2,10 @@
 
 ghost use Rattle.std.specs.Prelude.{◌≡◌, ◌<◌, ℕ, false, List, map, IfOk};
 ghost use Rattle.std.specs.List.{All};
+ghost use Rattle.sync_text.specs.Each.{Each};
 ghost use Rattle.sync_topo.specs.declared.event.Event.{Event};
 ghost use Rattle.sync_topo.specs.Hops.{IsRising};
-ghost use Rattle.net_rules.specs.Walks.{Each, IsFacingPair};
+ghost use Rattle.net_rules.specs.Walks.{IsFacingPair};
 ghost use Rattle.sync_net.specs.Standing.{StandsFor};
 ghost use Rattle.settle_trace.specs.Now.{taken_now};
 ghost use Rattle.closed_walks.specs.Traces.{numbers};

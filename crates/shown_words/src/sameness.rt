@@ -5,7 +5,7 @@ ghost use Rattle.sync_topo.specs.Lines.{is_same_input};
 ghost use Rattle.shown_words.specs.Sameness.{is_same_mode, is_same_state, is_same_taken};
 
 use sync_ql::rules::{ClockState, Mode};
-use sync_topo::InputId;
+use sync_topo::{InputId, is_same_input};
 
 /// Whether two modes are the same.
 ///
@@ -44,17 +44,6 @@ pub fn is_same_taken(one: Option<InputId>, other: Option<InputId>) -> bool
     match (one, other) {
         (Some(one), Some(other)) => is_same_input(one, other),
         (None, None) => true,
-        _ => false,
-    }
-}
-
-// Whether two inputs are the same.
-fn is_same_input(one: InputId, other: InputId) -> bool
-    ensures { result ≡ is_same_input one other }
-{
-    match (one, other) {
-        (InputId::Line(one), InputId::Line(other)) => one.0 == other.0,
-        (InputId::Source(one), InputId::Source(other)) => one == other,
         _ => false,
     }
 }

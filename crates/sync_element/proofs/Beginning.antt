@@ -3,6 +3,7 @@ use Rattle.std.proofs.Common.{◌≡◌, ◌≤◌, ◌<◌, ℕ, Bool, false, n
 use Rattle.std.specs.Prelude.{slice_index, slice_index_or}
 use Rattle.std.proofs.Math.Decide.{dec_lt}
 use Rattle.std.proofs.lemmas.List.{ext_get_or, length-map, length-replicate, get_or-replicate, get_or_past, get_or-map}
+use Rattle.sync_element.proofs.Taking.{same_candidate}
 use Rattle.sync_ql.specs.declared.levels.Level.{Level}
 use Rattle.sync_ql.specs.declared.levels.NetOption.{NetOption}
 use Rattle.sync_ql.specs.declared.rules.Candidate.{Candidate}
@@ -93,9 +94,6 @@ HasEnd-new config first w new = record {
 not_failed : (config : Config) (first : Option Level) (w : Watched) → HasFirst config first w → w.monitor.failed ≡ false
 unfolding failed_at
 not_failed config first w new = new.stands.failed
-
-same_candidate : (l l_then : Option Level) (p p_then : ℕ) (u u_then : Bool) → l ≡ l_then → p ≡ p_then → u ≡ u_then → ◌≡◌ {A = Candidate} (record { level = l; priority = p; usable = u }) (record { level = l_then; priority = p_then; usable = u_then })
-same_candidate l l_then p p_then u u_then level priority usable = rw (level, priority, usable) refl
 
 free : (locked failed below : Bool) → locked ≡ false → failed ≡ false → not below ≡ (not locked && not failed && not below)
 free locked failed below first second = rw (first, second) refl

@@ -3,6 +3,7 @@
 use Rattle.std.proofs.Common.{◌≡◌, ◌≤◌, ◌<◌, ◌+◌, ◌-◌, ℕ, List, length, Option, None, Some, IfSome, refl, ap, sym, ◌∙◌, arith, subst}
 use Rattle.std.specs.Prelude.{MatchOption, IsNone, ◌↔◌}
 use Rattle.std.proofs.lemmas.Option.{same_Some}
+use Rattle.input_monitor.proofs.Steps.{IsSameKind-later_by}
 use Rattle.sync_ql.specs.declared.rules.Cond.{Cond}
 use Rattle.sync_ql.specs.declared.rules.Cond.TheVariants.{Good, HoldOff, Failed, Restoring}
 use Rattle.sync_ql.specs.Condition.{failed_at, condition_at, continued, IsDue, IsSameKind}
@@ -195,14 +196,7 @@ left_until e whole i within past n stands in_time =
     ∙ ap (λ k. later_by (k - m.next) m.condition) long
     ∙ later_by-later_by m.next e.next n m.condition rest.not_later in_time.later
 
--- and its kind stays
-same_kind : (k : ℕ) (c : Cond) → IsSameKind c (later_by k c)
-same_kind k Good = tt
-same_kind k (HoldOff left) = tt
-same_kind k Failed = tt
-same_kind k (Restoring left) = tt
-
 pub kind_until : (e : ElementState) → IsWhole e → (i : ℕ) → i < inputs_of e → (past : List Moment) (n : ℕ) → IsAfter e past → IsInTime e n → IsSameKind (later_by (e.next - (monitor_of e i).next) (monitor_of e i).condition) (condition_at e.settings.timers (signals_of i (moments_until e.settings n past)))
 kind_until e whole i within past n stands in_time =
     let c = later_by (e.next - (monitor_of e i).next) (monitor_of e i).condition in
-    subst (IsSameKind c) (sym (left_until e whole i within past n stands in_time)) (same_kind (n - e.next) c)
+    subst (IsSameKind c) (sym (left_until e whole i within past n stands in_time)) (IsSameKind-later_by (n - e.next) c)

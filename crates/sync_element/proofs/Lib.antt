@@ -9,5 +9,4 @@ pub mod Evaluating
 pub mod Taking
 pub mod Untouched
 pub mod Fitting
-pub mod SameLevels
 pub mod ElementSteps

@@ -4,6 +4,7 @@ use Rattle.std.specs.Prelude.{slice_index, unwrap_or, is_some, if◌then◌else�
 use Rattle.std.specs.List.{list_any}
 use Rattle.std.proofs.lemmas.List.Elements.{All-head, All-tail}
 use Rattle.std.proofs.lemmas.Bool.Decides.{nat_tests}
+use Rattle.sync_text.proofs.Options.{unwrap_or-option_or}
 use Rattle.sync_ql.specs.declared.levels.NetOption.{NetOption}
 use Rattle.sync_ql.specs.declared.levels.Level.{Level}
 use Rattle.sync_ql.specs.declared.rules.Candidate.{Candidate}
@@ -31,7 +32,6 @@ use Rattle.sync_element.specs.Renewing.{touches, must_step, IsReady, CanRenew, I
 use Rattle.sync_element.proofs.Following.{follows-up, follows-failed}
 use Rattle.sync_element.proofs.Renewed.{quiet_is, quiet_back, not_now, done_unstepped}
 use Rattle.sync_element.proofs.Untouched.{up-untouched, level-untouched, clear-untouched, locked-untouched}
-use Rattle.sync_element.proofs.TellingLemmas.{unwrap_or-option_or}
 use Rattle.sync_element.proofs.Evaluating.{candidates_seen, Evaluation, IsEvaluated, switches_evaluated, selection_evaluated, was_locked_evaluated}
 use Rattle.sync_element.proofs.Waiting.{stays_until, until_due, length-input}
 
@@ -83,7 +83,7 @@ commands_after : (settings : Settings) (past : List Moment) (events : List Input
 unfolding moment_after
 commands_after settings past events = refl
 
-same_candidate : (l l_then : Option Level) (p p_then : ℕ) (u u_then : Bool) → l ≡ l_then → p ≡ p_then → u ≡ u_then → ◌≡◌ {A = Candidate} (record { level = l; priority = p; usable = u }) (record { level = l_then; priority = p_then; usable = u_then })
+pub same_candidate : (l l_then : Option Level) (p p_then : ℕ) (u u_then : Bool) → l ≡ l_then → p ≡ p_then → u ≡ u_then → ◌≡◌ {A = Candidate} (record { level = l; priority = p; usable = u }) (record { level = l_then; priority = p_then; usable = u_then })
 same_candidate l l_then p p_then u u_then level priority usable = rw (level, priority, usable) refl
 
 same_signal : (u u_then c c_then : Bool) → u ≡ u_then → c ≡ c_then → ◌≡◌ {A = Signal} (record { up = u; clear = c }) (record { up = u_then; clear = c_then })

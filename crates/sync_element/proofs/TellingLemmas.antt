@@ -3,16 +3,13 @@ use Rattle.std.proofs.Common.{◌≡◌, Bool, true, false, ◌||◌, List, [], 
 use Rattle.std.specs.Prelude.{unwrap_or}
 use Rattle.std.specs.List.{list_any}
 use Rattle.std.specs.Option.{option_or}
+use Rattle.sync_text.proofs.Options.{unwrap_or-option_or}
 use Rattle.sync_ql.specs.declared.rules.InputEvent.{InputEvent}
 use Rattle.sync_ql.specs.declared.rules.InputEvent.TheVariants.{Signal, Heard, ClearWtr, Command}
 use Rattle.sync_ql.specs.Switches.{Switches, after_commands}
 use Rattle.sync_ql.specs.Told.{last_said, says_up, says_level, clears, commands_in}
 use Rattle.sync_element.specs.Kept.{watched_in}
 use Rattle.sync_element.specs.Telling.{Tellable, IsTold, IsToldSoFar}
-
-pub unwrap_or-option_or : {A : Type 0} (later now : Option A) (before : A) → unwrap_or (option_or later now) before ≡ unwrap_or later (unwrap_or now before)
-unwrap_or-option_or None now before = refl
-unwrap_or-option_or (Some x) now before = refl
 
 or-swap : (a b c : Bool) → (a || ((b || false) || c)) ≡ ((b || a) || c)
 or-swap true true c = refl

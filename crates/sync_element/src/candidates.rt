@@ -4,7 +4,7 @@ ghost use Rattle.std.specs.Prelude.{◌≡◌, ◌<◌, ℕ, IsTrue, length, sli
 ghost use Rattle.sync_ql.specs.Selection.{candidate, SameOption};
 
 use selector::Table;
-use sync_ql::Level;
+use sync_ql::is_same_heard;
 use sync_ql::rules::Candidate;
 
 // Sets a candidate in the table, unless it is there already.
@@ -25,23 +25,5 @@ fn is_same(one: Candidate, other: Candidate) -> bool
     if one.priority != other.priority || one.usable != other.usable {
         return false;
     }
-    is_same_level(one.level, other.level)
-}
-
-fn is_same_level(one: Option<Level>, other: Option<Level>) -> bool
-    ensures { IsTrue result → one ≡ other }
-{
-    match (one, other) {
-        (Some(one), Some(other)) => is_same_row(one, other),
-        (None, None) => true,
-        _ => false,
-    }
-}
-
-// Whether two levels are one row of one option's table.
-fn is_same_row(one: Level, other: Level) -> bool
-    ensures option { IsTrue result → one.option ≡ other.option }
-    ensures place { IsTrue result → one.place ≡ other.place }
-{
-    one.option == other.option && one.place == other.place
+    is_same_heard(one.level, other.level)
 }

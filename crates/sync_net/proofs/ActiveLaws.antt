@@ -6,6 +6,8 @@ use Rattle.std.proofs.lemmas.Bool.{true≢false, and_from, or_parts, true_from_n
 use Rattle.std.proofs.lemmas.List.Folds.{list_any_at}
 use Rattle.std.proofs.lemmas.List.FromFn.{length-range_with_len, get_or-range_with_len}
 use Rattle.std.proofs.lemmas.Option.{slice_get_cases}
+use Rattle.sync_text.proofs.Each.{each-at}
+use Rattle.sync_ql.proofs.SameMoments.{same_level}
 use Rattle.sync_ql.specs.declared.levels.Level.{Level}
 use Rattle.sync_ql.specs.Condition.{failed_at}
 use Rattle.sync_ql.specs.Moment.{signals_of}
@@ -17,7 +19,6 @@ use Rattle.sync_ql.proofs.Delivered.{length-past_of, same-is}
 use Rattle.sync_element.specs.ElementState.{ElementState}
 use Rattle.sync_element.proofs.ElementSteps.{past-quiet}
 use Rattle.link_model.specs.LineState.{LineState}
-use Rattle.link_model.proofs.Pasts.{same_level-same}
 use Rattle.sync_topo.specs.declared.input.InputId.{InputId}
 use Rattle.sync_topo.specs.declared.event.Event.{Event}
 use Rattle.sync_topo.specs.Topology.{Topology}
@@ -30,10 +31,9 @@ use Rattle.net_rules.specs.History.{Levels, settings_of, heard, moment_at, eleme
 use Rattle.net_rules.specs.Activity.{is_other, is_active, news_arrives, is_busy}
 use Rattle.net_rules.proofs.InputLaws.{inputs-are}
 use Rattle.net_rules.proofs.NetLaws.{failed-at, many-inputs}
-use Rattle.net_rules.proofs.Lists.{each-at}
 use Rattle.net_rules.proofs.EventLaws.{up-same}
 use Rattle.net_rules.proofs.PlanLaws.{IsDelayed-well}
-use Rattle.net_rules.proofs.IdleLaws.{IsInactive, inactive-is, quiet-inactive, quiet-heard}
+use Rattle.net_rules.proofs.IdleLaws.{IsInactive, inactive-is, quiet-inactive, quiet-heard, same-heard}
 use Rattle.net_rules.specs.Signals.{says_up}
 use Rattle.sync_net.specs.NetState.{NetState, NoneDueBefore, IsDueAt}
 use Rattle.sync_net.specs.Sound.{IsSoundElement, IsSoundLine, AreSound}
@@ -71,14 +71,6 @@ not_same true true none other = true≢false other
 not_same false false none other = true≢false (sym other)
 not_same true false none other = true≢false none
 not_same false true none other = true≢false none
-
--- levels that aren't told apart are the same
-same-heard : (a b : Option Level) → not (is_same_level a b) ≡ false → a ≡ b
-same-heard a b none = same-is a b (of (is_same_level a b) none)
-  where
-    of : (same : Bool) → not same ≡ false → same ≡ true
-    of true none = refl
-    of false none = cc
 
 -- into an element that isn't active the same is heard
 inactive-heard : (plan : Topology) (events : List Event) (out : Levels) (place t : ℕ) → IsInactive plan events out place t
@@ -159,7 +151,7 @@ quiet-line plan events line t state well quiet sound is at =
           ∙ (quiet-parts plan events (suc t) quiet).no_news
           )
       | inr other ↦ true≢false (
-          sym (same_level-same (heard plan signals out line t))
+          sym (same_level (heard plan signals out line t))
           ∙ ap (λ level. is_same_level level (heard plan signals out line t)) (sym (quiet-heard plan events t line well quiet sound.nominated))
           ∙ other
           )

@@ -9,6 +9,9 @@ use Rattle.std.proofs.lemmas.Bool.Decides.{eqb_tells}
 use Rattle.std.proofs.lemmas.List.{append-nil}
 use Rattle.std.proofs.lemmas.List.Elements.{filter-append}
 use Rattle.std.proofs.lemmas.Option.{slice_get_cases}
+use Rattle.sync_ql.proofs.SameMoments.{line_moment}
+use Rattle.sync_text.proofs.Each.{Each-map, each-all}
+use Rattle.sync_text.specs.Each.{Each}
 use Rattle.sync_ql.specs.Pasts.{past_of}
 use Rattle.sync_ql.specs.Messages.{heard_at, line_until}
 use Rattle.sync_ql.specs.Told.{moments_until}
@@ -30,9 +33,7 @@ use Rattle.net_rules.specs.Signals.{Signals, signals_by, events_before, last_wor
 use Rattle.net_rules.specs.Inputs.{IsInputOf}
 use Rattle.net_rules.specs.History.{Levels, settings_of, line_moment_at, element_past, out_at}
 use Rattle.net_rules.specs.Activity.{is_part_at, touches, TouchAlike}
-use Rattle.net_rules.specs.Walks.{Each}
-use Rattle.net_rules.proofs.Lists.{Each-map, past-same}
-use Rattle.net_rules.proofs.EventLaws.{each-all}
+use Rattle.net_rules.proofs.Lists.{past-same}
 use Rattle.net_rules.proofs.TouchLaws.{up-silent, esmc-silent, level-silent}
 use Rattle.net_rules.proofs.HistoryLaws.{until_same}
 use Rattle.net_rules.proofs.PlanLaws.{IsDelayed-well, sender-within, receiver-within}
@@ -41,7 +42,6 @@ use Rattle.net_rules.proofs.FinalLaws.{later-pasts, order-pasts}
 use Rattle.sync_net.specs.NetState.{NetState, line_in}
 use Rattle.sync_net.specs.Standing.{ElementStands, LineStands, IsNominatedSource, IsOfPast}
 use Rattle.net_words.specs.Before.{up_before, esmc_before, said_before}
-use Rattle.sync_net.proofs.QuietGap.{line-moments}
 
 -- two lists of events say the same of elements, lines and sources before a millisecond
 record IsSameBefore (plan : Topology) (events others : List Event) (n : ℕ) : Type 0 where
@@ -143,7 +143,7 @@ line-moment : (plan : Topology) (events others : List Event) (line s : ℕ)
     → line_moment_at (signals_by plan others) (out_at plan (signals_by plan others)) line s
     ≡ line_moment_at (signals_by plan events) (out_at plan (signals_by plan events)) line s
 line-moment plan events others line s up esmc level =
-    line-moments _ _ _ _ _ _
+    line_moment _ _ _ _ _ _
     (up-now others line s ∙ up ∙ sym (up-now events line s))
     (esmc-now others line s ∙ esmc ∙ sym (esmc-now events line s)) level
 

@@ -2,6 +2,7 @@
 use Rattle.std.proofs.Common.{◌≡◌, ◌≤◌, ◌<◌, ◌+◌, ◌-◌, ℕ, suc, List, length, slice_index_or, true, false, Option, None, Some, IfSome, refl, ap, sym, subst, ◌∙◌, arith}
 use Rattle.std.specs.Prelude.{IsSome}
 use Rattle.std.proofs.lemmas.Option.{none-some}
+use Rattle.sync_text.specs.Each.{Each}
 use Rattle.sync_ql.specs.Pasts.{past_of}
 use Rattle.sync_ql.specs.Messages.{LineMoment, heard_at, after_unchanged, IsLineDue}
 use Rattle.sync_ql.specs.Quiet.{IsElementDue}
@@ -16,7 +17,6 @@ use Rattle.sync_topo.proofs.LineLaws.{IsNominated-within}
 use Rattle.net_rules.specs.Signals.{Signals, signals_by, speaks_at}
 use Rattle.net_rules.specs.History.{Levels, settings_of, line_moment_at, element_past, out_at}
 use Rattle.net_rules.specs.Settled.{IsSteady, IsSettled}
-use Rattle.net_rules.specs.Walks.{Each}
 use Rattle.sync_net.specs.NetState.{NetState, line_in, NoneDueBefore}
 use Rattle.sync_net.specs.Sound.{IsSoundLine, AreSound}
 use Rattle.sync_net.specs.Standing.{LineStands, IsOfPast}

@@ -1,6 +1,7 @@
 -- After a step a network stands for one more millisecond.
 use Rattle.std.proofs.Common.{◌≡◌, ◌≤◌, ◌<◌, ◌+◌, ◌⊎◌, ℕ, zero, suc, List, [], length, Option, None, Some, IsSome, IfSome, refl, ap, sym, subst, ◌∙◌, inl, inr, arith, add-one}
 use Rattle.std.specs.Prelude.{slice_index_or, if◌then◌else◌, option_and_then, slice_get}
+use Rattle.sync_ql.proofs.SameMoments.{line_moment}
 use Rattle.sync_ql.specs.declared.levels.Level.{Level}
 use Rattle.sync_ql.specs.declared.rules.InputEvent.{InputEvent}
 use Rattle.sync_ql.specs.Level.{do_not_use_of}
@@ -8,7 +9,7 @@ use Rattle.sync_ql.specs.Moment.{Moment, selection_at}
 use Rattle.sync_ql.specs.Output.{clock_level_at}
 use Rattle.sync_ql.specs.Told.{moments_until, moment_after, quiet_moment}
 use Rattle.sync_element.specs.ElementState.{ElementState}
-use Rattle.sync_element.proofs.ElementSteps.{stands-stepped}
+use Rattle.sync_element.proofs.ElementSteps.{stands-stepped, later-due}
 use Rattle.link_model.specs.LineState.{LineState}
 use Rattle.sync_topo.specs.declared.event.Event.{Event}
 use Rattle.sync_topo.specs.Topology.{Topology}
@@ -32,13 +33,8 @@ use Rattle.sync_net.specs.NetStep.{ElementStays, LineIsTold, LineKeeps, LineIsSa
 use Rattle.sync_net.proofs.SignalsAfter.{signals-after}
 use Rattle.sync_net.proofs.ToldMoment.{told-moment}
 use Rattle.sync_net.proofs.QuietObjects.{HasNoNews, element-quiet, element-sends, line-quiet, line-heard}
-use Rattle.sync_net.proofs.QuietGap.{some_element, line-moments}
+use Rattle.sync_net.proofs.QuietGap.{some_element}
 use Rattle.sync_net.proofs.ObjectSteps.{told-stands, told-heard, said-stands}
-
--- what is later than a millisecond isn't before the next
-later-next : (now : ℕ) (due : Option ℕ) → IfSome due (λ d. now < d) → IfSome due (λ d. suc now ≤ d)
-later-next now None later = tt
-later-next now (Some d) later = omega (arith, later)
 
 -- the level that the sender gives is the one that the rules send
 pub level-sent : (plan : Topology) (signals : Signals) (line now : ℕ) (sender : ElementState) (level : Level) → IsWellFormed plan →
@@ -163,7 +159,7 @@ module _ (s t : NetState) (all events : List Event) (now : ℕ) (well : IsWellFo
               ∙ ap (heard_before s.plan (signals_by s.plan all) (out_at s.plan (signals_by s.plan all)) line) at
               ∙ sym (line-heard s.plan (signals_by s.plan all) (out_at s.plan (signals_by s.plan all)) line u state (sound_line line state within has)
               (subst (λ n. LineStands s.plan (signals_by s.plan all) (out_at s.plan (signals_by s.plan all)) line n state) at (line_before line state within has))
-              (subst (λ n. IfSome state.due (λ due. suc n ≤ due)) at (later-next now state.due keeps.not_due))
+              (subst (λ n. IfSome state.due (λ due. suc n ≤ due)) at (later-due now state.due keeps.not_due))
               (IsDelayed-well s.plan well line nominated) (up_kept line u at nominated keeps.signal))
               ∙ ap (λ n. heard_before s.plan (signals_by s.plan all) (out_at s.plan (signals_by s.plan all)) line (suc n)) (sym at)
 
@@ -210,7 +206,7 @@ module _ (s t : NetState) (all events : List Event) (now : ℕ) (well : IsWellFo
           (element-quiet s.plan (signals_by s.plan all) (out_at s.plan (signals_by s.plan all)) element u (slice_index_or s.elements element other)
           (subst (λ n. ElementStands s.plan (signals_by s.plan all) (out_at s.plan (signals_by s.plan all)) element n (slice_index_or s.elements element other)) at (is.elements element other within))
           (news_none element u at stays.told)
-          (subst (λ n. IfSome (slice_index_or s.elements element other).due (λ due. suc n ≤ due)) at (later-next now (slice_index_or s.elements element other).due stays.not_due))))
+          (subst (λ n. IfSome (slice_index_or s.elements element other).due (λ due. suc n ≤ due)) at (later-due now (slice_index_or s.elements element other).due stays.not_due))))
 
   -- where a line is left its sender sends what it sent
   sends_same : (line u : ℕ) (other : ElementState) → now ≡ suc u → line < line_count s.plan →
@@ -226,7 +222,7 @@ module _ (s t : NetState) (all events : List Event) (now : ℕ) (well : IsWellFo
         (sound.elements (sender_of s.plan line) other sender)
         (subst (λ n. ElementStands s.plan (signals_by s.plan all) (out_at s.plan (signals_by s.plan all)) (sender_of s.plan line) n (slice_index_or s.elements (sender_of s.plan line) other)) at (is.elements (sender_of s.plan line) other sender))
         (news_none (sender_of s.plan line) u at stays.told)
-        (subst (λ n. IfSome (slice_index_or s.elements (sender_of s.plan line) other).due (λ due. suc n ≤ due)) at (later-next now (slice_index_or s.elements (sender_of s.plan line) other).due stays.not_due))
+        (subst (λ n. IfSome (slice_index_or s.elements (sender_of s.plan line) other).due (λ due. suc n ≤ due)) at (later-due now (slice_index_or s.elements (sender_of s.plan line) other).due stays.not_due))
         refl within (obeys-well s.plan (signals_by s.plan all) well)
   ]
     where
@@ -266,8 +262,8 @@ module _ (s t : NetState) (all events : List Event) (now : ℕ) (well : IsWellFo
           subst (LineStands s.plan (signals_by s.plan all) (out_at s.plan (signals_by s.plan all)) line (suc now)) (sym stays.same)
           (subst (λ n. LineStands s.plan (signals_by s.plan all) (out_at s.plan (signals_by s.plan all)) line (suc n) state) (sym at)
           (line-quiet s.plan (signals_by s.plan all) (out_at s.plan (signals_by s.plan all)) line u state (before_at (suc u) at)
-          (line-moments _ _ _ _ _ _ (up_kept line u at nominated stays.keeps.signal) (esmc_kept line u at nominated stays.keeps.signal) (sends_same line u (some_element s.plan) at within stays.steady))
-          (subst (λ n. IfSome state.due (λ due. suc n ≤ due)) at (later-next now state.due stays.keeps.not_due))))
+          (line_moment _ _ _ _ _ _ (up_kept line u at nominated stays.keeps.signal) (esmc_kept line u at nominated stays.keeps.signal) (sends_same line u (some_element s.plan) at within stays.steady))
+          (subst (λ n. IfSome state.due (λ due. suc n ≤ due)) at (later-due now state.due stays.keeps.not_due))))
 
       by : LineIsTold s.plan now t.kept line (slice_index_or t.elements (sender_of s.plan line) (some_element s.plan)) state after
           ⊎ (LineIsSaid s.plan now s.kept t.kept line (slice_index_or t.elements (sender_of s.plan line) (some_element s.plan)) state after

@@ -10,6 +10,7 @@ use Rattle.std.proofs.lemmas.Bool.{ltb-true, true≢false}
 use Rattle.std.proofs.lemmas.List.{length-append, length-replicate}
 use Rattle.std.proofs.lemmas.List.Elements.{All-map, All-nil, All-cons}
 use Rattle.std.proofs.lemmas.Option.{slice_get_past}
+use Rattle.net_rules.proofs.ElementLaws.{if_some}
 use Rattle.sync_text.specs.declared.errors.NoMemory.{NoMemory}
 use Rattle.sync_ql.specs.declared.levels.NetOption.{NetOption}
 use Rattle.sync_ql.specs.declared.levels.NetOption.TheVariants.{I, II}
@@ -36,8 +37,6 @@ use Rattle.sync_topo.specs.WellFormed.{IsWellFormed}
 use Rattle.net_rules.specs.Signals.{Signals, signals_by, planned_level}
 use Rattle.net_rules.specs.History.{by_levels, Levels, settings_of, heard, moment_at, out_at}
 use Rattle.net_rules.specs.Inputs.{IsInputOf}
-use Rattle.net_rules.specs.Walks.{Each}
-use Rattle.net_rules.proofs.Lists.{Each-map}
 use Rattle.net_rules.proofs.InputLaws.{inputs-are}
 use Rattle.sync_net.specs.declared.parts.Parts.{Parts}
 use Rattle.sync_net.specs.declared.signals.LineSignal.{LineSignal}
@@ -65,11 +64,6 @@ same-everywhere : {A : Type 0} (n i : ℕ) (x : A) → slice_index_or (replicate
 same-everywhere zero i x = refl
 same-everywhere (suc n) zero x = refl
 same-everywhere (suc n) (suc i) x = same-everywhere n i x
-
--- a fact of something that may be there, from another fact of it
-if-some : {A : Type 0} (P Q : A → Type 0) (o : Option A) → ((x : A) → P x → Q x) → IfSome o P → IfSome o Q
-if-some P Q None f holds = tt
-if-some P Q (Some x) f holds = f x holds
 
 -- a new element stands between two steps
 ready-element : (plan : Topology) (next place : ℕ) (element : ElementState) → next ≡ 0 → IsNewElement (by_levels plan) plan place element → IsReadyElement plan next place element
@@ -118,7 +112,7 @@ begun-whole plan parts begun = record {
   called_count = ap (λ m. length m.flags) begun.called ∙ length-replicate (line_count plan) false;
   elements = λ element other within. ready-element plan parts.next element _ begun.next (begun.elements.each element other within);
   lines = λ line within.
-      if-some (IsNewLine plan line) (IsReadyLine plan parts.next line) _ (λ state new. ready-line plan parts.next line state new) (begun.lines.each line None within).is_new;
+      if_some (IsNewLine plan line) (IsReadyLine plan parts.next line) _ (λ state new. ready-line plan parts.next line state new) (begun.lines.each line None within).is_new;
   every = λ line nominated. (begun.lines.each line None (nominated-within plan line nominated)).every nominated;
   element_dues = λ element other within.
       ap (λ dues. due_in dues element) begun.dues ∙ same-everywhere (length plan.elements + line_count plan) element None ∙ sym (begun.elements.each element other within).due;
@@ -175,7 +169,7 @@ begun-stands plan parts begun events = record {
   elements = λ element other within.
       element-begins plan (signals_by plan events) (out_at plan (signals_by plan events)) element _ (begun.elements.each element other within);
   lines = λ line within.
-      if-some (IsNewLine plan line) (LineStands plan (signals_by plan events) (out_at plan (signals_by plan events)) line 0) _
+      if_some (IsNewLine plan line) (LineStands plan (signals_by plan events) (out_at plan (signals_by plan events)) line 0) _
       (λ state new. line-begins plan (signals_by plan events) (out_at plan (signals_by plan events)) line state new) (begun.lines.each line None within).is_new;
   signals = signals-begin plan parts begun events;
   heards = heards-begin plan parts begun events;

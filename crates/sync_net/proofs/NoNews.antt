@@ -6,6 +6,9 @@ use Rattle.std.proofs.lemmas.Bool.Decides.{eqb_tells}
 use Rattle.std.proofs.lemmas.List.{length-map, same_lists}
 use Rattle.std.proofs.lemmas.List.FromFn.{length-map-range_with_len, get_or-map-range_with_len}
 use Rattle.std.proofs.lemmas.Option.{slice_get_cases}
+use Rattle.sync_text.proofs.Each.{each-at}
+use Rattle.sync_text.specs.Each.{Each}
+use Rattle.sync_ql.proofs.SameMoments.{input_moment, moment}
 use Rattle.sync_ql.specs.declared.levels.Level.{Level}
 use Rattle.sync_ql.specs.declared.rules.Cmd.{Cmd}
 use Rattle.sync_ql.specs.Moment.{InputMoment, Moment, Settings, input_of}
@@ -21,22 +24,13 @@ use Rattle.net_rules.specs.Inputs.{IsInputOf}
 use Rattle.net_rules.specs.History.{Levels, settings_of, heard, input_level, moment_at, element_past}
 use Rattle.net_rules.specs.Settings.{input_by}
 use Rattle.net_rules.specs.Activity.{touches}
-use Rattle.net_rules.specs.Walks.{Each}
-use Rattle.net_rules.proofs.Lists.{Each-map, each-at, map-at}
+use Rattle.net_rules.proofs.Lists.{map-at}
 use Rattle.net_rules.proofs.InputLaws.{inputs-are}
 use Rattle.net_rules.proofs.NetLaws.{input-at, many-inputs}
 use Rattle.net_rules.proofs.EventLaws.{same-before, up-same}
 use Rattle.net_rules.proofs.TouchLaws.{up-silent, level-silent, clear-silent, command-silent}
-use Rattle.net_rules.proofs.IdleLaws.{IsUntouched, untouched-is}
+use Rattle.net_rules.proofs.IdleLaws.{IsUntouched, untouched-is, says-none}
 use Rattle.sync_net.proofs.QuietObjects.{HasNoNews}
-
--- what events that don't touch an element don't say
-silent-events : {A : Type 0} (plan : Topology) (events : List Event) (element t : ℕ) (says : What → Option A)
-    → ((what : What) → touches plan element what ≡ false → says what ≡ None) → IsUntouched plan events element t
-    → Each (λ event. (event.at ≢ t) ⊎ (says event.what ≡ None)) events
-silent-events plan events element t says silent untouched =
-    Each-map (λ event. (event.at ≢ t) ⊎ (touches plan element event.what ≡ false)) (λ event. (event.at ≢ t) ⊎ (says event.what ≡ None))
-    (λ event one. elim one [ inl other ↦ inl other | inr none ↦ inr (silent event.what none) ]) events untouched
 
 -- the level of a source stays where no event says that it is up or down, or has another level
 pub source-stays : (plan : Topology) (events : List Event) (source t : ℕ)
@@ -63,8 +57,8 @@ source-untouched : (plan : Topology) (events : List Event) (source element t : �
 unfolding source_level_at
 source-untouched plan events source element t is untouched =
     source-stays plan events source t
-    (silent-events plan events element (suc t) (says_up (Source source)) (up-silent plan (Source source) element is) untouched)
-    (silent-events plan events element (suc t) (says_level source) (level-silent plan source element is) untouched)
+    (says-none plan events element (suc t) (says_up (Source source)) (up-silent plan (Source source) element is) untouched)
+    (says-none plan events element (suc t) (says_level source) (level-silent plan source element is) untouched)
 
 -- events that don't touch an element give it no command and clear none of its inputs
 kept-none : {A : Type 0} (plan : Topology) (events : List Event) (element t : ℕ) (says : What → Option A)
@@ -109,12 +103,6 @@ abbrev pub IsHeardSame : Topology → Signals → Levels → ℕ → ℕ → Typ
 IsHeardSame plan signals out element t = (line : ℕ) → IsNominated plan line → receiver_of plan line ≡ element
     → heard plan signals out line (suc t) ≡ heard plan signals out line t
 
--- an input in a millisecond is the same by its parts
-input-moments : (up up_then clear clear_then : Bool) (level level_then : Option Level) → up ≡ up_then → clear ≡ clear_then → level ≡ level_then
-    → ◌≡◌ {A = InputMoment} (record { signal = record { up = up; clear = clear }; level = level })
-    (record { signal = record { up = up_then; clear = clear_then }; level = level_then })
-input-moments up up_then clear clear_then level level_then a b c = rw (a, b, c) refl
-
 -- an input of the element is as it was, and not cleared
 input-stays : (plan : Topology) (events : List Event) (out : Levels) (element t : ℕ) → IsUntouched plan events element (suc t)
     → IsHeardSame plan (signals_by plan events) out element t → (input : InputId) → IsInputOf plan element input
@@ -124,13 +112,13 @@ input-stays : (plan : Topology) (events : List Event) (out : Levels) (element t 
       level = input_level (signals_by plan events) (heard plan (signals_by plan events) out) input t;
     }
 input-stays plan events out element t untouched same (Line line) is =
-    input-moments _ _ _ _ _ _
-    (up-same events (Line line) t (silent-events plan events element (suc t) (says_up (Line line)) (up-silent plan (Line line) element is) untouched))
+    input_moment _ _ _ _ _ _
+    (up-same events (Line line) t (says-none plan events element (suc t) (says_up (Line line)) (up-silent plan (Line line) element is) untouched))
     (any-none plan events element (suc t) (clears (Line line)) (clear-silent plan (Line line) element is) untouched)
     (same line.0 is.nominated is.of_element)
 input-stays plan events out element t untouched same (Source source) is =
-    input-moments _ _ _ _ _ _
-    (up-same events (Source source) t (silent-events plan events element (suc t) (says_up (Source source)) (up-silent plan (Source source) element is) untouched))
+    input_moment _ _ _ _ _ _
+    (up-same events (Source source) t (says-none plan events element (suc t) (says_up (Source source)) (up-silent plan (Source source) element is) untouched))
     (any-none plan events element (suc t) (clears (Source source)) (clear-silent plan (Source source) element is) untouched)
     (ap Some (source-untouched plan events source element t is untouched))
 
@@ -138,11 +126,6 @@ input-stays plan events out element t untouched same (Source source) is =
 input-quiet : (settings : Settings) (now : Moment) (before : List Moment) (i : ℕ) (input : InputMoment) → input_of i now ≡ input
     → input_after settings (now ∷ before) [] i ≡ record { signal = record { up = input.signal.up; clear = false }; level = input.level }
 input-quiet settings now before i input is = ap (λ told. record { signal = record { up = told.signal.up; clear = false }; level = told.level }) is
-
--- an element in a millisecond is the same by its parts
-moments : (inputs inputs_then : List InputMoment) (commands commands_then : List Cmd) → inputs ≡ inputs_then → commands ≡ commands_then
-    → ◌≡◌ {A = Moment} (record { inputs = inputs; commands = commands }) (record { inputs = inputs_then; commands = commands_then })
-moments inputs inputs_then commands commands_then a b = rw (a, b) refl
 
 -- the input at a place in a millisecond in which nothing is told
 place-stays : (plan : Topology) (events : List Event) (out : Levels) (element t i : ℕ) (input : InputId)
@@ -192,7 +175,7 @@ pub no-news-untouched : (plan : Topology) (events : List Event) (out : Levels) (
     → HasNoNews plan (signals_by plan events) out element t
 unfolding moment_at moment_after
 no-news-untouched plan events out element t untouched same =
-    moments _ _ _ _ (inputs-stay plan events out element t untouched same)
+    moment _ _ _ _ (inputs-stay plan events out element t untouched same)
     (kept-none plan events element (suc t) (command_to plan element) (command-silent plan element) untouched)
 
 -- in a millisecond without events nothing is told of any element into which the same is heard

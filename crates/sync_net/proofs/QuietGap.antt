@@ -4,6 +4,10 @@ use Rattle.std.specs.Prelude.{nat_eq, unwrap_or, if◌then◌else◌, IsSome}
 use Rattle.std.proofs.Math.Decide.{dec_lt}
 use Rattle.std.proofs.lemmas.Bool.{true≢false}
 use Rattle.std.proofs.lemmas.Bool.Decides.{eqb_tells}
+use Rattle.sync_ql.proofs.Staying.{earlier_too}
+use Rattle.sync_text.proofs.Each.{Each-map}
+use Rattle.sync_text.specs.Each.{Each}
+use Rattle.sync_ql.proofs.SameMoments.{line_moment}
 use Rattle.sync_ql.specs.declared.levels.Level.{Level}
 use Rattle.sync_ql.specs.Messages.{LineMoment}
 use Rattle.sync_ql.specs.Switches.{unswitched}
@@ -18,8 +22,6 @@ use Rattle.sync_topo.specs.WellFormed.{IsWellFormed}
 use Rattle.sync_topo.proofs.LineLaws.{IsNominated-within}
 use Rattle.net_rules.specs.Signals.{Signals, signals_by, events_at, says_up, says_esmc, says_level, esmc_at, planned_level}
 use Rattle.net_rules.specs.History.{Levels, settings_of, line_moment_at, heard, out_at}
-use Rattle.net_rules.specs.Walks.{Each}
-use Rattle.net_rules.proofs.Lists.{Each-map}
 use Rattle.net_rules.proofs.EventLaws.{same-before, up-same}
 use Rattle.net_rules.proofs.PlanLaws.{IsDelayed-well, sender-within}
 use Rattle.net_rules.proofs.FinalLaws.{obeys-well}
@@ -27,7 +29,7 @@ use Rattle.sync_net.specs.Kept.{Kept}
 use Rattle.sync_net.specs.NetState.{NetState, line_in, NoneDueBefore}
 use Rattle.sync_net.specs.Sound.{IsSoundLine, AreSound}
 use Rattle.sync_net.specs.Standing.{LineStands, heard_before, AreSignals, IsOfPast, NoneFrom}
-use Rattle.sync_net.proofs.QuietObjects.{HasNoNews, due-earlier, element-quiet, element-sends, line-quiet, line-heard}
+use Rattle.sync_net.proofs.QuietObjects.{HasNoNews, element-quiet, element-sends, line-quiet, line-heard}
 use Rattle.sync_net.proofs.NoNews.{IsHeardSame, source-stays, no-news}
 
 -- an element, to ask for one by place in a list that has it
@@ -85,11 +87,6 @@ signals-stay plan kept events t none is = record {
       ∙ sym (source-stays plan events source t (none-speaks (says_up (Source source)) events (suc t) none) (none-speaks (says_level source) events (suc t) none));
 }
 
--- a line in a millisecond is the same by its parts
-pub line-moments : (up up_then esmc esmc_then : Bool) (level level_then : Level) → up ≡ up_then → esmc ≡ esmc_then → level ≡ level_then
-    → ◌≡◌ {A = LineMoment} (record { up = up; esmc = esmc; level = Some level }) (record { up = up_then; esmc = esmc_then; level = Some level_then })
-line-moments up up_then esmc esmc_then level level_then a b c = rw (a, b, c) refl
-
 -- its ESMC stays on or off
 esmc-stays : (events : List Event) (line t : ℕ) → events_at (suc t) events ≡ [] → esmc_at events line (suc t) ≡ esmc_at events line t
 unfolding esmc_at
@@ -99,7 +96,7 @@ esmc-stays events line t none = ap (λ o. unwrap_or o true) (same-before (says_e
 moment-stays : (plan : Topology) (events : List Event) (out : Levels) (line t : ℕ) → events_at (suc t) events ≡ [] → out line (suc t) ≡ out line t
     → line_moment_at (signals_by plan events) out line (suc t) ≡ line_moment_at (signals_by plan events) out line t
 moment-stays plan events out line t none same =
-    line-moments _ _ _ _ _ _ (up-same events (line_input line) t (none-speaks (says_up (line_input line)) events (suc t) none)) (esmc-stays events line t none) same
+    line_moment _ _ _ _ _ _ (up-same events (line_input line) t (none-speaks (says_up (line_input line)) events (suc t) none)) (esmc-stays events line t none) same
 
 -- the level that is heard in a millisecond is that after it
 pub heard-then : (plan : Topology) (signals : Signals) (out : Levels) (line t : ℕ) → heard plan signals out line t ≡ heard_before plan signals out line (suc t)
@@ -184,13 +181,13 @@ module _ (net : NetState) (events : List Event) (t : ℕ) (well : IsWellFormed n
 -- what isn't due before a millisecond isn't before an earlier one
 pub none_due-earlier : (net : NetState) (m n : ℕ) → m ≤ n → NoneDueBefore net n → NoneDueBefore net m
 none_due-earlier net m n early none = record {
-  elements = λ element other within. due-earlier (slice_index_or net.elements element other).due m n early (none.elements element other within);
+  elements = λ element other within. earlier_too (slice_index_or net.elements element other).due m n early (none.elements element other within);
   lines = λ line within. of (line_in net.lines line) (none.lines line within);
 }
   where
     of : (state : Option LineState) → IfSome state (λ state. IfSome state.due (λ due. n ≤ due)) → IfSome state (λ state. IfSome state.due (λ due. m ≤ due))
     of None later = tt
-    of (Some state) later = due-earlier state.due m n early later
+    of (Some state) later = earlier_too state.due m n early later
 
 -- the last millisecond of a gap
 last-quiet : (net : NetState) (events : List Event) (n : ℕ) → 0 < n → IsWellFormed net.plan → AreSound net → IsOfPast net events n

@@ -1,5 +1,6 @@
 -- One element and one line over a millisecond in which they aren't called.
 use Rattle.std.proofs.Common.{◌≡◌, ◌≤◌, ◌<◌, ℕ, suc, List, ◌∷◌, length, Option, None, Some, IfSome, ap, sym, subst, ◌∙◌, arith}
+use Rattle.sync_ql.proofs.Staying.{earlier_too, same_until_due}
 use Rattle.sync_ql.specs.Pasts.{past_of}
 use Rattle.sync_ql.specs.Moment.{Moment, Settings, signals_of}
 use Rattle.sync_ql.specs.Condition.{failed_at}
@@ -25,17 +26,6 @@ abbrev pub HasNoNews : Topology → Signals → Levels → ℕ → ℕ → Type 
 HasNoNews plan signals out element t =
     moment_at plan signals (heard plan signals out) element (suc t)
     ≡ quiet_moment (settings_of plan element) (element_past plan signals out element (suc t))
-
--- what is later than one millisecond is later than the one before
-pub due-earlier : (due : Option ℕ) (m n : ℕ) → m ≤ n → IfSome due (λ d. n ≤ d) → IfSome due (λ d. m ≤ d)
-due-earlier None m n less later = tt
-due-earlier (Some due) m n less later = let until : n ≤ due = later in omega (arith, until, less)
-
--- before its due time no input's "failed" changes
-pub failed-until : (settings : Settings) (past : List Moment) (due : Option ℕ) (n : ℕ) → IsElementDue settings past due → length past ≤ n
-    → IfSome due (λ d. n ≤ d) → IsSameFailed settings past (moments_until settings n past)
-failed-until settings past None n never later in_time = never n later
-failed-until settings past (Some due) n first later in_time = first.same_before n later in_time
 
 -- before its due time a line has the same on its way, and the same is heard on it
 pub line-until : (delay : ℕ) (past : List LineMoment) (due : Option ℕ) (n : ℕ) → IsLineDue delay past due → length past ≤ n
@@ -74,9 +64,9 @@ element-failed plan signals out place t element sound is none due i within =
     let later = is.in_time.later in
     let first = sound-due plan signals out place (suc t) element sound is in
     ap (λ past. failed_at (settings_of plan place).timers (signals_of i past)) (past-quiet (settings_of plan place) (moment_at plan signals (heard plan signals out) place) (suc t) element is none)
-    ∙ failed-until (settings_of plan place) (element_past plan signals out place element.next) element.due (suc (suc t)) first (omega (arith, long, later)) due i within
-    ∙ sym (failed-until (settings_of plan place) (element_past plan signals out place element.next) element.due (suc t) first (omega (arith, long, later))
-    (due-earlier element.due (suc t) (suc (suc t)) (omega arith) due) i within)
+    ∙ same_until_due (settings_of plan place) (element_past plan signals out place element.next) element.due (suc (suc t)) first (omega (arith, long, later)) due i within
+    ∙ sym (same_until_due (settings_of plan place) (element_past plan signals out place element.next) element.due (suc t) first (omega (arith, long, later))
+    (earlier_too element.due (suc t) (suc (suc t)) (omega arith) due) i within)
     ∙ sym (ap (λ past. failed_at (settings_of plan place).timers (signals_of i past)) is.quiet)
 
 -- and it gives what it gave
@@ -163,5 +153,5 @@ line-heard plan signals out line t state sound is due low up =
     heard_at-head (delay_of plan line) (moments (suc t)) (moments t) (past_of moments (suc t)) low up
     ∙ ap (heard_at (delay_of plan line)) (line-more plan signals out line t state is)
     ∙ line-heard_until plan signals out line (suc t) (suc (suc t)) state sound is (omega arith) due
-    ∙ sym (line-heard_until plan signals out line (suc t) (suc t) state sound is (omega arith) (due-earlier state.due (suc t) (suc (suc t)) (omega arith) due))
+    ∙ sym (line-heard_until plan signals out line (suc t) (suc t) state sound is (omega arith) (earlier_too state.due (suc t) (suc (suc t)) (omega arith) due))
     ∙ sym (ap (heard_at (delay_of plan line)) is.unchanged)

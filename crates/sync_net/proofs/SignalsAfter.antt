@@ -11,12 +11,11 @@ use Rattle.sync_topo.specs.Topology.{Topology}
 use Rattle.sync_topo.specs.Events.{IsInOrder}
 use Rattle.sync_topo.specs.Lines.{line_input}
 use Rattle.net_rules.specs.Signals.{events_before, events_at, last_word, says_up, says_esmc, says_level, planned_level, source_level_before, up_at, said_at}
-use Rattle.net_rules.specs.Walks.{Each}
 use Rattle.sync_net.specs.Kept.{Kept, source_signal}
 use Rattle.sync_net.specs.Standing.{AreSignals, IsNominatedSource}
 use Rattle.net_words.specs.Before.{up_before, said_before}
 use Rattle.sync_net.specs.Noted.{AreNoted, IsSettled}
-use Rattle.net_words.proofs.SplitWords.{none-before-0, until-split, word-until, unwrap_or-or}
+use Rattle.net_words.proofs.SplitWords.{none-before-0, until-split, word-until}
 
 -- a source that is kept as the events before a millisecond have it, and is up, has the level said
 -- last

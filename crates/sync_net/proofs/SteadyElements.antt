@@ -3,6 +3,9 @@ use Rattle.std.proofs.Common.{◌≡◌, ◌≤◌, ◌<◌, ◌+◌, ◌-◌, �
 use Rattle.std.specs.Prelude.{nat_lt, if◌then◌else◌, IsTrue}
 use Rattle.std.proofs.lemmas.Bool.{le-ltb, lt-ltb}
 use Rattle.std.proofs.lemmas.Option.{slice_get_within, slice_get_cases}
+use Rattle.sync_ql.proofs.Staying.{same_until_due}
+use Rattle.sync_text.specs.Each.{Each}
+use Rattle.net_rules.proofs.OrderLaws.{input-within}
 use Rattle.sync_ql.specs.Condition.{is_up, down_for, up_for, failed_at}
 use Rattle.sync_ql.specs.Moment.{Moment, Settings, signals_of}
 use Rattle.sync_ql.specs.Told.{quiet_moments, moments_until}
@@ -19,21 +22,11 @@ use Rattle.sync_topo.specs.WellFormed.{IsWellFormed}
 use Rattle.net_rules.specs.Signals.{Signals}
 use Rattle.net_rules.specs.History.{Levels, settings_of, heard, moment_at, element_past, failed_by}
 use Rattle.net_rules.specs.Settled.{IsSteady}
-use Rattle.net_rules.specs.Walks.{Each}
 use Rattle.net_rules.proofs.InputLaws.{each-input}
 use Rattle.net_rules.proofs.PlanLaws.{receiver-within}
 use Rattle.net_rules.proofs.NetLaws.{signals-at, failed-at, many-inputs}
 use Rattle.sync_net.specs.Standing.{ElementStands}
-use Rattle.sync_net.proofs.QuietObjects.{failed-until}
 use Rattle.net_words.proofs.DistinctInputs.{input-of}
-
--- the element of an input is one of the plan
-pub input-within : (plan : Topology) → IsWellFormed plan → (input : InputId) → IsInput plan input → element_of plan input < length plan.elements
-input-within plan well (Line line) within = receiver-within plan well line.0 within
-input-within plan well (Source source) within = elim (slice_get_cases plan.sources source).1 [
-  | inl there ↦ rw there.2 ((well.sources_fit source there.0 there.2).at_is_element)
-  | inr past ↦ absurd (omega (arith, within, past.0))
-]
 
 -- all inputs are steady where those of each element are
 pub all-steady : (plan : Topology) (signals : Signals) (t : ℕ) → IsWellFormed plan
@@ -121,7 +114,7 @@ module _ (plan : Topology) (signals : Signals) (out : Levels) (place t : ℕ) (e
       let later = stands.in_time.later in
       let changes : IsElementDue (settings_of plan place) last element.due =
       subst (λ settings. IsElementDue settings last element.due) stands.settings (due last stands.stands) in
-      sym (failed-until (settings_of plan place) last element.due (suc t) changes (omega (arith, long, later)) stands.in_time.until_due i within)
+      sym (same_until_due (settings_of plan place) last element.due (suc t) changes (omega (arith, long, later)) stands.in_time.until_due i within)
       ∙ sym (ap (λ past. failed_at (settings_of plan place).timers (signals_of i past)) stands.quiet)
       ∙ failed-at plan signals out place t i input at (input-of plan place i input at).of_element
 

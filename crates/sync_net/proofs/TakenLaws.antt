@@ -7,6 +7,8 @@ use Rattle.std.proofs.lemmas.Bool.{true≢false, or_parts}
 use Rattle.std.proofs.lemmas.List.{append-nil}
 use Rattle.std.proofs.lemmas.List.Elements.{All-append}
 use Rattle.std.proofs.lemmas.List.Folds.{list_any-append}
+use Rattle.std.proofs.Math.Bool.{or-false}
+use Rattle.sync_text.proofs.Options.{option_or-none, is_some-false}
 use Rattle.sync_ql.specs.declared.levels.Level.{Level}
 use Rattle.sync_ql.specs.declared.rules.InputEvent.{InputEvent}
 use Rattle.sync_ql.specs.Told.{last_said, says_up, says_level, clears, commands_in, FitsElement}
@@ -37,18 +39,6 @@ use Rattle.net_words.proofs.FitLaws.{all-fit, all-away}
 use Rattle.sync_net.proofs.LevelFits.{levels-fit, levels-away}
 use Rattle.net_words.proofs.WordLaws.{last_said-append, commands_in-append, all-up, all-level, all-clear, all-commands}
 use Rattle.sync_net.proofs.LevelWords.{all-named-level, levels-up, levels-level, levels-clear, levels-commands}
-
-or-none : {A : Type 0} (o : Option A) → option_or o None ≡ o
-or-none None = refl
-or-none (Some x) = refl
-
-or-false : (b : Bool) → (b || false) ≡ b
-or-false true = refl
-or-false false = refl
-
-is_some-none : {A : Type 0} (o : Option A) → is_some o ≡ false → o ≡ None
-is_some-none None none = refl
-is_some-none (Some x) none = cc
 
 nothing-is : (words : List InputEvent) → is_something words ≡ false → words ≡ []
 nothing-is [] none = refl
@@ -201,7 +191,7 @@ module _ (plan : Topology) (well : IsWellFormed plan) (events : List Event) (was
         ap (λ o. unwrap_or o (kept_level (kept_in was heards) input))
         (last_said-append (says_level i) (all_words plan events element) (all_level_words plan between events element)
         ∙ ap (option_or (last_said (says_level i) (all_level_words plan between events element))) (all-level plan element i input at events)
-        ∙ or-none (last_said (says_level i) (all_level_words plan between events element))
+        ∙ option_or-none (last_said (says_level i) (all_level_words plan between events element))
         ∙ levels-level plan element i input at between events)
         ∙ now-level heards input;
     clear = λ i input at.
@@ -268,7 +258,7 @@ module _ (plan : Topology) (well : IsWellFormed plan) (events : List Event) (was
           let spoken : (is_some (says_input_up (line_input line) event.what) || is_some (says_esmc line event.what)) ≡ false =
           rw nominated at other in
           let both = or_parts (is_some (says_input_up (line_input line) event.what)) (is_some (says_esmc line event.what)) spoken in
-          (is_some-none (says_input_up (line_input line) event.what) both.0, is_some-none (says_esmc line event.what) both.1)
+          (is_some-false (says_input_up (line_input line) event.what) both.0, is_some-false (says_esmc line event.what) both.1)
 
   pub are-taken : AreTaken plan events was now
   are-taken = record {

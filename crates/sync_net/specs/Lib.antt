@@ -17,3 +17,5 @@ pub mod PartSteps
 pub mod Evaluated
 pub mod NetKept
 pub mod Copied
+pub mod SharedElements
+pub mod SharedLines

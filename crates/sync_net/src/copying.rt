@@ -4,20 +4,46 @@ ghost use Rattle.std.specs.Prelude.{◌≡◌, IfOk};
 ghost use Rattle.sync_net.specs.Copied.{AreSame};
 
 use crate::parts::Parts;
+use crate::shared_element::SharedElement;
+use crate::shared_line::SharedLine;
 use crate::signals::{LineSignal, SourceSignal};
-use link_model::Line;
-use net_words::{Tellings, Told};
+use net_words::Tellings;
 use std::alloc::Global;
-use sync_element::Element;
 use sync_ql::Level;
+use sync_ql::rules::InputEvent;
 use sync_text::{NoMemory, Rows};
 
 // The same parts once more.
-pub fn try_clone_parts(alloc: Global, parts: &Parts) -> Result<Parts, NoMemory>
+pub fn try_clone_parts<'b>(alloc: Global, parts: &Parts<'_>) -> Result<Parts<'b>, NoMemory>
     ensures { IfOk result (AreSame parts.now) }
 {
     let elements = try_clone_elements(alloc, parts.elements.as_slice())?;
     let lines = try_clone_lines(alloc, parts.lines.as_slice())?;
+    let copy = copy_others(alloc, parts, elements, lines)?;
+    Ok(copy)
+}
+
+// The same parts for another network, which has these elements and lines until it calls them.
+pub fn share_parts<'b>(alloc: Global, parts: &'b Parts<'_>) -> Result<Parts<'b>, NoMemory>
+    ensures { IfOk result (AreSame parts.now) }
+{
+    let elements = share_elements(alloc, parts.elements.as_slice())?;
+    let lines = share_lines(alloc, parts.lines.as_slice())?;
+    let shared = copy_others(alloc, parts, elements, lines)?;
+    Ok(shared)
+}
+
+// The same parts once more, over the same elements and lines.
+fn copy_others<'b>(
+    alloc: Global,
+    parts: &Parts<'_>,
+    elements: Vec<SharedElement<'b>>,
+    lines: Vec<Option<SharedLine<'b>>>,
+) -> Result<Parts<'b>, NoMemory>
+    requires elements { elements.items ≡ parts.now.elements.items }
+    requires lines { lines.items ≡ parts.now.lines.items }
+    ensures { IfOk result (AreSame parts.now) }
+{
     let signals = copy_signals(alloc, parts.signals.as_slice())?;
     let sources = copy_sources(alloc, parts.sources.as_slice())?;
     let heards = copy_levels(alloc, parts.heards.as_slice())?;
@@ -39,7 +65,45 @@ pub fn try_clone_parts(alloc: Global, parts: &Parts) -> Result<Parts, NoMemory>
     })
 }
 
-fn try_clone_elements(alloc: Global, elements: &[Element]) -> Result<Vec<Element>, NoMemory>
+fn share_elements<'b>(
+    alloc: Global,
+    elements: &'b [SharedElement<'_>],
+) -> Result<Vec<SharedElement<'b>>, NoMemory>
+    ensures { IfOk result (λ copies. copies.items ≡ elements.now) }
+{
+    let mut copies = Rows::with_capacity(alloc, elements.len())?;
+    for element in elements {
+        copies.push(element.share())?;
+    }
+    Ok(copies.into_vec())
+}
+
+fn share_lines<'b>(
+    alloc: Global,
+    lines: &'b [Option<SharedLine<'_>>],
+) -> Result<Vec<Option<SharedLine<'b>>>, NoMemory>
+    ensures { IfOk result (λ copies. copies.items ≡ lines.now) }
+{
+    let mut copies = Rows::with_capacity(alloc, lines.len())?;
+    for line in lines {
+        copies.push(share_line(line))?;
+    }
+    Ok(copies.into_vec())
+}
+
+fn share_line<'b>(line: &'b Option<SharedLine<'_>>) -> Option<SharedLine<'b>>
+    ensures { result ≡ line.now }
+{
+    match line {
+        Some(line) => Some(line.share()),
+        None => None,
+    }
+}
+
+fn try_clone_elements<'b>(
+    alloc: Global,
+    elements: &[SharedElement<'_>],
+) -> Result<Vec<SharedElement<'b>>, NoMemory>
     ensures { IfOk result (λ copies. copies.items ≡ elements.now) }
 {
     let mut copies = Rows::with_capacity(alloc, elements.len())?;
@@ -49,7 +113,10 @@ fn try_clone_elements(alloc: Global, elements: &[Element]) -> Result<Vec<Element
     Ok(copies.into_vec())
 }
 
-fn try_clone_lines(alloc: Global, lines: &[Option<Line>]) -> Result<Vec<Option<Line>>, NoMemory>
+fn try_clone_lines<'b>(
+    alloc: Global,
+    lines: &[Option<SharedLine<'_>>],
+) -> Result<Vec<Option<SharedLine<'b>>>, NoMemory>
     ensures { IfOk result (λ copies. copies.items ≡ lines.now) }
 {
     let mut copies = Rows::with_capacity(alloc, lines.len())?;
@@ -59,7 +126,10 @@ fn try_clone_lines(alloc: Global, lines: &[Option<Line>]) -> Result<Vec<Option<L
     Ok(copies.into_vec())
 }
 
-pub fn try_clone_line(alloc: Global, line: &Option<Line>) -> Result<Option<Line>, NoMemory>
+pub fn try_clone_line<'b>(
+    alloc: Global,
+    line: &Option<SharedLine<'_>>,
+) -> Result<Option<SharedLine<'b>>, NoMemory>
     ensures { IfOk result (λ copy. copy ≡ line.now) }
 {
     match line {
@@ -68,7 +138,10 @@ pub fn try_clone_line(alloc: Global, line: &Option<Line>) -> Result<Option<Line>
     }
 }
 
-fn try_clone_told(alloc: Global, changes: &[Told]) -> Result<Vec<Told>, NoMemory>
+fn try_clone_told(
+    alloc: Global,
+    changes: &[Rows<InputEvent>],
+) -> Result<Vec<Rows<InputEvent>>, NoMemory>
     ensures { IfOk result (λ copies. copies.items ≡ changes.now) }
 {
     let mut copies = Rows::with_capacity(alloc, changes.len())?;

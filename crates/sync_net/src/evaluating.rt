@@ -1,20 +1,19 @@
 //! The elements that are looked at in a millisecond make their steps.
 
-ghost use Rattle.std.specs.Prelude.{◌≡◌, ◌≤◌, ◌<◌, ◌+◌, ℕ, ◌^◌, length, slice_index_or, nat_eq, All};
+ghost use Rattle.std.specs.Prelude.{◌≡◌, ◌≤◌, ◌<◌, ◌+◌, ℕ, ◌^◌, length, slice_index_or, nat_eq, All, OnOk};
 ghost use Rattle.std.specs.List.{list_any};
 ghost use Rattle.agenda.specs.Marked.{AreListed};
 ghost use Rattle.sync_element.specs.ElementState.{ElementState};
 ghost use Rattle.sync_topo.specs.Lines.{lines_out};
 ghost use Rattle.sync_net.specs.Stages.{AreEvaluated, CanStep, changes_of, is_out_of};
 
-use crate::calls::step_element;
 use crate::marking::mark_all;
+use crate::shared_element::SharedElement;
 use agenda::{DueTimes, Marks};
-use net_words::Told;
 use std::sync::ledger::Ledger;
-use sync_element::Element;
 use sync_ql::limits::LAST_MILLISECOND;
-use sync_text::Steps;
+use sync_ql::rules::InputEvent;
+use sync_text::{NoMemory, Rows, Steps};
 use sync_topo::Plan;
 
 // Lets each marked element make its step, and marks the lines out of those that give something
@@ -22,13 +21,13 @@ use sync_topo::Plan;
 pub fn evaluate_elements<L: Ledger>(
     plan: &Plan,
     active: &Marks,
-    elements: &mut [Element],
-    changes: &mut [Told],
+    elements: &mut [SharedElement<'_>],
+    changes: &mut [Rows<InputEvent>],
     dues: &mut DueTimes,
     called: &mut Marks,
     now: u64,
     steps: &mut Steps<L>,
-)
+) -> Result<(), NoMemory>
     requires in_range { now ≤ LAST_MILLISECOND }
     requires few { length elements.old < 2 ^ 32 }
     requires marks { length active.now.flags ≡ length elements.old }
@@ -38,28 +37,29 @@ pub fn evaluate_elements<L: Ledger>(
     requires lines { (e : ℕ) → All (λ line. line.0 < length called.old.flags) (lines_out plan.now e) }
     requires can_step { (e : ℕ) (other : ElementState) → e < length elements.old →
         CanStep now (slice_index_or elements.old e other) (changes_of changes.old e) }
-    ensures evaluated { AreEvaluated now (length elements.old) (is_out_of plan.now)
+    ensures evaluated { OnOk result (AreEvaluated now (length elements.old) (is_out_of plan.now)
         (λ e. list_any (nat_eq e) active.now.listed)
         (record { elements = elements.old; changes = changes.old; dues = dues.old; called = called.old.flags })
-        (record { elements = elements.new; changes = changes.new; dues = dues.new; called = called.new.flags }) }
-    ensures ticks { steps.new ≡ steps.old + length active.now.listed }
+        (record { elements = elements.new; changes = changes.new; dues = dues.new; called = called.new.flags })) }
+    ensures ticks { OnOk result (steps.new ≡ steps.old + length active.now.listed) }
 {
     for place in active.listed() {
-        evaluate(plan, *place, elements, changes, dues, called, now, steps);
+        evaluate(plan, *place, elements, changes, dues, called, now, steps)?;
     }
+    Ok(())
 }
 
 // Lets one element make its step.
 fn evaluate<L: Ledger>(
     plan: &Plan,
     place: u32,
-    elements: &mut [Element],
-    changes: &mut [Told],
+    elements: &mut [SharedElement<'_>],
+    changes: &mut [Rows<InputEvent>],
     dues: &mut DueTimes,
     called: &mut Marks,
     now: u64,
     steps: &mut Steps<L>,
-)
+) -> Result<(), NoMemory>
     requires in_range { now ≤ LAST_MILLISECOND }
     requires place { place < length elements.old }
     requires changes { length changes.old ≡ length elements.old }
@@ -68,17 +68,18 @@ fn evaluate<L: Ledger>(
     requires lines { All (λ line. line.0 < length called.old.flags) (lines_out plan.now place) }
     requires can_step { (other : ElementState) →
         CanStep now (slice_index_or elements.old place other) (changes_of changes.old place) }
-    ensures evaluated { AreEvaluated now (length elements.old) (is_out_of plan.now) (λ e. nat_eq e place)
+    ensures evaluated { OnOk result (AreEvaluated now (length elements.old) (is_out_of plan.now) (λ e. nat_eq e place)
         (record { elements = elements.old; changes = changes.old; dues = dues.old; called = called.old.flags })
-        (record { elements = elements.new; changes = changes.new; dues = dues.new; called = called.new.flags }) }
-    ensures ticks { steps.new ≡ steps.old + 1 }
+        (record { elements = elements.new; changes = changes.new; dues = dues.new; called = called.new.flags })) }
+    ensures ticks { OnOk result (steps.new ≡ steps.old + 1) }
 {
     let i = place as usize;
     let element = &mut elements[i];
-    let gives_other = step_element(element, now, changes[i].as_slice(), steps);
+    let gives_other = element.step(now, changes[i].as_slice(), steps)?;
     dues.set(place, element.due());
     changes[i].clear();
     if gives_other {
         mark_all(called, plan.lines_out(place));
     }
+    Ok(())
 }

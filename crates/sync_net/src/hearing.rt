@@ -1,7 +1,7 @@
 //! The lines that are called in a millisecond are told what they are, and what is heard on them is
 //! passed on.
 
-ghost use Rattle.std.specs.Prelude.{◌≡◌, ◌≤◌, ◌<◌, ◌+◌, ℕ, true, nat_eq, length, OnOk, IsSomeAnd};
+ghost use Rattle.std.specs.Prelude.{◌≡◌, ◌≤◌, ◌<◌, ◌+◌, ℕ, true, nat_eq, length, IfOk, OnOk, IsSomeAnd};
 ghost use Rattle.std.specs.List.{list_any};
 ghost use Rattle.sync_ql.specs.Messages.{is_same_level};
 ghost use Rattle.sync_ql.specs.Told.{IsOfOption};
@@ -11,14 +11,13 @@ ghost use Rattle.sync_net.specs.NetState.{line_in};
 ghost use Rattle.sync_net.specs.Noting.{line_at};
 ghost use Rattle.sync_net.specs.Hearing.{AreTold, IsPassedOn, IsLineToldIn, CanTell};
 
-use crate::calls::tell_line;
+use crate::shared_line::SharedLine;
 use crate::signals::LineSignal;
 use agenda::Marks;
-use link_model::Line;
 use net_words::{Tellings, input_place};
 use sync_element::InputEvent;
 use sync_ql::limits::LAST_MILLISECOND;
-use sync_ql::{Level, NetOption};
+use sync_ql::{Level, NetOption, is_same_heard};
 use sync_text::NoMemory;
 use sync_topo::{InputId, LineId, Plan};
 
@@ -41,7 +40,7 @@ fn pass_on(
         tellings.old.changes.items tellings.new.changes.items
         tellings.old.active.flags tellings.new.active.flags) }
 {
-    if is_same(level, heards[line.0 as usize]) {
+    if is_same_heard(level, heards[line.0 as usize]) {
         return Ok(());
     }
     heards[line.0 as usize] = level;
@@ -52,23 +51,12 @@ fn pass_on(
     Ok(())
 }
 
-// Whether two levels, or none, are the same.
-fn is_same(one: Option<Level>, other: Option<Level>) -> bool
-    ensures { result ≡ is_same_level one other }
-{
-    match (one, other) {
-        (Some(one), Some(other)) => one.option == other.option && one.place == other.place,
-        (None, None) => true,
-        _ => false,
-    }
-}
-
 // Tells each marked line what it is, takes what arrives, and passes on what is heard.
 pub fn hear_lines(
     plan: &Plan,
     signals: &[LineSignal],
     called: &Marks,
-    lines: &mut [Option<Line>],
+    lines: &mut [Option<SharedLine<'_>>],
     heards: &mut [Option<Level>],
     tellings: &mut Tellings,
     now: u64,
@@ -100,7 +88,7 @@ fn hear(
     plan: &Plan,
     line: LineId,
     signal: LineSignal,
-    lines: &mut [Option<Line>],
+    lines: &mut [Option<SharedLine<'_>>],
     heards: &mut [Option<Level>],
     tellings: &mut Tellings,
     now: u64,
@@ -118,29 +106,30 @@ fn hear(
         (record { lines = lines.old; heards = heards.old; changes = tellings.old.changes.items; active = tellings.old.active.flags })
         (record { lines = lines.new; heards = heards.new; changes = tellings.new.changes.items; active = tellings.new.active.flags })) }
 {
-    let level = tell(lines, line, signal, plan.option(), now);
+    let level = tell(lines, line, signal, plan.option(), now)?;
     pass_on(plan, line, level, heards, tellings)?;
     Ok(())
 }
 
 // Tells one line what it is, takes what arrives, and answers what is heard.
 fn tell(
-    lines: &mut [Option<Line>],
+    lines: &mut [Option<SharedLine<'_>>],
     line: LineId,
     signal: LineSignal,
     option: NetOption,
     now: u64,
-) -> Option<Level>
+) -> Result<Option<Level>, NoMemory>
     requires in_range { now ≤ LAST_MILLISECOND }
     requires line { line.0 < length lines.old }
     requires can_tell { IsSomeAnd (line_in lines.old line.0) (CanTell option now) }
-    ensures told { IsLineToldIn now signal line.0 result lines.old lines.new }
-    ensures option { IsOfOption option result }
+    ensures told { IfOk result (λ level. IsLineToldIn now signal line.0 level lines.old lines.new) }
+    ensures option { IfOk result (IsOfOption option) }
 {
     let Some(wire) = &mut lines[line.0 as usize] else {
         unreachable!()
     };
-    tell_line(wire, now, signal)
+    let level = wire.tell(now, signal)?;
+    Ok(level)
 }
 
 // What comes to a line from outside.

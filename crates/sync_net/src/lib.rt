@@ -9,9 +9,8 @@
 //! |---|---|
 //! | the one who makes a run | [`Net::new`], [`Net::step`], [`Net::due`] |
 //! | who reads the state | [`Net::element`], [`Net::line`], [`Net::evaluated`], [`Net::called`] |
-//! | who goes on from one network in several ways | [`Net::try_clone`], [`Net::return_to`] |
+//! | who goes on from one network in several ways | [`Net::share`], [`Net::try_clone`], [`Net::return_to`] |
 //! | who proves something of a run | [`elements_law`], [`later_events_law`], [`gap_law`] |
-//! | who tells elements of events without a network | [`places_of`], [`new_tellings`], [`tell_events`], [`Tellings`], [`Told`] |
 //!
 //! A step costs by what is active in it: it calls only the elements that an event touches, into
 //! which another level is heard, or that are due, and only the lines that an event switches, that
@@ -31,6 +30,8 @@ mod parts;
 mod returning;
 mod sending;
 mod settling;
+mod shared_element;
+mod shared_line;
 mod signals;
 mod starting;
 mod stepping;

@@ -16,7 +16,7 @@ ghost use Rattle.sync_net.specs.NetState.{line_in, NoneDueBefore, IsDueAt, IsInT
 ghost use Rattle.sync_net.specs.Standing.{ElementStands, LineStands, StandsFor, NoneFrom};
 ghost use Rattle.sync_net.specs.Evaluated.{IsContinued, AreAloneEvaluated, IsCalledFor, AreAloneCalled, AreFacing, HaveFaced};
 
-use crate::copying::try_clone_parts;
+use crate::copying::{share_parts, try_clone_parts};
 use crate::parts::Parts;
 use crate::returning::return_parts;
 use crate::starting::new_parts;
@@ -38,7 +38,7 @@ use sync_topo::{Event, LineId, Plan};
 #[derive(Debug, Drop)]
 pub struct Net<'a> {
     plan: &'a Plan,
-    parts: Parts,
+    parts: Parts<'a>,
     /// Whether a step was refused, after which nothing else of the network is said.
     spent: bool,
 }
@@ -85,6 +85,21 @@ impl<'a> Net<'a> {
         ensures { IfOk result (λ net. net ≡ self.now) }
     {
         let parts = try_clone_parts(alloc, &self.parts)?;
+        Ok(Net {
+            plan: self.plan,
+            parts,
+            spent: self.spent,
+        })
+    }
+
+    /// A network that goes on from this one, as it is after its last step, over the same plan.
+    ///
+    /// An element or a line is copied only where a step calls it, so that this takes less memory than
+    /// a copy; until then the other network has those of this one. This project's own.
+    pub fn share<'b>(&'b self, alloc: Global) -> Result<Net<'b>, NoMemory>
+        ensures { IfOk result (λ net. net ≡ self.now) }
+    {
+        let parts = share_parts(alloc, &self.parts)?;
         Ok(Net {
             plan: self.plan,
             parts,
@@ -269,7 +284,7 @@ impl<'a> Net<'a> {
             ElementStands self.now.plan (signals_by self.now.plan all)
             (out_at self.now.plan (signals_by self.now.plan all)) e n result.now }
     {
-        &self.parts.elements[e as usize]
+        self.parts.elements[e as usize].get()
     }
 
     /// A nominated line, by its number.
@@ -285,7 +300,7 @@ impl<'a> Net<'a> {
             (out_at self.now.plan (signals_by self.now.plan all)) l.0 n result.now }
     {
         match &self.parts.lines[l.0 as usize] {
-            Some(line) => line,
+            Some(line) => line.get(),
             None => unreachable!(),
         }
     }

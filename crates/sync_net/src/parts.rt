@@ -1,21 +1,21 @@
 //! What a network keeps beside its plan.
 
+use crate::shared_element::SharedElement;
+use crate::shared_line::SharedLine;
 use crate::signals::{LineSignal, SourceSignal};
 use agenda::{DueTimes, Marks};
-use link_model::Line;
 use net_words::Tellings;
-use sync_element::Element;
 use sync_ql::Level;
 
 // All that a network keeps, each list by number: of elements, lines or sources.
 #[derive(Debug, Drop)]
-pub struct Parts {
+pub struct Parts<'a> {
     // The first millisecond that no step has told of.
     pub next: u64,
     pub later_steps: u64,
-    pub elements: Vec<Element>,
+    pub elements: Vec<SharedElement<'a>>,
     // The nominated lines.
-    pub lines: Vec<Option<Line>>,
+    pub lines: Vec<Option<SharedLine<'a>>>,
     pub signals: Vec<LineSignal>,
     pub sources: Vec<SourceSignal>,
     // The level that is heard on each line, as its element was told.

@@ -7,10 +7,10 @@ ghost use Rattle.sync_net.specs.Copied.{AreSameBut, AreRenewed, IsElementDue, Is
 
 use crate::copying::try_clone_line;
 use crate::parts::Parts;
+use crate::shared_element::SharedElement;
+use crate::shared_line::SharedLine;
 use agenda::DueTimes;
-use link_model::Line;
 use std::alloc::Global;
-use sync_element::Element;
 use sync_text::NoMemory;
 use sync_topo::Plan;
 
@@ -19,8 +19,8 @@ use sync_topo::Plan;
 pub fn return_parts(
     alloc: Global,
     plan: &Plan,
-    parts: &mut Parts,
-    base: &Parts,
+    parts: &mut Parts<'_>,
+    base: &Parts<'_>,
     elements: &[u32],
     lines: &[u32],
 ) -> Result<(), NoMemory>
@@ -63,8 +63,8 @@ pub fn return_parts(
 
 fn return_elements(
     alloc: Global,
-    elements: &mut [Element],
-    base: &[Element],
+    elements: &mut [SharedElement<'_>],
+    base: &[SharedElement<'_>],
     places: &[u32],
 ) -> Result<(), NoMemory>
     requires within { All (λ e. e < length base.now) places.now }
@@ -80,8 +80,8 @@ fn return_elements(
 
 fn return_lines(
     alloc: Global,
-    lines: &mut [Option<Line>],
-    base: &[Option<Line>],
+    lines: &mut [Option<SharedLine<'_>>],
+    base: &[Option<SharedLine<'_>>],
     places: &[u32],
 ) -> Result<(), NoMemory>
     requires within { All (λ l. l < length base.now) places.now }
@@ -96,7 +96,7 @@ fn return_lines(
 }
 
 // Elements at some places are due when they say so.
-fn renew_element_dues(dues: &mut DueTimes, elements: &[Element], places: &[u32])
+fn renew_element_dues(dues: &mut DueTimes, elements: &[SharedElement<'_>], places: &[u32])
     requires within { All (λ e. e < length elements.now) places.now }
     requires room { length elements.now ≤ length dues.old }
     ensures { AreRenewed 0 places.now (IsElementDue elements.now) dues.old dues.new }
@@ -107,7 +107,12 @@ fn renew_element_dues(dues: &mut DueTimes, elements: &[Element], places: &[u32])
 }
 
 // Lines at some places, which stand from the first on, are due when they say so.
-fn renew_line_dues(dues: &mut DueTimes, first: u32, lines: &[Option<Line>], places: &[u32])
+fn renew_line_dues(
+    dues: &mut DueTimes,
+    first: u32,
+    lines: &[Option<SharedLine<'_>>],
+    places: &[u32],
+)
     requires within { All (λ l. l < length lines.now) places.now }
     requires few { first + length lines.now < 2 ^ 32 }
     requires room { first + length lines.now ≤ length dues.old }
@@ -119,7 +124,7 @@ fn renew_line_dues(dues: &mut DueTimes, first: u32, lines: &[Option<Line>], plac
 }
 
 // When a line is due, if it is kept.
-fn due_of(line: &Option<Line>) -> Option<u64>
+fn due_of(line: &Option<SharedLine<'_>>) -> Option<u64>
     ensures { result ≡ option_and_then (λ state. state.due) line.now }
 {
     match line {

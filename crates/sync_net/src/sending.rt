@@ -11,9 +11,9 @@ ghost use Rattle.net_rules.specs.History.{settings_of, is_way_back};
 ghost use Rattle.sync_net.specs.NetState.{line_in};
 ghost use Rattle.sync_net.specs.Stages.{IsLevelSent, AreSent, CanSay, IsOnlyGiven};
 
-use crate::calls::say_on_line;
+use crate::shared_element::SharedElement;
+use crate::shared_line::SharedLine;
 use agenda::{DueTimes, Marks};
-use link_model::Line;
 use sync_element::Element;
 use sync_ql::limits::LAST_MILLISECOND;
 use sync_ql::{Level, do_not_use};
@@ -65,8 +65,8 @@ pub fn level_sent(plan: &Plan, line: LineId, sender: &Element) -> Level
 pub fn send_lines(
     plan: &Plan,
     called: &Marks,
-    elements: &[Element],
-    lines: &mut [Option<Line>],
+    elements: &[SharedElement<'_>],
+    lines: &mut [Option<SharedLine<'_>>],
     dues: &mut DueTimes,
     now: u64,
 ) -> Result<(), NoMemory>
@@ -93,8 +93,8 @@ pub fn send_lines(
 fn send(
     plan: &Plan,
     line: LineId,
-    elements: &[Element],
-    lines: &mut [Option<Line>],
+    elements: &[SharedElement<'_>],
+    lines: &mut [Option<SharedLine<'_>>],
     dues: &mut DueTimes,
     now: u64,
 ) -> Result<(), NoMemory>
@@ -109,7 +109,7 @@ fn send(
     ensures sent { OnOk result (AreSent plan.now elements.now now (λ l. nat_eq l line.0)
         (record { lines = lines.old; dues = dues.old }) (record { lines = lines.new; dues = dues.new })) }
 {
-    let sender = &elements[plan.from(line) as usize];
+    let sender = elements[plan.from(line) as usize].get();
     let level = level_sent(plan, line, sender);
     give(lines, dues, plan.elements(), line.0, level, now)?;
     Ok(())
@@ -117,7 +117,7 @@ fn send(
 
 // Gives a line a level, and keeps when it is due.
 fn give(
-    lines: &mut [Option<Line>],
+    lines: &mut [Option<SharedLine<'_>>],
     dues: &mut DueTimes,
     elements: u32,
     line: u32,
@@ -135,7 +135,7 @@ fn give(
     let Some(wire) = &mut lines[line as usize] else {
         unreachable!()
     };
-    let due = say_on_line(wire, now, level)?;
+    let due = wire.say(now, level)?;
     dues.set(elements + line, due);
     Ok(())
 }

@@ -5,22 +5,25 @@ ghost use Rattle.agenda.specs.Marked.{none_marked};
 ghost use Rattle.sync_topo.specs.declared.event.Event.{Event};
 ghost use Rattle.sync_topo.specs.Lines.{line_count, inputs_of, IsInput};
 ghost use Rattle.sync_net.specs.Beginning.{IsBegun, IsNewPlace, IsNewSource};
-ghost use Rattle.net_words.specs.NewElements.{AreEach};
+ghost use Rattle.net_rules.specs.History.{by_levels};
+ghost use Rattle.net_words.specs.NewElements.{AreEach, IsNewElement};
 ghost use Rattle.sync_net.specs.Standing.{IsOfPast};
 ghost use Rattle.sync_net.specs.Whole.{IsWhole, state_of};
 
 use crate::parts::Parts;
+use crate::shared_element::SharedElement;
+use crate::shared_line::SharedLine;
 use crate::signals::{LineSignal, SourceSignal};
 use agenda::{DueTimes, Marks};
 use link_model::Line;
-use net_words::{Chooses, new_elements, new_tellings};
+use net_words::{Chooses, new_element, new_tellings};
 use std::alloc::Global;
 use sync_ql::Level;
 use sync_text::{NoMemory, Rows};
 use sync_topo::{InputId, LineId, Plan};
 
 // The parts of a network that was told nothing.
-pub fn new_parts(alloc: Global, plan: &Plan) -> Result<Parts, NoMemory>
+pub fn new_parts<'a>(alloc: Global, plan: &Plan) -> Result<Parts<'a>, NoMemory>
     ensures whole { IfOk result (IsWhole plan.now) }
     ensures next { IfOk result (λ parts. parts.next ≡ 0) }
     ensures later_steps { IfOk result (λ parts. parts.later_steps ≡ 0) }
@@ -33,10 +36,10 @@ pub fn new_parts(alloc: Global, plan: &Plan) -> Result<Parts, NoMemory>
 }
 
 // The parts, each as it is before anything is told.
-fn begun(alloc: Global, plan: &Plan) -> Result<Parts, NoMemory>
+fn begun<'a>(alloc: Global, plan: &Plan) -> Result<Parts<'a>, NoMemory>
     ensures { IfOk result (IsBegun plan.now) }
 {
-    let elements = new_elements(alloc, plan, Chooses::ByLevel)?;
+    let elements = new_elements(alloc, plan)?;
     let lines = new_lines(alloc, plan)?;
     let signals = new_signals(alloc, plan)?;
     let sources = new_sources(alloc, plan)?;
@@ -58,8 +61,30 @@ fn begun(alloc: Global, plan: &Plan) -> Result<Parts, NoMemory>
     })
 }
 
+// The elements, by number.
+fn new_elements<'a>(alloc: Global, plan: &Plan) -> Result<Vec<SharedElement<'a>>, NoMemory>
+    ensures { IfOk result (λ elements.
+        AreEach (IsNewElement (by_levels plan.now) plan.now) (length plan.now.elements) elements.items) }
+{
+    let mut elements = Rows::with_capacity(alloc, plan.elements() as usize)?;
+    for place in 0..plan.elements() {
+        elements.push(own_element(alloc, plan, place)?)?;
+    }
+    Ok(elements.into_vec())
+}
+
+// An element that was told nothing.
+fn own_element<'a>(alloc: Global, plan: &Plan, place: u32) -> Result<SharedElement<'a>, NoMemory>
+    requires { place < length plan.now.elements }
+    ensures { IfOk result (IsNewElement (by_levels plan.now) plan.now place) }
+{
+    let element = new_element(alloc, plan, place, Chooses::ByLevel)?;
+    let own = SharedElement::new(alloc, element)?;
+    Ok(own)
+}
+
 // The lines, by number, of which only the nominated ones are kept.
-fn new_lines(alloc: Global, plan: &Plan) -> Result<Vec<Option<Line>>, NoMemory>
+fn new_lines<'a>(alloc: Global, plan: &Plan) -> Result<Vec<Option<SharedLine<'a>>>, NoMemory>
     ensures { IfOk result (λ lines.
         AreEach (IsNewPlace plan.now) (line_count plan.now) lines.items) }
 {
@@ -71,7 +96,11 @@ fn new_lines(alloc: Global, plan: &Plan) -> Result<Vec<Option<Line>>, NoMemory>
 }
 
 // A line that was told nothing, if it is nominated.
-fn new_line(alloc: Global, plan: &Plan, line: LineId) -> Result<Option<Line>, NoMemory>
+fn new_line<'a>(
+    alloc: Global,
+    plan: &Plan,
+    line: LineId,
+) -> Result<Option<SharedLine<'a>>, NoMemory>
     requires { line.0 < line_count plan.now }
     ensures { IfOk result (IsNewPlace plan.now line.0) }
 {
@@ -80,7 +109,8 @@ fn new_line(alloc: Global, plan: &Plan, line: LineId) -> Result<Option<Line>, No
     }
     let made = Line::new(alloc, plan.delay(line))?;
     let _due = made.due();
-    Ok(Some(made))
+    let own = SharedLine::new(alloc, made)?;
+    Ok(Some(own))
 }
 
 // All lines are up, and their ESMC is on.

@@ -31,7 +31,7 @@ use sync_topo::{Event, Plan};
 // A step of the network: events come in, messages arrive, elements evaluate, and lines send.
 pub fn step_parts<L: Ledger>(
     plan: &Plan,
-    parts: &mut Parts,
+    parts: &mut Parts<'_>,
     now: u64,
     events: &[Event],
     steps: &mut Steps<L>,
@@ -55,7 +55,7 @@ pub fn step_parts<L: Ledger>(
     call_due(plan, parts, now);
     take_in(plan, parts, events)?;
     hear(plan, parts, now)?;
-    evaluate(plan, parts, now, steps);
+    evaluate(plan, parts, now, steps)?;
     send(plan, parts, now)?;
     parts.later_steps = steps_after(parts.next, parts.later_steps);
     parts.next = now + 1;
@@ -63,7 +63,7 @@ pub fn step_parts<L: Ledger>(
 }
 
 // Marks what is due, and in the first step all.
-fn call_due(plan: &Plan, parts: &mut Parts, now: u64)
+fn call_due(plan: &Plan, parts: &mut Parts<'_>, now: u64)
     requires active { length parts.old.tellings.active.flags ≡ length plan.now.elements }
     requires called { length parts.old.called.flags ≡ line_count plan.now }
     requires dues { length parts.old.dues ≡ length plan.now.elements + line_count plan.now }
@@ -87,7 +87,7 @@ fn call_due(plan: &Plan, parts: &mut Parts, now: u64)
 }
 
 // Takes in the events.
-fn take_in(plan: &Plan, parts: &mut Parts, events: &[Event]) -> Result<(), NoMemory>
+fn take_in(plan: &Plan, parts: &mut Parts<'_>, events: &[Event]) -> Result<(), NoMemory>
     requires fit { All (Fits plan.now) events.now }
     requires signals { length parts.old.signals.items ≡ line_count plan.now }
     requires sources { length parts.old.sources.items ≡ length plan.now.sources }
@@ -110,7 +110,7 @@ fn take_in(plan: &Plan, parts: &mut Parts, events: &[Event]) -> Result<(), NoMem
 }
 
 // Tells the lines, and passes on what is heard.
-fn hear(plan: &Plan, parts: &mut Parts, now: u64) -> Result<(), NoMemory>
+fn hear(plan: &Plan, parts: &mut Parts<'_>, now: u64) -> Result<(), NoMemory>
     requires in_range { now ≤ LAST_MILLISECOND }
     requires well_formed { IsWellFormed plan.now }
     requires signals { length parts.old.signals.items ≡ line_count plan.now }
@@ -137,7 +137,12 @@ fn hear(plan: &Plan, parts: &mut Parts, now: u64) -> Result<(), NoMemory>
 }
 
 // Lets the marked elements make their steps.
-fn evaluate<L: Ledger>(plan: &Plan, parts: &mut Parts, now: u64, steps: &mut Steps<L>)
+fn evaluate<L: Ledger>(
+    plan: &Plan,
+    parts: &mut Parts<'_>,
+    now: u64,
+    steps: &mut Steps<L>,
+) -> Result<(), NoMemory>
     requires in_range { now ≤ LAST_MILLISECOND }
     requires elements { length parts.old.elements.items ≡ length plan.now.elements }
     requires flags { length parts.old.tellings.active.flags ≡ length plan.now.elements }
@@ -146,8 +151,8 @@ fn evaluate<L: Ledger>(plan: &Plan, parts: &mut Parts, now: u64, steps: &mut Ste
     requires lines { (e : ℕ) → All (λ line. line.0 < length parts.old.called.flags) (lines_out plan.now e) }
     requires can_step { (e : ℕ) (other : ElementState) → e < length plan.now.elements →
         CanStep now (slice_index_or parts.old.elements.items e other) (told_in parts.old.tellings.changes.items e) }
-    ensures evaluated { AreEvaluatedIn plan.now now parts.old parts.new }
-    ensures ticks { steps.new ≡ steps.old + length parts.old.tellings.active.listed }
+    ensures evaluated { OnOk result (AreEvaluatedIn plan.now now parts.old parts.new) }
+    ensures ticks { OnOk result (steps.new ≡ steps.old + length parts.old.tellings.active.listed) }
 {
     let _elements = plan.elements();
     let _listed = parts.tellings.active.listed();
@@ -160,12 +165,13 @@ fn evaluate<L: Ledger>(plan: &Plan, parts: &mut Parts, now: u64, steps: &mut Ste
         &mut parts.called,
         now,
         steps,
-    );
+    )?;
     let _called = parts.called.listed();
+    Ok(())
 }
 
 // Gives the marked lines their levels.
-fn send(plan: &Plan, parts: &mut Parts, now: u64) -> Result<(), NoMemory>
+fn send(plan: &Plan, parts: &mut Parts<'_>, now: u64) -> Result<(), NoMemory>
     requires in_range { now ≤ LAST_MILLISECOND }
     requires elements { length parts.old.elements.items ≡ length plan.now.elements }
     requires lines { length parts.old.lines.items ≡ line_count plan.now }

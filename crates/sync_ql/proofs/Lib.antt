@@ -8,3 +8,4 @@ pub mod QuietMoments
 pub mod Staying
 pub mod TakenInputs
 pub mod Delivered
+pub mod SameMoments

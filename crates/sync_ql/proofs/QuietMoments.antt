@@ -76,7 +76,7 @@ seen-quiet : (settings : Settings) (s : Switches) (now : Moment) (before : List 
 seen-quiet settings s now before locked failed =
     candidates_at-same settings (commanded settings now before) s (now ∷ before) (quiet_moment settings (now ∷ before) ∷ now ∷ before) locked (level_now-quiet settings now before) failed
 
-at_end-again : (inputs : List Candidate) (s : Switches) → at_end inputs (at_end inputs s) ≡ at_end inputs s
+pub at_end-again : (inputs : List Candidate) (s : Switches) → at_end inputs (at_end inputs s) ≡ at_end inputs s
 at_end-again inputs s = ap (λ manual. record { locked = s.locked; forced = s.forced; manual = manual }) (standing_manual-again inputs s.manual)
 
 -- the switches stay
@@ -111,7 +111,7 @@ selection_at-quiet settings now before failed =
     ∙ choice-again inputs s.forced s.manual (selection_at settings before)
     ∙ sym chosen
 
-or-again : (b c : Bool) → (b || (b || c)) ≡ (b || c)
+pub or-again : (b c : Bool) → (b || (b || c)) ≡ (b || c)
 or-again true c = refl
 or-again false c = refl
 

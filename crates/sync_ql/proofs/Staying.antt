@@ -97,11 +97,11 @@ stays-quiet_moments settings past (suc k) some lasting =
     (stays_one_more settings (quiet_moments settings k past) (omega (arith, length-quiet_moments settings k past)) (same_failed_next settings past k lasting))
 
 -- before its due time no input's "failed" changes
-same_until_due : (settings : Settings) (past : List Moment) (due : Option ℕ) (n : ℕ) → IsElementDue settings past due → length past ≤ n → IfSome due (λ d. n ≤ d) → IsSameFailed settings past (moments_until settings n past)
+pub same_until_due : (settings : Settings) (past : List Moment) (due : Option ℕ) (n : ℕ) → IsElementDue settings past due → length past ≤ n → IfSome due (λ d. n ≤ d) → IsSameFailed settings past (moments_until settings n past)
 same_until_due settings past None n never later in_time = never n later
 same_until_due settings past (Some due) n first later in_time = first.same_before n later in_time
 
-earlier_too : (due : Option ℕ) (m n : ℕ) → m ≤ n → IfSome due (λ d. n ≤ d) → IfSome due (λ d. m ≤ d)
+pub earlier_too : (due : Option ℕ) (m n : ℕ) → m ≤ n → IfSome due (λ d. n ≤ d) → IfSome due (λ d. m ≤ d)
 earlier_too None m n less in_time = tt
 earlier_too (Some due) m n less in_time = let until : n ≤ due = in_time in omega arith
 

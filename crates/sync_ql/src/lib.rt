@@ -32,6 +32,6 @@ mod table;
 pub use levels::{Level, NetOption};
 pub use rows::NOT_ENHANCED;
 pub use table::{
-    better, code_of, do_not_use, enhanced_of, is_dnu, level_of_code, level_of_codes, level_of_name,
-    name_of,
+    better, code_of, do_not_use, enhanced_of, is_dnu, is_same_heard, is_same_level, level_of_code,
+    level_of_codes, level_of_name, name_of,
 };

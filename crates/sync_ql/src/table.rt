@@ -2,6 +2,7 @@ ghost use Rattle.std.specs.Prelude.{◌≡◌, ◌≢◌, ◌⊎◌, ◌<◌, �
 ghost use Rattle.std.specs.Str.{bytes_eq};
 ghost use Rattle.sync_ql.specs.declared.levels.Level.{Level};
 ghost use Rattle.sync_ql.specs.Table.{not_enhanced, levels_of};
+ghost use Rattle.sync_ql.specs.Messages.{is_same_level};
 ghost use Rattle.sync_ql.specs.Level.{row_at, row_of, code_of, enhanced_of, name_of, level_at, place_of_codes, place_of_name, level_of_code, level_of_codes, level_of_name, do_not_use_of, do_not_use_name, IsBetter};
 
 use crate::levels::{Level, NetOption};
@@ -118,6 +119,25 @@ pub fn is_dnu(level: Level) -> bool
     ensures { IsTrue result ↔ (level ≡ do_not_use_of level.option) }
 {
     level == do_not_use(level.option)
+}
+
+/// Whether two levels are one row of one option's table.
+pub fn is_same_level(one: Level, other: Level) -> bool
+    ensures { result ≡ is_same_level (Some one) (Some other) }
+{
+    one.option == other.option && one.place == other.place
+}
+
+/// Whether two levels that may be missing are both missing, or the same.
+pub fn is_same_heard(one: Option<Level>, other: Option<Level>) -> bool
+    ensures exact { result ≡ is_same_level one other }
+    ensures same { IsTrue result → one ≡ other }
+{
+    match (one, other) {
+        (Some(one), Some(other)) => is_same_level(one, other),
+        (None, None) => true,
+        _ => false,
+    }
 }
 
 /// Whether a level is better than another of its option: whether it stands earlier in the table.

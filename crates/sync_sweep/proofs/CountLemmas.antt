@@ -1,8 +1,8 @@
 -- States and levels in the millisecond of a network's last step, and one element more.
-use Rattle.std.proofs.Common.{◌≡◌, ℕ, suc, ◌+◌, ◌-◌, ◌≤◌, ◌<◌, Bool, true, false, cond, length, List, refl, sym, ap, ◌∙◌, arith, inl, inr}
+use Rattle.std.proofs.Common.{◌≡◌, ℕ, zero, suc, ◌+◌, ◌-◌, ◌≤◌, ◌<◌, Bool, cond, length, take, List, add-one, refl, sym, ap, ◌∙◌, arith, inl, inr}
 use Rattle.std.specs.List.{count_by, range_with_len}
-use Rattle.std.proofs.lemmas.List.Sums.{sum_by_push}
-use Rattle.std.proofs.lemmas.Option.{slice_get_cases}
+use Rattle.std.proofs.lemmas.List.Sums.{sum_by_push, sum_by_more}
+use Rattle.std.proofs.lemmas.Option.{slice_get_cases, same_Some}
 use Rattle.sync_ql.specs.declared.levels.Level.{Level}
 use Rattle.sync_ql.specs.declared.rules.ClockState.{ClockState}
 use Rattle.sync_ql.specs.declared.rules.ClockState.TheVariants.{FreeRun, Locked, Holdover}
@@ -17,10 +17,14 @@ use Rattle.sync_topo.specs.WellFormed.{IsWellFormed}
 use Rattle.net_rules.specs.Signals.{Signals, signals_by}
 use Rattle.net_rules.specs.History.{Levels, settings_of, out_at, element_past, element_state, level_at}
 use Rattle.sync_net.specs.Standing.{ElementStands}
-use Rattle.shown_words.specs.Sameness.{is_same_state}
-use Rattle.sync_sweep.specs.declared.counting.States.{States}
+use Rattle.sync_sweep.specs.declared.counted_states.States.{States}
 use Rattle.sync_sweep.specs.Sweep.{is_in, level_in, IsWorstOf}
-use Rattle.sync_sweep.specs.Counts.{one_if, IsOneMore, AreCounted}
+use Rattle.sync_sweep.specs.Counts.{AreTallied, AreCounted}
+use Rattle.sync_sweep.proofs.Tallies.{is_kind}
+use Rattle.std.specs.Prelude.{slice_index_or}
+use Rattle.std.proofs.lemmas.List.{take_all}
+use Rattle.sync_ql.specs.Level.{level_at as level_with}
+use Rattle.sync_ql.proofs.Tables.{level_at-place}
 use Rattle.sync_text.proofs.Ranges.{range_more}
 
 -- what an element's accessors say after any past is what the rules say in the millisecond of its network's last step
@@ -47,36 +51,39 @@ module _ (plan : Topology) (signals : Signals) (out : Levels) (place next : ℕ)
   unfolding level_at
   level-now level says = by_past clock_level_at level says
 
--- an element's own level is of the plan's option
-pub own-option : (plan : Topology) (element : ℕ) → IsWellFormed plan → element < length plan.elements → (settings_of plan element).own.option ≡ plan.option
-unfolding settings_of
-own-option plan element well within = elim (slice_get_cases plan.elements element).1 [
-  | inl there ↦ rw there.2 ((well.elements_fit element there.0 there.2).own_is_clock_level.of_option)
-  | inr past ↦ absurd (omega (arith, within, past.0))
-]
+-- as many pass a test at the front of a list as numbers pass one that is alike
+alike-counted : (p : ClockState → Bool) (q : ℕ → Bool) (list : List ClockState) (other : ClockState) (n : ℕ) → n ≤ length list
+    → ((e : ℕ) → e < n → p (slice_index_or list e other) ≡ q e) → count_by p (take n list) ≡ count_by q (range_with_len 0 n)
+alike-counted p q list other zero few same = refl
+alike-counted p q list other (suc n) few same =
+    let before = alike-counted p q list other n (omega (arith, few)) (λ e within. same e (omega (arith, within))) in
+    ap (λ k. count_by p (take k list)) (sym (add-one n))
+    ∙ sum_by_more (λ x. cond (p x) 1 0) list n other (omega (arith, few))
+    ∙ ap (λ k. k + cond (p (slice_index_or list n other)) 1 0) before
+    ∙ ap (λ b. count_by q (range_with_len 0 n) + cond b 1 0) (same n (omega arith))
+    ∙ sym (ap (count_by q) (range_more n) ∙ sum_by_push (λ x. cond (q x) 1 0) (range_with_len 0 n) n)
+    ∙ ap (λ k. count_by q (range_with_len 0 k)) (add-one n)
 
-one-is : (b : Bool) → one_if b ≡ cond b 1 0
-one-is true = refl
-one-is false = refl
-
--- one more number, which passes a test or doesn't
-one-counted : (p : ℕ → Bool) (n before after : ℕ) (b : Bool) → b ≡ p n → before ≡ count_by p (range_with_len 0 n) → after ≡ before + one_if b
-    → after ≡ count_by p (range_with_len 0 (n + 1))
-one-counted p n before after b same was grows =
-    let count : ℕ = count_by p (range_with_len 0 n) in
-    grows ∙ ap (λ k. k + one_if b) was
-    ∙ ap (λ k. count + k) (one-is b ∙ ap (λ c. cond c 1 0) same)
-    ∙ sym (ap (count_by p) (range_more n) ∙ sum_by_push (λ x. cond (p x) 1 0) (range_with_len 0 n) n)
-
--- one element more is counted, in its state
-pub counted-next : (plan : Topology) (events : List Event) (t n : ℕ) (before after : States) (state : ClockState)
-    → AreCounted plan events t n before → state ≡ element_state plan (signals_by plan events) (out_at plan (signals_by plan events)) n t
-    → IsOneMore before state after → AreCounted plan events t (n + 1) after
-counted-next plan events t n before after state was is more = record {
-  locked = one-counted (is_in Locked plan events t) n before.locked after.locked (is_same_state state Locked) (ap (λ s. is_same_state s Locked) is) was.locked more.locked;
-  holdover = one-counted (is_in Holdover plan events t) n before.holdover after.holdover (is_same_state state Holdover) (ap (λ s. is_same_state s Holdover) is) was.holdover more.holdover;
-  free = one-counted (is_in FreeRun plan events t) n before.free after.free (is_same_state state FreeRun) (ap (λ s. is_same_state s FreeRun) is) was.free more.free;
+-- the counts of what is shown are those of the rules
+pub all-counted : (plan : Topology) (events : List Event) (t : ℕ) (list : List ClockState) (states : States) → length list ≡ length plan.elements → AreTallied list states
+    → ((e : ℕ) → e < length plan.elements → slice_index_or list e FreeRun ≡ element_state plan (signals_by plan events) (out_at plan (signals_by plan events)) e t)
+    → AreCounted plan events t (length plan.elements) states
+all-counted plan events t list states count tallied same = record {
+  locked = tallied.locked ∙ of Locked;
+  holdover = tallied.holdover ∙ of Holdover;
+  free = tallied.free ∙ of FreeRun;
 }
+  where
+    of : (kind : ClockState) → count_by (is_kind kind) list ≡ count_by (is_in kind plan events t) (range_with_len 0 (length plan.elements))
+    of kind =
+        ap (count_by (is_kind kind)) (sym (take_all (length plan.elements) list (omega (arith, count))))
+        ∙ alike-counted (is_kind kind) (is_in kind plan events t) list FreeRun (length plan.elements) (omega (arith, count))
+        (λ e within. ap (is_kind kind) (same e within))
+
+-- a level is told by its option and its place
+pub same-level : (a b : Level) → a.option ≡ b.option → a.place ≡ b.place → a ≡ b
+same-level a b option place =
+    same_Some a b (sym (level_at-place a) ∙ ap (λ o. level_with o a.place) option ∙ ap (level_with b.option) place ∙ level_at-place b)
 
 -- the level of an element is the worst where none has a greater place
 pub worst-found : (plan : Topology) (events : List Event) (t n element : ℕ) (worst : Level) → element < n → worst.option ≡ plan.option

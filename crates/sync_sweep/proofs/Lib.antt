@@ -1,5 +1,6 @@
 pub mod Numbers
 pub mod ChunkLemmas
+pub mod Tallies
 pub mod CountLemmas
 pub mod LoopLemmas
 pub mod RisingLemmas

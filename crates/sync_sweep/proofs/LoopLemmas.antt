@@ -1,11 +1,12 @@
 -- There are no more closed walks than lines.
 use Rattle.std.proofs.Common.{ℕ, suc, ◌-◌, ◌<◌, ◌≤◌, List, [], ◌∷◌, length, subst, arith}
 use Rattle.std.specs.Prelude.{IfSome}
+use Rattle.sync_text.proofs.Each.{Each-map}
+use Rattle.sync_text.specs.Each.{Each}
 use Rattle.sync_topo.specs.Topology.{Topology}
 use Rattle.sync_topo.specs.Lines.{line_count, line_input, receiver_of}
 use Rattle.net_rules.specs.Inputs.{IsInputOf}
-use Rattle.net_rules.specs.Walks.{Taken, Each, IsClosedWalk}
-use Rattle.net_rules.proofs.Lists.{Each-map}
+use Rattle.net_rules.specs.Walks.{Taken, IsClosedWalk}
 use Rattle.closed_walks.specs.Loops.{first_line, IsLoop, AreInOrder, AreLoops}
 
 -- first lines that rise, from one number up to but not at another

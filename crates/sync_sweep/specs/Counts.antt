@@ -1,5 +1,5 @@
 -- Private to this crate: the elements of each state among the first n.
-use Rattle.std.specs.Prelude.{◌≡◌, ◌<◌, ◌+◌, ℕ, Bool, true, false, List, length, slice_index_or}
+use Rattle.std.specs.Prelude.{nat_eq, ◌≡◌, ◌<◌, ◌+◌, ℕ, Bool, true, false, List, length, slice_index_or}
 use Rattle.std.specs.List.{count_by, range_with_len}
 use Rattle.sync_ql.specs.declared.levels.Level.{Level}
 use Rattle.sync_ql.specs.declared.rules.ClockState.{ClockState}
@@ -7,7 +7,7 @@ use Rattle.sync_ql.specs.declared.rules.ClockState.TheVariants.{FreeRun, Locked,
 use Rattle.sync_topo.specs.declared.event.Event.{Event}
 use Rattle.sync_topo.specs.Topology.{Topology}
 use Rattle.shown_words.specs.Sameness.{is_same_state}
-use Rattle.sync_sweep.specs.declared.counting.States.{States}
+use Rattle.sync_sweep.specs.declared.counted_states.States.{States}
 use Rattle.sync_sweep.specs.Sweep.{is_in}
 
 -- how many are counted
@@ -26,12 +26,23 @@ pub record IsOneMore (before : States) (state : ClockState) (after : States) : T
   pub free : after.free ≡ before.free + one_if (is_same_state state FreeRun)
   pub all : counted after ≡ counted before + 1
 
+-- so many of some states are each
+pub record AreTallied (list : List ClockState) (states : States) : Type 0 where
+  pub locked : states.locked ≡ count_by (λ state. is_same_state state Locked) list
+  pub holdover : states.holdover ≡ count_by (λ state. is_same_state state Holdover) list
+  pub free : states.free ≡ count_by (λ state. is_same_state state FreeRun) list
+  pub all : counted states ≡ length list
+
 pub record AreCounted (plan : Topology) (events : List Event) (t n : ℕ) (states : States) : Type 0 where
   pub locked : states.locked ≡ count_by (is_in Locked plan events t) (range_with_len 0 n)
   pub holdover : states.holdover ≡ count_by (is_in Holdover plan events t) (range_with_len 0 n)
   pub free : states.free ≡ count_by (is_in FreeRun plan events t) (range_with_len 0 n)
 
--- one of some levels has this place in its table
+-- how many of some levels have a place in their table
+abbrev pub with_place : List Level → ℕ → ℕ
+with_place levels place = count_by (λ level. nat_eq level.place place) levels
+
+-- one of some levels has this place
 pub record HasPlace (levels : List Level) (place : ℕ) : Type 0 where
   pub element : ℕ
   pub within : element < length levels

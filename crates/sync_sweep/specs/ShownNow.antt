@@ -35,8 +35,8 @@ pub record AreLevels (net : NetState) (levels : List Level) : Type 0 where
       ShowsLevel (slice_index_or net.elements e element) (slice_index_or levels e other)
 
 pub record AreShown (net : NetState) (shown : Shown) : Type 0 where
-  pub states : AreStates net shown.states.items
-  pub levels : AreLevels net shown.levels.items
+  pub states : AreStates net shown.states
+  pub levels : AreLevels net shown.levels
 
 -- but at some places the elements of two networks are the same
 abbrev pub AreAlikeBut : List ℕ → NetState → NetState → Type 0

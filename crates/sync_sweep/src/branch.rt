@@ -33,14 +33,14 @@ pub struct Branch<'a> {
     pub shown: Shown,
 }
 
-// A copy of a network, of which nothing is touched.
-pub fn new_branch<'a>(alloc: Global, base: &Net<'a>) -> Result<Branch<'a>, NoMemory>
+// A network that goes on from another, of which nothing is touched.
+pub fn new_branch<'a>(alloc: Global, base: &'a Net<'_>) -> Result<Branch<'a>, NoMemory>
     requires live { base.now.spent ≡ false }
     ensures branch { IfOk result (λ branch. IsBranch base.now branch.net branch.elements branch.lines) }
     ensures net { IfOk result (λ branch. branch.net ≡ base.now) }
     ensures shown { IfOk result (λ branch. AreShown base.now branch.shown) }
 {
-    let net = base.try_clone(alloc)?;
+    let net = base.share(alloc)?;
     let shown = all_shown(alloc, base)?;
     let elements = Marks::new(alloc, net.plan().elements() as usize)?;
     let lines = Marks::new(alloc, net.plan().lines() as usize)?;
@@ -216,8 +216,8 @@ pub fn run_out<L: Ledger>(
 pub fn show(branch: &mut Branch<'_>)
     requires live { branch.old.net.spent ≡ false }
     requires elements { length branch.old.elements.flags ≡ length branch.old.net.plan.elements }
-    requires states { length branch.old.shown.states.items ≡ length branch.old.net.plan.elements }
-    requires levels { length branch.old.shown.levels.items ≡ length branch.old.net.plan.elements }
+    requires states { length branch.old.shown.states ≡ length branch.old.net.plan.elements }
+    requires levels { length branch.old.shown.levels ≡ length branch.old.net.plan.elements }
     ensures net { branch.new.net ≡ branch.old.net }
     ensures elements { branch.new.elements ≡ branch.old.elements }
     ensures lines { branch.new.lines ≡ branch.old.lines }

@@ -2,16 +2,18 @@
 //!
 //! [`sweep`] works the links in chunks that run at once where there are processors, and
 //! [`sweep_text`] writes its rows as a table. Up to the failure the run of every link is the same:
-//! it is made once. Each chunk has one copy of the network there, on which its links run one after
-//! another, and which goes back after each (`branch`). The row of a link is `IsSweepRow`, whichever
-//! chunk it is worked in; that there is one such table is [`one_sweep_law`]. [`Gate`] lets a test
-//! see that chunks run at once.
+//! it is made once. In each chunk one network goes on from there, which copies only what it calls;
+//! its links run on it one after another, and it goes back after each (`branch`). The row of a link
+//! is `IsSweepRow`, whichever chunk it is worked in; that there is one such table is
+//! [`one_sweep_law`]. [`Gate`] lets a test see that chunks run at once.
 //!
 //! This project's own.
 #![tactic(auto)]
 
 mod branch;
 mod chunks;
+mod counted_levels;
+mod counted_states;
 mod counting;
 mod crossing;
 mod gate;

@@ -145,7 +145,8 @@ fn row_of(
         (IsSettlingBound net.now.plan at) }
     ensures { IfOk result (IsSweepRow net.now.plan at (now_of net.now) link) }
 {
-    let tally = tally_of(net, shown, net.plan().elements());
+    let _elements = net.plan().elements();
+    let tally = tally_of(net, shown);
     let settled = settled(net);
     let loops = loops_of(alloc, net, link, at, settled, bound)?;
     Ok(SweepRow {

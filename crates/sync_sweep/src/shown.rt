@@ -5,6 +5,8 @@ ghost use Rattle.std.specs.List.{All};
 ghost use Rattle.sync_net.specs.NetState.{NetState};
 ghost use Rattle.sync_sweep.specs.ShownNow.{ShowsState, ShowsLevel, AreStates, AreLevels, AreShown, AreAlikeBut};
 
+use crate::counted_levels::CountedLevels;
+use crate::counted_states::CountedStates;
 use std::alloc::Global;
 use sync_element::Element;
 use sync_net::Net;
@@ -12,12 +14,11 @@ use sync_ql::Level;
 use sync_ql::rules::ClockState;
 use sync_text::NoMemory;
 
-/// The state and the level of each element, by its number; apart, so that each list is gone through
-/// in one go.
+/// The state and the level of each element, by its number, counted.
 #[derive(Debug, Drop)]
 pub struct Shown {
-    pub states: Vec<ClockState>,
-    pub levels: Vec<Level>,
+    pub states: CountedStates,
+    pub levels: CountedLevels,
 }
 
 // What each element of a network shows.
@@ -36,8 +37,8 @@ pub fn all_shown(alloc: Global, net: &Net<'_>) -> Result<Shown, NoMemory>
 pub fn note_shown(net: &Net<'_>, shown: &mut Shown, places: &[u32])
     requires live { net.now.spent ≡ false }
     requires within { All (λ e. e < length net.now.plan.elements) places.now }
-    requires states { length shown.old.states.items ≡ length net.now.plan.elements }
-    requires levels { length shown.old.levels.items ≡ length net.now.plan.elements }
+    requires states { length shown.old.states ≡ length net.now.plan.elements }
+    requires levels { length shown.old.levels ≡ length net.now.plan.elements }
     ensures shown { (base : NetState) → base.plan ≡ net.now.plan → AreShown base shown.old →
         AreAlikeBut places.now net.now base → AreShown net.now shown.new }
 {
@@ -45,55 +46,51 @@ pub fn note_shown(net: &Net<'_>, shown: &mut Shown, places: &[u32])
     note_levels(net, &mut shown.levels, places);
 }
 
-fn all_states(alloc: Global, net: &Net<'_>) -> Result<Vec<ClockState>, NoMemory>
+fn all_states(alloc: Global, net: &Net<'_>) -> Result<CountedStates, NoMemory>
     requires live { net.now.spent ≡ false }
-    ensures { IfOk result (λ states. AreStates net.now states.items) }
+    ensures { IfOk result (λ states. AreStates net.now states) }
 {
-    let mut states = Vec::new(alloc);
+    let mut states = CountedStates::new(alloc);
     for e in 0..net.plan().elements() {
-        if states.push(state_of(net.element(e))).is_err() {
-            return Err(NoMemory);
-        }
+        states.push(state_of(net.element(e)))?;
     }
     Ok(states)
 }
 
-fn all_levels(alloc: Global, net: &Net<'_>) -> Result<Vec<Level>, NoMemory>
+fn all_levels(alloc: Global, net: &Net<'_>) -> Result<CountedLevels, NoMemory>
     requires live { net.now.spent ≡ false }
-    ensures { IfOk result (λ levels. AreLevels net.now levels.items) }
+    ensures { IfOk result (λ levels. AreLevels net.now levels) }
 {
-    let mut levels = Vec::new(alloc);
+    let mut levels = CountedLevels::new(alloc);
     for e in 0..net.plan().elements() {
-        if levels.push(level_of(net.element(e))).is_err() {
-            return Err(NoMemory);
-        }
+        levels.push(level_of(net.element(e)))?;
     }
     Ok(levels)
 }
 
-fn note_states(net: &Net<'_>, states: &mut Vec<ClockState>, places: &[u32])
+fn note_states(net: &Net<'_>, states: &mut CountedStates, places: &[u32])
     requires live { net.now.spent ≡ false }
     requires within { All (λ e. e < length net.now.plan.elements) places.now }
-    requires count { length states.old.items ≡ length net.now.plan.elements }
-    ensures count { length states.new.items ≡ length states.old.items }
-    ensures shown { (base : NetState) → base.plan ≡ net.now.plan → AreStates base states.old.items →
-        AreAlikeBut places.now net.now base → AreStates net.now states.new.items }
+    requires count { length states.old ≡ length net.now.plan.elements }
+    ensures count { length states.new ≡ length states.old }
+    ensures shown { (base : NetState) → base.plan ≡ net.now.plan → AreStates base states.old →
+        AreAlikeBut places.now net.now base → AreStates net.now states.new }
 {
     for place in places {
-        states[*place as usize] = state_of(net.element(*place));
+        states.set(*place, state_of(net.element(*place)));
     }
 }
 
-fn note_levels(net: &Net<'_>, levels: &mut Vec<Level>, places: &[u32])
+fn note_levels(net: &Net<'_>, levels: &mut CountedLevels, places: &[u32])
     requires live { net.now.spent ≡ false }
     requires within { All (λ e. e < length net.now.plan.elements) places.now }
-    requires count { length levels.old.items ≡ length net.now.plan.elements }
-    ensures count { length levels.new.items ≡ length levels.old.items }
-    ensures shown { (base : NetState) → base.plan ≡ net.now.plan → AreLevels base levels.old.items →
-        AreAlikeBut places.now net.now base → AreLevels net.now levels.new.items }
+    requires count { length levels.old ≡ length net.now.plan.elements }
+    ensures count { length levels.new ≡ length levels.old }
+    ensures shown { (base : NetState) → base.plan ≡ net.now.plan → AreLevels base levels.old →
+        AreAlikeBut places.now net.now base → AreLevels net.now levels.new }
 {
     for place in places {
-        levels[*place as usize] = level_of(net.element(*place));
+        levels.set(*place, level_of(net.element(*place)));
     }
 }
 

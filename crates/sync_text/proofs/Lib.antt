@@ -2,3 +2,4 @@ pub mod Decimals
 pub mod Ranges
 pub mod Options
 pub mod PutRows
+pub mod Each

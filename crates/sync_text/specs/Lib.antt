@@ -2,3 +2,4 @@ pub mod Number
 pub mod Gives
 pub mod Chain
 pub mod Examples
+pub mod Each

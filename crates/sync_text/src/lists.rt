@@ -134,6 +134,13 @@ impl<T: Drop> Rows<T> {
 }
 
 impl<T: Copy> Rows<T> {
+    /// Takes all the items out. It keeps its room.
+    pub fn clear(&mut self)
+        ensures { self.new ≡ [] }
+    {
+        self.kept.clear();
+    }
+
     /// The same items once more. It takes memory for them.
     pub fn try_clone(&self, alloc: Global) -> Result<Rows<T>, NoMemory>
         ensures { IfOk result (λ rows. rows ≡ self.now) }

@@ -2,6 +2,7 @@ pub mod Cuts
 pub mod OneText
 pub mod Verdicts
 pub mod PriorityAnswers
+pub mod ChainAnswers
 pub mod OneAnswer
 pub mod Accepted
 pub mod LoopFree
@@ -10,8 +11,7 @@ pub mod RowsOfHops
 pub mod LadderRises
 pub mod LastFits
 pub mod OneTrial
-pub mod TrialAnswers
 pub mod RunLaws
-pub mod PriorityRuns
 pub mod HighestRank
 pub mod NodeAnswers
+pub mod Endings

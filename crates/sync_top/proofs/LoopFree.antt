@@ -1,4 +1,4 @@
--- That no timing loop can form in a plan whose certificate was accepted.
+-- What a done answer says of the plan that was read: no timing loop can form in it, and its rows of chains are bounds.
 use Rattle.std.proofs.Common.{◌≡◌, ℕ, Bool, true, false, List, length, Option, Some, None, Result, Ok, Err, refl, sym, ◌∙◌}
 use Rattle.std.specs.Prelude.{nat_lt, IfSome}
 use Rattle.std.specs.FinMap.{get}
@@ -9,7 +9,6 @@ use Rattle.sync_topo.specs.Topology.{Topology}
 use Rattle.sync_topo.specs.PlanRows.{plan_of_rows}
 use Rattle.sync_topo.specs.WellFormed.{IsWellFormed}
 use Rattle.sync_topo.proofs.Accepted.{accepted-well_formed}
-use Rattle.net_rules.specs.Safety.{IsLoopFree}
 use Rattle.net_rules.proofs.FinalLaws.{loop_free}
 use Rattle.plan_file.specs.declared.error.PlanFileErr.{PlanFileErr}
 use Rattle.sync_text.specs.Chain.{◌>>=◌}
@@ -18,18 +17,26 @@ use Rattle.rank_cert.specs.declared.error.CertErr.{CertErr}
 use Rattle.rank_cert.specs.Ranks.{Ranks, rank_of}
 use Rattle.rank_cert.specs.CertificateText.{certificate_of}
 use Rattle.sync_top.specs.declared.status.Status.{Status}
-use Rattle.sync_top.specs.declared.status.Status.TheVariants.{Done, Refuted, Usage, BadPlan, BadCert, BadEvents, BadFrames, ReadFault, WriteFault, TooLong, NoMemory, Stopped}
-use Rattle.sync_top.specs.Form.{Form, check, rank, hops, nominate, decode, encode, pcap_decode, pcap_encode, gen, trial, sim, sweep, form_of, prio_check, prio_rank, prio_sim, node}
+use Rattle.sync_top.specs.declared.status.Status.TheVariants.{Done}
+use Rattle.sync_top.specs.declared.form.PlanForm.TheVariants.{Rank, Chains, Hops, Nominate, PrioRank, Sweep}
+use Rattle.sync_top.specs.declared.form.RanksForm.TheVariants.{Check, PrioCheck}
+use Rattle.sync_top.specs.declared.form.LadderForm.TheVariants.{Gen, Trial}
+use Rattle.sync_top.specs.Form.{Form, form_of, on_plan, on_ranks, on_events, on_frames, on_ladder, node}
 use Rattle.sync_top.specs.Reading.{End, no_file, answered, file_limit, plan_in, Answered}
-use Rattle.sync_top.specs.Forms.Check.{ranks_in, documents, IsVerdict}
+use Rattle.sync_top.specs.Forms.Check.{ranks_in, documents, IsVerdictOver}
 use Rattle.sync_top.specs.Answer.{FormAnswer, IsAnswer, MissesFile}
 use Rattle.sync_top.specs.LoopFree.{IsCheckedLoopFree}
-use Rattle.sync_top.specs.Forms.Priority.{IsPriorityVerdict, IsCheckedForPriority}
-use Rattle.prio_mode.specs.PriorityLoops.{NeverLoops}
+use Rattle.sync_top.specs.Forms.Priority.{IsCheckedForPriority}
 use Rattle.prio_mode.proofs.LoopLaws.{never_loops}
 use Rattle.sync_top.specs.Work.{EndsIn}
 use Rattle.sync_top.proofs.Accepted.{never_done}
 use Rattle.sync_top.proofs.Cuts.{outside}
+use Rattle.sync_top.proofs.Endings.{done-from}
+use Rattle.sync_top.specs.ChainBounds.{IsBoundedByChains}
+use Rattle.sync_top.specs.Forms.Chains.{IsChained}
+use Rattle.reach_rules.proofs.ChainLaws.{rows-bound}
+use Rattle.sync_topo.specs.Hops.{hops, hops_any}
+use Rattle.sync_topo.specs.Ranks.{HopTest, Rises}
 
 -- the plan of some bytes is well formed
 plan-well : (bytes : List ℕ) (plan : Topology) → plan_of bytes ≡ Ok plan → IsWellFormed plan
@@ -76,132 +83,93 @@ ranks_never_done plan name files known said is done = there (get files name) ref
     there None absent = cc (rw absent at is)
     there (Some bytes) found = long bytes (nat_lt file_limit (length bytes)) refl found
 
--- where `check` is done, the plan is loop-free
-check-loop_free : (plan_name name text : List ℕ) (files : Contents) (plan : Topology) → plan_in plan_name files ≡ Ok plan
-    → Answered (λ (read : Topology × Ranks). IsVerdict read.0 read.1) (documents plan_name name files) Done text → IsLoopFree plan
-check-loop_free plan_name name text files plan is answer = by (ranks_in plan name files) refl (rw is at answer)
-  where
-    by : (read : Result Ranks End) → ranks_in plan name files ≡ read
-        → Answered (λ (both : Topology × Ranks). IsVerdict both.0 both.1) (ranks_in plan name files >>= λ ranks. Ok (plan, ranks)) Done text → IsLoopFree plan
-    by (Ok ranks) ranked answer =
-        let verdict : IsVerdict plan ranks Done text = rw ranked at answer in
-        loop_free plan (rank_of ranks) (file-well plan_name files plan is) verdict.0
-    by (Err no_file) ranked answer = absurd (rw ranked at answer)
-    by (Err (answered known said)) ranked answer =
-        let ended : (Done ≡ known) × (text ≡ said) = rw ranked at answer in
-        absurd (ranks_never_done plan name files known said ranked (sym ended.0))
+-- what was read where the answer is done, and the answer to it
+done-read : {A : Type 0} (Answers : A → Status → List ℕ → Type 0) (read : Result A End) (text : List ℕ)
+    → ((known : Status) (said : List ℕ) → read ≡ Err (answered known said) → known ≡ Done → ⊥)
+    → Answered Answers read Done text → (value : A) × (read ≡ Ok value) × Answers value Done text
+done-read Answers (Ok value) text never answer = (value, refl, answer)
+done-read Answers (Err no_file) text never answer = absurd answer
+done-read Answers (Err (answered known said)) text never answer = absurd (never known said refl (sym answer.0))
 
--- and one was read
-checked-loop_free : (plan_name name text : List ℕ) (files : Contents)
-    → Answered (λ (read : Topology × Ranks). IsVerdict read.0 read.1) (documents plan_name name files) Done text
-    → (plan : Topology) × (plan_in plan_name files ≡ Ok plan) × IsLoopFree plan
-checked-loop_free plan_name name text files answer = by (plan_in plan_name files) refl
-  where
-    by : (read : Result Topology End) → plan_in plan_name files ≡ read → (plan : Topology) × (plan_in plan_name files ≡ Ok plan) × IsLoopFree plan
-    by (Ok plan) is = (plan, is, check-loop_free plan_name name text files plan is answer)
-    by (Err no_file) is = absurd (rw is at answer)
-    by (Err (answered known said)) is =
-        let ended : (Done ≡ known) × (text ≡ said) = rw is at answer in
-        absurd (never_done plan_name files known said is (sym ended.0))
+-- and where reading goes on
+done-first : {A B : Type 0} (Answers : B → Status → List ℕ → Type 0) (read : Result A End) (next : A → Result B End) (text : List ℕ)
+    → ((known : Status) (said : List ℕ) → read ≡ Err (answered known said) → known ≡ Done → ⊥)
+    → Answered Answers (read >>= next) Done text → (value : A) × (read ≡ Ok value) × Answered Answers (next value) Done text
+done-first Answers (Ok value) next text never answer = (value, refl, answer)
+done-first Answers (Err no_file) next text never answer = absurd answer
+done-first Answers (Err (answered known said)) next text never answer = absurd (never known said refl (sym answer.0))
+
+-- where ranks are accepted over some hops, a plan was read, and they rise
+rising : (hop : Topology → HopTest) (plan_name name text : List ℕ) (files : Contents)
+    → Answered (λ (read : Topology × Ranks). IsVerdictOver (hop read.0) read.0 read.1) (documents plan_name name files) Done text
+    → (plan : Topology) × (plan_in plan_name files ≡ Ok plan) × ((ranks : Ranks) × Rises (hop plan) (rank_of ranks))
+rising hop plan_name name text files answer =
+    let Verdict : Topology × Ranks → Status → List ℕ → Type 0 = λ read. IsVerdictOver (hop read.0) read.0 read.1 in
+    let first = done-first Verdict (plan_in plan_name files) (λ plan. ranks_in plan name files >>= λ ranks. Ok (plan, ranks)) text (never_done plan_name files) answer in
+    let second = done-first Verdict (ranks_in first.0 name files) (λ ranks. Ok (first.0, ranks)) text (ranks_never_done first.0 name files) first.2 in
+    (first.0, first.1, (second.0, second.2.0))
 
 form-loop_free : (form : Option Form) (files : Contents) (text : List ℕ) → FormAnswer form files Done text → IsCheckedLoopFree form files
 form-loop_free None files text answer = tt
-form-loop_free (Some (check plan_name name)) files text answer = checked-loop_free plan_name name text files answer
-form-loop_free (Some (rank plan_name)) files text answer = tt
-form-loop_free (Some (hops plan_name)) files text answer = tt
-form-loop_free (Some (nominate plan_name)) files text answer = tt
-form-loop_free (Some (decode option name)) files text answer = tt
-form-loop_free (Some (encode option name)) files text answer = tt
-form-loop_free (Some (pcap_decode option name)) files text answer = tt
-form-loop_free (Some (pcap_encode option name)) files text answer = tt
-form-loop_free (Some (gen n)) files text answer = tt
-form-loop_free (Some (trial n)) files text answer = answer.1.accepted
-form-loop_free (Some (sim plan_name events_name until)) files text answer = tt
-form-loop_free (Some (sweep plan_name at until)) files text answer = tt
-form-loop_free (Some (prio_check plan_name name)) files text answer = tt
-form-loop_free (Some (prio_rank plan_name)) files text answer = tt
-form-loop_free (Some (prio_sim plan_name events_name until)) files text answer = tt
-form-loop_free (Some (node plan_name element_name name until)) files text answer = tt
-
--- so it is where the work ended in this status
-pub loop_free-from : (words : List (List ℕ)) (told : Option Contents) (steady : Bool) (before now : ℕ) (status : Status) (text : List ℕ)
-    → EndsIn (IsAnswer words) (MissesFile words) (outside told steady before now) status text → status ≡ Done
-    → IfSome told (IsCheckedLoopFree (form_of words))
-loop_free-from words None steady before now status text ends done = tt
-loop_free-from words (Some files) steady before now Done text ends done = form-loop_free (form_of words) files text ends.0
-loop_free-from words (Some files) steady before now Refuted text ends done = cc
-loop_free-from words (Some files) steady before now Usage text ends done = cc
-loop_free-from words (Some files) steady before now BadPlan text ends done = cc
-loop_free-from words (Some files) steady before now BadCert text ends done = cc
-loop_free-from words (Some files) steady before now BadEvents text ends done = cc
-loop_free-from words (Some files) steady before now BadFrames text ends done = cc
-loop_free-from words (Some files) steady before now ReadFault text ends done = cc
-loop_free-from words (Some files) steady before now WriteFault text ends done = cc
-loop_free-from words (Some files) steady before now TooLong text ends done = cc
-loop_free-from words (Some files) steady before now NoMemory text ends done = cc
-loop_free-from words (Some files) steady before now Stopped text ends done = cc
-
--- where `prio-check` is done, no timing loop can form in the plan
-check-never_loops : (plan_name name text : List ℕ) (files : Contents) (plan : Topology) → plan_in plan_name files ≡ Ok plan
-    → Answered (λ (read : Topology × Ranks). IsPriorityVerdict read.0 read.1) (documents plan_name name files) Done text → NeverLoops plan
-check-never_loops plan_name name text files plan is answer = by (ranks_in plan name files) refl (rw is at answer)
-  where
-    by : (read : Result Ranks End) → ranks_in plan name files ≡ read
-        → Answered (λ (both : Topology × Ranks). IsPriorityVerdict both.0 both.1) (ranks_in plan name files >>= λ ranks. Ok (plan, ranks)) Done text → NeverLoops plan
-    by (Ok ranks) ranked answer =
-        let verdict : IsPriorityVerdict plan ranks Done text = rw ranked at answer in
-        never_loops plan (rank_of ranks) verdict.0
-    by (Err no_file) ranked answer = absurd (rw ranked at answer)
-    by (Err (answered known said)) ranked answer =
-        let ended : (Done ≡ known) × (text ≡ said) = rw ranked at answer in
-        absurd (ranks_never_done plan name files known said ranked (sym ended.0))
-
--- and one was read
-checked-never_loops : (plan_name name text : List ℕ) (files : Contents)
-    → Answered (λ (read : Topology × Ranks). IsPriorityVerdict read.0 read.1) (documents plan_name name files) Done text
-    → (plan : Topology) × (plan_in plan_name files ≡ Ok plan) × NeverLoops plan
-checked-never_loops plan_name name text files answer = by (plan_in plan_name files) refl
-  where
-    by : (read : Result Topology End) → plan_in plan_name files ≡ read → (plan : Topology) × (plan_in plan_name files ≡ Ok plan) × NeverLoops plan
-    by (Ok plan) is = (plan, is, check-never_loops plan_name name text files plan is answer)
-    by (Err no_file) is = absurd (rw is at answer)
-    by (Err (answered known said)) is =
-        let ended : (Done ≡ known) × (text ≡ said) = rw is at answer in
-        absurd (never_done plan_name files known said is (sym ended.0))
+form-loop_free (Some (on_plan what plan)) files text answer = tt
+form-loop_free (Some (on_ranks Check plan name)) files text answer =
+    let found = rising hops plan name text files answer in
+    (found.0, found.1, loop_free found.0 (rank_of found.2.0) (file-well plan files found.0 found.1) found.2.1)
+form-loop_free (Some (on_ranks PrioCheck plan name)) files text answer = tt
+form-loop_free (Some (on_events what plan events until)) files text answer = tt
+form-loop_free (Some (on_frames what option name)) files text answer = tt
+form-loop_free (Some (on_ladder Gen n)) files text answer = tt
+form-loop_free (Some (on_ladder Trial n)) files text answer = answer.1.accepted
+form-loop_free (Some (node plan element name until)) files text answer = tt
 
 form-never_loops : (form : Option Form) (files : Contents) (text : List ℕ) → FormAnswer form files Done text → IsCheckedForPriority form files
 form-never_loops None files text answer = tt
-form-never_loops (Some (prio_check plan_name name)) files text answer = checked-never_loops plan_name name text files answer
-form-never_loops (Some (check plan_name name)) files text answer = tt
-form-never_loops (Some (rank plan_name)) files text answer = tt
-form-never_loops (Some (hops plan_name)) files text answer = tt
-form-never_loops (Some (nominate plan_name)) files text answer = tt
-form-never_loops (Some (decode option name)) files text answer = tt
-form-never_loops (Some (encode option name)) files text answer = tt
-form-never_loops (Some (pcap_decode option name)) files text answer = tt
-form-never_loops (Some (pcap_encode option name)) files text answer = tt
-form-never_loops (Some (gen n)) files text answer = tt
-form-never_loops (Some (trial n)) files text answer = tt
-form-never_loops (Some (sim plan_name events_name until)) files text answer = tt
-form-never_loops (Some (sweep plan_name at until)) files text answer = tt
-form-never_loops (Some (prio_rank plan_name)) files text answer = tt
-form-never_loops (Some (prio_sim plan_name events_name until)) files text answer = tt
-form-never_loops (Some (node plan_name element_name name until)) files text answer = tt
+form-never_loops (Some (on_plan what plan)) files text answer = tt
+form-never_loops (Some (on_ranks Check plan name)) files text answer = tt
+form-never_loops (Some (on_ranks PrioCheck plan name)) files text answer =
+    let found = rising hops_any plan name text files answer in
+    (found.0, found.1, never_loops found.0 (rank_of found.2.0) found.2.1)
+form-never_loops (Some (on_events what plan events until)) files text answer = tt
+form-never_loops (Some (on_frames what option name)) files text answer = tt
+form-never_loops (Some (on_ladder what n)) files text answer = tt
+form-never_loops (Some (node plan element name until)) files text answer = tt
 
--- so it is where the work ended in this status
+-- where `chains` is done, a plan was read, and it has rows, which are bounds
+chains-bound : (name text : List ℕ) (files : Contents) → Answered IsChained (plan_in name files) Done text → IsBoundedByChains (Some (on_plan Chains name)) files
+chains-bound name text files answer =
+    let found = done-read IsChained (plan_in name files) text (never_done name files) answer in
+    let rows = found.2.1 in
+    (found.0, found.1, (rows.0, rows.1, rows-bound found.0 rows.0 (file-well name files found.0 found.1) rows.1))
+
+form-bounds : (form : Option Form) (files : Contents) (text : List ℕ) → FormAnswer form files Done text → IsBoundedByChains form files
+form-bounds None files text answer = tt
+form-bounds (Some (on_plan Chains plan)) files text answer = chains-bound plan text files answer
+form-bounds (Some (on_plan Rank plan)) files text answer = tt
+form-bounds (Some (on_plan Hops plan)) files text answer = tt
+form-bounds (Some (on_plan Nominate plan)) files text answer = tt
+form-bounds (Some (on_plan PrioRank plan)) files text answer = tt
+form-bounds (Some (on_plan (Sweep at until) plan)) files text answer = tt
+form-bounds (Some (on_ranks what plan name)) files text answer = tt
+form-bounds (Some (on_events what plan events until)) files text answer = tt
+form-bounds (Some (on_frames what option name)) files text answer = tt
+form-bounds (Some (on_ladder what n)) files text answer = tt
+form-bounds (Some (node plan element name until)) files text answer = tt
+
+-- so they are where the work ended in this status
+pub loop_free-from : (words : List (List ℕ)) (told : Option Contents) (steady : Bool) (before now : ℕ) (status : Status) (text : List ℕ)
+    → EndsIn (IsAnswer words) (MissesFile words) (outside told steady before now) status text → status ≡ Done
+    → IfSome told (IsCheckedLoopFree (form_of words))
+loop_free-from words told steady before now status text =
+    done-from (IsCheckedLoopFree (form_of words)) words told steady before now status text (λ files. form-loop_free (form_of words) files text)
+
 pub never_loops-from : (words : List (List ℕ)) (told : Option Contents) (steady : Bool) (before now : ℕ) (status : Status) (text : List ℕ)
     → EndsIn (IsAnswer words) (MissesFile words) (outside told steady before now) status text → status ≡ Done
     → IfSome told (IsCheckedForPriority (form_of words))
-never_loops-from words None steady before now status text ends done = tt
-never_loops-from words (Some files) steady before now Done text ends done = form-never_loops (form_of words) files text ends.0
-never_loops-from words (Some files) steady before now Refuted text ends done = cc
-never_loops-from words (Some files) steady before now Usage text ends done = cc
-never_loops-from words (Some files) steady before now BadPlan text ends done = cc
-never_loops-from words (Some files) steady before now BadCert text ends done = cc
-never_loops-from words (Some files) steady before now BadEvents text ends done = cc
-never_loops-from words (Some files) steady before now BadFrames text ends done = cc
-never_loops-from words (Some files) steady before now ReadFault text ends done = cc
-never_loops-from words (Some files) steady before now WriteFault text ends done = cc
-never_loops-from words (Some files) steady before now TooLong text ends done = cc
-never_loops-from words (Some files) steady before now NoMemory text ends done = cc
-never_loops-from words (Some files) steady before now Stopped text ends done = cc
+never_loops-from words told steady before now status text =
+    done-from (IsCheckedForPriority (form_of words)) words told steady before now status text (λ files. form-never_loops (form_of words) files text)
+
+pub bounds-from : (words : List (List ℕ)) (told : Option Contents) (steady : Bool) (before now : ℕ) (status : Status) (text : List ℕ)
+    → EndsIn (IsAnswer words) (MissesFile words) (outside told steady before now) status text → status ≡ Done
+    → IfSome told (IsBoundedByChains (form_of words))
+bounds-from words told steady before now status text =
+    done-from (IsBoundedByChains (form_of words)) words told steady before now status text (λ files. form-bounds (form_of words) files text)

@@ -1,21 +1,13 @@
 -- What one element sends for a file is one answer, and what is written is that answer.
-use Rattle.std.proofs.Common.{◌≡◌, ℕ, Bool, List, Option, None, Some, Ok, Err, refl, sym, ap, ◌∙◌, inl, inr}
-use Rattle.std.specs.Prelude.{◌⊎◌, IfSome}
-use Rattle.sync_edge.specs.Contents.{Contents}
+use Rattle.std.proofs.Common.{◌≡◌, ℕ, List, refl, sym, ap, ◌∙◌, inl, inr}
+use Rattle.std.specs.Prelude.{◌⊎◌}
 use Rattle.sync_topo.specs.Topology.{Topology}
 use Rattle.node_file.specs.declared.row.NodeRow.{NodeRow}
 use Rattle.node_rules.specs.NodeText.{AllFit, IsLastFit, whole_text, stopped_text}
 use Rattle.node_replay.proofs.OneText.{not-both, one-last}
 use Rattle.sync_top.specs.declared.status.Status.{Status}
 use Rattle.sync_top.specs.declared.status.Status.TheVariants.{Done, Refuted, Usage, BadPlan, BadCert, BadEvents, BadFrames, ReadFault, WriteFault, TooLong, NoMemory, Stopped}
-use Rattle.node_file.specs.declared.error.NodeErr.{NodeErr}
-use Rattle.node_file.specs.NodeFile.{rows_of}
-use Rattle.sync_top.specs.Form.{node}
-use Rattle.sync_top.specs.Reading.{text_line}
-use Rattle.sync_top.specs.Forms.Node.{node_bytes, node_refusal, AreFramesSent, IsNodeReply, NodeAnswer}
-use Rattle.sync_top.specs.Answer.{FormMissesFile}
-use Rattle.sync_top.specs.Work.{EndsIn}
-use Rattle.sync_top.proofs.Cuts.{outside}
+use Rattle.sync_top.specs.Forms.Node.{AreFramesSent}
 
 -- what may be written
 abbrev Whole : Topology → ℕ → List NodeRow → ℕ → Status → List ℕ → Type 0
@@ -56,34 +48,3 @@ one_sent plan element rows until status other text another first second =
             (cut.0 ∙ sym also.0, cut.1.2 ∙ ap (stopped_text plan rows element) same ∙ sym also.1.2)
       ]
     ]
-
--- the frames that are sent for a file are an answer, and end the work
-module _ (plan_name element_name file_name : List ℕ) (until : ℕ) (plan : Topology) (element : ℕ) (bytes : List ℕ) where
-  given : (told : Option Contents) (status : Status) (text : List ℕ) (rows : List NodeRow)
-      → IfSome told (λ files. node_bytes plan_name element_name file_name files ≡ Ok (plan, element, bytes)) → rows_of plan element bytes ≡ Ok rows
-      → AreFramesSent plan element rows until status text → IfSome told (λ files. NodeAnswer plan_name element_name file_name until files status text)
-  given None status text rows is read sent = tt
-  given (Some files) status text rows is read sent = rw (is, read) sent
-
-  refused : (told : Option Contents) (text : List ℕ) (error : NodeErr)
-      → IfSome told (λ files. node_bytes plan_name element_name file_name files ≡ Ok (plan, element, bytes)) → rows_of plan element bytes ≡ Err error
-      → text ≡ text_line (node_refusal error) → IfSome told (λ files. NodeAnswer plan_name element_name file_name until files BadFrames text)
-  refused None text error is read line = tt
-  refused (Some files) text error is read line = rw (is, read) (refl, line)
-
-  pub ends : (told : Option Contents) (steady : Bool) (before now : ℕ) (status : Status) (text : List ℕ)
-      → IfSome told (λ files. node_bytes plan_name element_name file_name files ≡ Ok (plan, element, bytes)) → now ≡ before
-      → IsNodeReply plan element bytes until status text
-      → EndsIn (NodeAnswer plan_name element_name file_name until) (FormMissesFile (Some (node plan_name element_name file_name until))) (outside told steady before now) status text
-  ends told steady before now Done text is calm sent = (given told Done text sent.0 is sent.1 sent.2, calm)
-  ends told steady before now Stopped text is calm sent = (given told Stopped text sent.0 is sent.1 sent.2, calm)
-  ends told steady before now BadFrames text is calm sent = (refused told text sent.0 is sent.1 sent.2, calm)
-  ends told steady before now Refuted text is calm sent = absurd sent
-  ends told steady before now Usage text is calm sent = absurd sent
-  ends told steady before now BadPlan text is calm sent = absurd sent
-  ends told steady before now BadCert text is calm sent = absurd sent
-  ends told steady before now BadEvents text is calm sent = absurd sent
-  ends told steady before now ReadFault text is calm sent = absurd sent
-  ends told steady before now WriteFault text is calm sent = absurd sent
-  ends told steady before now TooLong text is calm sent = absurd sent
-  ends told steady before now NoMemory text is calm sent = absurd sent

@@ -1,48 +1,58 @@
 -- That words over some files have one answer.
-use Rattle.std.proofs.Common.{◌≡◌, ◌≤◌, ℕ, suc, length, List, ◌++◌, Option, Some, None, Result, Ok, Err, refl, sym, ◌∙◌, ap, inl, inr, arith}
-use Rattle.std.specs.Prelude.{◌⊎◌, codes}
+use Rattle.std.proofs.Common.{◌≡◌, ◌≤◌, ℕ, suc, length, List, Option, Some, None, Result, Ok, Err, refl, sym, ◌∙◌, ap, inl, inr, arith}
+use Rattle.std.specs.Prelude.{◌⊎◌}
 use Rattle.sync_edge.specs.Contents.{Contents}
 use Rattle.sync_topo.specs.declared.event.Event.{Event}
 use Rattle.sync_topo.specs.Topology.{Topology}
-use Rattle.sync_topo.specs.Lines.{line_name, is_nominated}
+use Rattle.sync_topo.specs.Lines.{is_nominated}
 use Rattle.sync_topo.specs.Hops.{hops, hops_any, IsRising}
 use Rattle.sync_topo.specs.Ranks.{AreLeastRanks, IsFirstCycle}
 use Rattle.rank_cert.specs.Ranks.{Ranks, rank_at, rank_of}
 use Rattle.rank_cert.specs.CertificateText.{certificate_text}
 use Rattle.cycle_plan.proofs.OneCycle.{one_cycle}
 use Rattle.sync_topo.specs.declared.returns.Returns.TheVariants.{Barred}
-use Rattle.sync_top.proofs.Verdicts.{Same, IsOne, one_verdict, no_first_cycle}
-use Rattle.event_sim.specs.declared.limits.TheConstants.{MOST_CHANGES}
+use Rattle.sync_top.proofs.Verdicts.{IsOne, one_verdict, no_first_cycle}
+use Rattle.sync_ql.specs.declared.limits.TheConstants.{MOST_ROWS}
 use Rattle.event_sim.specs.Rows.{rows_until}
 use Rattle.event_sim.specs.Answers.{IsLastFit}
 use Rattle.trace_report.specs.Report.{IsWholeReport, stopped_report}
 use Rattle.capture_text.specs.Capture.{decoded_text, encoded_text}
-use Rattle.pcap_file.specs.Timed.{encoded_pcap}
+use Rattle.pcap_file.specs.Timed.{decoded_pcap, encoded_pcap}
+use Rattle.node_file.specs.NodeFile.{rows_of}
+use Rattle.sync_ql.specs.declared.levels.NetOption.{NetOption}
 use Rattle.sync_top.specs.declared.status.Status.{Status}
 use Rattle.sync_top.specs.declared.status.Status.TheVariants.{Done, Refuted, Usage, BadPlan, BadCert, BadEvents, BadFrames, ReadFault, WriteFault, TooLong, NoMemory, Stopped}
-use Rattle.sync_top.specs.Form as asked
-use Rattle.sync_top.specs.Form.{Form, check, rank, decode, encode, pcap_decode, pcap_encode, gen, trial, sim, sweep, form_of, prio_check, prio_rank, prio_sim, node}
-use Rattle.sync_top.specs.Reading.{End, no_file, answered, text_line, plan_in, Answered, IsText}
-use Rattle.sync_top.specs.Forms.Check.{documents, IsVerdict}
+use Rattle.sync_top.specs.declared.form.PlanForm.{PlanForm}
+use Rattle.sync_top.specs.declared.form.PlanForm.TheVariants.{Rank, Chains, Hops, Nominate, PrioRank, Sweep}
+use Rattle.sync_top.specs.declared.form.RanksForm.{RanksForm}
+use Rattle.sync_top.specs.declared.form.RanksForm.TheVariants.{Check, PrioCheck}
+use Rattle.sync_top.specs.declared.form.EventsForm.{EventsForm}
+use Rattle.sync_top.specs.declared.form.EventsForm.TheVariants.{Sim, PrioSim}
+use Rattle.sync_top.specs.declared.form.FramesForm.{FramesForm}
+use Rattle.sync_top.specs.declared.form.FramesForm.TheVariants.{Decode, Encode, PcapDecode, PcapEncode}
+use Rattle.sync_top.specs.declared.form.LadderForm.{LadderForm}
+use Rattle.sync_top.specs.declared.form.LadderForm.TheVariants.{Gen, Trial}
+use Rattle.sync_top.specs.Form.{Form, form_of, on_plan, on_ranks, on_events, on_frames, on_ladder, node}
+use Rattle.sync_top.specs.Reading.{End, no_file, answered, Answered, IsText}
 use Rattle.sync_top.specs.Forms.Rank.{IsPlanned, cycle_text}
 use Rattle.sync_top.specs.Forms.Hops.{AreHopRows, hops_text}
 use Rattle.sync_top.specs.Forms.Nominate.{IsNominatedText}
 use Rattle.plan_file.specs.Spelling.{plan_text}
 use Rattle.nominate.specs.Nomination.{nominated_plan}
 use Rattle.nominate.proofs.HopLaws.{one-list}
-use Rattle.sync_top.specs.Forms.Captures.{captured, pcap_rows}
-use Rattle.sync_top.specs.Forms.Sim.{plan_and_events, IsReport}
+use Rattle.sync_top.specs.Forms.Captures.{accepted_frames, accepted_capture}
+use Rattle.sync_top.specs.Forms.Sim.{IsReport}
 use Rattle.sync_top.specs.Forms.Sweep.{IsSweepTable}
 use Rattle.sync_sweep.specs.SweepText.{table_text}
 use Rattle.sync_sweep.proofs.OneSweep.{one-sweep}
-use Rattle.sync_top.specs.Answer.{FormAnswer, IsAnswer}
+use Rattle.sync_top.specs.Answer.{PlanAnswer, RanksAnswer, EventsAnswer, FramesAnswer, LadderAnswer, meaning, FormAnswer, IsAnswer}
 use Rattle.sync_top.proofs.OneText.{same_text}
+use Rattle.sync_top.proofs.ChainAnswers.{one_chained}
 use Rattle.sync_top.proofs.PriorityAnswers.{one_priority_planned, one_priority_run}
-use Rattle.sync_top.specs.Forms.Priority.{IsPriorityVerdict, IsPriorityPlanned, IsPriorityRun}
-use Rattle.sync_top.specs.Forms.Node.{node_rows, AreFramesSent}
+use Rattle.sync_top.specs.Forms.Node.{accepted_rows, AreFramesSent, IsNodeReply}
 use Rattle.sync_top.proofs.NodeAnswers.{one_sent}
 use Rattle.plan_gen.specs.Ladder.{ladder}
-use Rattle.sync_top.specs.Forms.Trial.{TrialAnswer}
+use Rattle.sync_top.specs.Forms.Trial.{IsTrial}
 use Rattle.sync_top.proofs.LastFits.{one_last}
 use Rattle.sync_top.proofs.OneTrial.{one_trial_text}
 
@@ -98,14 +108,14 @@ one_asked : (given : List ℕ) → IsOne (IsText given)
 one_asked given status other text another first second = (first.0 ∙ sym second.0, first.1 ∙ sym second.1)
 
 -- a trial has one answer
-one_trial : (n : ℕ) → IsOne (TrialAnswer n)
+one_trial : (n : ℕ) → IsOne (IsTrial n)
 one_trial n status other text another first second =
     (first.0 ∙ sym second.0, one_trial_text n (ladder n) text another first.1 second.1)
 
 -- what a run may give
 abbrev Whole : Topology → List Event → ℕ → Status → List ℕ → Type 0
 Whole plan events until status text =
-    (status ≡ Done) × (length (rows_until plan events (suc until)) ≤ MOST_CHANGES) × IsWholeReport plan events until text
+    (status ≡ Done) × (length (rows_until plan events (suc until)) ≤ MOST_ROWS) × IsWholeReport plan events until text
 
 abbrev Short : Topology → List Event → ℕ → Status → List ℕ → Type 0
 Short plan events until status text =
@@ -162,40 +172,56 @@ module _ (one_whole : (plan : Topology) (events : List Event) (until : ℕ) (tex
       let counts = one-list plan mine.counts theirs.counts mine.are theirs.are in
       (first.0 ∙ sym second.0, first.1.2 ∙ ap plan_text (mine.is ∙ ap (nominated_plan plan) counts ∙ sym theirs.is) ∙ sym second.1.2)
 
+  -- what answers a plan is one
+  one_plan : (what : PlanForm) (plan : Topology) → IsOne (PlanAnswer what plan)
+  one_plan Rank plan = one_planned plan
+  one_plan Chains plan = one_chained plan
+  one_plan Hops plan = one_hop_rows plan
+  one_plan Nominate plan = one_nominated plan
+  one_plan PrioRank plan = one_priority_planned plan
+  one_plan (Sweep at until) plan = one_sweep_table plan at until
+
+  -- so is what answers the ranks of a certificate
+  one_ranks : (what : RanksForm) (plan : Topology) (ranks : Ranks) → IsOne (RanksAnswer what plan ranks)
+  one_ranks Check plan ranks = one_verdict (hops plan) plan ranks
+  one_ranks PrioCheck plan ranks = one_verdict (hops_any plan) plan ranks
+
+  -- and events
+  one_events : (what : EventsForm) (plan : Topology) (events : List Event) (until : ℕ) → IsOne (EventsAnswer what plan events until)
+  one_events Sim plan events until = one_report plan events until
+  one_events PrioSim plan events until = one_priority_run plan events until
+
+  -- and the bytes of frames or rows
+  one_frames : (what : FramesForm) (option : NetOption) (bytes : List ℕ) → IsOne (FramesAnswer what option bytes)
+  one_frames Decode option bytes = one_answered IsText one_asked (accepted_frames (decoded_text option bytes))
+  one_frames Encode option bytes = one_answered IsText one_asked (accepted_frames (encoded_text option bytes))
+  one_frames PcapDecode option bytes = one_answered IsText one_asked (accepted_capture (decoded_pcap option bytes))
+  one_frames PcapEncode option bytes = one_answered IsText one_asked (accepted_frames (encoded_pcap option bytes))
+
+  -- and a number of elements
+  one_ladder : (what : LadderForm) (n : ℕ) → IsOne (LadderAnswer what n)
+  one_ladder Gen n status other text another first second = (first.0 ∙ sym second.0, first.1 ∙ sym second.1)
+  one_ladder Trial n status other text another first second = one_trial n status other text another first second
+
+  -- and what an element received
+  one_node : (plan : Topology) (element : ℕ) (bytes : List ℕ) (until : ℕ) → IsOne (IsNodeReply plan element bytes until)
+  one_node plan element bytes until =
+      one_answered (λ rows. AreFramesSent plan element rows until) (λ rows. one_sent plan element rows until) (accepted_rows (rows_of plan element bytes))
+
+  -- what a form reads has one answer
+  one_meaning : (form : Form) (read : (meaning form).reading.Read) → IsOne ((meaning form).Answers read)
+  one_meaning (on_plan what plan) read = one_plan what read
+  one_meaning (on_ranks what plan cert) read = one_ranks what read.0 read.1
+  one_meaning (on_events what plan events until) read = one_events what read.0 read.1 until
+  one_meaning (on_frames what option name) read = one_frames what option read
+  one_meaning (on_ladder what n) read = one_ladder what n
+  one_meaning (node plan element name until) read = one_node read.0 read.1 read.2 until
+
   -- a form has one answer
   one_form : (form : Option Form) (files : Contents) → IsOne (FormAnswer form files)
   one_form None files status other text another first second = (first.0 ∙ sym second.0, first.1 ∙ sym second.1)
-  one_form (Some (check plan cert)) files status other text another first second =
-      one_answered (λ read. IsVerdict read.0 read.1) (λ read. one_verdict (hops read.0) read.0 read.1) (documents plan cert files) status other text another first second
-  one_form (Some (rank plan)) files status other text another first second =
-      one_answered IsPlanned one_planned (plan_in plan files) status other text another first second
-  one_form (Some (asked.hops plan)) files status other text another first second =
-      one_answered AreHopRows one_hop_rows (plan_in plan files) status other text another first second
-  one_form (Some (asked.nominate plan)) files status other text another first second =
-      one_answered IsNominatedText one_nominated (plan_in plan files) status other text another first second
-  one_form (Some (decode option name)) files status other text another first second =
-      one_answered IsText one_asked (captured decoded_text option name files) status other text another first second
-  one_form (Some (encode option name)) files status other text another first second =
-      one_answered IsText one_asked (captured encoded_text option name files) status other text another first second
-  one_form (Some (pcap_decode option name)) files status other text another first second =
-      one_answered IsText one_asked (pcap_rows option name files) status other text another first second
-  one_form (Some (pcap_encode option name)) files status other text another first second =
-      one_answered IsText one_asked (captured encoded_pcap option name files) status other text another first second
-  one_form (Some (gen n)) files status other text another first second = (first.0 ∙ sym second.0, first.1 ∙ sym second.1)
-  one_form (Some (trial n)) files status other text another first second =
-      one_trial n status other text another first second
-  one_form (Some (sim plan events until)) files status other text another first second =
-      one_answered (λ read. IsReport read.0 read.1 until) (λ read. one_report read.0 read.1 until) (plan_and_events plan events files) status other text another first second
-  one_form (Some (sweep plan at until)) files status other text another first second =
-      one_answered (λ read. IsSweepTable read at until) (λ read. one_sweep_table read at until) (plan_in plan files) status other text another first second
-  one_form (Some (prio_check plan cert)) files status other text another first second =
-      one_answered (λ read. IsPriorityVerdict read.0 read.1) (λ read. one_verdict (hops_any read.0) read.0 read.1) (documents plan cert files) status other text another first second
-  one_form (Some (prio_rank plan)) files status other text another first second =
-      one_answered IsPriorityPlanned one_priority_planned (plan_in plan files) status other text another first second
-  one_form (Some (prio_sim plan events until)) files status other text another first second =
-      one_answered (λ read. IsPriorityRun read.0 read.1 until) (λ read. one_priority_run read.0 read.1 until) (plan_and_events plan events files) status other text another first second
-  one_form (Some (node plan element name until)) files status other text another first second =
-      one_answered (λ read. AreFramesSent read.0 read.1 read.2 until) (λ read. one_sent read.0 read.1 read.2 until) (node_rows plan element name files) status other text another first second
+  one_form (Some form) files status other text another first second =
+      one_answered (meaning form).Answers (one_meaning form) ((meaning form).reading.read files) status other text another first second
 
   pub one_status : (words : List (List ℕ)) (files : Contents) (status other : Status) (text another : List ℕ) → IsAnswer words files status text
       → IsAnswer words files other another → status ≡ other

@@ -1,5 +1,5 @@
 -- That the forms of priority alone have one answer.
-use Rattle.std.proofs.Common.{◌≡◌, ℕ, List, ◌++◌, refl, sym, ◌∙◌, ap, inl, inr, arith}
+use Rattle.std.proofs.Common.{◌≡◌, ℕ, List, refl, sym, ◌∙◌, ap, inl, inr}
 use Rattle.std.specs.Prelude.{◌⊎◌}
 use Rattle.sync_topo.specs.declared.event.Event.{Event}
 use Rattle.sync_topo.specs.Topology.{Topology}
@@ -15,7 +15,6 @@ use Rattle.sync_topo.specs.declared.returns.Returns.TheVariants.{Allowed}
 use Rattle.sync_top.proofs.Verdicts.{IsOne, no_first_cycle}
 use Rattle.sync_top.specs.declared.status.Status.{Status}
 use Rattle.sync_top.specs.declared.status.Status.TheVariants.{Done, Refuted, Usage, BadPlan, BadCert, BadEvents, BadFrames, ReadFault, WriteFault, TooLong, NoMemory, Stopped}
-use Rattle.sync_top.specs.Reading.{text_line}
 use Rattle.prio_mode.specs.ForcedText.{forced_text}
 use Rattle.sync_top.specs.Forms.Priority.{IsPriorityPlanned, IsPriorityRun}
 use Rattle.sync_top.proofs.OneText.{same_text}

@@ -1,10 +1,8 @@
 -- What a run writes is the report of the plan and the events.
-use Rattle.std.proofs.Common.{◌≡◌, ◌≤◌, ℕ, suc, Bool, List, length, Option, None, Some, Ok, ap, subst, ◌∙◌}
-use Rattle.std.specs.Prelude.{IfSome}
-use Rattle.sync_edge.specs.Contents.{Contents}
+use Rattle.std.proofs.Common.{◌≡◌, ◌≤◌, ℕ, suc, List, length, Option, Some, ap, subst, ◌∙◌}
 use Rattle.sync_topo.specs.declared.event.Event.{Event}
 use Rattle.sync_topo.specs.Topology.{Topology}
-use Rattle.event_sim.specs.declared.limits.TheConstants.{MOST_CHANGES}
+use Rattle.sync_ql.specs.declared.limits.TheConstants.{MOST_ROWS}
 use Rattle.event_sim.specs.declared.change.Change.{Change}
 use Rattle.event_sim.specs.declared.change.Watch.{Watch}
 use Rattle.event_sim.specs.declared.change.Watch.TheVariants.{Changes}
@@ -14,20 +12,15 @@ use Rattle.event_sim.specs.SimState.{SimState, first_after}
 use Rattle.event_sim.specs.Standing.{StandsFor, watched_rows}
 use Rattle.event_sim.specs.Answers.{IsLastFit}
 use Rattle.trace_report.specs.Report.{IsReportText}
-use Rattle.sync_top.specs.declared.status.Status.{Status}
 use Rattle.sync_top.specs.declared.status.Status.TheVariants as status
-use Rattle.sync_top.specs.Form.{sim}
-use Rattle.sync_top.specs.Forms.Sim.{plan_and_events, IsReport, SimAnswer}
-use Rattle.sync_top.specs.Answer.{FormMissesFile}
-use Rattle.sync_top.specs.Work.{EndsIn}
-use Rattle.sync_top.proofs.Cuts.{outside}
+use Rattle.sync_top.specs.Forms.Sim.{IsReport}
 
 -- all changes up to the end fit
 pub whole : (run : SimState) (plan : Topology) (events : List Event) (until : ℕ) (text : List ℕ) → run.net.plan ≡ plan → run.watch ≡ Changes
-    → run.reached ≡ Some until → length run.changes ≤ MOST_CHANGES → StandsFor run events → IsReportText run.net.plan events run.reached Until text
+    → run.reached ≡ Some until → length run.changes ≤ MOST_ROWS → StandsFor run events → IsReportText run.net.plan events run.reached Until text
     → IsReport plan events until status.Done text
 whole run plan events until text same watches reached few stands is = (
-  subst (λ (rows : List Change). length rows ≤ MOST_CHANGES) rows few,
+  subst (λ (rows : List Change). length rows ≤ MOST_ROWS) rows few,
   subst (λ (r : Option ℕ). IsReportText plan events r Until text) reached (subst (λ (p : Topology). IsReportText p events run.reached Until text) same is),
 )
   where
@@ -39,26 +32,3 @@ whole run plan events until text same watches reached few stands is = (
 pub short : (run : SimState) (plan : Topology) (events : List Event) (until t : ℕ) (text : List ℕ) → run.net.plan ≡ plan → IsLastFit plan events t until
     → IsReportText run.net.plan events run.reached (Stopped t) text → IsReport plan events until status.Stopped text
 short run plan events until t text same last is = (t, last, subst (λ (p : Topology). IsReportText p events run.reached (Stopped t) text) same is)
-
--- a report of what was read is an answer, and ends the work
-module _ (plan_name events_name : List ℕ) (until : ℕ) (plan : Topology) (events : List Event) where
-  given : (told : Option Contents) (status : Status) (text : List ℕ) → IfSome told (λ files. plan_and_events plan_name events_name files ≡ Ok (plan, events))
-      → IsReport plan events until status text → IfSome told (λ files. SimAnswer plan_name events_name until files status text)
-  given None status text is report = tt
-  given (Some files) status text is report = rw (is) report
-
-  pub ends : (told : Option Contents) (steady : Bool) (before now : ℕ) (status : Status) (text : List ℕ)
-      → IfSome told (λ files. plan_and_events plan_name events_name files ≡ Ok (plan, events)) → now ≡ before → IsReport plan events until status text
-      → EndsIn (SimAnswer plan_name events_name until) (FormMissesFile (Some (sim plan_name events_name until))) (outside told steady before now) status text
-  ends told steady before now status.Done text is calm report = (given told status.Done text is report, calm)
-  ends told steady before now status.Stopped text is calm report = (given told status.Stopped text is report, calm)
-  ends told steady before now status.Refuted text is calm report = absurd report
-  ends told steady before now status.Usage text is calm report = absurd report
-  ends told steady before now status.BadPlan text is calm report = absurd report
-  ends told steady before now status.BadCert text is calm report = absurd report
-  ends told steady before now status.BadEvents text is calm report = absurd report
-  ends told steady before now status.BadFrames text is calm report = absurd report
-  ends told steady before now status.ReadFault text is calm report = absurd report
-  ends told steady before now status.WriteFault text is calm report = absurd report
-  ends told steady before now status.TooLong text is calm report = absurd report
-  ends told steady before now status.NoMemory text is calm report = absurd report

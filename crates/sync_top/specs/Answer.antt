@@ -1,5 +1,5 @@
 -- The program's answer to some words over some files: a status and a text.
-use Rattle.std.specs.Prelude.{◌≡◌, ℕ, ◌⊎◌, Bool, List, codes, Option, Some, None, Err}
+use Rattle.std.specs.Prelude.{◌≡◌, ℕ, ◌⊎◌, nat_lt, Bool, List, codes, Option, Some, None, Err}
 use Rattle.std.specs.Prelude.{IsTrue, IfSome, IsErr}
 use Rattle.std.specs.Io.KnownBytes.{Appends}
 use Rattle.sync_edge.specs.Faults.{Rose}
@@ -7,41 +7,102 @@ use Rattle.sync_edge.specs.Transfers.{AppendsFront}
 use Rattle.sync_edge.specs.Contents.{Contents}
 use Rattle.sync_top.specs.declared.status.Status.{Status}
 use Rattle.sync_top.specs.declared.status.Status.TheVariants.{Usage}
+use Rattle.sync_ql.specs.declared.levels.NetOption.{NetOption}
+use Rattle.sync_topo.specs.Topology.{Topology}
+use Rattle.sync_topo.specs.declared.event.Event.{Event}
+use Rattle.rank_cert.specs.Ranks.{Ranks}
 use Rattle.capture_text.specs.Capture.{decoded_text, encoded_text}
-use Rattle.pcap_file.specs.Timed.{encoded_pcap}
-use Rattle.sync_top.specs.Form.{Form, check, rank, hops, nominate, decode, encode, pcap_decode, pcap_encode, gen, trial, form_of, sim, sweep, prio_check, prio_rank, prio_sim, node}
-use Rattle.sync_top.specs.Reading.{text_line, no_file, plan_in}
-use Rattle.sync_top.specs.Forms.Check.{documents, CheckAnswer}
-use Rattle.sync_top.specs.Forms.Rank.{RankAnswer}
-use Rattle.sync_top.specs.Forms.Hops.{HopsAnswer}
-use Rattle.sync_top.specs.Forms.Nominate.{NominateAnswer}
-use Rattle.sync_top.specs.Forms.Captures.{captured, CaptureAnswer, pcap_rows, PcapAnswer}
-use Rattle.sync_top.specs.Forms.Gen.{GenAnswer}
-use Rattle.sync_top.specs.Forms.Trial.{TrialAnswer}
-use Rattle.sync_top.specs.Forms.Sim.{plan_and_events, SimAnswer}
-use Rattle.sync_top.specs.Forms.Sweep.{SweepAnswer}
-use Rattle.sync_top.specs.Forms.Priority.{PrioCheckAnswer, PrioRankAnswer, PrioSimAnswer}
-use Rattle.sync_top.specs.Forms.Node.{element_of_plan, node_bytes, NodeAnswer}
+use Rattle.pcap_file.specs.Timed.{decoded_pcap, encoded_pcap}
+use Rattle.sync_top.specs.declared.form.PlanForm.{PlanForm}
+use Rattle.sync_top.specs.declared.form.PlanForm.TheVariants.{Rank, Chains, Hops, Nominate, PrioRank, Sweep}
+use Rattle.sync_top.specs.declared.form.RanksForm.{RanksForm}
+use Rattle.sync_top.specs.declared.form.RanksForm.TheVariants.{Check, PrioCheck}
+use Rattle.sync_top.specs.declared.form.EventsForm.{EventsForm}
+use Rattle.sync_top.specs.declared.form.EventsForm.TheVariants.{Sim, PrioSim}
+use Rattle.sync_top.specs.declared.form.FramesForm.{FramesForm}
+use Rattle.sync_top.specs.declared.form.FramesForm.TheVariants.{Decode, Encode, PcapDecode, PcapEncode}
+use Rattle.sync_top.specs.declared.form.LadderForm.{LadderForm}
+use Rattle.sync_top.specs.declared.form.LadderForm.TheVariants.{Gen, Trial}
+use Rattle.sync_top.specs.Form.{Form, on_plan, on_ranks, on_events, on_frames, on_ladder, node, form_of}
+use Rattle.sync_top.specs.Reading.{Reading, one_file, two_files, no_files, Answered, text_line, no_file, file, plan_in}
+use Rattle.sync_top.specs.Forms.Check.{documents, IsVerdict}
+use Rattle.sync_top.specs.Forms.Rank.{IsPlanned}
+use Rattle.sync_top.specs.Forms.Chains.{IsChained}
+use Rattle.sync_top.specs.Forms.Hops.{AreHopRows}
+use Rattle.sync_top.specs.Forms.Nominate.{IsNominatedText}
+use Rattle.sync_top.specs.Forms.Captures.{IsCaptured, IsCapture}
+use Rattle.sync_top.specs.Forms.Gen.{IsLadderText}
+use Rattle.sync_top.specs.Forms.Trial.{IsTrial}
+use Rattle.sync_top.specs.Forms.Sim.{plan_and_events, IsReport}
+use Rattle.sync_top.specs.Forms.Sweep.{IsSweepTable}
+use Rattle.sync_top.specs.Forms.Priority.{IsPriorityVerdict, IsPriorityPlanned, IsPriorityRun}
+use Rattle.sync_top.specs.Forms.Node.{element_of_plan, node_bytes, IsNodeReply}
+
+-- what answers a plan
+abbrev pub PlanAnswer : PlanForm → Topology → Status → List ℕ → Type 0
+PlanAnswer Rank plan status text = IsPlanned plan status text
+PlanAnswer Chains plan status text = IsChained plan status text
+PlanAnswer Hops plan status text = AreHopRows plan status text
+PlanAnswer Nominate plan status text = IsNominatedText plan status text
+PlanAnswer PrioRank plan status text = IsPriorityPlanned plan status text
+PlanAnswer (Sweep at until) plan status text = IsSweepTable plan at until status text
+
+-- what answers the ranks of a certificate
+abbrev pub RanksAnswer : RanksForm → Topology → Ranks → Status → List ℕ → Type 0
+RanksAnswer Check plan ranks status text = IsVerdict plan ranks status text
+RanksAnswer PrioCheck plan ranks status text = IsPriorityVerdict plan ranks status text
+
+-- what answers events, up to a millisecond
+abbrev pub EventsAnswer : EventsForm → Topology → List Event → ℕ → Status → List ℕ → Type 0
+EventsAnswer Sim plan events until status text = IsReport plan events until status text
+EventsAnswer PrioSim plan events until status text = IsPriorityRun plan events until status text
+
+-- what answers the bytes of captured frames or of rows
+abbrev pub FramesAnswer : FramesForm → NetOption → List ℕ → Status → List ℕ → Type 0
+FramesAnswer Decode option bytes status text = IsCaptured (decoded_text option bytes) status text
+FramesAnswer Encode option bytes status text = IsCaptured (encoded_text option bytes) status text
+FramesAnswer PcapDecode option bytes status text = IsCapture (decoded_pcap option bytes) status text
+FramesAnswer PcapEncode option bytes status text = IsCaptured (encoded_pcap option bytes) status text
+
+-- what answers a number of elements
+abbrev pub LadderAnswer : LadderForm → ℕ → Status → List ℕ → Type 0
+LadderAnswer Gen n status text = IsLadderText n status text
+LadderAnswer Trial n status text = IsTrial n status text
+
+-- what a form reads, and what answers that
+pub record Meaning : Type 1 where
+  pub reading : Reading
+  pub Answers : reading.Read → Status → List ℕ → Type 0
+
+abbrev pub meaning : Form → Meaning
+meaning (on_plan what plan) = record { reading = one_file (plan_in plan); Answers = PlanAnswer what }
+meaning (on_ranks what plan certificate) = record {
+  reading = two_files (plan_in plan) (documents plan certificate);
+  Answers = λ read. RanksAnswer what read.0 read.1;
+}
+meaning (on_events what plan events until) = record {
+  reading = two_files (plan_in plan) (plan_and_events plan events);
+  Answers = λ read. EventsAnswer what read.0 read.1 until;
+}
+meaning (on_frames what option name) = record { reading = one_file (file name); Answers = FramesAnswer what option }
+meaning (on_ladder what n) = record { reading = no_files; Answers = λ _. LadderAnswer what n }
+meaning (node plan element name until) = record {
+  reading = two_files (element_of_plan plan element) (node_bytes plan element name);
+  Answers = λ read. IsNodeReply read.0 read.1 read.2 until;
+}
+
+-- how many files the form names, and that it reads any
+abbrev pub file_count : Option Form → ℕ
+file_count None = 0
+file_count (Some form) = (meaning form).reading.files
+
+abbrev pub reads_file : Option Form → Bool
+reads_file form = nat_lt 0 (file_count form)
 
 -- the answer to a form, and to words that are none
 abbrev pub FormAnswer : Option Form → Contents → Status → List ℕ → Type 0
 FormAnswer None files status text = (status ≡ Usage) × (text ≡ text_line (codes "usage"))
-FormAnswer (Some (check plan_name certificate_name)) files status text = CheckAnswer plan_name certificate_name files status text
-FormAnswer (Some (rank plan_name)) files status text = RankAnswer plan_name files status text
-FormAnswer (Some (hops plan_name)) files status text = HopsAnswer plan_name files status text
-FormAnswer (Some (nominate plan_name)) files status text = NominateAnswer plan_name files status text
-FormAnswer (Some (decode option name)) files status text = CaptureAnswer decoded_text option name files status text
-FormAnswer (Some (encode option name)) files status text = CaptureAnswer encoded_text option name files status text
-FormAnswer (Some (pcap_decode option name)) files status text = PcapAnswer option name files status text
-FormAnswer (Some (pcap_encode option name)) files status text = CaptureAnswer encoded_pcap option name files status text
-FormAnswer (Some (gen n)) files status text = GenAnswer n status text
-FormAnswer (Some (trial n)) files status text = TrialAnswer n status text
-FormAnswer (Some (sim plan_name events_name until)) files status text = SimAnswer plan_name events_name until files status text
-FormAnswer (Some (sweep plan_name at until)) files status text = SweepAnswer plan_name at until files status text
-FormAnswer (Some (prio_check plan_name certificate_name)) files status text = PrioCheckAnswer plan_name certificate_name files status text
-FormAnswer (Some (prio_rank plan_name)) files status text = PrioRankAnswer plan_name files status text
-FormAnswer (Some (prio_sim plan_name events_name until)) files status text = PrioSimAnswer plan_name events_name until files status text
-FormAnswer (Some (node plan_name element_name file_name until)) files status text = NodeAnswer plan_name element_name file_name until files status text
+FormAnswer (Some form) files status text = Answered (meaning form).Answers ((meaning form).reading.read files) status text
 
 -- the program's answer to some words
 abbrev pub IsAnswer : List (List ℕ) → Contents → Status → List ℕ → Type 0
@@ -50,32 +111,13 @@ IsAnswer words files status text = FormAnswer (form_of words) files status text
 -- a form whose answer comes to a file that isn't there
 abbrev pub FormMissesFile : Option Form → Contents → Type 0
 FormMissesFile None files = ⊥
-FormMissesFile (Some (check plan_name certificate_name)) files = documents plan_name certificate_name files ≡ Err no_file
-FormMissesFile (Some (rank plan_name)) files = plan_in plan_name files ≡ Err no_file
-FormMissesFile (Some (hops plan_name)) files = plan_in plan_name files ≡ Err no_file
-FormMissesFile (Some (nominate plan_name)) files = plan_in plan_name files ≡ Err no_file
-FormMissesFile (Some (decode option name)) files = captured decoded_text option name files ≡ Err no_file
-FormMissesFile (Some (encode option name)) files = captured encoded_text option name files ≡ Err no_file
-FormMissesFile (Some (pcap_decode option name)) files = pcap_rows option name files ≡ Err no_file
-FormMissesFile (Some (pcap_encode option name)) files = captured encoded_pcap option name files ≡ Err no_file
-FormMissesFile (Some (gen n)) files = ⊥
-FormMissesFile (Some (trial n)) files = ⊥
-FormMissesFile (Some (sim plan_name events_name until)) files = plan_and_events plan_name events_name files ≡ Err no_file
-FormMissesFile (Some (sweep plan_name at until)) files = plan_in plan_name files ≡ Err no_file
-FormMissesFile (Some (prio_check plan_name certificate_name)) files = documents plan_name certificate_name files ≡ Err no_file
-FormMissesFile (Some (prio_rank plan_name)) files = plan_in plan_name files ≡ Err no_file
-FormMissesFile (Some (prio_sim plan_name events_name until)) files = plan_and_events plan_name events_name files ≡ Err no_file
-FormMissesFile (Some (node plan_name element_name file_name until)) files = node_bytes plan_name element_name file_name files ≡ Err no_file
+FormMissesFile (Some form) files = (meaning form).reading.read files ≡ Err no_file
 
--- a form of two files whose first, the plan, ends the reading: it isn't there, it is too long, it is refused, or it hasn't the
--- element that is asked for
+-- a form whose first file, which is the plan where it names two, ends the reading: it isn't there, it is too long, it is
+-- refused, or it hasn't the element that is asked for
 abbrev pub FirstEnds : Option Form → Contents → Type 0
-FirstEnds (Some (check plan_name certificate_name)) files = IsErr (plan_in plan_name files)
-FirstEnds (Some (prio_check plan_name certificate_name)) files = IsErr (plan_in plan_name files)
-FirstEnds (Some (sim plan_name events_name until)) files = IsErr (plan_in plan_name files)
-FirstEnds (Some (prio_sim plan_name events_name until)) files = IsErr (plan_in plan_name files)
-FirstEnds (Some (node plan_name element_name file_name until)) files = IsErr (element_of_plan plan_name element_name files)
-FirstEnds form files = ⊥
+FirstEnds None files = ⊥
+FirstEnds (Some form) files = IsErr ((meaning form).reading.first files)
 
 -- words whose answer comes to a file that isn't there
 abbrev pub MissesFile : List (List ℕ) → Contents → Type 0

@@ -5,15 +5,17 @@ use Rattle.std.proofs.Math.Decide.{dec_lt}
 use Rattle.sync_text.specs.Number.{number_of}
 use Rattle.sync_topo.specs.Names.{link_names}
 use Rattle.plan_gen.specs.Ladder.{ladder}
-use Rattle.sync_top.specs.Form.{check, trial, form_of}
+use Rattle.sync_top.specs.declared.form.RanksForm.TheVariants.{Check}
+use Rattle.sync_top.specs.declared.form.LadderForm.TheVariants.{Trial}
+use Rattle.sync_top.specs.Form.{on_ranks, on_ladder, form_of}
 
-pub check_has_two_files : form_of (codes "check" ∷ codes "p" ∷ codes "c" ∷ []) ≡ Some (check (codes "p") (codes "c"))
+pub check_has_two_files : form_of (codes "check" ∷ codes "p" ∷ codes "c" ∷ []) ≡ Some (on_ranks Check (codes "p") (codes "c"))
 check_has_two_files = refl
 
 pub empty_word_names_no_file : form_of (codes "check" ∷ [] ∷ codes "c" ∷ []) ≡ None
 empty_word_names_no_file = refl
 
-pub trial_has_no_file : form_of (codes "trial" ∷ codes "10" ∷ []) ≡ Some (trial 10)
+pub trial_has_no_file : form_of (codes "trial" ∷ codes "10" ∷ []) ≡ Some (on_ladder Trial 10)
 unfolding digits dec_lt number_of
 trial_has_no_file = refl
 

@@ -5,6 +5,7 @@ pub mod Captures
 pub mod Gen
 pub mod Trial
 pub mod Sim
+pub mod Chains
 pub mod Hops
 pub mod Nominate
 pub mod Sweep

@@ -8,4 +8,5 @@ pub mod Work
 pub mod Runs
 pub mod FormSeen
 pub mod LoopFree
+pub mod ChainBounds
 pub mod HopRows

@@ -1,5 +1,5 @@
 -- How the reading of files ends the work, and a file with a plan. This project's own.
-use Rattle.std.specs.Prelude.{◌≡◌, ℕ, nat_lt, List, [], ◌++◌, length, codes, Option, Some, None, Result, Ok, Err, if◌then◌else◌}
+use Rattle.std.specs.Prelude.{◌≡◌, ℕ, ⊤, nat_lt, List, [], ◌++◌, length, codes, Option, Some, None, Result, Ok, Err, if◌then◌else◌}
 use Rattle.std.specs.FinMap.{get}
 use Rattle.sync_edge.specs.Contents.{Contents}
 use Rattle.sync_topo.specs.Topology.{Topology}
@@ -37,6 +37,23 @@ abbrev pub Answered : {A : Type 0} → (A → Status → List ℕ → Type 0) �
 Answered Answers (Ok read) status text = Answers read status text
 Answered Answers (Err no_file) status text = ⊥
 Answered Answers (Err (answered known written)) status text = (status ≡ known) × (text ≡ written)
+
+-- what a form reads: how many files it names, what its first file gives, and what all of them give
+pub record Reading : Type 1 where
+  pub files : ℕ
+  pub First : Type 0
+  pub first : Contents → Result First End
+  pub Read : Type 0
+  pub read : Contents → Result Read End
+
+abbrev pub no_files : Reading
+no_files = record { files = 0; First = ⊤; first = λ _. Ok tt; Read = ⊤; read = λ _. Ok tt }
+
+abbrev pub one_file : {A : Type 0} → (Contents → Result A End) → Reading
+one_file {A = A} read = record { files = 1; First = A; first = read; Read = A; read = read }
+
+abbrev pub two_files : {A B : Type 0} → (Contents → Result A End) → (Contents → Result B End) → Reading
+two_files {A = A} {B = B} first read = record { files = 2; First = A; first = first; Read = B; read = read }
 
 -- the bytes of a file
 abbrev pub file : List ℕ → Contents → Result (List ℕ) End

@@ -1,14 +1,31 @@
 -- What a step of the work did: what only private clauses cite.
-use Rattle.std.specs.Prelude.{◌≡◌, ◌≢◌, ◌↔◌, ℕ, ⊤, IsTrue, List, Option, Some, None, IfSome, Result, Ok, Err}
+use Rattle.std.specs.Prelude.{◌≡◌, ◌≢◌, ◌↔◌, ◌≤◌, ◌+◌, ℕ, ⊤, IsTrue, IsErr, List, Option, Some, None, IfSome, Result, Ok, Err}
+use Rattle.sync_text.specs.declared.errors.NoMemory as wanting
 use Rattle.sync_edge.specs.Contents.{Contents}
 use Rattle.sync_edge.specs.Faults.{Rose}
 use Rattle.sync_top.specs.declared.status.Status.{Status}
-use Rattle.sync_top.specs.declared.status.Status.TheVariants.{Usage, ReadFault, WriteFault, NoMemory}
+use Rattle.sync_top.specs.declared.status.Status.TheVariants.{Done, Refuted, Stopped, BadFrames, Usage, BadPlan, ReadFault, WriteFault, NoMemory}
 use Rattle.sync_top.specs.declared.reply.Reply.{Reply}
 use Rattle.sync_top.specs.declared.reply.Stop.{Stop}
 use Rattle.sync_top.specs.declared.reply.Stop.TheVariants.{Ended, OutOfMemory}
-use Rattle.sync_top.specs.Reading.{End, no_file, answered}
-use Rattle.sync_top.specs.Answer.{fault_text, Outside}
+use Rattle.sync_top.specs.declared.found.Finding.{Finding}
+use Rattle.sync_top.specs.declared.found.Finding.TheVariants as finding
+use Rattle.sync_top.specs.declared.found.Found.{Found}
+use Rattle.sync_top.specs.Form.{Form}
+use Rattle.sync_top.specs.Reading.{End, no_file, answered, Reading}
+use Rattle.sync_top.specs.Answer.{fault_text, Outside, FormAnswer, FormMissesFile, FirstEnds, file_count}
+
+-- the status of what was found
+abbrev pub ends_in : Finding → Status
+ends_in finding.Done = Done
+ends_in finding.Refuted = Refuted
+ends_in finding.Stopped = Stopped
+ends_in finding.BadFrames = BadFrames
+
+-- the reply with what was found, which wants memory alone
+abbrev pub replied : Result Found wanting.NoMemory → Result Reply Stop
+replied (Ok found) = Ok (record { status = ends_in found.finding; text = found.text })
+replied (Err no_memory) = Err OutOfMemory
 
 -- the work ended in this status and text: by an answer to the contents that are told, with no fault on the way,
 -- or by a fault of the folder, which a steady folder has only where a file is missing
@@ -58,3 +75,31 @@ abbrev pub status_of : Result Reply Stop → Option Status
 status_of (Ok reply) = Some reply.status
 status_of (Err OutOfMemory) = None
 status_of (Err (Ended reply)) = Some reply.status
+
+-- one file was read at most, in a step of the work
+pub record Gets {A B : Type 0} (see : A → B) (outside : Outside) (tried tries : ℕ) (result : Result A Stop)
+    (step : Contents → Result B End) : Type 0 where
+  pub reads : Reads see outside result step
+  pub form : NeverUsage result
+  pub once : tries ≤ tried + 1
+
+-- all was read that a form reads, or what ended the reading ends the work: the second file isn't tried where the first does
+pub record HasRead {A : Type 0} (reading : Reading) (see : A → reading.Read) (outside : Outside) (tried tries : ℕ)
+    (result : Result A Stop) : Type 0 where
+  pub reads : Reads see outside result reading.read
+  pub form : NeverUsage result
+  pub once : tries ≤ tried + reading.files
+  pub plan_alone : stopped_in result ≡ Some BadPlan → tries ≤ tried + 1
+  pub first_alone : IfSome outside.told (λ files. IsErr (reading.first files) → tries ≤ tried + 1)
+
+-- the work that a form asks for was done
+pub record WorkFacts (form : Option Form) (outside : Outside) (tried tries : ℕ) (result : Result Reply Stop) : Type 0 where
+  pub replies : Replies (FormAnswer form) (FormMissesFile form) outside result
+  pub usage : UsageWhere result (form ≡ None)
+  pub once : tries ≤ tried + file_count form
+  pub plan_alone : status_of result ≡ Some BadPlan → tries ≤ tried + 1
+  pub first_alone : IfSome outside.told (λ files. FirstEnds form files → tries ≤ tried + 1)
+
+-- the same, which a proof opens where it looks into it
+unfoldable pub Works : Option Form → Outside → ℕ → ℕ → Result Reply Stop → Type 0
+Works form outside tried tries result = WorkFacts form outside tried tries result

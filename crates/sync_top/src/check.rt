@@ -1,23 +1,24 @@
-ghost use Rattle.std.specs.Prelude.{◌≡◌, ◌≢◌, ◌+◌, ◌++◌, ◌<◌, ◌≤◌, Some, IfOk, IfSome, IsErr, OnOk, codes};
+ghost use Rattle.std.specs.Prelude.{◌≡◌, ◌≢◌, ◌++◌, ◌<◌, Some, IfOk, OnOk, codes};
 ghost use Rattle.sync_edge.specs.Contents.{KeepsFolder};
 ghost use Rattle.sync_topo.specs.Lines.{line_count, line_name};
-ghost use Rattle.sync_top.specs.Reading.{text_line, plan_in};
-ghost use Rattle.sync_top.specs.Forms.Check.{certificate_refusal, certificate_place, ranks_in, documents, IsVerdict, CheckAnswer};
-ghost use Rattle.sync_top.specs.Answer.{across, FormMissesFile, FirstEnds};
-ghost use Rattle.sync_top.specs.Form.{check};
+ghost use Rattle.sync_topo.specs.Hops.{hops_by};
+ghost use Rattle.sync_top.specs.Reading.{text_line, two_files, plan_in};
+ghost use Rattle.sync_top.specs.Forms.Check.{certificate_refusal, certificate_place, ranks_in, documents, IsVerdictOver};
+ghost use Rattle.sync_top.specs.Answer.{across};
 ghost use Rattle.rank_cert.specs.Ranks.{IsRanked};
 ghost use Rattle.rank_cert.specs.Rules.{NamesLine};
-ghost use Rattle.sync_top.specs.Work.{Reads, Replies, NeverUsage, stopped_in, status_of};
+ghost use Rattle.sync_top.specs.Work.{Gets, HasRead, ends_in, stopped_in};
 
+use crate::found::{Finding, Found, done};
 use crate::input::file;
 use crate::plan_input::plan_in;
 use crate::reply::{Reply, Stop, line_text, put_number, refusal};
 use crate::status::Status;
-use rank_cert::{Cert, CertErr, Verdict, read_cert};
+use rank_cert::{Cert, CertErr, Verdict, check_with, read_cert};
 use std::alloc::Global;
 use sync_edge::Folder;
 use sync_text::{NoMemory, Text};
-use sync_topo::{InputId, LineId, Plan};
+use sync_topo::{InputId, LineId, Plan, Returns};
 
 /// The line on a certificate that is refused.
 fn refusal_text(alloc: Global, plan: &Plan, refused: CertErr) -> Result<Text, NoMemory>
@@ -51,12 +52,10 @@ fn put_place(alloc: Global, text: &mut Text, plan: &Plan, refused: CertErr) -> R
 
 /// The certificate of a file.
 fn cert_in<F: Folder>(alloc: Global, folder: &mut F, plan: &Plan, name: &str) -> Result<Cert, Stop>
-    ensures reads { Reads (λ cert. cert) (across F.contents F.steady F.faults folder.old folder.new) result
-        (ranks_in plan.now name.now) }
-    ensures form { NeverUsage result }
+    ensures gets { Gets (λ cert. cert) (across F.contents F.steady F.faults folder.old folder.new)
+        (F.tries folder.old) (F.tries folder.new) result (ranks_in plan.now name.now) }
     ensures no_plan { stopped_in result ≢ Some Status.BadPlan }
     ensures keeps { KeepsFolder F.contents F.steady F.faults folder.old folder.new }
-    ensures once { F.tries folder.new ≤ F.tries folder.old + 1 }
     ensures ranked { IfOk result (IsRanked plan.now) }
 {
     let bytes = file(alloc, folder, name)?;
@@ -77,13 +76,9 @@ pub(crate) fn documents<F: Folder>(
     plan: &str,
     cert: &str,
 ) -> Result<(Plan, Cert), Stop>
-    ensures reads { Reads (λ read. (read.0, read.1)) (across F.contents F.steady F.faults folder.old folder.new) result
-        (documents plan.now cert.now) }
-    ensures form { NeverUsage result }
+    ensures read { HasRead (two_files (plan_in plan.now) (documents plan.now cert.now))
+        (λ read. (read.0, read.1)) (across F.contents F.steady F.faults folder.old folder.new) (F.tries folder.old) (F.tries folder.new) result }
     ensures keeps { KeepsFolder F.contents F.steady F.faults folder.old folder.new }
-    ensures once { F.tries folder.new ≤ F.tries folder.old + 2 }
-    ensures plan_alone { stopped_in result ≡ Some Status.BadPlan → F.tries folder.new ≤ F.tries folder.old + 1 }
-    ensures first_alone { IfSome (F.contents folder.old) (λ files. IsErr (plan_in plan.now files) → F.tries folder.new ≤ F.tries folder.old + 1) }
     ensures ranked { IfOk result (λ read. IsRanked read.0 read.1) }
 {
     let plan = plan_in(alloc, folder, plan)?;
@@ -94,12 +89,7 @@ pub(crate) fn documents<F: Folder>(
 }
 
 /// The line on the first hop that doesn't rise.
-pub(crate) fn falls_text(
-    alloc: Global,
-    plan: &Plan,
-    from: LineId,
-    to: LineId,
-) -> Result<Text, NoMemory>
+fn falls_text(alloc: Global, plan: &Plan, from: LineId, to: LineId) -> Result<Text, NoMemory>
     requires from { from.0 < line_count plan.now }
     requires to { to.0 < line_count plan.now }
     ensures { IfOk result (λ text. text
@@ -114,45 +104,23 @@ pub(crate) fn falls_text(
     Ok(text)
 }
 
-/// The reply to the ranks of a certificate.
-fn verdict(alloc: Global, plan: &Plan, cert: &Cert) -> Result<Reply, NoMemory>
+/// What is found of the ranks of a certificate, where timing may return over its link or bundle, or
+/// mayn't.
+pub(crate) fn judged(
+    alloc: Global,
+    returns: Returns,
+    plan: &Plan,
+    cert: &Cert,
+) -> Result<Found, NoMemory>
     requires { IsRanked plan.now cert.now }
-    ensures verdict { IfOk result (λ reply. IsVerdict plan.now cert.now reply.status reply.text) }
-    ensures form { IfOk result (λ reply. reply.status ≢ Status.Usage) }
-    ensures no_plan { IfOk result (λ reply. reply.status ≢ Status.BadPlan) }
+    ensures { IfOk result (λ found. IsVerdictOver (hops_by returns plan.now) plan.now cert.now
+        (ends_in found.finding) found.text) }
 {
-    match rank_cert::check(plan, cert) {
-        Verdict::Rising => Ok(Reply {
-            status: Status::Done,
-            text: line_text(alloc, b"accepted")?,
-        }),
-        Verdict::Falls(from, to) => Ok(Reply {
-            status: Status::Refuted,
+    match check_with(returns, plan, cert) {
+        Verdict::Rising => Ok(done(line_text(alloc, b"accepted")?)),
+        Verdict::Falls(from, to) => Ok(Found {
+            finding: Finding::Refuted,
             text: falls_text(alloc, plan, from, to)?,
         }),
-    }
-}
-
-/// The work of `check`.
-pub(crate) fn check<F: Folder>(
-    alloc: Global,
-    folder: &mut F,
-    plan: &str,
-    cert: &str,
-) -> Result<Reply, Stop>
-    ensures replies { Replies (CheckAnswer plan.now cert.now) (FormMissesFile (Some (check plan.now cert.now)))
-        (across F.contents F.steady F.faults folder.old folder.new) result }
-    ensures form { NeverUsage result }
-    ensures verdict { IfOk result (λ reply. reply.status ≢ Status.Usage) }
-    ensures keeps { KeepsFolder F.contents F.steady F.faults folder.old folder.new }
-    ensures once { F.tries folder.new ≤ F.tries folder.old + 2 }
-    ensures plan_alone { status_of result ≡ Some Status.BadPlan → F.tries folder.new ≤ F.tries folder.old + 1 }
-    ensures first_alone { IfSome (F.contents folder.old) (λ files. FirstEnds (Some (check plan.now cert.now)) files
-        → F.tries folder.new ≤ F.tries folder.old + 1) }
-{
-    let (plan, cert) = documents(alloc, folder, plan, cert)?;
-    match verdict(alloc, &plan, &cert) {
-        Ok(reply) => Ok(reply),
-        Err(_) => Err(Stop::OutOfMemory),
     }
 }

@@ -1,79 +1,100 @@
-ghost use Rattle.std.specs.Prelude.{◌≡◌, ◌≤◌, ◌∷◌, [], None, map, IfSome, if◌then◌else◌};
+ghost use Rattle.std.specs.Prelude.{◌≡◌, ◌≤◌, false, map, codes, Some, None, IfSome, if◌then◌else◌};
 ghost use Rattle.std.specs.Option.{option_map};
 ghost use Rattle.std.specs.String.{string_bytes};
-ghost use Rattle.sync_top.specs.Form.{form_of, check_form, ladder_size, sim_form, sweep_form, node_form, option_of, is_file_word, check, sim, prio_check, prio_sim};
+ghost use Rattle.std.specs.Str.{bytes_eq};
+ghost use Rattle.sync_top.specs.Form.{form_of, form_of_two, form_of_three, form_of_four, sweep_form, node_form, ladder_size, millisecond_of, option_of, is_file_word, plan_word, ranks_word, events_word, frames_word, ladder_word};
 ghost use Rattle.sync_top.specs.FormSeen.{seen, IsSized};
 
 use sync_ql::NetOption;
 use sync_ql::limits::LAST_MILLISECOND;
 use sync_text::read_number;
+use sync_topo::MOST_ELEMENTS;
 
-/// What the program is asked for.
-#[derive(Clone, Copy, Debug, Drop)]
-pub(crate) enum Form<'a> {
-    /// A test of the ranks of a certificate on a plan, by the names of their files.
-    Check {
-        /// The plan's file.
-        plan: &'a str,
-        /// The certificate's file.
-        cert: &'a str,
-    },
-    /// The least ranks of a plan or its first cycle, by the name of its file.
-    Rank(&'a str),
-    /// The hop counts of a plan, by the name of its file.
-    Hops(&'a str),
-    /// The plan with priorities by fewest hops, by the name of its file.
-    Nominate(&'a str),
-    /// The rows of captured frames, by the option of their levels and the name of their file.
-    Decode(NetOption, &'a str),
-    /// The frames of rows.
-    Encode(NetOption, &'a str),
-    /// The rows of the frames in a capture, with their times.
-    PcapDecode(NetOption, &'a str),
-    /// The capture of rows with times.
-    PcapEncode(NetOption, &'a str),
-    /// The ladder of so many elements, 2 to 2,000.
-    Gen(u32),
-    /// What is found of the ladder of so many elements, 2 to 2,000.
-    Trial(u32),
-    /// The report of a run, by the names of the files of the plan and of the events, up to a
-    /// millisecond, at most 86,400,000.
-    Sim {
-        /// The plan's file.
-        plan: &'a str,
-        /// The events' file.
-        events: &'a str,
-        /// The last millisecond.
-        until: u64,
-    },
-    /// What becomes of a plan where one link alone fails, for each link; milliseconds up to
-    /// 86,400,000.
+/// What is asked of a plan.
+#[derive(Clone, Copy, Drop)]
+pub(crate) enum PlanForm {
+    /// The least ranks as a certificate, or the first cycle.
+    Rank,
+    /// The longest chains into each element, or the first cycle.
+    Chains,
+    /// The hop counts.
+    Hops,
+    /// The plan with priorities by fewest hops.
+    Nominate,
+    /// The least ranks where elements choose by priority alone, or the forced switches that make the
+    /// first loop.
+    PrioRank,
+    /// What becomes of it where one link alone fails, for each link; milliseconds up to 86,400,000.
     Sweep {
-        /// The plan's file.
-        plan: &'a str,
         /// The millisecond in which a link fails, at most the last one.
         at: u64,
         /// The last millisecond.
         until: u64,
     },
-    /// The test of ranks, where elements choose by priority alone.
-    PrioCheck {
-        /// The plan's file.
-        plan: &'a str,
-        /// The certificate's file.
-        cert: &'a str,
-    },
-    /// The least ranks then, or the forced switches that make the first loop.
-    PrioRank(&'a str),
-    /// The report of a run then.
-    PrioSim {
+}
+
+/// What is asked of the ranks of a certificate on a plan.
+#[derive(Clone, Copy, Drop)]
+pub(crate) enum RanksForm {
+    /// Whether they rise over every hop.
+    Check,
+    /// The same where elements choose by priority alone.
+    PrioCheck,
+}
+
+/// What is asked of a run of a plan with events.
+#[derive(Clone, Copy, Drop)]
+pub(crate) enum EventsForm {
+    /// Its report.
+    Sim,
+    /// Its report where elements choose by priority alone.
+    PrioSim,
+}
+
+/// What is asked of captured frames or rows.
+#[derive(Clone, Copy, Drop)]
+pub(crate) enum FramesForm {
+    /// The rows of frames.
+    Decode,
+    /// The frames of rows.
+    Encode,
+    /// The rows of the frames in a capture, with their times.
+    PcapDecode,
+    /// The capture of rows with times.
+    PcapEncode,
+}
+
+/// What is asked of a ladder.
+#[derive(Clone, Copy, Drop)]
+pub(crate) enum LadderForm {
+    /// Its plan.
+    Gen,
+    /// What is found of it.
+    Trial,
+}
+
+/// What the program is asked for, by what it reads.
+#[derive(Clone, Copy, Drop)]
+pub(crate) enum Form<'a> {
+    /// Of a plan, by the name of its file.
+    OnPlan(PlanForm, &'a str),
+    /// Of a plan and a certificate, by the names of their files.
+    OnRanks(RanksForm, &'a str, &'a str),
+    /// Of a run.
+    OnEvents {
+        /// What is asked.
+        what: EventsForm,
         /// The plan's file.
         plan: &'a str,
         /// The events' file.
         events: &'a str,
-        /// The last millisecond.
+        /// The last millisecond, at most 86,400,000.
         until: u64,
     },
+    /// Of captured frames or rows, by the option of their levels and the name of their file.
+    OnFrames(FramesForm, NetOption, &'a str),
+    /// Of the ladder of so many elements, 2 to 2,000.
+    OnLadder(LadderForm, u32),
     /// The frames that an element sends.
     Node {
         /// The plan's file.
@@ -82,7 +103,7 @@ pub(crate) enum Form<'a> {
         element: &'a str,
         /// The file of what the element received.
         file: &'a str,
-        /// The last millisecond.
+        /// The last millisecond, at most 86,400,000.
         until: u64,
     },
 }
@@ -101,8 +122,7 @@ pub(crate) fn form_of(words: &[String]) -> Option<Form<'_>>
             third.as_str(),
             fourth.as_str(),
         ),
-        [word, second, third, fourth, fifth] => form_of_five(
-            word.as_str(),
+        [word, second, third, fourth, fifth] if word.as_str() == "node" => node_form(
             second.as_str(),
             third.as_str(),
             fourth.as_str(),
@@ -112,95 +132,134 @@ pub(crate) fn form_of(words: &[String]) -> Option<Form<'_>>
     }
 }
 
-/// The form of two words, if they have one.
-fn form_of_two<'a>(word: &str, second: &'a str) -> Option<Form<'a>>
-    ensures form { option_map seen result ≡ form_of (word.now ∷ second.now ∷ []) }
-    ensures sized { IfSome result IsSized }
+/// What a word asks of a plan.
+fn plan_word(word: &str) -> Option<PlanForm>
+    ensures { result ≡ plan_word word.now }
 {
-    if word == "rank" && !second.is_empty() {
-        return Some(Form::Rank(second));
-    }
-    if word == "gen" {
-        let n = ladder_size(second)?;
-        return Some(Form::Gen(n));
-    }
-    if word == "trial" {
-        let n = ladder_size(second)?;
-        return Some(Form::Trial(n));
-    }
-    if word == "hops" && !second.is_empty() {
-        return Some(Form::Hops(second));
-    }
-    if word == "nominate" && !second.is_empty() {
-        return Some(Form::Nominate(second));
-    }
-    if word == "prio-rank" && !second.is_empty() {
-        return Some(Form::PrioRank(second));
-    }
-    None
-}
-
-/// The form of four words, if they have one.
-fn form_of_four<'a>(word: &str, second: &'a str, third: &'a str, fourth: &str) -> Option<Form<'a>>
-    ensures form { option_map seen result ≡ form_of (word.now ∷ second.now ∷ third.now ∷ fourth.now ∷ []) }
-    ensures sized { IfSome result IsSized }
-{
-    if word == "sim" {
-        return sim_form(second, third, fourth);
-    }
-    if word == "sweep" {
-        return sweep_form(second, third, fourth);
-    }
-    if word == "prio-sim" {
-        return prio_sim_form(second, third, fourth);
-    }
-    None
-}
-
-/// The form of five words, if they have one.
-fn form_of_five<'a>(
-    word: &str,
-    second: &'a str,
-    third: &'a str,
-    fourth: &'a str,
-    fifth: &str,
-) -> Option<Form<'a>>
-    ensures form { option_map seen result ≡ form_of (word.now ∷ second.now ∷ third.now ∷ fourth.now ∷ fifth.now ∷ []) }
-    ensures sized { IfSome result IsSized }
-{
-    if word == "node" {
-        return node_form(second, third, fourth, fifth);
-    }
-    None
-}
-
-/// The number of elements that a word gives a ladder, if it may have so many.
-fn ladder_size(word: &str) -> Option<u32>
-    ensures size { result ≡ ladder_size word.now }
-    ensures sized { IfSome result (λ n. (2 ≤ n) × (n ≤ 2000)) }
-{
-    match read_number(word.as_bytes()) {
-        Some(n) if 2 <= n && n <= 2000 => Some(n as u32),
+    match word {
+        "rank" => Some(PlanForm::Rank),
+        "chains" => Some(PlanForm::Chains),
+        "hops" => Some(PlanForm::Hops),
+        "nominate" => Some(PlanForm::Nominate),
+        "prio-rank" => Some(PlanForm::PrioRank),
         _ => None,
     }
 }
 
-/// The form `sim`, if the words may name files and are followed by such a millisecond.
-fn sim_form<'a>(plan: &'a str, events: &'a str, until: &str) -> Option<Form<'a>>
-    ensures form { option_map seen result ≡ sim_form sim plan.now events.now until.now }
+/// What a word asks of a ladder.
+fn ladder_word(word: &str) -> Option<LadderForm>
+    ensures { result ≡ ladder_word word.now }
+{
+    match word {
+        "gen" => Some(LadderForm::Gen),
+        "trial" => Some(LadderForm::Trial),
+        _ => None,
+    }
+}
+
+/// What a word asks of the ranks of a certificate.
+fn ranks_word(word: &str) -> Option<RanksForm>
+    ensures { result ≡ ranks_word word.now }
+{
+    match word {
+        "check" => Some(RanksForm::Check),
+        "prio-check" => Some(RanksForm::PrioCheck),
+        _ => None,
+    }
+}
+
+/// What a word asks of captured frames or rows.
+fn frames_word(word: &str) -> Option<FramesForm>
+    ensures { result ≡ frames_word word.now }
+{
+    match word {
+        "decode" => Some(FramesForm::Decode),
+        "encode" => Some(FramesForm::Encode),
+        "pcap-decode" => Some(FramesForm::PcapDecode),
+        "pcap-encode" => Some(FramesForm::PcapEncode),
+        _ => None,
+    }
+}
+
+/// What a word asks of a run.
+fn events_word(word: &str) -> Option<EventsForm>
+    ensures { result ≡ events_word word.now }
+{
+    match word {
+        "sim" => Some(EventsForm::Sim),
+        "prio-sim" => Some(EventsForm::PrioSim),
+        _ => None,
+    }
+}
+
+/// The form of two words, if they have one.
+fn form_of_two<'a>(word: &str, second: &'a str) -> Option<Form<'a>>
+    ensures form { option_map seen result ≡ form_of_two (plan_word word.now) (ladder_word word.now) second.now }
+    ensures sized { IfSome result IsSized }
+{
+    if let Some(what) = plan_word(word) {
+        if second.is_empty() {
+            return None;
+        }
+        return Some(Form::OnPlan(what, second));
+    }
+    let what = ladder_word(word)?;
+    let size = ladder_size(second)?;
+    Some(Form::OnLadder(what, size))
+}
+
+/// The form of three words, if they have one.
+fn form_of_three<'a>(word: &str, second: &'a str, third: &'a str) -> Option<Form<'a>>
+    ensures form { option_map seen result
+        ≡ form_of_three (ranks_word word.now) (frames_word word.now) second.now third.now }
+    ensures sized { IfSome result IsSized }
+{
+    if let Some(what) = ranks_word(word) {
+        if second.is_empty() || third.is_empty() {
+            return None;
+        }
+        return Some(Form::OnRanks(what, second, third));
+    }
+    let what = frames_word(word)?;
+    let option = option_with(second, third)?;
+    Some(Form::OnFrames(what, option, third))
+}
+
+/// The form of four words, if they have one.
+fn form_of_four<'a>(word: &str, second: &'a str, third: &'a str, fourth: &str) -> Option<Form<'a>>
+    ensures form { option_map seen result ≡ form_of_four (events_word word.now)
+        (bytes_eq word.now (codes "sweep")) second.now third.now fourth.now }
+    ensures sized { IfSome result IsSized }
+{
+    if let Some(what) = events_word(word) {
+        return events_form(what, second, third, fourth);
+    }
+    if word == "sweep" {
+        return sweep_form(second, third, fourth);
+    }
+    None
+}
+
+/// The form on events, if the words may name files and are followed by such a millisecond.
+fn events_form<'a>(
+    what: EventsForm,
+    plan: &'a str,
+    events: &'a str,
+    until: &str,
+) -> Option<Form<'a>>
+    ensures form { option_map seen result ≡ form_of_four (Some what) false plan.now events.now until.now }
     ensures sized { IfSome result IsSized }
 {
     if plan.is_empty() || events.is_empty() {
         return None;
     }
-    match read_number(until.as_bytes()) {
-        Some(until) if until <= LAST_MILLISECOND => Some(Form::Sim {
-            plan,
-            events,
-            until,
-        }),
-        _ => None,
-    }
+    let until = millisecond_of(until)?;
+    Some(Form::OnEvents {
+        what,
+        plan,
+        events,
+        until,
+    })
 }
 
 /// The form `sweep`, if the word may name a file and is followed by two such milliseconds, the
@@ -213,42 +272,51 @@ fn sweep_form<'a>(plan: &'a str, at: &str, until: &str) -> Option<Form<'a>>
         return None;
     }
     let at = read_number(at.as_bytes())?;
-    match read_number(until.as_bytes()) {
-        Some(until) if at <= until && until <= LAST_MILLISECOND => {
-            Some(Form::Sweep { plan, at, until })
-        }
+    let until = millisecond_of(until)?;
+    if until < at {
+        return None;
+    }
+    Some(Form::OnPlan(PlanForm::Sweep { at, until }, plan))
+}
+
+/// The form `node`, if its first and third word may name files and are followed by such a
+/// millisecond.
+fn node_form<'a>(plan: &'a str, element: &'a str, file: &'a str, until: &str) -> Option<Form<'a>>
+    ensures form { option_map seen result ≡ node_form plan.now element.now file.now until.now }
+    ensures sized { IfSome result IsSized }
+{
+    if plan.is_empty() || file.is_empty() {
+        return None;
+    }
+    let until = millisecond_of(until)?;
+    Some(Form::Node {
+        plan,
+        element,
+        file,
+        until,
+    })
+}
+
+/// The number of elements that a word gives a ladder, if it may have so many.
+fn ladder_size(word: &str) -> Option<u32>
+    ensures size { result ≡ ladder_size word.now }
+    ensures sized { IfSome result (λ n. (2 ≤ n) × (n ≤ MOST_ELEMENTS)) }
+{
+    match read_number(word.as_bytes()) {
+        Some(n) if 2 <= n && n <= MOST_ELEMENTS as u64 => Some(n as u32),
         _ => None,
     }
 }
 
-/// The form of three words, if they have one.
-fn form_of_three<'a>(word: &str, second: &'a str, third: &'a str) -> Option<Form<'a>>
-    ensures form { option_map seen result ≡ form_of (word.now ∷ second.now ∷ third.now ∷ []) }
-    ensures sized { IfSome result IsSized }
+/// The millisecond of a word, if it is one up to the last one.
+fn millisecond_of(word: &str) -> Option<u64>
+    ensures millisecond { result ≡ millisecond_of word.now }
+    ensures in_range { IfSome result (λ t. t ≤ LAST_MILLISECOND) }
 {
-    if word == "check" {
-        return check_form(second, third);
+    match read_number(word.as_bytes()) {
+        Some(t) if t <= LAST_MILLISECOND => Some(t),
+        _ => None,
     }
-    if word == "prio-check" {
-        return prio_check_form(second, third);
-    }
-    if word == "decode" {
-        let option = option_with(second, third)?;
-        return Some(Form::Decode(option, third));
-    }
-    if word == "encode" {
-        let option = option_with(second, third)?;
-        return Some(Form::Encode(option, third));
-    }
-    if word == "pcap-decode" {
-        let option = option_with(second, third)?;
-        return Some(Form::PcapDecode(option, third));
-    }
-    if word == "pcap-encode" {
-        let option = option_with(second, third)?;
-        return Some(Form::PcapEncode(option, third));
-    }
-    None
 }
 
 /// The network option of a word.
@@ -270,64 +338,4 @@ fn option_with(option: &str, name: &str) -> Option<NetOption>
         return None;
     }
     option_of(option)
-}
-
-/// The form `check`, if both words may name a file.
-fn check_form<'a>(plan: &'a str, cert: &'a str) -> Option<Form<'a>>
-    ensures form { option_map seen result ≡ check_form check plan.now cert.now }
-    ensures sized { IfSome result IsSized }
-{
-    if plan.is_empty() || cert.is_empty() {
-        return None;
-    }
-    Some(Form::Check { plan, cert })
-}
-
-/// The form `prio-check`, if both words may name a file.
-fn prio_check_form<'a>(plan: &'a str, cert: &'a str) -> Option<Form<'a>>
-    ensures form { option_map seen result ≡ check_form prio_check plan.now cert.now }
-    ensures sized { IfSome result IsSized }
-{
-    if plan.is_empty() || cert.is_empty() {
-        return None;
-    }
-    Some(Form::PrioCheck { plan, cert })
-}
-
-/// The form `prio-sim`, if the words may name files and are followed by such a millisecond.
-fn prio_sim_form<'a>(plan: &'a str, events: &'a str, until: &str) -> Option<Form<'a>>
-    ensures form { option_map seen result ≡ sim_form prio_sim plan.now events.now until.now }
-    ensures sized { IfSome result IsSized }
-{
-    if plan.is_empty() || events.is_empty() {
-        return None;
-    }
-    match read_number(until.as_bytes()) {
-        Some(until) if until <= LAST_MILLISECOND => Some(Form::PrioSim {
-            plan,
-            events,
-            until,
-        }),
-        _ => None,
-    }
-}
-
-/// The form `node`, if its first and third word may name files and are followed by such a
-/// millisecond.
-fn node_form<'a>(plan: &'a str, element: &'a str, file: &'a str, until: &str) -> Option<Form<'a>>
-    ensures form { option_map seen result ≡ node_form plan.now element.now file.now until.now }
-    ensures sized { IfSome result IsSized }
-{
-    if plan.is_empty() || file.is_empty() {
-        return None;
-    }
-    match read_number(until.as_bytes()) {
-        Some(until) if until <= LAST_MILLISECOND => Some(Form::Node {
-            plan,
-            element,
-            file,
-            until,
-        }),
-        _ => None,
-    }
 }

@@ -1,22 +1,16 @@
 ghost use Rattle.std.specs.Prelude.{◌≡◌, ◌≢◌, ◌+◌, ◌++◌, ◌<◌, ◌≤◌, length, replicate, ℕ, Some, None, IfOk, IfSome, OnOk, option_map};
 ghost use Rattle.std.specs.Fmt.{decimal};
 ghost use Rattle.std.specs.Option.{option_map_or};
-ghost use Rattle.sync_edge.specs.Contents.{KeepsFolder};
 ghost use Rattle.sync_topo.specs.Lines.{line_count, input_name, IsInput};
 ghost use Rattle.nominate.specs.HopCount.{count_at};
 ghost use Rattle.sync_topo.specs.declared.input.InputId.TheVariants.{Line, Source};
-ghost use Rattle.sync_top.specs.Forms.Hops.{none_text, from_text, hops_row, hops_text, AreHopRows, HopsAnswer};
+ghost use Rattle.sync_top.specs.Forms.Hops.{none_text, from_text, hops_row, hops_text, AreHopRows};
 ghost use Rattle.sync_top.specs.HopRows.{first_source, line_at, is_next, from_name, AreLinesFrom};
-ghost use Rattle.sync_top.specs.Answer.{across, FormMissesFile};
-ghost use Rattle.sync_top.specs.Form.{hops};
-ghost use Rattle.sync_top.specs.Work.{Replies, NeverUsage};
+ghost use Rattle.sync_top.specs.Work.{ends_in};
 
-use crate::plan_input::plan_in;
-use crate::reply::{Reply, Stop};
-use crate::status::Status;
+use crate::found::{Found, done};
 use nominate::{Hops, least_hops};
 use std::alloc::Global;
-use sync_edge::Folder;
 use sync_text::{NoMemory, Text};
 use sync_topo::{InputId, LineId, Plan};
 
@@ -196,30 +190,10 @@ fn hops_text(alloc: Global, plan: &Plan, hops: &Hops) -> Result<Text, NoMemory>
     Ok(text)
 }
 
-/// The reply to a plan: the rows of its hop counts.
-fn counted(alloc: Global, plan: &Plan) -> Result<Reply, NoMemory>
-    ensures rows { IfOk result (λ reply. AreHopRows plan.now reply.status reply.text) }
-    ensures form { IfOk result (λ reply. reply.status ≢ Status.Usage) }
+/// What is found of a plan: the rows of its hop counts.
+pub(crate) fn counted(alloc: Global, plan: &Plan) -> Result<Found, NoMemory>
+    ensures { IfOk result (λ found. AreHopRows plan.now (ends_in found.finding) found.text) }
 {
     let hops = least_hops(alloc, plan)?;
-    Ok(Reply {
-        status: Status::Done,
-        text: hops_text(alloc, plan, &hops)?,
-    })
-}
-
-/// The work of `hops`.
-pub(crate) fn hops<F: Folder>(alloc: Global, folder: &mut F, plan: &str) -> Result<Reply, Stop>
-    ensures replies { Replies (HopsAnswer plan.now) (FormMissesFile (Some (hops plan.now)))
-        (across F.contents F.steady F.faults folder.old folder.new) result }
-    ensures form { NeverUsage result }
-    ensures done { IfOk result (λ reply. reply.status ≢ Status.Usage) }
-    ensures keeps { KeepsFolder F.contents F.steady F.faults folder.old folder.new }
-    ensures once { F.tries folder.new ≤ F.tries folder.old + 1 }
-{
-    let plan = plan_in(alloc, folder, plan)?;
-    match counted(alloc, &plan) {
-        Ok(reply) => Ok(reply),
-        Err(_) => Err(Stop::OutOfMemory),
-    }
+    Ok(done(hops_text(alloc, plan, &hops)?))
 }

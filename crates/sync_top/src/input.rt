@@ -1,8 +1,8 @@
-ghost use Rattle.std.specs.Prelude.{◌≢◌, ◌+◌, ◌≤◌, Some};
+ghost use Rattle.std.specs.Prelude.{◌≢◌, Some};
 ghost use Rattle.sync_edge.specs.Contents.{KeepsFolder};
 ghost use Rattle.sync_top.specs.Reading.{file};
 ghost use Rattle.sync_top.specs.Answer.{across};
-ghost use Rattle.sync_top.specs.Work.{Reads, NeverUsage, stopped_in};
+ghost use Rattle.sync_top.specs.Work.{Gets, stopped_in};
 
 use crate::reply::{Reply, Stop, line_text};
 use crate::status::Status;
@@ -15,12 +15,10 @@ const FILE_LIMIT: usize = 8_388_608;
 
 /// The bytes of a file.
 pub(crate) fn file<F: Folder>(alloc: Global, folder: &mut F, name: &str) -> Result<Text, Stop>
-    ensures reads { Reads (λ t. t) (across F.contents F.steady F.faults folder.old folder.new) result
-        (file name.now) }
-    ensures form { NeverUsage result }
+    ensures gets { Gets (λ text. text) (across F.contents F.steady F.faults folder.old folder.new)
+        (F.tries folder.old) (F.tries folder.new) result (file name.now) }
     ensures no_plan { stopped_in result ≢ Some Status.BadPlan }
     ensures keeps { KeepsFolder F.contents F.steady F.faults folder.old folder.new }
-    ensures once { F.tries folder.new ≤ F.tries folder.old + 1 }
 {
     match read_all(alloc, folder, name, FILE_LIMIT) {
         Ok(bytes) => Ok(bytes),

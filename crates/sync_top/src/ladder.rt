@@ -8,11 +8,12 @@ use plan_file::write_plan;
 use plan_gen::generate;
 use std::alloc::Global;
 use sync_text::{NoMemory, Text};
+use sync_topo::MOST_ELEMENTS;
 
 /// The text of the ladder of `n` elements. It reads no file.
 pub(crate) fn ladder_text(alloc: Global, n: u32) -> Result<Text, NoMemory>
     requires least { 2 ≤ n }
-    requires greatest { n ≤ 2000 }
+    requires greatest { n ≤ MOST_ELEMENTS }
     ensures text { IfOk result (IsPlanText (ladder n)) }
     ensures spelled { IfOk result (λ text. text ≡ plan_text (ladder n)) }
     ensures short { IfOk result (λ text. length text ≤ file_limit) }

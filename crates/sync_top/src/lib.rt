@@ -8,16 +8,18 @@
 //! shows it.
 #![tactic(auto)]
 
+mod answers;
+mod captures;
+mod chains;
 mod check;
 mod form;
-mod frames;
+mod found;
 mod hops;
 mod input;
 mod ladder;
 mod laws;
 mod node;
 mod nomination;
-mod pcap;
 mod plan_input;
 mod planner;
 mod priority;
@@ -28,6 +30,7 @@ mod sim;
 mod status;
 mod sweep;
 mod trial;
+mod works;
 
 pub use laws::{one_answer_law, planned_is_accepted_law};
 pub use program::run;

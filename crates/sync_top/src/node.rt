@@ -1,13 +1,13 @@
-ghost use Rattle.std.specs.Prelude.{◌≡◌, ◌≢◌, ◌<◌, ◌+◌, ◌++◌, ◌≤◌, ℕ, List, Some, IfOk, IfSome, IsErr, OnOk, length};
+ghost use Rattle.std.specs.Prelude.{◌≡◌, ◌≢◌, ◌<◌, ◌++◌, ◌≤◌, ℕ, List, Some, IfOk, IsErr, OnOk, length};
 ghost use Rattle.sync_edge.specs.Contents.{KeepsFolder};
-ghost use Rattle.sync_top.specs.Reading.{text_line};
+ghost use Rattle.sync_top.specs.Reading.{text_line, two_files};
 ghost use Rattle.sync_topo.specs.Topology.{Topology};
 ghost use Rattle.node_replay.specs.Sent.{IsSentText};
-ghost use Rattle.sync_top.specs.Forms.Node.{node_place, node_refusal, element_in, element_of_plan, received_in, node_bytes, IsNodeReply, NodeAnswer};
-ghost use Rattle.sync_top.specs.Answer.{across, FormMissesFile, FirstEnds};
-ghost use Rattle.sync_top.specs.Form.{node};
-ghost use Rattle.sync_top.specs.Work.{Reads, Replies, NeverUsage, stopped_in, status_of};
+ghost use Rattle.sync_top.specs.Forms.Node.{node_place, node_refusal, element_in, element_of_plan, received_in, node_bytes, IsNodeReply};
+ghost use Rattle.sync_top.specs.Answer.{across};
+ghost use Rattle.sync_top.specs.Work.{Gets, HasRead, ends_in, stopped_in};
 
+use crate::found::{Finding, Found, done};
 use crate::input::file;
 use crate::plan_input::plan_in;
 use crate::reply::{Reply, Stop, line_text, put_number, refusal};
@@ -61,12 +61,10 @@ fn received_in<F: Folder>(
     element: &str,
     name: &str,
 ) -> Result<(u32, Text), Stop>
-    ensures reads { Reads (λ read. (read.0, read.1)) (across F.contents F.steady F.faults folder.old folder.new) result
-        (received_in plan.now element.now name.now) }
-    ensures form { NeverUsage result }
+    ensures gets { Gets (λ read. (read.0, read.1)) (across F.contents F.steady F.faults folder.old folder.new)
+        (F.tries folder.old) (F.tries folder.new) result (received_in plan.now element.now name.now) }
     ensures no_plan { stopped_in result ≢ Some Status.BadPlan }
     ensures keeps { KeepsFolder F.contents F.steady F.faults folder.old folder.new }
-    ensures once { F.tries folder.new ≤ F.tries folder.old + 1 }
     ensures none { IsErr (element_in plan.now element.now) → F.tries folder.new ≤ F.tries folder.old }
     ensures within { IfOk result (λ read. read.0 < length plan.now.elements) }
 {
@@ -83,21 +81,16 @@ fn received_in<F: Folder>(
 }
 
 /// The plan, its element and the bytes of a file, in this order.
-fn node_bytes<F: Folder>(
+pub(crate) fn node_bytes<F: Folder>(
     alloc: Global,
     folder: &mut F,
     plan: &str,
     element: &str,
     name: &str,
 ) -> Result<(Plan, u32, Text), Stop>
-    ensures reads { Reads (λ read. (read.0, read.1, read.2)) (across F.contents F.steady F.faults folder.old folder.new) result
-        (node_bytes plan.now element.now name.now) }
-    ensures form { NeverUsage result }
+    ensures read { HasRead (two_files (element_of_plan plan.now element.now) (node_bytes plan.now element.now name.now))
+        (λ read. (read.0, read.1, read.2)) (across F.contents F.steady F.faults folder.old folder.new) (F.tries folder.old) (F.tries folder.new) result }
     ensures keeps { KeepsFolder F.contents F.steady F.faults folder.old folder.new }
-    ensures once { F.tries folder.new ≤ F.tries folder.old + 2 }
-    ensures plan_alone { stopped_in result ≡ Some Status.BadPlan → F.tries folder.new ≤ F.tries folder.old + 1 }
-    ensures first_alone { IfSome (F.contents folder.old) (λ files. IsErr (element_of_plan plan.now element.now files) →
-        F.tries folder.new ≤ F.tries folder.old + 1) }
     ensures within { IfOk result (λ read. read.1 < length read.0.elements) }
 {
     let plan = plan_in(alloc, folder, plan)?;
@@ -107,73 +100,38 @@ fn node_bytes<F: Folder>(
     }
 }
 
-/// The reply to the frames that were made.
-fn sent(replayed: Replayed) -> Reply
-    ensures sent { (plan : Topology) (element until : ℕ) (bytes : List ℕ) →
-        IsSentText plan element bytes until replayed → IsNodeReply plan element bytes until result.status result.text }
-    ensures form { result.status ≢ Status.Usage }
-    ensures no_plan { result.status ≢ Status.BadPlan }
-{
-    match replayed.end {
-        NodeEnd::Until => Reply {
-            status: Status::Done,
-            text: replayed.text,
-        },
-        NodeEnd::Stopped(_) => Reply {
-            status: Status::Stopped,
-            text: replayed.text,
-        },
-    }
-}
-
-/// The reply to an element of a plan and the bytes of its file.
-fn replayed(
+/// What is found of an element of a plan and the bytes of its file: the frames that it sends.
+pub(crate) fn replayed(
     alloc: Global,
     plan: &Plan,
     element: u32,
     bytes: &[u8],
     until: u64,
-) -> Result<Reply, NoMemory>
+) -> Result<Found, NoMemory>
     requires within { element < length plan.now.elements }
     requires in_range { until ≤ LAST_MILLISECOND }
-    ensures replayed { IfOk result (λ reply. IsNodeReply plan.now element bytes.now until reply.status reply.text) }
-    ensures form { IfOk result (λ reply. reply.status ≢ Status.Usage) }
-    ensures no_plan { IfOk result (λ reply. reply.status ≢ Status.BadPlan) }
+    ensures { IfOk result (λ found. IsNodeReply plan.now element bytes.now until (ends_in found.finding) found.text) }
 {
     match replay(alloc, plan, element, bytes, until) {
         Ok(frames) => Ok(sent(frames)),
         Err(NodeErr::NoMemory) => Err(NoMemory),
-        Err(refused) => Ok(Reply {
-            status: Status::BadFrames,
+        Err(refused) => Ok(Found {
+            finding: Finding::BadFrames,
             text: refusal_text(alloc, refused)?,
         }),
     }
 }
 
-/// The work of `node`.
-pub(crate) fn node<F: Folder>(
-    alloc: Global,
-    folder: &mut F,
-    plan: &str,
-    element: &str,
-    name: &str,
-    until: u64,
-) -> Result<Reply, Stop>
-    requires in_range { until ≤ LAST_MILLISECOND }
-    ensures replies { Replies (NodeAnswer plan.now element.now name.now until)
-        (FormMissesFile (Some (node plan.now element.now name.now until)))
-        (across F.contents F.steady F.faults folder.old folder.new) result }
-    ensures form { NeverUsage result }
-    ensures done { IfOk result (λ reply. reply.status ≢ Status.Usage) }
-    ensures keeps { KeepsFolder F.contents F.steady F.faults folder.old folder.new }
-    ensures once { F.tries folder.new ≤ F.tries folder.old + 2 }
-    ensures plan_alone { status_of result ≡ Some Status.BadPlan → F.tries folder.new ≤ F.tries folder.old + 1 }
-    ensures first_alone { IfSome (F.contents folder.old) (λ files. FirstEnds (Some (node plan.now element.now name.now until)) files →
-        F.tries folder.new ≤ F.tries folder.old + 1) }
+/// What is found of the frames that were made.
+fn sent(replayed: Replayed) -> Found
+    ensures { (plan : Topology) → (element until : ℕ) → (bytes : List ℕ) →
+        IsSentText plan element bytes until replayed → IsNodeReply plan element bytes until (ends_in result.finding) result.text }
 {
-    let (plan, element, bytes) = node_bytes(alloc, folder, plan, element, name)?;
-    match replayed(alloc, &plan, element, bytes.bytes(), until) {
-        Ok(reply) => Ok(reply),
-        Err(_) => Err(Stop::OutOfMemory),
+    match replayed.end {
+        NodeEnd::Until => done(replayed.text),
+        NodeEnd::Stopped(_) => Found {
+            finding: Finding::Stopped,
+            text: replayed.text,
+        },
     }
 }

@@ -1,19 +1,13 @@
-ghost use Rattle.std.specs.Prelude.{◌≡◌, ◌≢◌, ◌+◌, ◌++◌, ◌<◌, ◌≤◌, Some, IfOk, OnOk, codes, map};
-ghost use Rattle.std.specs.List.{All, concat};
-ghost use Rattle.sync_edge.specs.Contents.{KeepsFolder};
+ghost use Rattle.std.specs.Prelude.{◌≡◌, ◌++◌, ◌<◌, IfOk, OnOk, codes, map};
+ghost use Rattle.std.specs.List.{All};
 ghost use Rattle.sync_topo.specs.Lines.{line_count, line_name};
-ghost use Rattle.sync_top.specs.Forms.Rank.{cycle_text, IsPlanned, RankAnswer};
-ghost use Rattle.sync_top.specs.Answer.{across, FormMissesFile};
-ghost use Rattle.sync_top.specs.Form.{rank};
-ghost use Rattle.sync_top.specs.Work.{Replies, NeverUsage};
+ghost use Rattle.sync_top.specs.Forms.Rank.{cycle_text, IsPlanned};
+ghost use Rattle.sync_top.specs.Work.{ends_in};
 
-use crate::plan_input::plan_in;
-use crate::reply::{Reply, Stop};
-use crate::status::Status;
+use crate::found::{Finding, Found, done};
 use cycle_plan::{Ranked, rank_plan};
 use rank_cert::write_cert;
 use std::alloc::Global;
-use sync_edge::Folder;
 use sync_text::{NoMemory, Text};
 use sync_topo::{InputId, LineId, Plan};
 
@@ -27,7 +21,7 @@ fn put_line(alloc: Global, text: &mut Text, plan: &Plan, line: LineId) -> Result
 }
 
 /// The line on a cycle.
-fn cycle_text(alloc: Global, plan: &Plan, lines: &[LineId]) -> Result<Text, NoMemory>
+pub(crate) fn cycle_text(alloc: Global, plan: &Plan, lines: &[LineId]) -> Result<Text, NoMemory>
     requires { All (λ line. line < line_count plan.now) (map (λ line. line.0) lines.now) }
     ensures { IfOk result (λ text. text ≡ cycle_text plan.now (map (λ line. line.0) lines.now)) }
 {
@@ -40,35 +34,15 @@ fn cycle_text(alloc: Global, plan: &Plan, lines: &[LineId]) -> Result<Text, NoMe
     Ok(text)
 }
 
-/// The reply to a plan: the certificate of its least ranks, or its first cycle.
-fn planned(alloc: Global, plan: &Plan) -> Result<Reply, NoMemory>
-    ensures planned { IfOk result (λ reply. IsPlanned plan.now reply.status reply.text) }
-    ensures form { IfOk result (λ reply. reply.status ≢ Status.Usage) }
+/// What is found of a plan: the certificate of its least ranks, or its first cycle.
+pub(crate) fn planned(alloc: Global, plan: &Plan) -> Result<Found, NoMemory>
+    ensures { IfOk result (λ found. IsPlanned plan.now (ends_in found.finding) found.text) }
 {
     match rank_plan(alloc, plan)? {
-        Ranked::Ranks(cert) => Ok(Reply {
-            status: Status::Done,
-            text: write_cert(alloc, plan, &cert)?,
-        }),
-        Ranked::Cycle(lines) => Ok(Reply {
-            status: Status::Refuted,
+        Ranked::Ranks(cert) => Ok(done(write_cert(alloc, plan, &cert)?)),
+        Ranked::Cycle(lines) => Ok(Found {
+            finding: Finding::Refuted,
             text: cycle_text(alloc, plan, lines.as_slice())?,
         }),
-    }
-}
-
-/// The work of `rank`.
-pub(crate) fn rank<F: Folder>(alloc: Global, folder: &mut F, plan: &str) -> Result<Reply, Stop>
-    ensures replies { Replies (RankAnswer plan.now) (FormMissesFile (Some (rank plan.now)))
-        (across F.contents F.steady F.faults folder.old folder.new) result }
-    ensures form { NeverUsage result }
-    ensures done { IfOk result (λ reply. reply.status ≢ Status.Usage) }
-    ensures keeps { KeepsFolder F.contents F.steady F.faults folder.old folder.new }
-    ensures once { F.tries folder.new ≤ F.tries folder.old + 1 }
-{
-    let plan = plan_in(alloc, folder, plan)?;
-    match planned(alloc, &plan) {
-        Ok(reply) => Ok(reply),
-        Err(_) => Err(Stop::OutOfMemory),
     }
 }

@@ -1,45 +1,25 @@
-ghost use Rattle.std.specs.Prelude.{◌≡◌, ◌≢◌, ◌↔◌, ◌+◌, ◌≤◌, map, None, Some, false, IfOk, IfSome, IsTrue};
+ghost use Rattle.std.specs.Prelude.{◌≡◌, ◌≢◌, ◌↔◌, ◌+◌, ◌≤◌, map, None, false, IfOk, IfSome, IsTrue};
 ghost use Rattle.std.specs.String.{string_bytes};
 ghost use Rattle.std.specs.Io.KnownBytes.{Appends};
 ghost use Rattle.sync_edge.specs.Contents.{KeepsFolder};
 ghost use Rattle.sync_edge.specs.Faults.{Rose};
 ghost use Rattle.sync_top.specs.Status.{OnAnswer};
-ghost use Rattle.sync_top.specs.Form.{form_of, file_count, reads_file};
-ghost use Rattle.sync_top.specs.Answer.{across, IsAnswer, MissesFile, FirstEnds, HasFiles, Delivers, IsCut, MayFault, fault_text};
+ghost use Rattle.sync_top.specs.Form.{form_of};
+ghost use Rattle.sync_top.specs.Answer.{across, file_count, reads_file, IsAnswer, MissesFile, FirstEnds, HasFiles, Delivers, IsCut, MayFault, fault_text};
 ghost use Rattle.sync_top.specs.LoopFree.{IsCheckedLoopFree};
+ghost use Rattle.sync_top.specs.ChainBounds.{IsBoundedByChains};
 ghost use Rattle.sync_top.specs.Forms.Priority.{IsCheckedForPriority};
-ghost use Rattle.sync_top.specs.Work.{Replies, EndsIn, UsageWhere, status_of};
+ghost use Rattle.sync_top.specs.Work.{EndsIn, Works};
 
-use crate::check::check;
 use crate::form::{Form, form_of};
-use crate::frames::{decode, encode};
-use crate::hops::hops;
-use crate::ladder::ladder_text;
-use crate::node::node;
-use crate::nomination::nominate_plan;
-use crate::pcap::{pcap_decode, pcap_encode};
-use crate::planner::rank;
-use crate::priority::{prio_check, prio_rank, prio_sim};
-use crate::reply::{Reply, Stop, line_text};
-use crate::sim::sim;
+use crate::reply::{Reply, Stop};
 use crate::status::Status;
-use crate::sweep::sweep;
-use crate::trial::trial_text;
+use crate::works::{no_form, node, on_events, on_frames, on_ladder, on_plan, on_ranks};
 use std::alloc::Global;
 use std::thread::Threads;
 use sync_edge::{Folder, Sink, write_all};
 use sync_sweep::Gate;
-use sync_text::{NoMemory, Text};
-
-/// The reply where all is done.
-fn done(text: Text) -> Reply
-    ensures { result ≡ record { status = Status.Done; text = text } }
-{
-    Reply {
-        status: Status::Done,
-        text,
-    }
-}
+use sync_text::NoMemory;
 
 /// The work that the words ask for.
 fn work<R: Threads + Sync, F: Folder, G: Gate + Sync>(
@@ -49,42 +29,23 @@ fn work<R: Threads + Sync, F: Folder, G: Gate + Sync>(
     folder: &mut F,
     gate: &G,
 ) -> Result<Reply, Stop>
-    ensures replies { Replies (IsAnswer (map string_bytes words.now)) (MissesFile (map string_bytes words.now))
-        (across F.contents F.steady F.faults folder.old folder.new) result }
-    ensures usage { UsageWhere result (form_of (map string_bytes words.now) ≡ None) }
+    ensures works { Works (form_of (map string_bytes words.now))
+        (across F.contents F.steady F.faults folder.old folder.new) (F.tries folder.old) (F.tries folder.new) result }
     ensures keeps { KeepsFolder F.contents F.steady F.faults folder.old folder.new }
     ensures no_call { reads_file (form_of (map string_bytes words.now)) ≡ false → folder.new ≡ folder.old }
-    ensures once { F.tries folder.new ≤ F.tries folder.old + file_count (form_of (map string_bytes words.now)) }
-    ensures plan_alone { status_of result ≡ Some Status.BadPlan → F.tries folder.new ≤ F.tries folder.old + 1 }
-    ensures first_alone { IfSome (F.contents folder.old) (λ files. FirstEnds (form_of (map string_bytes words.now)) files
-        → F.tries folder.new ≤ F.tries folder.old + 1) }
 {
     match form_of(words) {
-        Some(Form::Check { plan, cert }) => check(alloc, folder, plan, cert),
-        Some(Form::Rank(plan)) => rank(alloc, folder, plan),
-        Some(Form::Hops(plan)) => hops(alloc, folder, plan),
-        Some(Form::Nominate(plan)) => nominate_plan(alloc, folder, plan),
-        Some(Form::Decode(option, name)) => decode(alloc, folder, option, name),
-        Some(Form::Encode(option, name)) => encode(alloc, folder, option, name),
-        Some(Form::PcapDecode(option, name)) => pcap_decode(alloc, folder, option, name),
-        Some(Form::PcapEncode(option, name)) => pcap_encode(alloc, folder, option, name),
+        Some(Form::OnPlan(what, plan)) => on_plan(rt, alloc, folder, what, plan, gate),
+        Some(Form::OnRanks(what, plan, cert)) => on_ranks(alloc, folder, what, plan, cert),
         Some(
-            Form::Sim {
+            Form::OnEvents {
+                what,
                 plan,
                 events,
                 until,
             },
-        ) => sim(alloc, folder, plan, events, until),
-        Some(Form::Sweep { plan, at, until }) => sweep(rt, alloc, folder, plan, at, until, gate),
-        Some(Form::PrioCheck { plan, cert }) => prio_check(alloc, folder, plan, cert),
-        Some(Form::PrioRank(plan)) => prio_rank(alloc, folder, plan),
-        Some(
-            Form::PrioSim {
-                plan,
-                events,
-                until,
-            },
-        ) => prio_sim(alloc, folder, plan, events, until),
+        ) => on_events(alloc, folder, what, plan, events, until),
+        Some(Form::OnFrames(what, option, name)) => on_frames(alloc, folder, what, option, name),
         Some(
             Form::Node {
                 plan,
@@ -93,16 +54,13 @@ fn work<R: Threads + Sync, F: Folder, G: Gate + Sync>(
                 until,
             },
         ) => node(alloc, folder, plan, element, file, until),
-        Some(Form::Gen(n)) => Ok(done(ladder_text(alloc, n)?)),
-        Some(Form::Trial(n)) => Ok(done(trial_text(alloc, n)?)),
-        None => Ok(Reply {
-            status: Status::Usage,
-            text: line_text(alloc, b"usage")?,
-        }),
+        Some(Form::OnLadder(what, n)) => on_ladder(alloc, what, n),
+        None => no_form(alloc),
     }
 }
 
 /// The reply to the words.
+#[tactic(auto, unfolding(crate::specs::Work::Works))]
 fn reply_to<R: Threads + Sync, F: Folder, G: Gate + Sync>(
     rt: &R,
     alloc: Global,
@@ -130,7 +88,8 @@ fn reply_to<R: Threads + Sync, F: Folder, G: Gate + Sync>(
 /// Runs the program: does what the words ask for, writes the answer, and gives the exit status.
 ///
 /// The words are those after the program's name. `check PLAN CERT` tests the ranks of a certificate
-/// on a plan, and `rank PLAN` gives the least ranks as a certificate, or the first cycle. `hops
+/// on a plan, and `rank PLAN` gives the least ranks as a certificate, or the first cycle. `chains
+/// PLAN` gives the longest chains of timing into each element, or the first cycle. `hops
 /// PLAN` gives the hop counts, and `nominate PLAN` the plan with priorities by fewest hops. `decode
 /// OPTION FILE` gives the rows of captured frames, and `encode OPTION FILE` the frames of rows.
 /// `pcap-decode OPTION FILE` and `pcap-encode OPTION FILE` do the same for a classic pcap capture
@@ -170,6 +129,12 @@ pub fn run<R: Threads + Sync, F: Folder, K: Sink, G: Gate + Sync>(
     // choose by priority alone, whatever happens.
     ensures accepted_never_loops { result ≡ Status.Done → IfSome (F.contents folder.old)
         (IsCheckedForPriority (form_of (map string_bytes words.now))) }
+
+    // Where `chains` is done, a plan was read, and whatever happens, each trace that ends at a
+    // source or an own clock has no more lines, no more since the last filter, and no more filters
+    // than the row of its element says.
+    ensures chains_are_bounds { result ≡ Status.Done → IfSome (F.contents folder.old)
+        (IsBoundedByChains (form_of (map string_bytes words.now))) }
 
     // Which words are a form doesn't depend on any file. Other words, `gen` and `trial` call the
     // folder not at all.

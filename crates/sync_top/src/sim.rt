@@ -1,14 +1,13 @@
-ghost use Rattle.std.specs.Prelude.{◌≡◌, ◌≢◌, ◌+◌, ◌++◌, ◌≤◌, Some, IfOk, IfSome, IsErr, OnOk};
+ghost use Rattle.std.specs.Prelude.{◌≡◌, ◌≢◌, ◌++◌, ◌≤◌, Some, IfOk, OnOk};
 ghost use Rattle.std.specs.List.{All};
 ghost use Rattle.sync_edge.specs.Contents.{KeepsFolder};
-ghost use Rattle.sync_topo.specs.declared.event.Event.{Event};
 ghost use Rattle.sync_topo.specs.Events.{Fits, IsInOrder};
-ghost use Rattle.sync_top.specs.Reading.{text_line, plan_in};
-ghost use Rattle.sync_top.specs.Forms.Sim.{event_place, event_refusal, events_in, plan_and_events, IsReport, SimAnswer};
-ghost use Rattle.sync_top.specs.Answer.{across, FormMissesFile, FirstEnds};
-ghost use Rattle.sync_top.specs.Form.{sim};
-ghost use Rattle.sync_top.specs.Work.{Reads, Replies, NeverUsage, stopped_in, status_of};
+ghost use Rattle.sync_top.specs.Reading.{text_line, two_files, plan_in};
+ghost use Rattle.sync_top.specs.Forms.Sim.{event_place, event_refusal, events_in, plan_and_events, IsReport};
+ghost use Rattle.sync_top.specs.Answer.{across};
+ghost use Rattle.sync_top.specs.Work.{Gets, HasRead, ends_in, stopped_in};
 
+use crate::found::{Finding, Found, done};
 use crate::input::file;
 use crate::plan_input::plan_in;
 use crate::reply::{Reply, Stop, put_number, refusal};
@@ -59,12 +58,10 @@ fn events_in<F: Folder>(
     plan: &Plan,
     name: &str,
 ) -> Result<Rows<Event>, Stop>
-    ensures reads { Reads (λ events. events) (across F.contents F.steady F.faults folder.old folder.new) result
-        (events_in plan.now name.now) }
-    ensures form { NeverUsage result }
+    ensures gets { Gets (λ events. events) (across F.contents F.steady F.faults folder.old folder.new)
+        (F.tries folder.old) (F.tries folder.new) result (events_in plan.now name.now) }
     ensures no_plan { stopped_in result ≢ Some Status.BadPlan }
     ensures keeps { KeepsFolder F.contents F.steady F.faults folder.old folder.new }
-    ensures once { F.tries folder.new ≤ F.tries folder.old + 1 }
     ensures fit { IfOk result (All (Fits plan.now)) }
     ensures in_order { IfOk result IsInOrder }
 {
@@ -86,13 +83,9 @@ pub(crate) fn plan_and_events<F: Folder>(
     plan: &str,
     events: &str,
 ) -> Result<(Plan, Rows<Event>), Stop>
-    ensures reads { Reads (λ read. (read.0, read.1)) (across F.contents F.steady F.faults folder.old folder.new) result
-        (plan_and_events plan.now events.now) }
-    ensures form { NeverUsage result }
+    ensures read { HasRead (two_files (plan_in plan.now) (plan_and_events plan.now events.now))
+        (λ read. (read.0, read.1)) (across F.contents F.steady F.faults folder.old folder.new) (F.tries folder.old) (F.tries folder.new) result }
     ensures keeps { KeepsFolder F.contents F.steady F.faults folder.old folder.new }
-    ensures once { F.tries folder.new ≤ F.tries folder.old + 2 }
-    ensures plan_alone { stopped_in result ≡ Some Status.BadPlan → F.tries folder.new ≤ F.tries folder.old + 1 }
-    ensures first_alone { IfSome (F.contents folder.old) (λ files. IsErr (plan_in plan.now files) → F.tries folder.new ≤ F.tries folder.old + 1) }
     ensures fit { IfOk result (λ read. All (Fits read.0) read.1) }
     ensures in_order { IfOk result (λ read. IsInOrder read.1) }
 {
@@ -103,50 +96,24 @@ pub(crate) fn plan_and_events<F: Folder>(
     }
 }
 
-/// The reply to a plan and events: the report of the run up to a millisecond.
-fn simulated(alloc: Global, plan: &Plan, events: &[Event], until: u64) -> Result<Reply, NoMemory>
+/// What is found of a plan and events: the report of the run up to a millisecond.
+pub(crate) fn simulated(
+    alloc: Global,
+    plan: &Plan,
+    events: &[Event],
+    until: u64,
+) -> Result<Found, NoMemory>
     requires fit { All (Fits plan.now) events.now }
     requires in_order { IsInOrder events.now }
     requires in_range { until ≤ LAST_MILLISECOND }
-    ensures report { IfOk result (λ reply. IsReport plan.now events.now until reply.status reply.text) }
-    ensures form { IfOk result (λ reply. reply.status ≢ Status.Usage) }
-    ensures no_plan { IfOk result (λ reply. reply.status ≢ Status.BadPlan) }
+    ensures { IfOk result (λ found. IsReport plan.now events.now until (ends_in found.finding) found.text) }
 {
     let (sim, reach) = run_to(alloc, plan, Watch::Changes, events, until)?;
     match reach {
-        Reach::Until => Ok(Reply {
-            status: Status::Done,
-            text: report(alloc, &sim, Reach::Until)?,
-        }),
-        Reach::Stopped(t) => Ok(Reply {
-            status: Status::Stopped,
+        Reach::Until => Ok(done(report(alloc, &sim, Reach::Until)?)),
+        Reach::Stopped(t) => Ok(Found {
+            finding: Finding::Stopped,
             text: report(alloc, &sim, Reach::Stopped(t))?,
         }),
-    }
-}
-
-/// The work of `sim`.
-pub(crate) fn sim<F: Folder>(
-    alloc: Global,
-    folder: &mut F,
-    plan: &str,
-    events: &str,
-    until: u64,
-) -> Result<Reply, Stop>
-    requires in_range { until ≤ LAST_MILLISECOND }
-    ensures replies { Replies (SimAnswer plan.now events.now until) (FormMissesFile (Some (sim plan.now events.now until)))
-        (across F.contents F.steady F.faults folder.old folder.new) result }
-    ensures form { NeverUsage result }
-    ensures done { IfOk result (λ reply. reply.status ≢ Status.Usage) }
-    ensures keeps { KeepsFolder F.contents F.steady F.faults folder.old folder.new }
-    ensures once { F.tries folder.new ≤ F.tries folder.old + 2 }
-    ensures plan_alone { status_of result ≡ Some Status.BadPlan → F.tries folder.new ≤ F.tries folder.old + 1 }
-    ensures first_alone { IfSome (F.contents folder.old) (λ files. FirstEnds (Some (sim plan.now events.now until)) files
-        → F.tries folder.new ≤ F.tries folder.old + 1) }
-{
-    let (plan, events) = plan_and_events(alloc, folder, plan, events)?;
-    match simulated(alloc, &plan, events.as_slice(), until) {
-        Ok(reply) => Ok(reply),
-        Err(_) => Err(Stop::OutOfMemory),
     }
 }

@@ -23,7 +23,7 @@ use rank_cert::{Cert, Verdict};
 use settle_trace::settled;
 use std::alloc::Global;
 use sync_text::{NoMemory, Text};
-use sync_topo::{Event, LineId, Part, Plan, What};
+use sync_topo::{Event, LineId, MOST_ELEMENTS, Part, Plan, What};
 use trace_report::{put_change, put_settled};
 
 /// When the ladder's first link goes down, in milliseconds.
@@ -41,7 +41,7 @@ const EVENTS: [Event; 1] = [Event {
 /// The text of a trial of the ladder of `n` elements. It reads no file.
 pub(crate) fn trial_text(alloc: Global, n: u32) -> Result<Text, NoMemory>
     requires least { 2 ≤ n }
-    requires greatest { n ≤ 2000 }
+    requires greatest { n ≤ MOST_ELEMENTS }
     ensures text { IfOk result (IsTrialText n (ladder n)) }
 {
     let plan = generate(alloc, n)?;

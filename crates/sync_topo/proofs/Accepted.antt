@@ -3,7 +3,7 @@ use Rattle.std.proofs.Common.{◌≡◌, ℕ, ◌<◌, ◌≤◌, Bool, true, fa
 use Rattle.std.specs.Prelude.{Ok, ℤ, pos, negsuc, IfSome, option_and_then, unwrap_or, if◌then◌else◌}
 use Rattle.std.specs.Option.{option_or}
 use Rattle.std.proofs.Math.Decide.{dec_lt}
-use Rattle.std.proofs.lemmas.Bool.{and_parts, or_parts, not-true, leb-true, ltb-true, ltb-false, true≢false}
+use Rattle.std.proofs.lemmas.Bool.{and_parts, or_parts, not-true, leb-true, ltb-true, ltb-false, true≢false, not-false}
 use Rattle.std.proofs.lemmas.List.{append-nil, length-map, map-append}
 use Rattle.std.proofs.lemmas.Option.{none-some, same_Some}
 use Rattle.sync_ql.specs.declared.levels.NetOption.{NetOption}
@@ -42,10 +42,6 @@ is-true : (b : Bool) → not (not b) ≡ true → b ≡ true
 is-true true e = refl
 is-true false e = absurd (true≢false (sym e))
 
-not_false : (b : Bool) → not b ≡ false → b ≡ true
-not_false true e = refl
-not_false false e = absurd (true≢false e)
-
 -- ---- what a row says
 
 -- a number that is not outside its limits is within them, and so is the default
@@ -53,7 +49,7 @@ number_within : (low high default : ℕ) (given : Option ℤ) → low ≤ defaul
     → (low ≤ number_or default given) × (number_or default given ≤ high)
 number_within low high default None least most inside = (least, most)
 number_within low high default (Some (pos n)) least most inside =
-    let both = and_parts (nat_le low n) (nat_le n high) (not_false _ inside) in
+    let both = and_parts (nat_le low n) (nat_le n high) (not-false _ inside) in
     (leb-true low n both.0, leb-true n high both.1)
 number_within low high default (Some (negsuc n)) least most inside = absurd (true≢false inside)
 

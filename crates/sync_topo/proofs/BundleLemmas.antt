@@ -7,12 +7,12 @@ use Rattle.std.specs.Str.{bytes_eq}
 use Rattle.std.proofs.lemmas.Bool.{cases_Bool, cases_lt, eq-eqb, ne_eqb, true≢false}
 use Rattle.std.proofs.lemmas.Option.{slice_get_within}
 use Rattle.std.proofs.lemmas.Slice.Eq.{bytes_eq-Decides}
+use Rattle.sync_text.proofs.Ranges.{find_range-Some, find_range-None, find_range-first, find_range-none}
 use Rattle.sync_topo.specs.declared.link.Link.{Link}
 use Rattle.sync_topo.specs.Bundles.{is_same_bundle, bundle_name, are_of_one_bundle, lowest_of_bundle}
 use Rattle.sync_topo.specs.Kept.{names_bundle, first_of_bundle, first_beside, AreBundlesOf}
 use Rattle.sync_topo.specs.Names.{is_named, place_of}
-use Rattle.sync_topo.proofs.LineLaws.{find_range-Some, find_range-None}
-use Rattle.sync_topo.proofs.LineNames.{find_range_first, find_range_none, not_same}
+use Rattle.sync_topo.proofs.LineNames.{not_same}
 use Rattle.sync_topo.proofs.Lists.{slice_get-push_before, slice_get-push_last, position-push, place_of-fresh, place_of-names}
 
 named-before : (links : List Link) (link : Link) (k : ℕ) → k < length links → bundle_name (links ++ link ∷ []) k ≡ bundle_name links k
@@ -31,7 +31,7 @@ first-kept links link name k found =
     let facts = find_range-Some (names_bundle links name) 0 (length links) k found in
     let size : length (links ++ link ∷ []) ≡ length links + 1 = length-append links (link ∷ []) in
     let within : k < length links = omega (arith, facts.3) in
-    find_range_first (names_bundle (links ++ link ∷ []) name) 0 (length (links ++ link ∷ [])) k (omega arith) (omega (arith, size))
+    find_range-first (names_bundle (links ++ link ∷ []) name) 0 (length (links ++ link ∷ [])) k (omega arith) (omega (arith, size))
     (names-before links link name k within ∙ facts.0)
     (λ i low before. names-before links link name i (omega arith) ∙ facts.1 i low before)
 
@@ -45,7 +45,7 @@ first-last : (links : List Link) (link : Link) (name : List ℕ) → first_of_bu
     → first_of_bundle (links ++ link ∷ []) name ≡ Some (length links)
 first-last links link name none same =
     let size : length (links ++ link ∷ []) ≡ length links + 1 = length-append links (link ∷ []) in
-    find_range_first (names_bundle (links ++ link ∷ []) name) 0 (length (links ++ link ∷ [])) (length links) (omega arith) (omega (arith, size))
+    find_range-first (names_bundle (links ++ link ∷ []) name) 0 (length (links ++ link ∷ [])) (length links) (omega arith) (omega (arith, size))
     (ap (λ (b : Option (List ℕ)). is_same_bundle b (Some name)) (named-last links link) ∙ same)
     (λ i low before. none-before links link name none i before)
 
@@ -54,7 +54,7 @@ first-none : (links : List Link) (link : Link) (name : List ℕ) → first_of_bu
     → first_of_bundle (links ++ link ∷ []) name ≡ None
 first-none links link name none other =
     let size : length (links ++ link ∷ []) ≡ length links + 1 = length-append links (link ∷ []) in
-    find_range_none (names_bundle (links ++ link ∷ []) name) 0 (length (links ++ link ∷ [])) (λ i low high.
+    find_range-none (names_bundle (links ++ link ∷ []) name) 0 (length (links ++ link ∷ [])) (λ i low high.
     elim (cases_lt i (length links)) [
       | inl before ↦ none-before links link name none i before
       | inr end ↦
@@ -78,7 +78,7 @@ pub lowest-is : (links : List Link) (link k : ℕ) → k < length links → are_
 unfolding lowest_of_bundle
 lowest-is links link k within here before =
     let found : find (λ other. are_of_one_bundle links other link) (range_with_len 0 (length links)) ≡ Some k
-    = find_range_first (λ other. are_of_one_bundle links other link) 0 (length links) k (omega arith) (omega arith) here (λ i low high. before i high) in
+    = find_range-first (λ other. are_of_one_bundle links other link) 0 (length links) k (omega arith) (omega arith) here (λ i low high. before i high) in
     ap (λ (x : Option ℕ). unwrap_or x link) found
 
 -- a link's bundle has a lowest link, which is of it

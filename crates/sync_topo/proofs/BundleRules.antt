@@ -2,16 +2,16 @@
 use Rattle.std.proofs.Common.{◌≡◌, ℕ, ◌+◌, ◌<◌, zero, suc, Bool, true, false, not, ◌&&◌, ◌||◌, ◌==◌, List, [], ◌∷◌, ◌++◌, length, Option, Some, None, slice_get, refl, sym, ap, ◌∙◌, inl, inr, arith, length-append}
 use Rattle.std.specs.List.{list_any}
 use Rattle.std.proofs.Math.Bool.{or-true}
-use Rattle.std.proofs.lemmas.Bool.{cases_Bool, cases_lt, or_parts, true≢false}
+use Rattle.std.proofs.lemmas.Bool.{cases_Bool, cases_lt, or_parts, true≢false, not-false}
 use Rattle.std.proofs.lemmas.Bool.Decides.{nat_tests}
 use Rattle.std.proofs.lemmas.Option.{none-some, same_Some, slice_get_within}
 use Rattle.std.proofs.lemmas.Slice.Eq.{bytes_eq-Decides}
+use Rattle.sync_text.proofs.Ranges.{find_range-Some, find_range-None}
 use Rattle.sync_topo.specs.declared.link.Link.{Link}
 use Rattle.sync_topo.specs.Bundles.{is_same_bundle, join_same, BundlesJoin}
 use Rattle.sync_topo.specs.Kept.{names_bundle, first_of_bundle}
 use Rattle.sync_topo.specs.Names.{is_name}
 use Rattle.sync_topo.specs.Rules.{is_bad_bundle_name, is_bad_bundle}
-use Rattle.sync_topo.proofs.LineLaws.{find_range-Some, find_range-None}
 use Rattle.sync_topo.proofs.Lists.{slice_get-push_before, slice_get-push_last}
 use Rattle.sync_topo.proofs.BundleLemmas.{same-None}
 use Rattle.sync_topo.proofs.RuleLemmas.{slice_get-middle, slice_get-front}
@@ -107,10 +107,6 @@ bad-first links link first name k join named good found at =
       | inr other ↦ rw other (list_any-at (λ (earlier : Link). is_same_bundle earlier.bundle (Some name) && not (join_same earlier link)) links k first at (rw (of_it, other) refl))
     ])
 
-joined : (b : Bool) → not b ≡ false → b ≡ true
-joined true e = refl
-joined false e = absurd (true≢false e)
-
 -- a link that keeps the rule leaves the bundles joined
 pub BundlesJoin-push : (links : List Link) (link : Link) → BundlesJoin links → is_bad_bundle links link ≡ false → BundlesJoin (links ++ link ∷ [])
 BundlesJoin-push links link join fits i j one other at_i at_j same =
@@ -145,7 +141,7 @@ BundlesJoin-push links link join fits i j one other at_i at_j same =
     with_last k earlier at same_too =
         let none = (or_parts (is_bad_bundle_name link.bundle) (list_any (joins_others link) links) fits).1 in
         let kept : joins_others link earlier ≡ false = none-passes (joins_others link) links none k earlier at in
-        joined (join_same earlier link) (rw same_too at kept)
+        not-false (join_same earlier link) (rw same_too at kept)
 
 -- the name of a link that keeps the rule is good
 pub good-name : (links : List Link) (link : Link) → is_bad_bundle links link ≡ false → is_bad_bundle_name link.bundle ≡ false

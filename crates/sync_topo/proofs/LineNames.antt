@@ -16,6 +16,7 @@ use Rattle.sync_topo.specs.Names.{link_names}
 use Rattle.sync_topo.specs.WellFormed.{IsWellFormed}
 use Rattle.sync_topo.specs.Naming.{has_sign, IsCut, line_into}
 use Rattle.std.proofs.Math.Bool.{or-true}
+use Rattle.sync_text.proofs.Ranges.{find_range-none, find_range-first}
 use Rattle.sync_topo.proofs.Lists.{is_named-at}
 
 -- two lists of bytes that differ
@@ -56,20 +57,6 @@ cut_once (x ∷ front) (y ∷ other) back rest f g e =
     or_false : (b c : Bool) → (b || c) ≡ false → c ≡ false
     or_false true c e = absurd (true≢false e)
     or_false false c e = e
-
--- the search over a range
-pub find_range_none : (p : ℕ → Bool) (a n : ℕ) → ((i : ℕ) → a ≤ i → i < a + n → p i ≡ false) → find p (range_with_len a n) ≡ None
-find_range_none p a zero never = refl
-find_range_none p a (suc n) never =
-    rw (never a (omega arith) (omega arith)) (find_range_none p (a + 1) n (λ i low high. never i (omega arith) (omega arith)))
-
-pub find_range_first : (p : ℕ → Bool) (a n k : ℕ) → a ≤ k → k < a + n → p k ≡ true → ((i : ℕ) → a ≤ i → i < k → p i ≡ false) → find p (range_with_len a n) ≡ Some k
-find_range_first p a zero k low high here before = absurd (omega arith)
-find_range_first p a (suc n) k low high here before =
-    elim (eqb_tells a k) [
-      | inl same ↦ let hit : p a ≡ true = rw same.1 here in rw hit (ap Some same.1)
-      | inr other ↦ rw (before a (omega arith) (omega arith)) (find_range_first p (a + 1) n k (omega arith) (omega arith) here (λ i l h. before i (omega arith) h))
-    ]
 
 -- a link of a plan, by a number in range
 pub link_there : (plan : Topology) (line : ℕ) → line < line_count plan → (link : Link) × (slice_get plan.links (line / 2) ≡ Some link)
@@ -112,7 +99,7 @@ line_not_named plan line link name front back well at cut apart =
 -- bytes without the sign > name no line
 pub unsigned-names_no_line : (plan : Topology) (name : List ℕ) → IsWellFormed plan → has_sign name ≡ false → line_of_name plan name ≡ None
 unsigned-names_no_line plan name well unsigned =
-    find_range_none (λ line. bytes_eq (line_name plan line) name) 0 (line_count plan) (λ line low high.
+    find_range-none (λ line. bytes_eq (line_name plan line) name) 0 (line_count plan) (λ line low high.
     let there = link_there plan line (omega arith) in
     not_same (line_name plan line) name (λ same.
     let signed : has_sign (line_name plan line) ≡ true = rw (line_name-is plan line there.0 there.1) (has_sign-seam there.0.name _) in
@@ -126,7 +113,7 @@ unsigned-names_no_line plan name well unsigned =
 pub unknown_link-names_no_line : (plan : Topology) (name front back : List ℕ) → IsWellFormed plan → IsCut name front back
     → is_named (link_names plan.links) front ≡ false → line_of_name plan name ≡ None
 unknown_link-names_no_line plan name front back well cut unknown =
-    find_range_none (λ line. bytes_eq (line_name plan line) name) 0 (line_count plan) (λ line low high.
+    find_range-none (λ line. bytes_eq (line_name plan line) name) 0 (line_count plan) (λ line low high.
     let there = link_there plan line (omega arith) in
     line_not_named plan line there.0 name front back well there.1 cut (λ of_link of_receiver.
     let at : slice_get (link_names plan.links) (line / 2) ≡ Some front
@@ -221,12 +208,12 @@ line_of_known : (plan : Topology) (name front back : List ℕ) (k : ℕ) (link :
     → line_of_name plan name ≡ (if to_b then Some (2 * k) else if to_a then Some (2 * k + 1) else None)
 line_of_known plan name front back k link known true to_a b a =
     let within = slice_get_within plan.links k link known.at in
-    find_range_first (λ line. bytes_eq (line_name plan line) name) 0 (line_count plan) (2 * k) (omega arith) (omega arith)
+    find_range-first (λ line. bytes_eq (line_name plan line) name) 0 (line_count plan) (2 * k) (omega arith) (omega arith)
     (line_to_b plan name front back k link known ∙ b)
     (λ line low high. other_line plan name front back k link known line (omega arith) (λ e. omega arith))
 line_of_known plan name front back k link known false true b a =
     let within = slice_get_within plan.links k link known.at in
-    find_range_first (λ line. bytes_eq (line_name plan line) name) 0 (line_count plan) (2 * k + 1) (omega arith) (omega arith)
+    find_range-first (λ line. bytes_eq (line_name plan line) name) 0 (line_count plan) (2 * k + 1) (omega arith) (omega arith)
     (line_to_a plan name front back k link known ∙ a)
     (λ line low high. elim (eqb_tells line (2 * k)) [
       | inl same ↦ rw same.1 (line_to_b plan name front back k link known ∙ b)
@@ -234,7 +221,7 @@ line_of_known plan name front back k link known false true b a =
     ])
 line_of_known plan name front back k link known false false b a =
     let within = slice_get_within plan.links k link known.at in
-    find_range_none (λ line. bytes_eq (line_name plan line) name) 0 (line_count plan)
+    find_range-none (λ line. bytes_eq (line_name plan line) name) 0 (line_count plan)
     (λ line low high. elim (eqb_tells line (2 * k)) [
       | inl same ↦ rw same.1 (line_to_b plan name front back k link known ∙ b)
       | inr not_b ↦ elim (eqb_tells line (2 * k + 1)) [

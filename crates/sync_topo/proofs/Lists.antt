@@ -134,3 +134,9 @@ place_of-fresh names name fresh = cases (position (bytes_eq name) names) refl
     cases : (place : Option ℕ) → position (bytes_eq name) names ≡ place → position (bytes_eq name) names ≡ None
     cases None e = e
     cases (Some k) e = absurd (true≢false (sym (is_named-at names name k (place_of-names names name (Some k) (sym e))) ∙ fresh))
+
+-- a list has an item at each place below its length
+pub item_at : {A : Type 0} (xs : List A) (n : ℕ) → n < length xs → (x : A) × (slice_get xs n ≡ Some x)
+item_at [] n within = absurd (omega (arith, within))
+item_at (x ∷ xs) zero within = (x, refl)
+item_at (x ∷ xs) (suc n) within = item_at xs n (omega (arith, within))

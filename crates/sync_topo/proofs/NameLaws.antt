@@ -1,14 +1,15 @@
 -- What a name tells: one element, link, source, line or input of the plan, or none.
-use Rattle.std.proofs.Common.{◌≡◌, ◌↔◌, ℕ, ◌/◌, ◌%◌, ◌<◌, zero, suc, Bool, true, false, List, [], ◌∷◌, length, Option, Some, None, slice_get, option_map, refl, ap, sym, ◌∙◌, inl, inr, arith}
+use Rattle.std.proofs.Common.{◌≡◌, ◌↔◌, ℕ, ◌/◌, ◌%◌, ◌<◌, ◌≤◌, zero, suc, Bool, true, false, List, [], ◌∷◌, length, Option, Some, None, slice_get, option_map, refl, ap, sym, ◌∙◌, inl, inr, arith}
 use Rattle.std.specs.Prelude.{◌==◌, ◌≢◌, if◌then◌else◌}
 use Rattle.std.specs.List.{list_all}
 use Rattle.std.specs.Option.{option_or}
 use Rattle.std.specs.Str.{bytes_eq}
-use Rattle.std.proofs.lemmas.Bool.{and_parts, eqb-true, true≢false}
+use Rattle.std.proofs.lemmas.Bool.{and_parts, eqb-true, leb-true, true≢false}
 use Rattle.std.proofs.lemmas.Bool.Decides.{eqb_tells}
 use Rattle.std.proofs.lemmas.List.{length-map}
 use Rattle.std.proofs.lemmas.Option.{slice_get_within, slice_get-map, same_Some, none-some}
 use Rattle.std.proofs.lemmas.Slice.Eq.{bytes_eq-Decides}
+use Rattle.sync_text.proofs.Ranges.{find_range-Some, find_range-None}
 use Rattle.sync_topo.specs.declared.element.Element.{Element}
 use Rattle.sync_topo.specs.declared.link.Link.{Link}
 use Rattle.sync_topo.specs.declared.source.Source as declared
@@ -19,7 +20,6 @@ use Rattle.sync_topo.specs.Lines.{line_count, receiver_of, line_name, line_of_na
 use Rattle.sync_topo.specs.Names.{is_name, place_of, element_names, link_names, source_names}
 use Rattle.sync_topo.specs.Naming.{has_sign}
 use Rattle.sync_topo.specs.WellFormed.{AreDistinct, IsWellFormed}
-use Rattle.sync_topo.proofs.LineLaws.{find_range-Some, find_range-None}
 use Rattle.sync_topo.proofs.LineNames.{no_sign, cut_once, link_there, link_no_sign, line_name-is, one_link, unsigned-names_no_line}
 use Rattle.sync_topo.proofs.Lists.{place_of-names}
 use Rattle.sync_topo.proofs.PlaceLaws.{one-place, name-there}
@@ -129,3 +129,7 @@ input-by-name plan name well i =
         let at : slice_get (source_names plan.sources) j ≡ Some name = name-there name_of plan.sources j facts.0 ∙ ap Some facts.1 in
         let no_line = unsigned-names_no_line plan name well (name_no_sign (source_names plan.sources) j name well.sources_named at) in
         rw (no_line, place_of-distinct (source_names plan.sources) name j well.sources_distinct at) refl
+
+-- a name has at most 32 bytes
+pub name-short : (name : List ℕ) → is_name name ≡ true → length name ≤ 32
+name-short name named = leb-true _ _ (and_parts _ _ (and_parts _ _ named).0).1

@@ -26,7 +26,7 @@ use Rattle.sync_topo.proofs.BundleRules.{good-name, BundlesJoin-push}
 use Rattle.sync_topo.proofs.Inputs.{with_link, with_source, inputs_of-link, inputs_of-source, taken-other}
 
 -- a name that none of them is may come last
-AreDistinct-push : (names : List (List ℕ)) (name : List ℕ) → AreDistinct names → is_named names name ≡ false → AreDistinct (names ++ name ∷ [])
+pub AreDistinct-push : (names : List (List ℕ)) (name : List ℕ) → AreDistinct names → is_named names name ≡ false → AreDistinct (names ++ name ∷ [])
 AreDistinct-push names name distinct fresh i j before within same =
     let size : length (names ++ name ∷ []) ≡ length names + 1 = length-append names (name ∷ []) in
     let i_here : slice_get (names ++ name ∷ []) i ≡ slice_get names i = slice_get-push_before names name i (omega arith) in

@@ -19,7 +19,7 @@ use Rattle.sync_topo.proofs.Inputs.{with_link, with_source, inputs_of-link, inpu
 use Rattle.sync_topo.proofs.InputPlaces.{new-placed, place-kept, place-last}
 
 -- the item at the end of a list
-last-item : (xs : List ℕ) (x i : ℕ) → i ≡ length xs → slice_index (xs ++ x ∷ []) i ≡ x
+pub last-item : (xs : List ℕ) (x i : ℕ) → i ≡ length xs → slice_index (xs ++ x ∷ []) i ≡ x
 last-item xs x i at = rw at (get_or-append_seam xs x [] 0)
 
 -- nothing is kept of no elements

@@ -2,6 +2,7 @@
 use Rattle.std.specs.Prelude.{ℕ, Bool, ◌&&◌, ◌||◌, ◌==◌, nat_le, List, length, map, Option, position}
 use Rattle.std.specs.List.{list_all, list_any}
 use Rattle.std.specs.Str.{bytes_eq}
+use Rattle.sync_topo.specs.declared.names.TheConstants.{MOST_NAME_BYTES}
 use Rattle.sync_topo.specs.declared.element.Element.{Element}
 use Rattle.sync_topo.specs.declared.link.Link.{Link}
 use Rattle.sync_topo.specs.declared.source.Source.{Source}
@@ -16,7 +17,7 @@ is_name_byte byte = is_between 65 90 byte || is_between 97 122 byte || is_betwee
 
 -- a name has 1 to 32 such bytes. This project's own.
 abbrev pub is_name : List ℕ → Bool
-is_name name = nat_le 1 (length name) && nat_le (length name) 32 && list_all is_name_byte name
+is_name name = nat_le 1 (length name) && nat_le (length name) MOST_NAME_BYTES && list_all is_name_byte name
 
 -- one of the names is this one
 abbrev pub is_named : List (List ℕ) → List ℕ → Bool

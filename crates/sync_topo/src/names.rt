@@ -7,6 +7,9 @@ use std::alloc::Global;
 use std::marker::Model;
 use sync_text::NoMemory;
 
+/// The most bytes of a name of an element, link, source or bundle. This project's own.
+pub const MOST_NAME_BYTES: usize = 32;
+
 /// Names, each at its place in the order in which they came. Contracts see their list.
 #[derive(Drop)]
 pub(crate) struct Names {
@@ -76,7 +79,7 @@ fn is_name_byte(byte: u8) -> bool
 pub(crate) fn is_name(name: &[u8]) -> bool
     ensures { result ≡ is_name name.now }
 {
-    1 <= name.len() && name.len() <= 32 && all_name_bytes(name)
+    1 <= name.len() && name.len() <= MOST_NAME_BYTES && all_name_bytes(name)
 }
 
 /// Each of the bytes may stand in a name.

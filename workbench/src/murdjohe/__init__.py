@@ -16,6 +16,7 @@ if TYPE_CHECKING:
     from murdjohe.api import (
         Answered,
         Refused,
+        chains,
         check,
         decode,
         encode,
@@ -37,6 +38,7 @@ if TYPE_CHECKING:
 __all__ = [
     "Answered",
     "Refused",
+    "chains",
     "check",
     "decode",
     "encode",

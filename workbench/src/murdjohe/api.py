@@ -105,6 +105,11 @@ def rank(plan: Source) -> Answered[reports.Ranking]:
     return answered("rank", reports.ranking, plan)
 
 
+def chains(plan: Source) -> Answered[reports.Chains]:
+    """How long a chain of timing into each element may become, or the first ring."""
+    return answered("chains", reports.chains, plan)
+
+
 def hops(plan: Source) -> Answered[reports.Hops]:
     """How many links each element is from a clock."""
     return answered("hops", reports.hops, plan)

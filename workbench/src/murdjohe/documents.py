@@ -30,6 +30,7 @@ BEGINNINGS = (
     (b"line,rank", "a certificate"),
     (b"at,what,target,value", "an event list"),
     (b"element,hops,from", "a table of `hops`"),
+    (b"element,links,since,clocks", "a table of `chains`"),
     (b"link,settled,", "a table of `sweep`"),
     (b"changes\n", "a report of a run"),
     (b"cycle ", "the answer of a `rank` that found a ring, and no certificate"),

@@ -119,6 +119,14 @@ _ALL = (
         (_MAKE, "murdjohe rank plan.toml"),
     ),
     Form(
+        "chains",
+        (_PLAN,),
+        PLANNING,
+        "says how long a chain of timing into each element may become",
+        (0, 1, 3, 7, 9),
+        (_MAKE, "murdjohe nominate plan.toml > nominated.toml", "murdjohe chains nominated.toml"),
+    ),
+    Form(
         "hops",
         (_PLAN,),
         PLANNING,

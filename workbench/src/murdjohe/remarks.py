@@ -11,6 +11,8 @@ if TYPE_CHECKING:
     from typing import Any
 
 RING = 40  # lines of a ring of which it is said where they are nominated
+# the columns of `chains`, and what G.803's reference chain has at most of each
+LONGEST = ((1, 60, "lines"), (2, 20, "lines since a filter"), (3, 10, "filters"))
 NAMED = 12  # names that a sentence lists before it says how many more there are
 
 
@@ -223,6 +225,19 @@ def on_hops(text: str) -> list[str]:
     return [have(without, "no way to a clock: a link or a source is missing")] if without else []
 
 
+def on_chains(text: str) -> list[str]:
+    """Which elements may come to a longer chain of timing than G.803's reference chain."""
+    rows = [line.split(",") for line in text.splitlines()[1:]]
+    if not rows:
+        return ["the plan is empty: is it the file that was meant?"]
+    said = []
+    for column, most, what in LONGEST:
+        over = [row[0] for row in rows if int(row[column]) > most]
+        if over:
+            said.append(have(over, f"chains of more than G.803's {most} {what}"))
+    return said or ["whatever fails, no chain is longer than G.803's 60 lines, 20 since a filter and 10 filters"]
+
+
 def on_nominated(words: Words) -> list[str]:
     """Which elements `nominate` could give no input: by the program's own count of hops."""
     return on_hops(core.run(["hops", words.passed[1]]).text.decode("utf-8", "replace"))
@@ -272,6 +287,8 @@ def on_done(words: Words, text: str) -> list[str]:
         return ["the ladder isn't settled at its end"] if text.endswith("settled no\n") else []
     if name == "sweep":
         return on_sweep(text)
+    if name == "chains":
+        return on_chains(text)
     if name == "hops":
         return on_hops(text)
     if name == "nominate":

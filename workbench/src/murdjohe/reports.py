@@ -37,6 +37,24 @@ class Ranking:
 
 
 @dataclass(frozen=True)
+class Chain:
+    """The longest chains into an element: lines in all, lines since the last filter, and filters."""
+
+    element: str
+    links: int
+    since: int
+    clocks: int
+
+
+@dataclass(frozen=True)
+class Chains:
+    """What `chains` says: a row for each element, or the lines of the first ring."""
+
+    rows: tuple[Chain, ...] | None
+    ring: Loop | None
+
+
+@dataclass(frozen=True)
 class Hop:
     """How many links an element is from a clock, and the source or line from there; both None where there is no way."""
 
@@ -188,6 +206,14 @@ def ranking(answer: Answer) -> Ranking:
     return Ranking(None, tuple(row[2] for row in fields_of(text.splitlines()[1:])), text)
 
 
+def chains(answer: Answer) -> Chains:
+    text = answer.said
+    if answer.status != core.DONE:
+        return Chains(None, tuple(text.split()[1:]))
+    rows = fields_of(text.splitlines()[1:])
+    return Chains(tuple(Chain(name, int(links), int(since), int(clocks)) for name, links, since, clocks in rows), None)
+
+
 def hops(answer: Answer) -> Hops:
     rows = fields_of(answer.said.splitlines()[1:])
     none = ("none", "none")
@@ -284,6 +310,7 @@ READERS: dict[str, Callable[[Answer], Any]] = {
     "prio-check": verdict,
     "rank": ranking,
     "prio-rank": ranking,
+    "chains": chains,
     "hops": hops,
     "nominate": written,
     "gen": written,

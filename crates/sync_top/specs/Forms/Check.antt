@@ -14,7 +14,7 @@ use Rattle.rank_cert.specs.declared.error.CertErr.{CertErr}
 use Rattle.rank_cert.specs.declared.error.CertErr.TheVariants as broken
 use Rattle.rank_cert.specs.Ranks.{Ranks, rank_of, IsFirstFallOver}
 use Rattle.rank_cert.specs.CertificateText.{certificate_of}
-use Rattle.sync_top.specs.Reading.{text_line, End, answered, Answered, file, refusal_line, plan_in}
+use Rattle.sync_top.specs.Reading.{text_line, End, answered, file, refusal_line, plan_in}
 
 -- where a certificate is refused: the row, or the line that has none
 abbrev pub certificate_place : Topology → CertErr → List ℕ
@@ -59,8 +59,3 @@ IsVerdictOver hop plan ranks status text = ⊥
 -- over the hops of networks with quality levels
 abbrev pub IsVerdict : Topology → Ranks → Status → List ℕ → Type 0
 IsVerdict plan ranks status text = IsVerdictOver (hops plan) plan ranks status text
-
--- the answer to `check`: the verdict on both documents, or what ends their reading
-abbrev pub CheckAnswer : List ℕ → List ℕ → Contents → Status → List ℕ → Type 0
-CheckAnswer plan_name certificate_name files status text =
-    Answered (λ read. IsVerdict read.0 read.1) (documents plan_name certificate_name files) status text

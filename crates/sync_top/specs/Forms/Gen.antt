@@ -9,6 +9,6 @@ use Rattle.sync_top.specs.Reading.{file_limit}
 
 -- the answer to `gen`: the text of the ladder of so many elements, which is read as the ladder, and which is not too long for a
 -- file
-abbrev pub GenAnswer : ℕ → Status → List ℕ → Type 0
-GenAnswer n status text =
+abbrev pub IsLadderText : ℕ → Status → List ℕ → Type 0
+IsLadderText n status text =
     (status ≡ Done) × (text ≡ plan_text (ladder n)) × IsPlanText (ladder n) text × (length text ≤ file_limit)

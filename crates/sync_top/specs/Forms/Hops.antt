@@ -3,13 +3,11 @@ use Rattle.std.specs.Prelude.{◌≡◌, ℕ, zero, suc, Bool, false, ◌&&◌, 
 use Rattle.std.specs.List.{concat, range_with_len}
 use Rattle.std.specs.Option.{option_map_or}
 use Rattle.std.specs.Fmt.{decimal}
-use Rattle.sync_edge.specs.Contents.{Contents}
 use Rattle.sync_topo.specs.Topology.{Topology}
 use Rattle.sync_topo.specs.Lines.{line_count, line_name, source_name, element_name, sender_of, receiver_of, sources_at}
 use Rattle.nominate.specs.HopCount.{Counts, count_at, AreHopCounts}
 use Rattle.sync_top.specs.declared.status.Status.{Status}
 use Rattle.sync_top.specs.declared.status.Status.TheVariants.{Done}
-use Rattle.sync_top.specs.Reading.{Answered, plan_in}
 
 -- what isn't there
 abbrev pub none_text : List ℕ
@@ -48,7 +46,3 @@ hops_text plan counts = codes "element,hops,from\n" ++ concat (map (hops_row pla
 -- the rows of the hop counts
 abbrev pub AreHopRows : Topology → Status → List ℕ → Type 0
 AreHopRows plan status text = (status ≡ Done) × ((counts : Counts) × AreHopCounts plan counts × (text ≡ hops_text plan counts))
-
--- the answer to `hops`: the rows, or what ends the reading
-abbrev pub HopsAnswer : List ℕ → Contents → Status → List ℕ → Type 0
-HopsAnswer plan_name files status text = Answered AreHopRows (plan_in plan_name files) status text

@@ -64,17 +64,6 @@ node_bytes plan_name element_name file_name files = do
   received ← received_in plan element_name file_name files
   Ok (plan, received.0, received.1)
 
--- with the rows in place of the bytes
-abbrev pub with_rows : Topology × ℕ × List ℕ → Result (Topology × ℕ × List NodeRow) End
-with_rows read = do
-  rows ← accepted_rows (rows_of read.0 read.1 read.2)
-  Ok (read.0, read.1, rows)
-
-abbrev pub node_rows : List ℕ → List ℕ → List ℕ → Contents → Result (Topology × ℕ × List NodeRow) End
-node_rows plan_name element_name file_name files = do
-  read ← node_bytes plan_name element_name file_name files
-  with_rows read
-
 -- all frames where their rows fit, and else those up to the last millisecond up to which all fit
 abbrev pub AreFramesSent : Topology → ℕ → List NodeRow → ℕ → Status → List ℕ → Type 0
 AreFramesSent plan element rows until Done text = AllFit plan rows element until × (text ≡ whole_text plan rows element until)
@@ -82,17 +71,7 @@ AreFramesSent plan element rows until Stopped text =
     (t : ℕ) × IsLastFit plan rows element t until × (text ≡ stopped_text plan rows element t)
 AreFramesSent plan element rows until status text = ⊥
 
--- the answer to `node`: these rows, or what ends the reading
-abbrev pub NodeAnswer : List ℕ → List ℕ → List ℕ → ℕ → Contents → Status → List ℕ → Type 0
-NodeAnswer plan_name element_name file_name until files status text =
-    Answered (λ read. AreFramesSent read.0 read.1 read.2 until) (node_rows plan_name element_name file_name files) status text
-
--- Private: the same of the bytes, by status
+-- the answer to the bytes of the file: these rows, or the line on the row that is refused
 abbrev pub IsNodeReply : Topology → ℕ → List ℕ → ℕ → Status → List ℕ → Type 0
-IsNodeReply plan element bytes until Done text =
-    (rows : List NodeRow) × (rows_of plan element bytes ≡ Ok rows) × AreFramesSent plan element rows until Done text
-IsNodeReply plan element bytes until Stopped text =
-    (rows : List NodeRow) × (rows_of plan element bytes ≡ Ok rows) × AreFramesSent plan element rows until Stopped text
-IsNodeReply plan element bytes until BadFrames text =
-    (refused : NodeErr) × (rows_of plan element bytes ≡ Err refused) × (text ≡ text_line (node_refusal refused))
-IsNodeReply plan element bytes until status text = ⊥
+IsNodeReply plan element bytes until status text =
+    Answered (λ rows. AreFramesSent plan element rows until) (accepted_rows (rows_of plan element bytes)) status text

@@ -15,19 +15,14 @@ use Rattle.prio_mode.specs.ForcedText.{forced_text}
 use Rattle.event_file.specs.EventText.{events_of}
 use Rattle.sync_top.specs.declared.status.Status.{Status}
 use Rattle.sync_top.specs.declared.status.Status.TheVariants.{Done, Refuted}
-use Rattle.sync_top.specs.Form.{Form, prio_check}
-use Rattle.sync_top.specs.Reading.{text_line, file_limit, Answered, plan_in}
-use Rattle.sync_top.specs.Forms.Check.{IsVerdictOver, documents}
-use Rattle.sync_top.specs.Forms.Sim.{plan_and_events}
+use Rattle.sync_top.specs.declared.form.RanksForm.TheVariants.{PrioCheck}
+use Rattle.sync_top.specs.Form.{Form, on_ranks}
+use Rattle.sync_top.specs.Reading.{file_limit, plan_in}
+use Rattle.sync_top.specs.Forms.Check.{IsVerdictOver}
 
 -- the verdict over hops that include returns
 abbrev pub IsPriorityVerdict : Topology → Ranks → Status → List ℕ → Type 0
 IsPriorityVerdict plan ranks status text = IsVerdictOver (hops_any plan) plan ranks status text
-
--- the answer to `prio-check`
-abbrev pub PrioCheckAnswer : List ℕ → List ℕ → Contents → Status → List ℕ → Type 0
-PrioCheckAnswer plan_name certificate_name files status text =
-    Answered (λ read. IsPriorityVerdict read.0 read.1) (documents plan_name certificate_name files) status text
 
 -- the certificate of the least ranks, which is read back as these ranks, and they rise; or the event file of the
 -- forced switches that make the first loop, which is read back as these switches. Neither is too long for a file
@@ -40,23 +35,14 @@ IsPriorityPlanned plan Refuted text =
     × (events_of plan text ≡ Ok (forced_on lines)) × (length text ≤ file_limit)
 IsPriorityPlanned plan status text = ⊥
 
--- the answer to `prio-rank`
-abbrev pub PrioRankAnswer : List ℕ → Contents → Status → List ℕ → Type 0
-PrioRankAnswer plan_name files status text = Answered IsPriorityPlanned (plan_in plan_name files) status text
-
 -- the report of a run
 abbrev pub IsPriorityRun : Topology → List Event → ℕ → Status → List ℕ → Type 0
 IsPriorityRun plan events until Done text = IsPriorityReport plan events until text
 IsPriorityRun plan events until status text = ⊥
 
--- the answer to `prio-sim`
-abbrev pub PrioSimAnswer : List ℕ → List ℕ → ℕ → Contents → Status → List ℕ → Type 0
-PrioSimAnswer plan_name events_name until files status text =
-    Answered (λ read. IsPriorityRun read.0 read.1 until) (plan_and_events plan_name events_name files) status text
-
 -- where the words ask to check a plan for elements that choose by priority alone, one is read, and no timing loop can
 -- form in it
 abbrev pub IsCheckedForPriority : Option Form → Contents → Type 0
-IsCheckedForPriority (Some (prio_check plan_name certificate_name)) files =
+IsCheckedForPriority (Some (on_ranks PrioCheck plan_name certificate_name)) files =
     (plan : Topology) × (plan_in plan_name files ≡ Ok plan) × NeverLoops plan
 IsCheckedForPriority form files = ⊤

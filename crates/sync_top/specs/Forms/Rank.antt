@@ -1,7 +1,6 @@
 -- The answer to `rank`.
 use Rattle.std.specs.Prelude.{◌≡◌, ℕ, ◌≤◌, List, ◌++◌, length, map, codes, Ok}
 use Rattle.std.specs.List.{concat}
-use Rattle.sync_edge.specs.Contents.{Contents}
 use Rattle.sync_topo.specs.Topology.{Topology}
 use Rattle.sync_topo.specs.Lines.{line_name, is_nominated}
 use Rattle.sync_topo.specs.Hops.{hops, IsRising}
@@ -10,7 +9,7 @@ use Rattle.sync_top.specs.declared.status.Status.{Status}
 use Rattle.sync_top.specs.declared.status.Status.TheVariants.{Done, Refuted}
 use Rattle.rank_cert.specs.Ranks.{Ranks, rank_at, rank_of}
 use Rattle.rank_cert.specs.CertificateText.{certificate_of, certificate_text}
-use Rattle.sync_top.specs.Reading.{text_line, file_limit, Answered, plan_in}
+use Rattle.sync_top.specs.Reading.{text_line, file_limit}
 
 -- the line on a cycle: its lines by their names
 abbrev pub cycle_text : Topology → List ℕ → List ℕ
@@ -24,7 +23,3 @@ IsPlanned plan Done text =
     × (text ≡ certificate_text plan ranks) × (certificate_of plan text ≡ Ok ranks) × (length text ≤ file_limit)
 IsPlanned plan Refuted text = (lines : List ℕ) × IsFirstCycle (hops plan) lines × (text ≡ cycle_text plan lines)
 IsPlanned plan status text = ⊥
-
--- the answer to `rank`: what the planner finds, or what ends the reading
-abbrev pub RankAnswer : List ℕ → Contents → Status → List ℕ → Type 0
-RankAnswer plan_name files status text = Answered IsPlanned (plan_in plan_name files) status text

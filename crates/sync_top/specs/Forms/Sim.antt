@@ -9,13 +9,13 @@ use Rattle.event_file.specs.declared.error.EventErr.{EventErr}
 use Rattle.event_file.specs.declared.error.EventErr.TheVariants as refusal
 use Rattle.event_file.specs.EventText.{events_of}
 use Rattle.event_file.specs.Refusal.{number_of as event_number}
-use Rattle.event_sim.specs.declared.limits.TheConstants.{MOST_CHANGES}
+use Rattle.sync_ql.specs.declared.limits.TheConstants.{MOST_ROWS}
 use Rattle.event_sim.specs.Rows.{rows_until}
 use Rattle.event_sim.specs.Answers.{IsLastFit}
 use Rattle.trace_report.specs.Report.{IsWholeReport, stopped_report}
 use Rattle.sync_top.specs.declared.status.Status.{Status}
 use Rattle.sync_top.specs.declared.status.Status.TheVariants.{Done, BadEvents, Stopped}
-use Rattle.sync_top.specs.Reading.{text_line, End, answered, Answered, file, refusal_line, plan_in}
+use Rattle.sync_top.specs.Reading.{text_line, End, answered, file, refusal_line, plan_in}
 
 -- where events are refused: the row
 abbrev pub event_place : EventErr → List ℕ
@@ -55,12 +55,7 @@ plan_and_events plan_name events_name files = do
 -- which all fit
 abbrev pub IsReport : Topology → List Event → ℕ → Status → List ℕ → Type 0
 IsReport plan events until Done text =
-    (length (rows_until plan events (suc until)) ≤ MOST_CHANGES) × IsWholeReport plan events until text
+    (length (rows_until plan events (suc until)) ≤ MOST_ROWS) × IsWholeReport plan events until text
 IsReport plan events until Stopped text =
     (t : ℕ) × IsLastFit plan events t until × (text ≡ stopped_report plan events t)
 IsReport plan events until status text = ⊥
-
--- the answer to `sim`: the report of the run, or what ends the reading
-abbrev pub SimAnswer : List ℕ → List ℕ → ℕ → Contents → Status → List ℕ → Type 0
-SimAnswer plan_name events_name until files status text =
-    Answered (λ read. IsReport read.0 read.1 until) (plan_and_events plan_name events_name files) status text

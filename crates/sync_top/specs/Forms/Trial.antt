@@ -12,7 +12,7 @@ use Rattle.net_rules.specs.History.{out_at}
 use Rattle.net_rules.specs.Settled.{IsSettled}
 use Rattle.net_rules.specs.Settling.{IsGreatest, IsRank}
 use Rattle.net_rules.specs.Safety.{IsLoopFree}
-use Rattle.event_sim.specs.declared.limits.TheConstants.{MOST_CHANGES}
+use Rattle.sync_ql.specs.declared.limits.TheConstants.{MOST_ROWS}
 use Rattle.event_sim.specs.declared.change.Change.{Change}
 use Rattle.event_sim.specs.Rows.{rows_until}
 use Rattle.event_sim.specs.Answers.{IsLastFit}
@@ -30,7 +30,7 @@ trial_events = record { at = FAILURE; what = Down (Link 0) } ∷ []
 -- to the last millisecond up to which all fit
 abbrev pub AreReportRows : Topology → List Event → ℕ → List Change → Type 0
 AreReportRows plan events until rows =
-    ((length (rows_until plan events (suc until)) ≤ MOST_CHANGES) × (rows ≡ rows_until plan events (suc until)))
+    ((length (rows_until plan events (suc until)) ≤ MOST_ROWS) × (rows ≡ rows_until plan events (suc until)))
     ⊎ ((t : ℕ) × IsLastFit plan events t until × (rows ≡ rows_until plan events (suc t)))
 
 -- a line of a word and a number
@@ -70,5 +70,5 @@ pub record IsTrialText (n : ℕ) (plan : Topology) (text : List ℕ) : Type 0 wh
   pub is : text ≡ trial_text n plan top rows settled
 
 -- the answer to `trial`: the text of the ladder of so many elements, whether or not its changes fit
-abbrev pub TrialAnswer : ℕ → Status → List ℕ → Type 0
-TrialAnswer n status text = (status ≡ Done) × IsTrialText n (ladder n) text
+abbrev pub IsTrial : ℕ → Status → List ℕ → Type 0
+IsTrial n status text = (status ≡ Done) × IsTrialText n (ladder n) text

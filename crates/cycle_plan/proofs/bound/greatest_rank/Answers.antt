@@ -1,6 +1,5 @@
-use Rattle.std.proofs.Common.{◌≡◌, sym, arith}
+use Rattle.std.proofs.Common.{◌≡◌, arith}
 use Rattle.sync_topo.specs.Lines.{line_count}
-use Rattle.cycle_plan.specs.BoundParts.{IsRankBelow}
 use Rattle.cycle_plan.proofs.BoundLemmas.{rank-more, rank-all}
 use Rattle.cycle_plan.proofs.bound.greatest_rank.Goals as goal
 

@@ -1,6 +1,7 @@
 use Rattle.std.proofs.Common.{sym, ◌∙◌}
+use Rattle.event_times.proofs.Followed.{followed}
 use Rattle.event_sim.specs.SimState.{first_after}
-use Rattle.event_sim.proofs.LaterRows.{rows-later, followed}
+use Rattle.event_sim.proofs.LaterRows.{rows-later}
 use Rattle.event_sim.proofs.laws.later_events_law.Goals as goal
 
 pub returns-clause-appended : goal.returns-clause-appended

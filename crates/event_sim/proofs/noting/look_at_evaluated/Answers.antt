@@ -2,10 +2,11 @@ use Rattle.std.proofs.Common.{◌≡◌, ◌<◌, ◌+◌, ℕ, List, false, ◌
 use Rattle.std.specs.Prelude.{nat_eq, slice_index, slice_index_or, if◌then◌else◌, ◌++◌, ◌∷◌, []}
 use Rattle.std.specs.List.{list_any}
 use Rattle.std.proofs.lemmas.List.Folds.{list_any_more}
+use Rattle.agenda.proofs.MarkedPlaces.{not_before}
 use Rattle.sync_element.specs.ElementState.{ElementState}
 use Rattle.event_sim.specs.declared.shown.Shown.{Shown}
 use Rattle.event_sim.specs.Showing.{Shows}
-use Rattle.event_sim.proofs.NotingLaws.{not-before, seen-none, seen-more}
+use Rattle.event_sim.proofs.NotingLaws.{seen-none, seen-more}
 use Rattle.event_sim.proofs.noting.look_at_evaluated.Goals as goal
 
 pub loop-place-init : goal.loop-place-init
@@ -26,7 +27,7 @@ loop-place-preserved c =
     seen-more c.args.net.now (take i places) (take (i + 1) places) c.args.shown.now.items c.loop-place.shown.items c.loop-place.changed.items c.list_if.new.listed.items
     (slice_index items i) c.index-was.result.now now
     (λ e. list_any_more (nat_eq e) places i 0 inside ∙ ap (λ k. list_any (nat_eq e) (take i places) || nat_eq e k) (sym at))
-    (subst (λ k. list_any (nat_eq k) (take i places) ≡ false) (sym at) (not-before i places c.requires.apart inside))
+    (subst (λ k. list_any (nat_eq k) (take i places) ≡ false) (sym at) (not_before i places c.requires.apart inside))
     (omega (arith, c.requires.within i 0 inside, at, c.loop-place.invariant.count, c.requires.count))
     c.index-was.ensures
     shows

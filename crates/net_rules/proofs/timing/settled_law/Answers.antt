@@ -2,7 +2,7 @@ use Rattle.net_rules.proofs.PlanLaws.{IsDelayed-well}
 use Rattle.net_rules.proofs.QuietLaws.{settled-stays}
 use Rattle.net_rules.proofs.BoundLaws.{bound-settles}
 use Rattle.net_rules.proofs.NewsLaws.{settled-by_news, news-by_settled}
-use Rattle.net_rules.proofs.FinalLaws.{settled-unpaired}
+use Rattle.net_rules.proofs.SettledLaws.{no-pair}
 use Rattle.net_rules.proofs.timing.settled_law.Goals as goal
 
 pub returns-clause-stays : goal.returns-clause-stays
@@ -15,4 +15,4 @@ pub returns-clause-news : goal.returns-clause-news
 returns-clause-news c = λ plan signals out t. (settled-by_news plan signals out t, news-by_settled plan signals out t)
 
 pub returns-clause-unpaired : goal.returns-clause-unpaired
-returns-clause-unpaired c = settled-unpaired
+returns-clause-unpaired c = no-pair

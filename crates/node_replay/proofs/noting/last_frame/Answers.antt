@@ -1,11 +1,12 @@
 use Rattle.std.proofs.Common.{arith}
+use Rattle.sync_text.proofs.Options.{option_or-none}
 use Rattle.node_file.specs.NodeRow.{frames_on}
 use Rattle.node_rules.specs.Replay.{last_of}
-use Rattle.node_replay.proofs.RowWords.{step-frame, end-frame, first-said}
+use Rattle.node_replay.proofs.RowWords.{step-frame, end-frame}
 use Rattle.node_replay.proofs.noting.last_frame.Goals as goal
 
 pub loop-row-init : goal.loop-row-init
-loop-row-init c = first-said (last_of (frames_on c.args.line.0 c.args.here.now))
+loop-row-init c = option_or-none (last_of (frames_on c.args.line.0 c.args.here.now))
 
 pub loop-row-preserved : goal.loop-row-preserved
 loop-row-preserved c =

@@ -1,11 +1,12 @@
 use Rattle.std.proofs.Common.{arith}
+use Rattle.sync_text.proofs.Options.{option_or-none}
 use Rattle.net_rules.specs.Signals.{says_level, last_word}
 use Rattle.node_file.specs.NodeRow.{events_in}
-use Rattle.node_replay.proofs.RowWords.{step-said, end-said, first-said}
+use Rattle.node_replay.proofs.RowWords.{step-said, end-said}
 use Rattle.node_replay.proofs.noting.level_said.Goals as goal
 
 pub loop-row-init : goal.loop-row-init
-loop-row-init c = first-said (last_word (says_level c.args.source) (events_in c.args.here.now))
+loop-row-init c = option_or-none (last_word (says_level c.args.source) (events_in c.args.here.now))
 
 pub loop-row-preserved : goal.loop-row-preserved
 loop-row-preserved c =

@@ -1,11 +1,12 @@
 use Rattle.std.proofs.Common.{◌<◌, ◌≤◌, ◌≡◌, ℕ, List, [], map, length, drop, get_or, ap, sym, subst, ◌∙◌, arith}
 use Rattle.std.proofs.Math.ListN.{drop_of_length-le}
 use Rattle.std.proofs.lemmas.List.{get_or-map, length-map, append-nil}
+use Rattle.sync_text.proofs.Each.{each-all}
 use Rattle.sync_topo.specs.Lines.{line_count}
 use Rattle.sync_topo.specs.declared.input.LineId.{LineId}
 use Rattle.event_file.specs.EventText.{events_of}
 use Rattle.prio_mode.specs.ForcedText.{forced_size}
-use Rattle.prio_mode.proofs.ForcedRead.{each-within, read-back, text-short}
+use Rattle.prio_mode.proofs.ForcedRead.{read-back, text-short}
 use Rattle.prio_mode.proofs.forced.write_forced.Goals as goal
 
 -- the line's number is one of those that are within
@@ -29,10 +30,14 @@ unfolding returns-clause-text
 returns-clause-read_back c =
     let numbers : List ℕ = map (λ line. line.0) c.args.lines.now in
     ap (events_of c.args.plan.now) (returns-clause-text c)
-    ∙ read-back c.args.plan.now numbers c.lines-lines.ensures.well_formed (each-within (line_count c.args.plan.now) numbers c.requires.within) c.requires.apart
+    ∙ read-back c.args.plan.now numbers c.lines-lines.ensures.well_formed
+    (each-all (λ line. line < line_count c.args.plan.now) numbers c.requires.within)
+    c.requires.apart
 
 pub returns-clause-short : goal.returns-clause-short
 returns-clause-short c =
     let numbers : List ℕ = map (λ line. line.0) c.args.lines.now in
     subst (λ text. length text ≤ forced_size) (sym (returns-clause-text c))
-    (text-short c.args.plan.now numbers c.lines-lines.ensures.well_formed (each-within (line_count c.args.plan.now) numbers c.requires.within) c.requires.apart)
+    (text-short c.args.plan.now numbers c.lines-lines.ensures.well_formed
+    (each-all (λ line. line < line_count c.args.plan.now) numbers c.requires.within)
+    c.requires.apart)

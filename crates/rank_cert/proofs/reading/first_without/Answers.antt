@@ -1,8 +1,8 @@
 use Rattle.std.proofs.Common.{◌<◌, ◌&&◌, sym, ◌∙◌, arith}
 use Rattle.std.specs.Prelude.{is_none}
+use Rattle.sync_text.proofs.Ranges.{find_range-next}
 use Rattle.sync_topo.specs.Lines.{line_count, is_nominated}
 use Rattle.rank_cert.specs.Ranks.{rank_at}
-use Rattle.rank_cert.proofs.Searches.{find_range-next}
 use Rattle.rank_cert.proofs.reading.first_without.Goals as goal
 
 pub loop-number-preserved : goal.loop-number-preserved

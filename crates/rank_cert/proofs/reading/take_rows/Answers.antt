@@ -1,7 +1,7 @@
 use Rattle.std.proofs.Common.{◌∙◌, refl, length, arith}
 use Rattle.std.proofs.lemmas.Option.{slice_get_read}
+use Rattle.csv_records.proofs.FirstRefusals.{first_refusal-some, first_refusal-none}
 use Rattle.rank_cert.specs.CertificateText.{refusal_at}
-use Rattle.rank_cert.proofs.Searches.{first_refusal-some, first_refusal-none}
 use Rattle.rank_cert.proofs.Taking.{refusal_at-is, AreTaken-more}
 use Rattle.rank_cert.proofs.reading.take_rows.Goals as goal
 

@@ -1,10 +1,11 @@
 use Rattle.std.proofs.Common.{ℕ, List, map, IfOk, subst}
 use Rattle.std.specs.List.{All}
 use Rattle.std.proofs.lemmas.Result.{IfOk-weaker}
+use Rattle.sync_text.specs.Each.{Each}
 use Rattle.sync_topo.specs.declared.event.Event.{Event}
 use Rattle.sync_topo.specs.Hops.{IsRising}
 use Rattle.sync_topo.specs.WellFormed.{IsWellFormed}
-use Rattle.net_rules.specs.Walks.{Each, IsFacingPair}
+use Rattle.net_rules.specs.Walks.{IsFacingPair}
 use Rattle.sync_net.specs.Standing.{StandsFor}
 use Rattle.settle_trace.specs.Now.{now_of, signals_of, out_of, taken_now}
 use Rattle.closed_walks.specs.Taking.{taken_in_list}

@@ -32,12 +32,12 @@ loop-place-preserved g c =
     let fresh : list_any (nat_eq (slice_index items i)) (take i marked.listed) ≡ false =
     subst (λ k. list_any (nat_eq k) (take i marked.listed) ≡ false) (sym place) (not_before i marked.listed c.listed-place-items.ensures.all.apart inside) in
     record {
-      steps = omega (arith, c.evaluate.ensures.ticks, c.loop-place.invariant.steps);
+      steps = omega (arith, c.in_ok-evaluate.ensures.ticks, c.loop-place.invariant.steps);
       evaluated = evaluated-next c.args.now (length c.args.elements.now) (length c.loop-place.elements) (slice_index items i) (is_out_of c.args.plan.now)
           (λ e. list_any (nat_eq e) (take i marked.listed)) (λ e. list_any (nat_eq e) (take (i + 1) marked.listed)) _ _ _ fresh
           (λ e. subst (λ k. list_any (nat_eq e) (take (i + 1) marked.listed) ≡ (list_any (nat_eq e) (take i marked.listed) || nat_eq e k)) (sym place) (behind e i marked.listed inside))
           c.loop-place.invariant.evaluated
-          c.loop-place.invariant.evaluated.elements_count c.evaluate.ensures.evaluated;
+          c.loop-place.invariant.evaluated.elements_count c.in_ok-evaluate.ensures.evaluated;
     }
 
 pub returns-clause-evaluated : goal.returns-clause-evaluated

@@ -17,6 +17,6 @@ returns c =
           let same : sender ≡ slice_index_or elements c.from.result other =
           c.index-elements-from.is ∙ get_or_default elements c.from.result sender other within in
           subst (λ e. IsLevelSent c.args.plan.now c.args.line.0 (slice_index_or elements e other) c.level_sent-level.result) c.from.ensures.sender
-          (subst (λ x. IsLevelSent c.args.plan.now c.args.line.0 x c.level_sent-level.result) same c.level_sent-level.ensures))
+          (subst (λ x. IsLevelSent c.args.plan.now c.args.line.0 x c.level_sent-level.result) same (rw c.get-sender.ensures at c.level_sent-level.ensures)))
           c.in_ok-give.ensures.given;
     }

@@ -23,18 +23,18 @@ evaluate-requires-clause-can_step g c = λ element other within.
 pub send-requires-clause-settings : goal.send-requires-clause-settings
 send-requires-clause-settings g c = λ element other within.
     settings_stay c.args.plan.now c.args.now c.args.events.now c.args.parts.now c.call_due.new.parts c.take_in.new.parts c.hear.new.parts c.evaluate.new.parts c.requires.whole c.requires.in_time
-    c.call_due.ensures (c.in_ok-take_in.ensures) (c.in_ok-hear.ensures) c.evaluate.ensures.evaluated element other within
+    c.call_due.ensures (c.in_ok-take_in.ensures) (c.in_ok-hear.ensures) c.in_ok-evaluate.ensures.evaluated element other within
 
 pub send-requires-clause-can_say : goal.send-requires-clause-can_say
 send-requires-clause-can_say g c = λ line is.
-    let fourth = c.evaluate.ensures.evaluated in
+    let fourth = c.in_ok-evaluate.ensures.evaluated in
     can_say_called c.args.plan.now c.args.now c.args.events.now c.args.parts.now c.call_due.new.parts c.take_in.new.parts c.hear.new.parts c.evaluate.new.parts c.requires.whole c.requires.in_time
     c.call_due.ensures (c.in_ok-take_in.ensures) (c.in_ok-hear.ensures) fourth line (fourth.called_listed.listed line ∙ is)
 
 pub returns-clause-whole : goal.returns-clause-whole
 returns-clause-whole g c =
     whole_then c.args.plan.now c.args.now c.args.events.now c.args.parts.now c.call_due.new.parts c.take_in.new.parts c.hear.new.parts c.evaluate.new.parts c.send.new.parts _ c.requires.whole c.requires.in_time
-    c.call_due.ensures (c.in_ok-take_in.ensures) (c.in_ok-hear.ensures) c.evaluate.ensures.evaluated (c.in_ok-send.ensures)
+    c.call_due.ensures (c.in_ok-take_in.ensures) (c.in_ok-hear.ensures) c.in_ok-evaluate.ensures.evaluated (c.in_ok-send.ensures)
     (record {
       next = refl;
       later_steps = c.steps_after-parts.ensures;
@@ -52,7 +52,7 @@ returns-clause-whole g c =
 pub returns-clause-stepped : goal.returns-clause-stepped
 returns-clause-stepped g c =
     net_step c.args.plan.now c.args.now c.args.events.now c.args.parts.now c.call_due.new.parts c.take_in.new.parts c.hear.new.parts c.evaluate.new.parts c.send.new.parts _ c.requires.whole c.requires.in_time
-    c.call_due.ensures (c.in_ok-take_in.ensures) (c.in_ok-hear.ensures) c.evaluate.ensures.evaluated (c.in_ok-send.ensures)
+    c.call_due.ensures (c.in_ok-take_in.ensures) (c.in_ok-hear.ensures) c.in_ok-evaluate.ensures.evaluated (c.in_ok-send.ensures)
     (record {
       next = refl;
       later_steps = c.steps_after-parts.ensures;
@@ -69,7 +69,7 @@ returns-clause-stepped g c =
 pub returns-clause-evaluated : goal.returns-clause-evaluated
 returns-clause-evaluated g c =
     evaluated_for c.args.plan.now c.args.now c.args.events.now c.args.parts.now c.call_due.new.parts c.take_in.new.parts c.hear.new.parts c.evaluate.new.parts c.send.new.parts _ c.requires.whole c.requires.in_time
-    c.call_due.ensures (c.in_ok-take_in.ensures) (c.in_ok-hear.ensures) c.evaluate.ensures.evaluated (c.in_ok-send.ensures)
+    c.call_due.ensures (c.in_ok-take_in.ensures) (c.in_ok-hear.ensures) c.in_ok-evaluate.ensures.evaluated (c.in_ok-send.ensures)
     (record {
       next = refl;
       later_steps = c.steps_after-parts.ensures;
@@ -86,7 +86,7 @@ returns-clause-evaluated g c =
 pub returns-clause-called : goal.returns-clause-called
 returns-clause-called g c =
     called_alone c.args.plan.now c.args.now c.args.events.now c.args.parts.now c.call_due.new.parts c.take_in.new.parts c.hear.new.parts c.evaluate.new.parts c.send.new.parts _ c.requires.whole c.requires.in_time
-    c.call_due.ensures (c.in_ok-take_in.ensures) (c.in_ok-hear.ensures) c.evaluate.ensures.evaluated (c.in_ok-send.ensures)
+    c.call_due.ensures (c.in_ok-take_in.ensures) (c.in_ok-hear.ensures) c.in_ok-evaluate.ensures.evaluated (c.in_ok-send.ensures)
     (record {
       next = refl;
       later_steps = c.steps_after-parts.ensures;
@@ -103,7 +103,7 @@ returns-clause-called g c =
 pub returns-clause-called_only : goal.returns-clause-called_only
 returns-clause-called_only g c =
     called_for c.args.plan.now c.args.now c.args.events.now c.args.parts.now c.call_due.new.parts c.take_in.new.parts c.hear.new.parts c.evaluate.new.parts c.send.new.parts _ c.requires.whole c.requires.in_time
-    c.call_due.ensures (c.in_ok-take_in.ensures) (c.in_ok-hear.ensures) c.evaluate.ensures.evaluated (c.in_ok-send.ensures)
+    c.call_due.ensures (c.in_ok-take_in.ensures) (c.in_ok-hear.ensures) c.in_ok-evaluate.ensures.evaluated (c.in_ok-send.ensures)
     (record {
       next = refl;
       later_steps = c.steps_after-parts.ensures;

@@ -7,8 +7,8 @@ use Rattle.sync_sweep.proofs.row.row_of.Goals as goal
 pub tally_of-tally-requires-clause-some : goal.tally_of-tally-requires-clause-some
 tally_of-tally-requires-clause-some c =
     let plan = c.args.net.now.plan in
-    let well : IsWellFormed plan = subst IsWellFormed c.plan.ensures c.elements.ensures.well_formed in
-    omega (arith, some-element plan c.args.link well c.requires.link, c.elements.ensures.count, ap (λ p. length p.elements) c.plan.ensures)
+    let well : IsWellFormed plan = subst IsWellFormed c.plan.ensures c.elements-elements.ensures.well_formed in
+    omega (arith, some-element plan c.args.link well c.requires.link, c.elements-elements.ensures.count, ap (λ p. length p.elements) c.plan.ensures)
 
 pub loops_of-requires-clause-loop_free : goal.loops_of-requires-clause-loop_free
 loops_of-requires-clause-loop_free c = λ says rank rising lines.

@@ -7,6 +7,6 @@ use Rattle.sync_sweep.proofs.shown.all_levels.Given as goal
 -- the elements behind show what is kept
 abbrev pub invariant-loop-e : goal.invariant-loop-e
 invariant-loop-e l = record {
-  count : length l.levels.items ≡ l.e;
-  each : (k : ℕ) (element : ElementState) (other : Level) → k < l.e → ShowsLevel (slice_index_or l.net.elements k element) (slice_index_or l.levels.items k other);
+  count : length l.levels ≡ l.e;
+  each : (k : ℕ) (element : ElementState) (other : Level) → k < l.e → ShowsLevel (slice_index_or l.net.elements k element) (slice_index_or l.levels k other);
 }

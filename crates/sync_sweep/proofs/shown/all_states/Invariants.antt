@@ -7,6 +7,6 @@ use Rattle.sync_sweep.proofs.shown.all_states.Given as goal
 -- the elements behind show what is kept
 abbrev pub invariant-loop-e : goal.invariant-loop-e
 invariant-loop-e l = record {
-  count : length l.states.items ≡ l.e;
-  each : (k : ℕ) (element : ElementState) (other : ClockState) → k < l.e → ShowsState (slice_index_or l.net.elements k element) (slice_index_or l.states.items k other);
+  count : length l.states ≡ l.e;
+  each : (k : ℕ) (element : ElementState) (other : ClockState) → k < l.e → ShowsState (slice_index_or l.net.elements k element) (slice_index_or l.states k other);
 }

@@ -9,8 +9,8 @@ use Rattle.sync_sweep.proofs.shown.note_levels.Given as goal
 -- the places behind are noted, and all others are as they were
 abbrev pub invariant-loop-place : goal.invariant-loop-place
 invariant-loop-place l = record {
-  count : length l.levels.items ≡ length l.fn.levels.items;
+  count : length l.levels ≡ length l.fn.levels;
   noted : (k : ℕ) (element : ElementState) (other : Level) → k < length l.net.plan.elements → list_any (nat_eq k) (take l.place-index l.places) ≡ true
-      → ShowsLevel (slice_index_or l.net.elements k element) (slice_index_or l.levels.items k other);
-  left : (k : ℕ) (other : Level) → list_any (nat_eq k) (take l.place-index l.places) ≡ false → slice_index_or l.levels.items k other ≡ slice_index_or l.fn.levels.items k other;
+      → ShowsLevel (slice_index_or l.net.elements k element) (slice_index_or l.levels k other);
+  left : (k : ℕ) (other : Level) → list_any (nat_eq k) (take l.place-index l.places) ≡ false → slice_index_or l.levels k other ≡ slice_index_or l.fn.levels k other;
 }

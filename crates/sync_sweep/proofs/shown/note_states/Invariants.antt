@@ -9,8 +9,8 @@ use Rattle.sync_sweep.proofs.shown.note_states.Given as goal
 -- the places behind are noted, and all others are as they were
 abbrev pub invariant-loop-place : goal.invariant-loop-place
 invariant-loop-place l = record {
-  count : length l.states.items ≡ length l.fn.states.items;
+  count : length l.states ≡ length l.fn.states;
   noted : (k : ℕ) (element : ElementState) (other : ClockState) → k < length l.net.plan.elements → list_any (nat_eq k) (take l.place-index l.places) ≡ true
-      → ShowsState (slice_index_or l.net.elements k element) (slice_index_or l.states.items k other);
-  left : (k : ℕ) (other : ClockState) → list_any (nat_eq k) (take l.place-index l.places) ≡ false → slice_index_or l.states.items k other ≡ slice_index_or l.fn.states.items k other;
+      → ShowsState (slice_index_or l.net.elements k element) (slice_index_or l.states k other);
+  left : (k : ℕ) (other : ClockState) → list_any (nat_eq k) (take l.place-index l.places) ≡ false → slice_index_or l.states k other ≡ slice_index_or l.fn.states k other;
 }

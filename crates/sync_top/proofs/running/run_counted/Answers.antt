@@ -1,6 +1,6 @@
 use Rattle.std.proofs.Common.{sym, subst, ◌∙◌}
 use Rattle.event_sim.specs.SimState.{first_after}
-use Rattle.event_sim.specs.Standing.{AreTold, AreWithin}
+use Rattle.event_times.specs.EventTimes.{AreTold, AreWithin}
 use Rattle.sync_top.proofs.RunLaws.{came_to}
 use Rattle.sync_top.proofs.running.run_counted.Goals as goal
 

@@ -1,7 +1,6 @@
-use Rattle.std.proofs.Common.{◌≡◌, ℕ, None, Some, length, refl, sym, ap, subst, ◌∙◌, inl, inr}
+use Rattle.std.proofs.Common.{◌≡◌, ℕ, None, Some, length, refl, sym, subst, inl, inr}
 use Rattle.std.proofs.lemmas.Bool.{eq-eqb}
 use Rattle.std.proofs.lemmas.Option.{slice_get_read}
-use Rattle.std.specs.List.{All}
 use Rattle.std.specs.Prelude.{◌≢◌, slice_get}
 use Rattle.sync_topo.specs.Lines.{inputs_of, IsNominated, sender_of}
 use Rattle.rank_cert.specs.Ranks.{rank_at}
@@ -40,7 +39,7 @@ returns-in_default-clause-more c =
       watched = record { first_within = was.watched.first_within; second_within = was.watched.second_within; before = was.watched.before; between = was.watched.between };
       back = was.back;
       done = λ done line nominated sent. c.in_ok-give_all.ensures.given line nominated sent refl;
-    }) refl refl refl)
+    }) refl refl refl refl)
 
 pub returns-then-watch-2-clause-settled : goal.returns-then-watch-2-clause-settled
 returns-then-watch-2-clause-settled c =
@@ -85,4 +84,4 @@ returns-clause-more c =
           (rw (← c.inputs_of-inputs.ensures.inputs) c.if-watch-inputs.false) (rw (← c.inputs_of-inputs.ensures.inputs) (sym c.in-Some.ensures))
           c.in_ok-give_all-2.ensures.more.grows (given c);
       done = was.done;
-    }) refl refl refl)
+    }) refl refl refl refl)

@@ -20,4 +20,4 @@ returns-clause-watched c =
 
 pub returns-clause-more : goal.returns-clause-more
 returns-clause-more c =
-    IsMore-watch c.args.returns c.args.plan.now c.args.self.now _ c.args.element c.first_open-watch.result c.requires.peeling c.requires.within (returns-clause-watched c) refl refl refl
+    IsMore-watch c.args.returns c.args.plan.now c.args.self.now _ c.args.element c.first_open-watch.result c.requires.peeling c.requires.within (returns-clause-watched c) refl refl refl refl

@@ -4,15 +4,16 @@ use Rattle.sync_topo.specs.declared.event.Event.{Event}
 use Rattle.sync_topo.specs.Topology.{Topology}
 use Rattle.sync_topo.specs.Events.{Fits}
 use Rattle.sync_net.specs.NetState.{NetState}
-use Rattle.event_sim.specs.Standing.{AreWithin}
-use Rattle.event_sim.specs.Running.{RunStands, IsCut, IsAfterTurn, AreHere}
+use Rattle.event_times.specs.EventTimes.{AreWithin, AreHere}
+use Rattle.event_sim.specs.Running.{RunStands, IsCut, IsAfterTurn}
 use Rattle.event_sim.proofs.BoundLaws.{bound-more}
-use Rattle.event_sim.proofs.RunLaws.{IsTurn, within-from, the-turn, kept-more, run-until, turn-here, turn-counted}
+use Rattle.event_times.proofs.EventTimes.{within-from}
+use Rattle.event_sim.proofs.RunLaws.{IsTurn, the-turn, kept-more, run-until, turn-here, turn-counted}
 use Rattle.event_sim.proofs.running.Run.advance.Goals as goal
 
 pub take_turn-requires-clause-in_time : goal.take_turn-requires-clause-in_time
 take_turn-requires-clause-in_time g c =
-    let next = c.next_time-now.ensures c.args.self.now.net.plan c.loop-next.invariant.rest in
+    let next = c.next_time-now.ensures in
     record {
       first = λ none. next.first (c.loop-next.invariant.next ∙ none);
       later = omega (arith, next.later, c.loop-next.invariant.next);
@@ -21,25 +22,25 @@ take_turn-requires-clause-in_time g c =
 
 pub take_turn-requires-clause-in_range : goal.take_turn-requires-clause-in_range
 take_turn-requires-clause-in_range g c =
-    let next = c.next_time-now.ensures c.args.self.now.net.plan c.loop-next.invariant.rest in
+    let next = c.next_time-now.ensures in
     omega (arith, next.up_to, c.requires.in_range)
 
 pub take_turn-requires-clause-fit : goal.take_turn-requires-clause-fit
 take_turn-requires-clause-fit g c =
     let plan : Topology = c.args.self.now.net.plan in
-    let next = c.next_time-now.ensures plan c.loop-next.invariant.rest in
+    let next = c.next_time-now.ensures in
     let parted = c.split_at_time.ensures plan c.args.until (within-from plan c.loop-next.next c.args.until c.next_time-now.result c.loop-next.rest.now c.due.result next c.loop-next.invariant.rest) in
     subst (λ (p : Topology). All (Fits p) c.split_at_time.result.0.now) (sym c.loop-next.invariant.kept.plan) parted.fit
 
 pub take_turn-requires-clause-here : goal.take_turn-requires-clause-here
 take_turn-requires-clause-here g c =
     let plan : Topology = c.args.self.now.net.plan in
-    let next = c.next_time-now.ensures plan c.loop-next.invariant.rest in
+    let next = c.next_time-now.ensures in
     (c.split_at_time.ensures plan c.args.until (within-from plan c.loop-next.next c.args.until c.next_time-now.result c.loop-next.rest.now c.due.result next c.loop-next.invariant.rest)).at
 
 pub returns-then-not-branch-clause-stopped : goal.returns-then-not-branch-clause-stopped
 returns-then-not-branch-clause-stopped g c =
-    let next = c.next_time-now.ensures c.args.self.now.net.plan c.loop-next.invariant.rest in
+    let next = c.next_time-now.ensures in
     let late : 0 < c.next_time-now.result = c.in_ok-take_turn.ensures.late c.if-not-branch.true in (
       omega (arith, late, next.up_to, c.saturating_sub.ensures),
       omega (arith, late, c.in_ok-take_turn.ensures.next, c.saturating_sub.ensures),
@@ -56,7 +57,7 @@ returns-then-not-branch-clause-cut g c = λ all told run.
     let rest : List Event = c.loop-next.rest.now in
     let here : List Event = c.split_at_time.result.0.now in
     let later : List Event = c.split_at_time.result.1.now in
-    let next = c.next_time-now.ensures plan c.loop-next.invariant.rest in
+    let next = c.next_time-now.ensures in
     let parted = c.split_at_time.ensures plan c.args.until (within-from plan c.loop-next.next c.args.until now rest c.due.result next c.loop-next.invariant.rest) in
     let turn : IsTurn net plan given rest here later c.args.until now c.due.result =
     the-turn net plan given rest here later c.args.until now c.loop-next.next c.due.result
@@ -83,7 +84,7 @@ returns-then-not-branch-clause-cost g c = λ all told run.
     let rest : List Event = c.loop-next.rest.now in
     let here : List Event = c.split_at_time.result.0.now in
     let later : List Event = c.split_at_time.result.1.now in
-    let next = c.next_time-now.ensures plan c.loop-next.invariant.rest in
+    let next = c.next_time-now.ensures in
     let parted = c.split_at_time.ensures plan c.args.until (within-from plan c.loop-next.next c.args.until now rest c.due.result next c.loop-next.invariant.rest) in
     let turn : IsTurn net plan given rest here later c.args.until now c.due.result =
     the-turn net plan given rest here later c.args.until now c.loop-next.next c.due.result
@@ -103,7 +104,7 @@ returns-then-not-branch-clause-cost g c = λ all told run.
 
 pub loop-next-smaller : goal.loop-next-smaller
 loop-next-smaller g c =
-    let next = c.next_time-now.ensures c.args.self.now.net.plan c.loop-next.invariant.rest in
+    let next = c.next_time-now.ensures in
     omega (arith, next.later, next.up_to, c.loop-next-test.true)
 
 pub loop-next-preserved : goal.loop-next-preserved
@@ -116,7 +117,7 @@ loop-next-preserved g c =
     let rest : List Event = c.loop-next.rest.now in
     let here : List Event = c.split_at_time.result.0.now in
     let later : List Event = c.split_at_time.result.1.now in
-    let next = c.next_time-now.ensures plan c.loop-next.invariant.rest in
+    let next = c.next_time-now.ensures in
     let parted = c.split_at_time.ensures plan c.args.until (within-from plan c.loop-next.next c.args.until now rest c.due.result next c.loop-next.invariant.rest) in
     let turn : IsTurn net plan given rest here later c.args.until now c.due.result =
     the-turn net plan given rest here later c.args.until now c.loop-next.next c.due.result

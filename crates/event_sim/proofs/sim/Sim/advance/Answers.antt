@@ -1,6 +1,7 @@
 use Rattle.std.proofs.Common.{◌≡◌, ℕ, false, ap, sym, subst, ◌∙◌}
 use Rattle.event_sim.specs.SimState.{SimState, first_after}
-use Rattle.event_sim.specs.Standing.{AreTold, watched_rows}
+use Rattle.event_times.specs.EventTimes.{AreTold}
+use Rattle.event_sim.specs.Standing.{watched_rows}
 use Rattle.event_sim.proofs.LaterRows.{last-fit}
 use Rattle.event_sim.proofs.sim.Sim.advance.Goals as goal
 

@@ -1,5 +1,5 @@
 use Rattle.std.proofs.Common.{[], true, None, refl, sym, subst}
-use Rattle.link_model.specs.Each.{Each}
+use Rattle.sync_text.specs.Each.{Each}
 use Rattle.link_model.specs.Kept.{WordsKept, words_kept, all_words}
 use Rattle.link_model.specs.StandsFor.{StandsFor, AreOfOption}
 use Rattle.link_model.proofs.Replies.{IsOf, stands-as}

@@ -1,6 +1,6 @@
 use Rattle.std.proofs.Common.{◌≡◌, ◌≤◌, ◌<◌, ◌*◌, ◌+◌, suc, IfSome, refl, ap, sym, subst, ◌∙◌, arith}
+use Rattle.sync_text.specs.Each.{Each}
 use Rattle.sync_ql.specs.Messages.{line_until}
-use Rattle.link_model.specs.Each.{Each}
 use Rattle.link_model.specs.Kept.{WordsKept, words_kept, all_words, due_of, heard_of}
 use Rattle.link_model.specs.StandsFor.{StandsFor, AreOfOption}
 use Rattle.link_model.specs.Whole.{next_of, kept_in, IsWhole}

@@ -11,8 +11,8 @@ use Rattle.node_replay.proofs.KeptLevels.{kept-all, ids-after, lines-within}
 use Rattle.node_replay.proofs.FittingWords.{words-fit}
 use Rattle.node_replay.proofs.running.Run.take_rows.Goals as goal
 
-pub step_told-requires-clause-fits : goal.step_told-requires-clause-fits
-step_told-requires-clause-fits c =
+pub step_alone-requires-clause-fits : goal.step_alone-requires-clause-fits
+step_alone-requires-clause-fits c =
     let plan = c.args.plan.now in
     let place = c.args.place in
     let here = c.args.here.now in

@@ -1,10 +1,10 @@
 use Rattle.std.proofs.Common.{◌≡◌, ◌<◌, true, not, Some, None, length, slice_get, ap, sym, ◌∙◌, arith}
 use Rattle.std.proofs.lemmas.Option.{slice_get-get_or}
+use Rattle.sync_text.proofs.Ranges.{find_range-Some}
 use Rattle.sync_topo.specs.Bundles.{join_same}
 use Rattle.sync_topo.specs.Kept.{names_bundle, first_of_bundle}
 use Rattle.sync_topo.specs.Names.{is_name}
 use Rattle.sync_topo.proofs.BundleRules.{bad-unnamed, bad-named, bad-new, bad-first, twice-not}
-use Rattle.sync_topo.proofs.LineLaws.{find_range-Some}
 use Rattle.sync_topo.proofs.parts.Parts.may_bundle.Goals as goal
 
 pub returns-in_default : goal.returns-in_default

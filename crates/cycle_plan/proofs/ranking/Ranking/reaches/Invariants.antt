@@ -1,0 +1,5 @@
+use Rattle.cycle_plan.specs.Mosts.{AreReaches}
+use Rattle.cycle_plan.proofs.ranking.Ranking.reaches.Given as goal
+
+abbrev pub invariant-loop-place : goal.invariant-loop-place
+invariant-loop-place l = AreReaches l.plan l.self.order.items l.place l.reaches.items

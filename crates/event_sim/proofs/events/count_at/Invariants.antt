@@ -1,7 +1,0 @@
-use Rattle.std.proofs.Common.{◌≤◌, ◌<◌, ℕ, slice_index_or}
-use Rattle.sync_topo.specs.declared.event.Event.{Event}
-use Rattle.event_sim.proofs.events.count_at.Given as goal
-
--- no event behind is later
-abbrev pub invariant-loop-place : goal.invariant-loop-place
-invariant-loop-place l = (k : ℕ) (other : Event) → k < l.place → (slice_index_or l.events k other).at ≤ l.now
