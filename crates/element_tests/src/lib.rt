@@ -2,16 +2,16 @@
 #![tactic(auto)]
 
 #[cfg(test)]
-mod choices;
+mod agenda;
 #[cfg(test)]
-mod dues;
+mod input_monitor;
 #[cfg(test)]
-mod elements;
+mod link_model;
 #[cfg(test)]
-mod levels;
+mod operator_cmds;
 #[cfg(test)]
-mod lines;
+mod selector;
 #[cfg(test)]
-mod switches;
+mod sync_element;
 #[cfg(test)]
-mod timers;
+mod sync_ql;

@@ -2,14 +2,20 @@
 #![tactic(auto)]
 
 #[cfg(test)]
-mod captures;
+mod capture_text;
 #[cfg(test)]
-mod certificates;
+mod csv_records;
 #[cfg(test)]
-mod edges;
+mod esmc_frame;
 #[cfg(test)]
-mod plans;
+mod event_file;
 #[cfg(test)]
-mod printed;
+mod pcap_file;
 #[cfg(test)]
-mod records;
+mod plan_file;
+#[cfg(test)]
+mod rank_cert;
+#[cfg(test)]
+mod sync_edge;
+#[cfg(test)]
+mod sync_topo;
