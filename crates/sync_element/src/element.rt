@@ -280,7 +280,7 @@ impl Element {
             (signals_of i (moments_until self.now.settings n past))
             ≡ later_by (n - self.now.next) result }
     {
-        let input = &self.inputs.watched[i as usize];
+        let input = &self.inputs.watched.as_slice()[i as usize];
         input.monitor.condition_before(self.next)
     }
 
