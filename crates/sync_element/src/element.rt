@@ -219,7 +219,7 @@ impl Element {
             IsInTime self.now n → 0 < n →
             result ≡ level_now i (moments_until self.now.settings n past) }
     {
-        self.inputs.watched[i as usize].level
+        self.inputs.watched.as_slice()[i as usize].level
     }
 
     /// The level below which no input is taken, where there is one.
