@@ -8,7 +8,7 @@ pub enum Status {
     /// The answer was written.
     Done,
     /// `check`, `prio-check`: the rank doesn't rise over some hop; `rank`, `prio-rank`: no ranks
-    /// rise.
+    /// rise; `chains`: a chain of timing leads back to where it was.
     Refuted,
     /// The words are no form of the program.
     Usage,
