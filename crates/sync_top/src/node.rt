@@ -54,6 +54,7 @@ fn put_place(text: &mut Text, refused: NodeErr) -> Result<(), NoMemory>
 }
 
 /// The name that was given is that of no element of the plan.
+#[derive(Clone, Copy, Drop)]
 struct UnknownElement;
 
 impl UnknownElement {
