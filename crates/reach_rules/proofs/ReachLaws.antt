@@ -1,6 +1,6 @@
 -- Levels reach along ways.
 use Rattle.std.proofs.Common.{◌≡◌, ◌<◌, ℕ, suc, Bool, true, false, not, ◌&&◌, List, [], ◌∷◌, length, Option, None, Some, IsSome, slice_get, refl, ap, sym, subst, ◌∙◌, inl, inr, arith}
-use Rattle.std.specs.Prelude.{if◌then◌else◌, IsTrue, IfSome, option_and_then}
+use Rattle.std.specs.Prelude.{if◌then◌else◌, IfSome, option_and_then}
 use Rattle.std.proofs.lemmas.Bool.{and_parts}
 use Rattle.std.proofs.lemmas.Bool.Decides.{nat_tests}
 use Rattle.std.proofs.lemmas.Option.{slice_get_cases, same_Some, none-some}
@@ -16,7 +16,7 @@ use Rattle.sync_topo.specs.declared.input.InputId.{InputId}
 use Rattle.sync_topo.specs.declared.input.InputId.TheVariants.{Line, Source}
 use Rattle.sync_topo.specs.Topology.{Topology}
 use Rattle.sync_topo.specs.Lines.{line_input, line_count, sender_of, receiver_of, element_of_source, inputs_of, IsNominated}
-use Rattle.sync_topo.specs.Hops.{goes_back, IsRising}
+use Rattle.sync_topo.specs.Hops.{IsRising}
 use Rattle.sync_topo.specs.WellFormed.{IsWellFormed}
 use Rattle.sync_topo.proofs.LineLaws.{IsNominated-within}
 use Rattle.net_rules.specs.Inputs.{IsInputOf}
@@ -30,6 +30,7 @@ use Rattle.net_rules.proofs.Backs.{back-receiver}
 use Rattle.net_rules.proofs.FinalLaws.{traced-here}
 use Rattle.net_rules.proofs.NetLaws.{IsTakenAt, taken-is, not-taken, sent-on, many-inputs, failed-at, level-at, IsSelected, selected-taken}
 use Rattle.net_rules.proofs.PairLaws.{speaks-said}
+use Rattle.net_rules.proofs.PassingOn.{sent-own, goes-back-from}
 use Rattle.net_rules.proofs.PlanLaws.{sender-within, receiver-within}
 use Rattle.net_rules.proofs.SettledLaws.{settled-heard, settled-follows, rising-loop_free}
 use Rattle.reach_rules.specs.Ways.{IsReached}
@@ -124,23 +125,6 @@ module _ (plan : Topology) (signals : Signals) (out : Levels) (level : Level) (t
 -- what is at rest and up isn't failed
 rest-good : (plan : Topology) (signals : Signals) (input : InputId) (t : ℕ) → IsSteady plan signals input t → signals.up input t ≡ true → failed_by plan signals input t ≡ false
 rest-good plan signals input t steady up = steady ∙ ap not up
-
--- a line that doesn't lead back is sent its sender's level
-sent-own : (plan : Topology) (signals : Signals) (out : Levels) (line t : ℕ) → is_way_back plan (taken_at plan signals out (sender_of plan line) t) line ≡ false
-    → sent_level plan signals out line t ≡ level_at plan signals out (sender_of plan line) t
-unfolding sent_level taken_at level_at
-sent-own plan signals out line t not_back = rw not_back refl
-
--- the line that an element takes, where another one leads back from it
-pub record GoesBackFrom (plan : Topology) (taken : Option InputId) (line : ℕ) : Type 0 where
-  pub before : ℕ
-  pub is : taken ≡ Some (line_input before)
-  pub back : IsTrue (goes_back plan before line)
-
-goes-back-from : (plan : Topology) (taken : Option InputId) (line : ℕ) → is_way_back plan taken line ≡ true → GoesBackFrom plan taken line
-goes-back-from plan None line back = cc
-goes-back-from plan (Some (Source source)) line back = cc
-goes-back-from plan (Some (Line before)) line back = record { before = before.0; is = refl; back = back }
 
 -- a line at rest that is heard with a level says it
 heard-said : (plan : Topology) (signals : Signals) (out : Levels) (line t : ℕ) (level : Level) → IsAtRest plan signals out t (line_input line)
