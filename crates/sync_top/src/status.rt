@@ -7,8 +7,8 @@ ghost use Rattle.std.specs.Prelude.{◌≡◌};
 pub enum Status {
     /// The answer was written.
     Done,
-    /// `check`, `prio-check`: the rank doesn't rise over some hop; `rank`, `prio-rank`: no ranks
-    /// rise; `chains`: a chain of timing leads back to where it was.
+    /// `check`, `prio-check`: the rank doesn't rise over some hop; `rank`, `chains`, `prio-rank`:
+    /// no ranks rise.
     Refuted,
     /// The words are no form of the program.
     Usage,
