@@ -14,4 +14,4 @@ returns-clause-level c =
     let inside : c.args.i < length c.self.inside.inputs.watched.items = omega (arith, within, c.self.invariant.watched_length) in
     let read : watched_of (element_state c.self.inside) c.args.i ≡ c.index-as_slice-i.result = get_or_default c.self.inside.inputs.watched.items c.args.i unused c.index-as_slice-i.result inside ∙ sym (rw c.as_slice.ensures at c.index-as_slice-i.is) in
     rw (← c.self.view_is)
-    (λ past n stands in_time later. ap (λ w. w.level) (sym read) ∙ input_level_until (element_state c.self.inside) c.self.invariant c.args.i within past n stands in_time later)
+    (λ past n stands in_time later. ap (λ w. w.level) (sym c.index-as_slice-i.is ∙ sym read) ∙ input_level_until (element_state c.self.inside) c.self.invariant c.args.i within past n stands in_time later)
