@@ -2,16 +2,16 @@
 #![tactic(auto)]
 
 #[cfg(test)]
-mod agenda;
+mod agenda_tests;
 #[cfg(test)]
-mod input_monitor;
+mod input_monitor_tests;
 #[cfg(test)]
-mod link_model;
+mod link_model_tests;
 #[cfg(test)]
-mod operator_cmds;
+mod operator_cmds_tests;
 #[cfg(test)]
-mod selector;
+mod selector_tests;
 #[cfg(test)]
-mod sync_element;
+mod sync_element_tests;
 #[cfg(test)]
-mod sync_ql;
+mod sync_ql_tests;

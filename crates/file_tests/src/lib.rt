@@ -2,20 +2,20 @@
 #![tactic(auto)]
 
 #[cfg(test)]
-mod capture_text;
+mod capture_text_tests;
 #[cfg(test)]
-mod csv_records;
+mod csv_records_tests;
 #[cfg(test)]
-mod esmc_frame;
+mod esmc_frame_tests;
 #[cfg(test)]
-mod event_file;
+mod event_file_tests;
 #[cfg(test)]
-mod pcap_file;
+mod pcap_file_tests;
 #[cfg(test)]
-mod plan_file;
+mod plan_file_tests;
 #[cfg(test)]
-mod rank_cert;
+mod rank_cert_tests;
 #[cfg(test)]
-mod sync_edge;
+mod sync_edge_tests;
 #[cfg(test)]
-mod sync_topo;
+mod sync_topo_tests;

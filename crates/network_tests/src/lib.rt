@@ -2,8 +2,8 @@
 #![tactic(auto)]
 
 #[cfg(test)]
-mod event_sim;
+mod event_sim_tests;
 #[cfg(test)]
-mod sync_net;
+mod sync_net_tests;
 #[cfg(test)]
-mod sync_sweep;
+mod sync_sweep_tests;

@@ -2,6 +2,6 @@
 #![tactic(auto)]
 
 #[cfg(test)]
-mod cycle_plan;
+mod cycle_plan_tests;
 #[cfg(test)]
-mod nominate;
+mod nominate_tests;
