@@ -1,5 +1,5 @@
 use Rattle.std.proofs.Common.{◌≤◌, ◌*◌}
-use Rattle.element_tests.proofs.lines.agrees.Given as goal
+use Rattle.element_tests.proofs.link_model_tests.agrees.Given as goal
 
 -- each millisecond before the next row is told
 abbrev pub invariant-loop-row : goal.invariant-loop-row

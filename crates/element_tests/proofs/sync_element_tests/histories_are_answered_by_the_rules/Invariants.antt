@@ -1,4 +1,4 @@
-use Rattle.element_tests.proofs.elements.histories_are_answered_by_the_rules.Given as goal
+use Rattle.element_tests.proofs.sync_element_tests.histories_are_answered_by_the_rules.Given as goal
 
 -- the steps are counted on the blank's own ledger
 abbrev pub ghosts-run_all : goal.ghosts-run_all

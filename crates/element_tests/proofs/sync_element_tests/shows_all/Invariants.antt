@@ -1,6 +1,6 @@
 use Rattle.std.proofs.Common.{◌≡◌, length}
 use Rattle.sync_ql.specs.declared.levels.NetOption.TheVariants.{I}
-use Rattle.element_tests.proofs.elements.shows_all.Given as goal
+use Rattle.element_tests.proofs.sync_element_tests.shows_all.Given as goal
 
 -- the element has come to the next millisecond
 abbrev pub invariant-loop-row : goal.invariant-loop-row

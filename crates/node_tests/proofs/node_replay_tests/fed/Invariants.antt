@@ -1,5 +1,5 @@
 use Rattle.std.proofs.Common.{◌≡◌, ◌≤◌, ◌+◌, false, length}
-use Rattle.node_tests.proofs.nodes.fed.Given as goal
+use Rattle.node_tests.proofs.node_replay_tests.fed.Given as goal
 
 -- it is fed on, and no more lines have ended than bytes were fed
 abbrev pub invariant-loop-left : goal.invariant-loop-left
