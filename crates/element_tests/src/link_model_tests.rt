@@ -1,5 +1,6 @@
 ghost use Rattle.std.specs.Prelude.{◌≤◌, ◌+◌, ◌*◌, IsTrue, IfSome};
 
+use crate::sync_ql_tests::level;
 use Told::{Down, Nothing, Off, On, Says, Up};
 use link_model::{Line, Word};
 use std::alloc::Global;
@@ -7,7 +8,6 @@ use std::process::Abort;
 use std::test::Fail;
 use sync_ql::{Level, NetOption, level_of_name};
 use sync_text::NoMemory;
-use test_makers::level;
 
 /// What is told in a millisecond, with levels by their names; where the line is up or its ESMC is
 /// on again, its level is said again.

@@ -23,8 +23,8 @@ enum Told {
     Has(u32, &'static str),
 }
 
+use crate::sync_ql_tests::level;
 use Told::{Down, Has, Up};
-use test_makers::level;
 
 /// A millisecond and what is told in it; then the input, the level, the mode and the state.
 type Row = (

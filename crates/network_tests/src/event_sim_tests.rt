@@ -12,9 +12,10 @@ use std::test::Fail;
 use sync_ql::limits::LAST_MILLISECOND;
 use sync_ql::rules::ClockState::{self, Holdover, Locked};
 use sync_ql::rules::Mode;
+use sync_ql::{Level, NetOption, level_of_name};
 use sync_text::{NoMemory, Steps};
 use sync_topo::{Event, InputId, LineId, Part, Plan, What};
-use test_makers::{SOURCED_CHAIN, level};
+use test_makers::SOURCED_CHAIN;
 
 const PAIR: &[u8] = b"element = [{ name = 'A' }, { name = 'B' }]\n\
 link = [{ name = 'L1', a = 'A', b = 'B', priority_a = 1, priority_b = 1 }]\n";
@@ -40,6 +41,11 @@ const CHAIN_ROWS: [Row; 7] = [
     (1310, 1, FIRST, "QL-SEC", Locked),
     (1320, 2, SECOND, "QL-SEC", Locked),
 ];
+
+fn level(rt: &impl Abort, name: &'static str) -> Level {
+    let level = level_of_name(NetOption::I, name.as_bytes());
+    level.expect(rt, "a level of the option")
+}
 
 fn agrees(rt: &impl Abort, change: Change, row: Row) {
     assert!(rt; change.at == row.0);

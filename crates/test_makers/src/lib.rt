@@ -1,12 +1,10 @@
-//! What the tests of several crates are made of: plans that stand in more than one, texts, lists of
-//! numbers, and levels by their names. No crate but those of tests stands on it.
+//! What the tests of several crates are made of: plans that stand in more than one, texts, and lists of
+//! numbers. No crate but those of tests stands on it.
 #![tactic(auto)]
 
 ghost use Rattle.std.specs.Prelude.{◌≡◌, IfOk};
 
 use std::alloc::Global;
-use std::process::Abort;
-use sync_ql::{Level, NetOption, level_of_name};
 use sync_text::{NoMemory, Rows, Text};
 
 /// Three elements in a row, each of which takes its timing from the one before it. There is no source.
@@ -42,10 +40,4 @@ pub fn numbers(alloc: Global, numbers: &[u32]) -> Result<Rows<u32>, NoMemory> {
         rows.push(*number)?;
     }
     Ok(rows)
-}
-
-/// The level of option I that has this name. The test ends where none has it.
-pub fn level(rt: &impl Abort, name: &'static str) -> Level {
-    let level = level_of_name(NetOption::I, name.as_bytes());
-    level.expect(rt, "a level of the option")
 }
