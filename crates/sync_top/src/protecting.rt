@@ -2,7 +2,7 @@ ghost use Rattle.std.specs.Prelude.{◌≡◌, ◌++◌, ◌<◌, [], length, un
 ghost use Rattle.std.specs.List.{All};
 ghost use Rattle.reach_rules.specs.Protection.{IsFailureOf};
 ghost use Rattle.protection.specs.Gaps.{IsGapIn};
-ghost use Rattle.sync_top.specs.Forms.Protected.{failure_word, failure_name, gap_row, gaps_text, IsProtectedText};
+ghost use Rattle.sync_top.specs.Forms.Protected.{failure_word, failure_name, cut_text, gap_row, gaps_text, IsProtectedText};
 ghost use Rattle.sync_top.specs.Work.{ends_in};
 
 use crate::found::{Finding, Found, done};
@@ -31,7 +31,7 @@ fn put_bundle(text: &mut Text, bundle: &Option<Text>) -> Result<(), NoMemory>
 {
     match bundle {
         Some(name) => text.put(name.bytes()),
-        None => Ok(()),
+        None => text.put(b""),
     }
 }
 
@@ -41,12 +41,24 @@ fn put_failure(text: &mut Text, plan: &Plan, failure: Failure) -> Result<(), NoM
     ensures { OnOk result (text.new ≡ text.old ++ failure_name plan.now failure) }
 {
     match failure {
-        Failure::Nothing => Ok(()),
+        Failure::Nothing => text.put(b""),
         Failure::Link(link) => text.put(plan.link(link).name.bytes()),
         Failure::Bundle(link) => put_bundle(text, &plan.link(link).bundle),
         Failure::Source(source) => text.put(plan.source(source).name.bytes()),
         Failure::Element(element) => text.put(plan.element(element).name.bytes()),
     }
+}
+
+/// Puts whom a failure cuts off.
+fn put_cut(text: &mut Text, plan: &Plan, gap: Gap) -> Result<(), NoMemory>
+    requires { gap.first < length plan.now.elements }
+    ensures { OnOk result (text.new ≡ text.old ++ cut_text plan.now gap) }
+{
+    text.put(b",")?;
+    text.put_number(u64::from(gap.elements))?;
+    text.put(b",")?;
+    text.put(plan.element(gap.first).name.bytes())?;
+    text.put(b"\n")
 }
 
 /// Puts the row of a failure.
@@ -57,11 +69,7 @@ fn put_gap(text: &mut Text, plan: &Plan, gap: Gap) -> Result<(), NoMemory>
     text.put(failure_word(gap.failure))?;
     text.put(b",")?;
     put_failure(text, plan, gap.failure)?;
-    text.put(b",")?;
-    text.put_number(u64::from(gap.elements))?;
-    text.put(b",")?;
-    text.put(plan.element(gap.first).name.bytes())?;
-    text.put(b"\n")
+    put_cut(text, plan, gap)
 }
 
 /// The rows of the failures that cut somebody off.

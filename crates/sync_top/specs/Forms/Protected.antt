@@ -31,11 +31,13 @@ failure_name plan (fails.Bundle link) = unwrap_or (bundle_name plan.links link) 
 failure_name plan (fails.Source source) = source_name plan source
 failure_name plan (fails.Element element) = element_name plan element
 
--- the row of a failure: the word, the name, how many elements it cuts off, and the first of them
+-- how many elements it cuts off, and the first of them
+abbrev pub cut_text : Topology → Gap → List ℕ
+cut_text plan gap = codes "," ++ decimal gap.elements ++ codes "," ++ element_name plan gap.first ++ codes "\n"
+
+-- the row of a failure: the word, the name, and whom it cuts off
 abbrev pub gap_row : Topology → Gap → List ℕ
-gap_row plan gap =
-    failure_word gap.failure ++ codes "," ++ failure_name plan gap.failure ++ codes "," ++ decimal gap.elements ++ codes ","
-    ++ element_name plan gap.first ++ codes "\n"
+gap_row plan gap = failure_word gap.failure ++ codes "," ++ failure_name plan gap.failure ++ cut_text plan gap
 
 abbrev pub gaps_text : Topology → List Gap → List ℕ
 gaps_text plan gaps = codes "kind,failure,elements,first\n" ++ concat (map (gap_row plan) gaps)
