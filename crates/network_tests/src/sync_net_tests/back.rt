@@ -89,8 +89,8 @@ fn go_back_again<L: Ledger>(
     requires same { net.old ≡ base.now }
     requires live { base.now.spent ≡ false }
 {
-    step_and_go_back(rt, net, base, 11, &[",down,L,\n"], steps)?;
-    step_and_go_back(rt, net, base, 12, &[",esmc-off,L>A,\n"], steps)?;
+    step_and_go_back(rt, net, base, 11, &[",down,L1,\n"], steps)?;
+    step_and_go_back(rt, net, base, 12, &[",esmc-off,L1>A,\n"], steps)?;
     step_and_go_back(rt, net, base, 20, &[], steps)
 }
 
