@@ -75,6 +75,17 @@ def test_chains_are_held_against_the_reference_chain() -> None:
     ]
 
 
+def test_a_protected_plan_is_told() -> None:
+    assert said("protected", "bundle/plan.toml")[0].startswith("protected: ")
+    assert said("protected", "-", stdin=CHAIN + SOURCE) == [
+        "protected: 4 elements, 2 nominated lines",
+        "2 elements have no way to a clock over nominated lines: C, D",
+    ]
+    assert said("protected", "mesh/redundant.toml", status=1) == [
+        "1 failure leaves elements without a clock that they could have: nominate lines that lead there from elements that have one"
+    ]
+
+
 def test_a_plan_without_a_clock_is_told() -> None:
     assert said("rank", "-", stdin=CHAIN)[1:] == ["no source is nominated, so nothing ever has a clock"]
     assert said("rank", "-", stdin=CHAIN + SOURCE + "priority = 0\n")[1:] == [
@@ -82,7 +93,7 @@ def test_a_plan_without_a_clock_is_told() -> None:
     ]
 
 
-@pytest.mark.parametrize("form", ["rank", "chains", "hops", "nominate", "prio-rank"])
+@pytest.mark.parametrize("form", ["rank", "chains", "protected", "hops", "nominate", "prio-rank"])
 def test_an_empty_plan_is_told(form: str) -> None:
     assert any("the plan is empty" in line or "0 elements" in line for line in said(form, "-"))
 

@@ -12,7 +12,8 @@ use Rattle.agenda.proofs.Tournaments.{same_players, last_has}
 use Rattle.agenda.specs.declared.due_times.Due.{Due}
 use Rattle.agenda.specs.declared.due_times.TheConstants.{NEVER}
 use Rattle.agenda.specs.DueTimes.{due_in, due_count, IsFirst, AreLater}
-use Rattle.agenda.specs.EarlierDue.{number_at, IsListed}
+use Rattle.agenda.specs.EarlierDue.{number_at, times_by, IsListed}
+use Rattle.agenda.proofs.KeptTimes.{length_times, times-new, times-set}
 
 -- 1 for an object that is due
 abbrev pub one_if_due : Option ℕ → ℕ
@@ -99,10 +100,8 @@ number_at-set times i k due within = of (nat_eq k i) refl
         let apart : ¬ (k ≡ i) = grind (arith, nat_tests) in
         sym (ap (λ o. unwrap_or o NEVER) (get_or-set_other times i k due None apart))
 
-pub tournament-set : (times : List (Option ℕ)) (rounds : List ℕ) (i : ℕ) (due : Option ℕ) → i < length times → IsTournament min NEVER (length times) (with_player (number_at times) i (unwrap_or due NEVER)) rounds 0 → IsTournament min NEVER (length (set times i due)) (number_at (set times i due)) rounds 0
-tournament-set times rounds i due within all =
-    subst (λ n. IsTournament min NEVER n (number_at (set times i due)) rounds 0) (sym (length-set times i due))
-    (same_players min NEVER (length times) (with_player (number_at times) i (unwrap_or due NEVER)) (number_at (set times i due)) rounds (λ k inside. number_at-set times i k due within) all)
+pub tournament-set : (n : ℕ) (times : List (Option ℕ)) (rounds : List ℕ) (i : ℕ) (due : Option ℕ) → i < length times → IsTournament min NEVER n (with_player (number_at times) i (unwrap_or due NEVER)) rounds 0 → IsTournament min NEVER n (number_at (set times i due)) rounds 0
+tournament-set n times rounds i due within all = same_players min NEVER n (with_player (number_at times) i (unwrap_or due NEVER)) (number_at (set times i due)) rounds (λ k inside. number_at-set times i k due within) all
 
 abbrev no_time : Option ℕ
 no_time = None
@@ -110,13 +109,29 @@ no_time = None
 none_there : (m k : ℕ) → k < m → slice_index_or (replicate m NEVER) k NEVER ≡ NEVER
 none_there m k within = get_or-replicate {A = ℕ} m k NEVER NEVER within
 
-pub tournament-new : (n : ℕ) → IsTournament min NEVER (length (replicate n no_time)) (number_at (replicate n no_time)) (replicate (n + n) NEVER) 0
-tournament-new n = subst (λ m. IsTournament min NEVER m (number_at (replicate n no_time)) (replicate (n + n) NEVER) 0) (sym (length-replicate n no_time)) (record {
+pub tournament-new : (n : ℕ) → IsTournament min NEVER n (number_at (replicate n no_time)) (replicate (n + n) NEVER) 0
+tournament-new n = record {
   room = length-replicate (n + n) NEVER;
   players = λ i within. none_there (n + n) (n + i) (omega arith) ∙ sym (ap (λ o. unwrap_or o NEVER) (get_or-replicate {A = Option ℕ} n i None None within));
   winners = λ k some within apart.
       rw (none_there (n + n) k (omega arith), none_there (n + n) (2 * k) (omega arith), none_there (n + n) (2 * k + 1) (omega arith)) refl;
-})
+}
+
+pub kept-new : (n : ℕ) (flags : List Bool) (rounds : List ℕ) → flags ≡ replicate n false → rounds ≡ replicate (n + n) NEVER → IsTournament min NEVER (length flags) (number_at (times_by flags rounds)) rounds 0
+kept-new n flags rounds flags_are rounds_are =
+    subst (λ list. IsTournament min NEVER (length list) (number_at (times_by list rounds)) rounds 0) (sym flags_are)
+    (subst (λ m. IsTournament min NEVER m (number_at (times_by (replicate n false) rounds)) rounds 0) (sym (length-replicate n false))
+    (subst (λ times. IsTournament min NEVER n (number_at times) rounds 0) (sym (times-new n rounds))
+    (subst (λ list. IsTournament min NEVER n (number_at (replicate n no_time)) list 0) (sym rounds_are) (tournament-new n))))
+
+-- a flag and a number renewed
+pub kept-set : (flags : List Bool) (rounds rounds_then : List ℕ) (place : ℕ) (due : Option ℕ) → place < length flags
+    → IsTournament min NEVER (length flags) (with_player (number_at (times_by flags rounds)) place (unwrap_or due NEVER)) rounds_then 0
+    → IsTournament min NEVER (length (set flags place (is_some due))) (number_at (times_by (set flags place (is_some due)) rounds_then)) rounds_then 0
+kept-set flags rounds rounds_then place due within all =
+    subst (λ m. IsTournament min NEVER m (number_at (times_by (set flags place (is_some due)) rounds_then)) rounds_then 0) (sym (length-set flags place (is_some due)))
+    (subst (λ times. IsTournament min NEVER (length flags) (number_at times) rounds_then 0) (sym (times-set flags rounds rounds_then place due within all))
+    (tournament-set (length flags) (times_by flags rounds) rounds_then place due (omega (arith, within, length_times flags rounds)) all))
 
 -- none of new ones is counted
 pub count-new : (n : ℕ) → due_count (replicate n no_time) ≡ 0

@@ -1,4 +1,5 @@
 pub mod Tournaments
+pub mod KeptTimes
 pub mod FirstDues
 pub mod MarkedPlaces
 pub mod SortedPlaces

@@ -22,13 +22,13 @@ pub fn mark_all(marks: &mut Marks, count: u32)
     }
 }
 
-/// Takes out what is due at `now` or before it, and marks it. It takes the time of `set` for each,
-/// and no memory.
+/// Takes out what is due at `now` or before it, and marks it; what is due later stays as it was. It
+/// takes the time of `set` for each, and no memory.
 ///
 /// This project's own.
 pub fn mark_due(dues: &mut DueTimes, marks: &mut Marks, now: u64)
     requires count { length dues.old ≡ length marks.old.flags }
-    ensures marked { AreDueMarked dues.old dues.new marks.old.flags marks.new.flags }
+    ensures marked { AreDueMarked now dues.old dues.new marks.old.flags marks.new.flags }
     ensures later { AreLater now dues.new }
 {
     while let Some(place) = dues.take(now) {

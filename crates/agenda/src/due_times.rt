@@ -1,9 +1,9 @@
 //! When each object is due, with the first of these times at hand.
 
-ghost use Rattle.std.specs.Prelude.{◌≡◌, ◌≤◌, ◌<◌, ◌+◌, ℕ, None, Option, IsNone, IfSome, IfOk, MatchOption, length, min, replicate, slice_index_or, slice_set};
+ghost use Rattle.std.specs.Prelude.{◌≡◌, ◌≤◌, ◌<◌, ◌+◌, ℕ, false, None, Option, IsNone, IfSome, IfOk, MatchOption, length, min, replicate, slice_index_or, slice_set};
 ghost use Rattle.agenda.specs.Tournament.{IsTournament, with_player};
 ghost use Rattle.agenda.specs.DueTimes.{due_in, due_count, IsFirst, IsTaken, AreLater};
-ghost use Rattle.agenda.specs.EarlierDue.{IsListed};
+ghost use Rattle.agenda.specs.EarlierDue.{IsListed, time_at, times_by};
 
 use crate::limits::MOST_PLACES;
 use std::alloc::Global;
@@ -27,9 +27,10 @@ pub struct Due {
 /// The first of these times is at hand. This project's own.
 #[derive(Debug, Drop)]
 pub struct DueTimes {
-    times: Vec<Option<u64>>,
-    /// A tournament among the objects: their times in the second half, and before each two the
-    /// earlier one; at place 1 the first.
+    /// Whether each object is due.
+    flags: Vec<bool>,
+    /// A tournament among the objects: their times in the second half, the last number for one that
+    /// isn't due, and before each two the earlier one; at place 1 the first.
     rounds: Vec<u64>,
     /// How many objects are due.
     due: usize,
@@ -55,10 +56,10 @@ impl DueTimes {
         requires few { count ≤ MOST_PLACES }
         ensures { IfOk result (λ times. times ≡ replicate count None) }
     {
-        let times = no_times(alloc, count)?;
+        let flags = no_flags(alloc, count)?;
         let rounds = no_rounds(alloc, count)?;
         Ok(DueTimes {
-            times,
+            flags,
             rounds,
             due: 0,
         })
@@ -68,14 +69,14 @@ impl DueTimes {
     pub fn try_clone(&self, alloc: Global) -> Result<DueTimes, NoMemory>
         ensures { IfOk result (λ times. times ≡ self.now) }
     {
-        let Ok(times) = Vec::from_slice(alloc, self.times.as_slice()) else {
+        let Ok(flags) = Vec::from_slice(alloc, self.flags.as_slice()) else {
             return Err(NoMemory);
         };
         let Ok(rounds) = Vec::from_slice(alloc, self.rounds.as_slice()) else {
             return Err(NoMemory);
         };
         Ok(DueTimes {
-            times,
+            flags,
             rounds,
             due: self.due,
         })
@@ -89,12 +90,16 @@ impl DueTimes {
         requires place { place < length self.old }
         ensures { self.new ≡ slice_set self.old place due }
     {
-        let before = self.times[place as usize];
+        let before = time_at(
+            self.flags.as_slice(),
+            self.rounds.as_slice(),
+            place as usize,
+        );
         if before == due {
             return;
         }
-        let count = self.times.len();
-        self.times[place as usize] = due;
+        let count = self.flags.len();
+        self.flags[place as usize] = due.is_some();
         self.due = self.due - usize::from(before.is_some()) + usize::from(due.is_some());
         renew(
             self.rounds.as_mut_slice(),
@@ -118,11 +123,11 @@ impl DueTimes {
         }
         let at = self.rounds[1];
         if at == NEVER {
-            return any_due(self.times.as_slice());
+            return any_due(self.flags.as_slice(), self.rounds.as_slice());
         }
         Some(Due {
             at,
-            place: place_of(self.rounds.as_slice(), self.times.len()),
+            place: place_of(self.rounds.as_slice(), self.flags.len()),
         })
     }
 
@@ -149,14 +154,30 @@ impl DueTimes {
     }
 }
 
-// The first of a list of times that an object is due at, where none is due before the last number.
-fn any_due(times: &[Option<u64>]) -> Option<Due>
-    requires few { length times.now ≤ MOST_PLACES }
-    ensures { MatchOption result ((i : ℕ) → i < length times.now → due_in times.now i ≡ None)
-        (IsListed times.now) }
+// When the object at a place is due: by its number, if it has a flag.
+fn time_at(flags: &[bool], rounds: &[u64], place: usize) -> Option<u64>
+    requires few { length flags.now ≤ MOST_PLACES }
+    requires room { length rounds.now ≡ length flags.now + length flags.now }
+    requires place { place < length flags.now }
+    ensures { result ≡ time_at flags.now rounds.now place }
 {
-    for place in 0..times.len() {
-        if let Some(at) = times[place] {
+    if flags[place] {
+        Some(rounds[flags.len() + place])
+    } else {
+        None
+    }
+}
+
+// The first object that is due, where none is due before the last number.
+fn any_due(flags: &[bool], rounds: &[u64]) -> Option<Due>
+    requires few { length flags.now ≤ MOST_PLACES }
+    requires room { length rounds.now ≡ length flags.now + length flags.now }
+    ensures { MatchOption result ((i : ℕ) → i < length (times_by flags.now rounds.now) →
+        due_in (times_by flags.now rounds.now) i ≡ None)
+        (IsListed (times_by flags.now rounds.now)) }
+{
+    for place in 0..flags.len() {
+        if let Some(at) = time_at(flags, rounds, place) {
             return Some(due_at(at, place as u32));
         }
     }
@@ -220,11 +241,11 @@ fn renew(rounds: &mut [u64], count: usize, place: usize, player: u64)
     }
 }
 
-fn no_times(alloc: Global, count: usize) -> Result<Vec<Option<u64>>, NoMemory>
-    ensures { IfOk result (λ times. times.items ≡ replicate count None) }
+fn no_flags(alloc: Global, count: usize) -> Result<Vec<bool>, NoMemory>
+    ensures { IfOk result (λ flags. flags.items ≡ replicate count false) }
 {
-    match vec![in alloc; None; count] {
-        Ok(times) => Ok(times),
+    match vec![in alloc; false; count] {
+        Ok(flags) => Ok(flags),
         Err(_) => Err(NoMemory),
     }
 }

@@ -6,6 +6,7 @@ use Rattle.std.specs.List.{list_all}
 use Rattle.std.proofs.lemmas.Bool.{cases_Bool, cond-true, cond-false, eqb-true, eq-eqb, and_parts, lt-ltb}
 use Rattle.std.proofs.lemmas.List.Sums.{AllPass-from_list_all, list_all-from_AllPass}
 use Rattle.std.proofs.lemmas.Bool.Decides.{nat_tests}
+use Rattle.sync_text.proofs.Tests.{or-second}
 use Rattle.hex.specs.declared.error.FromHexError.{FromHexError}
 use Rattle.hex.specs.Hex.{decode_of, decode_sized, is_hex_digit}
 use Rattle.hex.proofs.HexLemmas.{decode_of-ok, IsOk-decode_sized}
@@ -48,14 +49,9 @@ none_put n line (Err error) is out same put bad = no_octets n line error same
 pub octets_refused : (n : ℕ) (line : List ℕ) (is : Bool) (out : List ℕ) → IsPut (decode_of line) is out → is ≡ false → carried_at n line ≡ Err (refusal.Hex n)
 octets_refused n line is out put bad = none_put n line (decode_of line) is out refl put bad
 
--- octets that are more than any frame has
-either : (first second : Bool) → second ≡ true → (first || second) ≡ true
-either true second is = refl
-either false second is = is
-
 too_long : (octets : List ℕ) → 1514 < length octets → reading_of octets ≡ Err wrong.Length
 too_long octets long =
-    let bad : (nat_lt (length octets) 60 || nat_lt 1514 (length octets)) ≡ true = either _ _ (lt-ltb _ _ long) in
+    let bad : (nat_lt (length octets) 60 || nat_lt 1514 (length octets)) ≡ true = or-second _ _ (lt-ltb _ _ long) in
     rw bad refl
 
 -- a line that is longer than the digits of any frame

@@ -9,14 +9,14 @@ use Rattle.sync_topo.specs.declared.input.InputId.{InputId}
 use Rattle.sync_topo.specs.declared.input.InputId.TheVariants.{Line, Source}
 use Rattle.sync_topo.specs.declared.input.LineId.{LineId}
 use Rattle.sync_topo.specs.Topology.{Topology}
-use Rattle.sync_topo.specs.Lines.{sender_of}
+use Rattle.sync_topo.specs.Lines.{sender_of, numbers}
 use Rattle.net_rules.specs.Walks.{Taken, TraceEnd, at_source, at_clock, at_loop, EndsAt, IsTraceAfter, IsTrace}
 use Rattle.net_rules.proofs.TraceLaws.{met_or}
 use Rattle.closed_walks.specs.declared.traced.End.{End}
 use Rattle.closed_walks.specs.declared.traced.End.TheVariants as end_as
 use Rattle.closed_walks.specs.declared.following.Next.{Next}
 use Rattle.closed_walks.specs.declared.following.Next.TheVariants.{On, Over}
-use Rattle.closed_walks.specs.Traces.{end_of, numbers}
+use Rattle.closed_walks.specs.Traces.{end_of}
 use Rattle.closed_walks.specs.Following.{next_of, Follows, IsPassed, is_met, AreMet, IsOnTrace}
 
 pub follows-more : (plan : Topology) (taken : Taken) (element : ℕ) (lines : List LineId) (last : ℕ) (line : LineId)

@@ -11,7 +11,7 @@ use Rattle.sync_text.specs.Each.{Each}
 use Rattle.sync_topo.specs.declared.input.InputId.{InputId}
 use Rattle.sync_topo.specs.declared.input.LineId.{LineId}
 use Rattle.sync_topo.specs.Topology.{Topology}
-use Rattle.sync_topo.specs.Lines.{line_input, line_count, sender_of, receiver_of}
+use Rattle.sync_topo.specs.Lines.{line_input, line_count, sender_of, receiver_of, numbers}
 use Rattle.sync_topo.specs.WellFormed.{IsWellFormed}
 use Rattle.net_rules.specs.Inputs.{IsInputOf}
 use Rattle.net_rules.specs.GoingBack.{line_before, ComesBack}
@@ -24,7 +24,7 @@ use Rattle.closed_walks.specs.declared.traced.End.{End}
 use Rattle.closed_walks.specs.declared.traced.End.TheVariants as end_as
 use Rattle.closed_walks.specs.declared.traced.Ending.{Ending}
 use Rattle.closed_walks.specs.Taking.{taken_in_list, AreTaken}
-use Rattle.closed_walks.specs.Traces.{end_of, numbers, EndsSo}
+use Rattle.closed_walks.specs.Traces.{end_of, EndsSo}
 use Rattle.closed_walks.specs.Following.{Follows, IsPassed, is_met, AreMet}
 use Rattle.closed_walks.specs.Known.{known_at, IsKnown, AreKnown, IsOnLoop, IsEndAt, IsMoreKnown}
 use Rattle.closed_walks.proofs.Rings.{comes-back, loop-ends, loop-next, loop-takes, rotated}

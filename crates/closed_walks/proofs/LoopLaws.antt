@@ -11,7 +11,7 @@ use Rattle.sync_topo.specs.declared.input.InputId.{InputId}
 use Rattle.sync_topo.specs.declared.input.InputId.TheVariants.{Line}
 use Rattle.sync_topo.specs.declared.input.LineId.{LineId}
 use Rattle.sync_topo.specs.Topology.{Topology}
-use Rattle.sync_topo.specs.Lines.{line_input, sender_of, receiver_of}
+use Rattle.sync_topo.specs.Lines.{line_input, sender_of, receiver_of, numbers}
 use Rattle.net_rules.specs.GoingBack.{line_before, lines_before, ComesBack}
 use Rattle.net_rules.specs.Walks.{Taken, IsTaken, TraceEnd, at_source, at_clock, at_loop, IsTrace}
 use Rattle.net_rules.proofs.BackWalk.{AreOwn, walk-back, back-walk}
@@ -21,7 +21,7 @@ use Rattle.closed_walks.specs.declared.traced.End.TheVariants as end_as
 use Rattle.closed_walks.specs.declared.traced.Ending.{Ending}
 use Rattle.closed_walks.specs.declared.following.Next.{Next}
 use Rattle.closed_walks.specs.declared.following.Next.TheVariants.{On, Over}
-use Rattle.closed_walks.specs.Traces.{end_of, numbers, EndsSo}
+use Rattle.closed_walks.specs.Traces.{end_of, EndsSo}
 use Rattle.closed_walks.specs.Following.{is_met, next_of}
 use Rattle.closed_walks.specs.Loops.{first_line, IsLoop, IsListed, AreInOrder}
 use Rattle.closed_walks.specs.Listing.{backwards, AreMarked, IsOfListed, AreListed}

@@ -8,7 +8,7 @@ use Rattle.sync_topo.specs.declared.input.InputId.{InputId}
 use Rattle.sync_text.specs.declared.errors.NoMemory.{NoMemory}
 use Rattle.sync_topo.specs.declared.input.LineId.{LineId}
 use Rattle.sync_topo.specs.Topology.{Topology}
-use Rattle.sync_topo.specs.Lines.{sender_of, receiver_of}
+use Rattle.sync_topo.specs.Lines.{sender_of, receiver_of, numbers}
 use Rattle.sync_topo.specs.WellFormed.{IsWellFormed}
 use Rattle.net_rules.specs.Inputs.{IsInputOf}
 use Rattle.net_rules.specs.Walks.{IsTaken, IsClosedWalk, TraceEnd, at_source, at_clock, at_loop, IsTraceAfter}
@@ -16,7 +16,7 @@ use Rattle.closed_walks.specs.declared.traced.End.{End}
 use Rattle.closed_walks.specs.declared.traced.End.TheVariants.{Source, OwnClock, Loop}
 use Rattle.closed_walks.specs.declared.traced.Ending.{Ending}
 use Rattle.closed_walks.specs.Taking.{taken_in_list, AreTaken}
-use Rattle.closed_walks.specs.Traces.{end_of, numbers, EndsSo}
+use Rattle.closed_walks.specs.Traces.{end_of, EndsSo}
 use Rattle.closed_walks.specs.Loops.{IsLoop}
 use Rattle.closed_walks.specs.Within.{IsEndOf, AreLinesOf}
 use Rattle.closed_walks.proofs.KnownLaws.{taken-line, taken-within}

@@ -4,12 +4,11 @@ use Rattle.sync_topo.specs.declared.input.InputId.{InputId}
 use Rattle.sync_topo.specs.declared.input.InputId.TheVariants.{Line, Source}
 use Rattle.sync_topo.specs.declared.input.LineId.{LineId}
 use Rattle.sync_topo.specs.Topology.{Topology}
-use Rattle.sync_topo.specs.Lines.{line_input, sender_of}
+use Rattle.sync_topo.specs.Lines.{line_input, sender_of, numbers}
 use Rattle.net_rules.specs.Walks.{Taken, IsOneOf, TraceEnd, IsTraceAfter}
 use Rattle.closed_walks.specs.declared.traced.End.TheVariants as end
 use Rattle.closed_walks.specs.declared.following.Next.{Next}
 use Rattle.closed_walks.specs.declared.following.Next.TheVariants.{On, Over}
-use Rattle.closed_walks.specs.Traces.{numbers}
 
 -- what comes after an element, by what it takes
 abbrev pub next_of : Option InputId → ℕ → Next

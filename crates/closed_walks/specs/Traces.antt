@@ -13,10 +13,6 @@ end_of (Source source) = at_source source
 end_of (OwnClock element) = at_clock element
 end_of (Loop element) = at_loop element
 
--- the lines' numbers
-abbrev pub numbers : List LineId → List ℕ
-numbers lines = map (λ line. line.0) lines
-
 -- the trace of an element has so many lines, and ends so
 abbrev pub EndsSo : Topology → Taken → ℕ → Ending → Type 0
 EndsSo plan taken element ending =

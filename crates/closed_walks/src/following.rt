@@ -3,7 +3,8 @@
 ghost use Rattle.std.specs.Prelude.{◌≡◌, ◌<◌, ◌⊎◌, ℕ, true, false, List, length, replicate, IfOk};
 ghost use Rattle.net_rules.specs.Walks.{IsTraceAfter};
 ghost use Rattle.closed_walks.specs.Taking.{taken_in_list, AreTaken};
-ghost use Rattle.closed_walks.specs.Traces.{end_of, numbers};
+ghost use Rattle.sync_topo.specs.Lines.{numbers};
+ghost use Rattle.closed_walks.specs.Traces.{end_of};
 ghost use Rattle.closed_walks.specs.Following.{next_of, Follows, IsPassed, is_met, AreMet};
 
 use crate::traced::End;

@@ -2,13 +2,13 @@
 
 ghost use Rattle.std.specs.Prelude.{◌≡◌, ◌<◌, ◌+◌, ℕ, true, false, List, length, map, slice_get, Some, IsNone, IfOk, OnOk, IfSome};
 ghost use Rattle.std.specs.List.{All};
-ghost use Rattle.sync_topo.specs.Lines.{line_count, receiver_of};
+ghost use Rattle.sync_topo.specs.Lines.{line_count, receiver_of, numbers};
 ghost use Rattle.sync_topo.specs.WellFormed.{IsWellFormed};
 ghost use Rattle.net_rules.specs.GoingBack.{lines_before, ComesBack};
 ghost use Rattle.net_rules.specs.Walks.{IsTaken};
 ghost use Rattle.closed_walks.specs.declared.traced.Ending.{Ending};
 ghost use Rattle.closed_walks.specs.Taking.{taken_in_list, AreTaken};
-ghost use Rattle.closed_walks.specs.Traces.{numbers, EndsSo};
+ghost use Rattle.closed_walks.specs.Traces.{EndsSo};
 ghost use Rattle.closed_walks.specs.Following.{is_met};
 ghost use Rattle.closed_walks.specs.Loops.{AreLoops};
 ghost use Rattle.closed_walks.specs.Listing.{backwards, AreMarked, AreListed};

@@ -2,8 +2,7 @@
 
 ghost use Rattle.std.specs.Prelude.{◌≡◌, ◌<◌, ◌++◌, map, codes, OnOk};
 ghost use Rattle.std.specs.List.{All};
-ghost use Rattle.sync_topo.specs.Lines.{line_count, line_name};
-ghost use Rattle.closed_walks.specs.Traces.{numbers};
+ghost use Rattle.sync_topo.specs.Lines.{line_count, line_name, numbers};
 ghost use Rattle.closed_walks.specs.Within.{AreLinesOf};
 ghost use Rattle.closed_walks.specs.WalkText.{rest_text, walk_row, walk_rows};
 

@@ -1,6 +1,6 @@
 // The records of a text, one after another.
 
-ghost use Rattle.std.specs.Prelude.{◌≡◌, [], ◌∷◌, true, false, Ok, OnOk, OnErr};
+ghost use Rattle.std.specs.Prelude.{◌≡◌, ◌≤◌, ◌+◌, [], ◌∷◌, length, true, false, Ok, OnOk, OnErr};
 ghost use Rattle.csv_records.specs.Records.{records_of};
 
 use crate::reading::want_of_memory;
@@ -39,6 +39,7 @@ impl<'a> Records<'a> {
     /// The records of these bytes, none of which is taken yet. It takes no memory.
     pub fn of(alloc: Global, bytes: &'a [u8]) -> Records<'a>
         ensures left { result.left ≡ records_of bytes.now }
+        ensures few { length result.left ≤ length bytes.now + 1 }
         ensures spent { result.spent ≡ false }
     {
         Records {

@@ -3,7 +3,7 @@ use Rattle.std.specs.Prelude.{◌≡◌, ℕ, ◌+◌, ◌<◌, ◌≤◌, List,
 use Rattle.std.specs.List.{All}
 use Rattle.sync_topo.specs.declared.input.LineId.{LineId}
 use Rattle.sync_topo.specs.Topology.{Topology}
-use Rattle.sync_topo.specs.Lines.{line_count, is_nominated, IsNominated}
+use Rattle.sync_topo.specs.Lines.{numbers, line_count, is_nominated, IsNominated}
 use Rattle.sync_topo.specs.Ranks.{HopTest, IsBefore, StepsBack, Leads}
 use Rattle.rank_cert.specs.Ranks.{Ranks, rank_at}
 use Rattle.sync_topo.specs.declared.returns.Returns.{Returns}
@@ -34,10 +34,6 @@ HasRound hop n line = (round : ℕ) × (0 < round) × (round ≤ n) × StepsBack
 -- no line that one comes to by going back is lower
 abbrev pub IsLowest : HopTest → ℕ → Type 0
 IsLowest hop low = (steps other : ℕ) → StepsBack hop steps low other → low ≤ other
-
--- the numbers of lines
-abbrev pub numbers : List LineId → List ℕ
-numbers lines = map (λ line. line.0) lines
 
 -- the lines are those behind the lowest one, one after another, and the next is to be looked at
 pub record IsWalked (hop : HopTest) (low at : ℕ) (lines : List LineId) : Type 0 where

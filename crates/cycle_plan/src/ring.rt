@@ -1,9 +1,9 @@
 ghost use Rattle.std.specs.Prelude.{◌≡◌, ◌≢◌, ◌<◌, ◌≤◌, ◌⊎◌, ℕ, ◌∷◌, reverse, None, IfOk, IfSome, IsNone};
-ghost use Rattle.sync_topo.specs.Lines.{line_count, IsNominated};
+ghost use Rattle.sync_topo.specs.Lines.{line_count, IsNominated, numbers};
 ghost use Rattle.sync_topo.specs.Ranks.{IsBefore, StepsBack, IsFirstCycle, IsLowestResidue};
 ghost use Rattle.rank_cert.specs.Ranks.{rank_at};
 ghost use Rattle.sync_topo.specs.Hops.{hops_by};
-ghost use Rattle.cycle_plan.specs.Rings.{IsLeft, IsDone, IsLowOn, HasRound, IsLowest, IsWalked, numbers};
+ghost use Rattle.cycle_plan.specs.Rings.{IsLeft, IsDone, IsLowOn, HasRound, IsLowest, IsWalked};
 
 use crate::inputs::{first_open, inputs_of, line_at};
 use crate::numbers::{number_in, number_out};

@@ -2,16 +2,16 @@
 #![tactic(auto)]
 
 #[cfg(test)]
-mod choices;
+mod agenda_tests;
 #[cfg(test)]
-mod dues;
+mod input_monitor_tests;
 #[cfg(test)]
-mod elements;
+mod link_model_tests;
 #[cfg(test)]
-mod levels;
+mod operator_cmds_tests;
 #[cfg(test)]
-mod lines;
+mod selector_tests;
 #[cfg(test)]
-mod switches;
+mod sync_element_tests;
 #[cfg(test)]
-mod timers;
+mod sync_ql_tests;

@@ -7,7 +7,7 @@ use Rattle.std.proofs.lemmas.Bool.Decides.{eqb_tells}
 use Rattle.std.proofs.lemmas.List.{get_or-drop, get_or-take, length-drop, length-take, append-nil, take-append-drop}
 use Rattle.std.proofs.lemmas.List.Elements.{All-take, All-drop, filter-append}
 use Rattle.std.proofs.lemmas.List.Sorted.{IsNonDecreasingBy-from_all_adjacent, IsNonDecreasingBy-drop, all_adjacent_from_non_decreasing}
-use Rattle.sync_text.proofs.Each.{each-all}
+use Rattle.sync_text.proofs.Each.{each-all, filter-none}
 use Rattle.sync_text.specs.Each.{Each}
 use Rattle.sync_topo.specs.declared.event.Event.{Event}
 use Rattle.sync_topo.specs.Topology.{Topology}
@@ -93,11 +93,6 @@ filter-each : (p : Event → Bool) (events : List Event) → Each (λ event. p e
     → filter p events ≡ events
 filter-each p [] each = refl
 filter-each p (event ∷ events) each = rw (each.0, filter-each p events each.1) refl
-
-filter-none : (p : Event → Bool) (events : List Event) → Each (λ event. p event ≡ false) events
-    → filter p events ≡ []
-filter-none p [] each = refl
-filter-none p (event ∷ events) each = rw (each.0, filter-none p events each.1) refl
 
 pub none-at : (t : ℕ) (events : List Event) → All (λ event. event.at ≢ t) events
     → events_at t events ≡ []

@@ -2,14 +2,20 @@
 #![tactic(auto)]
 
 #[cfg(test)]
-mod captures;
+mod capture_text_tests;
 #[cfg(test)]
-mod certificates;
+mod csv_records_tests;
 #[cfg(test)]
-mod edges;
+mod esmc_frame_tests;
 #[cfg(test)]
-mod plans;
+mod event_file_tests;
 #[cfg(test)]
-mod printed;
+mod pcap_file_tests;
 #[cfg(test)]
-mod records;
+mod plan_file_tests;
+#[cfg(test)]
+mod rank_cert_tests;
+#[cfg(test)]
+mod sync_edge_tests;
+#[cfg(test)]
+mod sync_topo_tests;

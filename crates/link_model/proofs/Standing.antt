@@ -111,6 +111,10 @@ length-until now past early = let long = length-after (now - length past) past i
 pub until-same : (n : ℕ) (past : List LineMoment) → length past ≡ n → line_until n past ≡ past
 until-same n past long = let none : n - length past ≡ 0 = omega (arith, long) in ap (λ j. after_unchanged j past) none
 
+-- a past that has come to a millisecond stays
+pub until-told : (now : ℕ) (x : LineMoment) (before : List LineMoment) → length before ≡ now → line_until (suc now) (x ∷ before) ≡ x ∷ before
+until-told now x before long = until-same (suc now) (x ∷ before) (ap suc long)
+
 pub until-next : (now : ℕ) (past : List LineMoment) → length past ≤ now → line_until (suc now) past ≡ unchanged (line_until now past) ∷ line_until now past
 until-next now past early =
     let one : suc now - length past ≡ suc (now - length past) = omega (arith, early) in

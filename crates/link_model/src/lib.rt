@@ -5,9 +5,9 @@
 //! words on their way; the messages that repeat a word each second are computed, and not kept.
 //! Contracts see it as a record (`LineState`) and say for which past it stands (`StandsFor`):
 //! each call makes that past longer, and each answer is what the rules say of it. Only
-//! [`Line::new`], [`Line::try_clone`] and [`Line::say`] take memory. The words on their way are at most one for each
-//! millisecond of the delay (`few` of [`Line::on_way`]); within `say` there is for a moment room
-//! for one more.
+//! [`Line::try_clone`] and [`Line::say`] take memory, where more than two words are on their way.
+//! These are at most one for each millisecond of the delay (`few` of [`Line::on_way`]); within `say`
+//! there is for a moment room for one more.
 //!
 //! After ITU-T G.8264: event messages, information messages each second, and a level that is lost
 //! after five seconds. Whole milliseconds and one delay for each line are this project's own.

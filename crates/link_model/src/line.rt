@@ -63,17 +63,14 @@ impl Line {
         ensures options { (option : NetOption) → IfOk result (AreOfOption option) }
         ensures stands { IfOk result (λ line. StandsFor line []) }
     {
-        match Words::new(alloc) {
-            Ok(words) => Ok(Line {
-                delay: u64::from(delay),
-                turn: 0,
-                up: true,
-                esmc: true,
-                level: None,
-                words,
-            }),
-            Err(NoMemory) => Err(NoMemory),
-        }
+        Ok(Line {
+            delay: u64::from(delay),
+            turn: 0,
+            up: true,
+            esmc: true,
+            level: None,
+            words: Words::new(alloc),
+        })
     }
 
     /// The same line once more, as it is after its last call. It takes memory by the number of words

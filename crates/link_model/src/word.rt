@@ -3,8 +3,8 @@ ghost use Rattle.sync_ql.specs.declared.limits.TheConstants.{LAST_MILLISECOND};
 ghost use Rattle.link_model.specs.Spoken.{end_before, second_before, last_sent};
 ghost use Rattle.link_model.specs.Kept.{ended, cut_at};
 
-use sync_ql::Level;
 use sync_ql::limits::SECOND;
+use sync_ql::{Level, NetOption, do_not_use};
 
 /// A level that a line says from one millisecond on, until another.
 ///
@@ -18,6 +18,17 @@ pub struct Word {
     pub level: Level,
     /// The millisecond from which on it is no longer said, if it has ended.
     pub until: Option<u64>,
+}
+
+impl Default for Word {
+    // What stands in a list's empty places.
+    fn default() -> Word {
+        Word {
+            sent: 0,
+            level: do_not_use(NetOption::I),
+            until: None,
+        }
+    }
 }
 
 impl Word {

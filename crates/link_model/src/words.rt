@@ -4,6 +4,7 @@ ghost use Rattle.sync_ql.specs.declared.limits.TheConstants.{GREATEST_DELAY, LAS
 ghost use Rattle.link_model.specs.Kept.{words_kept, taken_in, lost, ended, ended_arrived, cut_arrived, new_word, heard_of, arrival_of, loss_of, first_of, due_of, starts_in, IsInRange};
 
 use crate::word::Word;
+use smallvec::SmallVec;
 use std::alloc::Global;
 use sync_ql::Level;
 use sync_ql::limits::HEARING_TIME;
@@ -13,20 +14,18 @@ use sync_text::NoMemory;
 #[derive(Debug, Drop)]
 pub struct Words {
     pub arrived: Option<Word>,
-    pub on_way: Vec<Word>,
+    /// Two of them in place: a line has seldom more on its way.
+    pub on_way: SmallVec<Word, 2>,
 }
 
 impl Words {
-    // No words, and room for the first.
-    pub fn new(alloc: Global) -> Result<Words, NoMemory>
-        ensures { IfOk result (λ words. words_kept words ≡ record { arrived = None; on_way = [] }) }
+    // No words.
+    pub fn new(alloc: Global) -> Words
+        ensures { words_kept result ≡ record { arrived = None; on_way = [] } }
     {
-        match Vec::with_capacity(alloc, 1) {
-            Ok(on_way) => Ok(Words {
-                arrived: None,
-                on_way,
-            }),
-            Err(_) => Err(NoMemory),
+        Words {
+            arrived: None,
+            on_way: SmallVec::new(alloc),
         }
     }
 
@@ -34,7 +33,7 @@ impl Words {
     pub fn try_clone(&self, alloc: Global) -> Result<Words, NoMemory>
         ensures { IfOk result (λ words. words_kept words ≡ words_kept self.now) }
     {
-        match Vec::from_slice(alloc, self.on_way.as_slice()) {
+        match SmallVec::from_slice(alloc, self.on_way.as_slice()) {
             Ok(on_way) => Ok(Words {
                 arrived: self.arrived,
                 on_way,
@@ -56,7 +55,7 @@ impl Words {
     pub fn arrives(&self, delay: u64, now: u64) -> bool
         ensures { result ≡ starts_in delay now self.now.on_way.items }
     {
-        match self.on_way.first() {
+        match self.on_way.as_slice().first() {
             Some(word) => word.arrives(delay, now),
             None => false,
         }
@@ -165,7 +164,7 @@ impl Words {
         ensures { result ≡ heard_of delay
             (taken_in delay now self.now.arrived self.now.on_way.items).arrived window (now + 1) }
     {
-        match self.on_way.first() {
+        match self.on_way.as_slice().first() {
             Some(word) if word.arrives(delay, now) => Some(word.level),
             Some(_) | None => self.heard(delay, window, now + 1),
         }
@@ -188,7 +187,7 @@ impl Words {
             (λ at. at ≤ LAST_MILLISECOND + GREATEST_DELAY) }
         ensures { result ≡ arrival_of delay self.now.on_way.items }
     {
-        let word = self.on_way.first()?;
+        let word = self.on_way.as_slice().first()?;
         Some(word.sent + delay)
     }
 

@@ -23,7 +23,8 @@ use Rattle.net_rules.specs.Signals.{Signals, events_at, says_up, says_level, com
 use Rattle.net_rules.specs.Inputs.{IsInputOf}
 use Rattle.net_rules.specs.History.{Levels, settings_of, heard, element_past, failed_by, Obeys, out_at}
 use Rattle.net_rules.specs.Staying.{IsSameAt}
-use Rattle.net_rules.specs.Activity.{touches, is_touched, is_other, failed_changes, heard_changes, is_active_in, is_active, news_arrives, is_busy}
+use Rattle.sync_text.proofs.Tests.{same-answer}
+use Rattle.net_rules.specs.Activity.{touches, is_touched, failed_changes, heard_changes, is_active_in, is_active, news_arrives, is_busy}
 use Rattle.net_rules.proofs.InputLaws.{each-input}
 use Rattle.net_rules.proofs.EventLaws.{same-before, up-same}
 use Rattle.net_rules.proofs.TouchLaws.{up-silent, level-silent, command-silent}
@@ -101,12 +102,6 @@ pub record IsIdle (plan : Topology) (signals : Signals) (out : Levels) (input : 
   pub failed : failed_changes plan signals input (suc t) ≡ false
   pub heard_same : heard_changes plan signals out input (suc t) ≡ false
 
-same-failed : (a b : Bool) → is_other a b ≡ false → a ≡ b
-same-failed true true none = refl
-same-failed false false none = refl
-same-failed true false none = cc
-same-failed false true none = cc
-
 pub same-heard : (a b : Option Level) → not (is_same_level a b) ≡ false → a ≡ b
 same-heard a b none = same-is a b (of (is_same_level a b) none)
   where
@@ -121,12 +116,12 @@ unfolding InputStays
 idle-stays plan events out element t untouched (Line line) is idle =
     inl (
       same-heard (heard plan (signals_by plan events) out line.0 (suc t)) (heard plan (signals_by plan events) out line.0 t) idle.heard_same,
-      same-failed (failed_by plan (signals_by plan events) (Line line) (suc t)) (failed_by plan (signals_by plan events) (Line line) t) idle.failed,
+      same-answer (failed_by plan (signals_by plan events) (Line line) (suc t)) (failed_by plan (signals_by plan events) (Line line) t) idle.failed,
     )
 idle-stays plan events out element t untouched (Source source) is idle =
     inl (
       ap Some (level-stays plan events source t (record { has = is.has; nominated = is.nominated; of_element = refl }) (subst (λ e. IsUntouched plan events e (suc t)) (sym is.of_element) untouched)),
-      same-failed (failed_by plan (signals_by plan events) (Source source) (suc t)) (failed_by plan (signals_by plan events) (Source source) t) idle.failed,
+      same-answer (failed_by plan (signals_by plan events) (Source source) (suc t)) (failed_by plan (signals_by plan events) (Source source) t) idle.failed,
     )
 
 -- an element that isn't active gives the same

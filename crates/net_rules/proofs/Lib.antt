@@ -8,6 +8,7 @@ pub mod ElementLaws
 pub mod SettingLaws
 pub mod OwnLevels
 pub mod NetLaws
+pub mod PassingOn
 pub mod Arrivals
 pub mod PairLaws
 pub mod SettledLaws

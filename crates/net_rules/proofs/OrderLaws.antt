@@ -7,7 +7,7 @@ use Rattle.std.specs.Option.{option_or}
 use Rattle.std.proofs.lemmas.Bool.{le-ltb, ne_eqb}
 use Rattle.std.proofs.lemmas.List.Elements.{filter-append}
 use Rattle.std.proofs.lemmas.Option.{slice_get_cases}
-use Rattle.sync_text.proofs.Each.{Each-map, each-all}
+use Rattle.sync_text.proofs.Each.{Each-map, each-all, filter-none}
 use Rattle.sync_text.specs.Each.{Each}
 use Rattle.sync_topo.specs.declared.input.InputId.{InputId}
 use Rattle.sync_topo.specs.declared.input.InputId.TheVariants.{Line, Source}
@@ -24,11 +24,6 @@ use Rattle.net_rules.specs.Activity.{touches, TouchAlike}
 use Rattle.net_rules.proofs.PlanLaws.{receiver-within}
 use Rattle.net_rules.proofs.TouchLaws.{up-silent, esmc-silent, level-silent, clear-silent, command-silent}
 
--- what a test keeps of later events is nothing
-kept_none : (p : Event → Bool) (events : List Event) → Each (λ event. p event ≡ false) events → filter p events ≡ []
-kept_none p [] each = refl
-kept_none p (event ∷ events) each = rw (each.0, kept_none p events each.1) refl
-
 append_none : (xs : List Event) → xs ++ [] ≡ xs
 append_none [] = refl
 append_none (x ∷ xs) = ap (λ ys. x ∷ ys) (append_none xs)
@@ -36,14 +31,14 @@ append_none (x ∷ xs) = ap (λ ys. x ∷ ys) (append_none xs)
 before-later : (events more : List Event) (n t : ℕ) → n ≤ suc t → Each (λ event. t < event.at) more → events_before n (events ++ more) ≡ events_before n events
 before-later events more n t until later =
     filter-append (λ event. nat_lt event.at n) events more
-    ∙ ap (λ kept. events_before n events ++ kept) (kept_none (λ event. nat_lt event.at n) more
+    ∙ ap (λ kept. events_before n events ++ kept) (filter-none (λ event. nat_lt event.at n) more
     (Each-map (λ event. t < event.at) (λ event. nat_lt event.at n ≡ false) (λ event after. le-ltb event.at n (omega (arith, until, after))) more later))
     ∙ append_none (events_before n events)
 
 at-later : (events more : List Event) (s t : ℕ) → s ≤ t → Each (λ event. t < event.at) more → events_at s (events ++ more) ≡ events_at s events
 at-later events more s t until later =
     filter-append (λ event. nat_eq event.at s) events more
-    ∙ ap (λ kept. events_at s events ++ kept) (kept_none (λ event. nat_eq event.at s) more
+    ∙ ap (λ kept. events_at s events ++ kept) (filter-none (λ event. nat_eq event.at s) more
     (Each-map (λ event. t < event.at) (λ event. nat_eq event.at s ≡ false) (λ event after. ne_eqb event.at s (λ same. omega (arith, until, after, same))) more later))
     ∙ append_none (events_at s events)
 

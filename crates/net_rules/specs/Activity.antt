@@ -2,6 +2,7 @@
 -- This project's own.
 use Rattle.std.specs.Prelude.{◌≡◌, ℕ, zero, suc, ◌+◌, ◌*◌, ◌<◌, Bool, true, false, not, ◌&&◌, ◌||◌, nat_eq, nat_lt, List, length, filter, drop, is_some}
 use Rattle.std.specs.List.{list_any, range_with_len}
+use Rattle.sync_text.specs.Tests.{is_other}
 use Rattle.sync_ql.specs.Pasts.{past_of}
 use Rattle.sync_ql.specs.Messages.{is_same_level, is_news, arrives}
 use Rattle.sync_topo.specs.declared.input.InputId.{InputId}
@@ -53,11 +54,6 @@ abbrev pub TouchAlike : Topology → List Event → List Event → Type 0
 TouchAlike plan events others = (element : ℕ) → element < length plan.elements →
     filter (λ event. touches plan element event.what) events
     ≡ filter (λ event. touches plan element event.what) others
-
--- two answers differ
-abbrev pub is_other : Bool → Bool → Bool
-is_other true b = not b
-is_other false b = b
 
 -- an input is failed in a millisecond where it wasn't in the one before, or the other way round; before 0
 -- none is

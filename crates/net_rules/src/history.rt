@@ -10,17 +10,19 @@ ghost use Rattle.sync_ql.specs.Quiet.{IsSameOutput};
 ghost use Rattle.sync_topo.specs.declared.event.Event.{Event};
 ghost use Rattle.sync_topo.specs.Topology.{Topology};
 ghost use Rattle.sync_topo.specs.declared.input.InputId.{InputId};
-ghost use Rattle.sync_topo.specs.Lines.{line_count, IsInput, is_nominated_input, IsNominated};
+ghost use Rattle.sync_topo.specs.Lines.{line_count, line_input, sender_of, IsInput, is_nominated_input, IsNominated};
+ghost use Rattle.sync_topo.specs.Hops.{goes_back};
 ghost use Rattle.sync_topo.specs.WellFormed.{IsWellFormed};
 ghost use Rattle.net_rules.specs.Signals.{Signals, signals_by};
-ghost use Rattle.net_rules.specs.History.{Levels, settings_of, line_moment_at, heard, element_past, Obeys, out_at};
+ghost use Rattle.net_rules.specs.History.{Levels, settings_of, line_moment_at, heard, element_past, taken_at, level_at, Obeys, out_at};
 ghost use Rattle.net_rules.specs.Settings.{signal_at};
 ghost use Rattle.net_rules.specs.Activity.{TouchAlike, is_active, is_busy};
 ghost use Rattle.net_rules.specs.Staying.{IsSameAt};
 ghost use Rattle.net_rules.specs.Sameness.{IsSameUntil};
 
 /// The law of the one history: the levels that the rules send obey them, no others do, and they look
-/// back alone.
+/// back alone. A line that doesn't go back from the one that its sender takes is sent the sender's
+/// level.
 pub fn history_law()
     ensures obeys { (plan : Topology) (signals : Signals) → IsWellFormed plan →
         Obeys plan signals (out_at plan signals) }
@@ -30,6 +32,11 @@ pub fn history_law()
     ensures looks_back { (plan : Topology) (signals others : Signals) (t : ℕ) → IsWellFormed plan →
         IsSameUntil plan t signals others → (line s : ℕ) → line < line_count plan → s ≤ t →
         out_at plan signals line s ≡ out_at plan others line s }
+    ensures passed_on { (plan : Topology) (signals : Signals) (out : Levels) (line t : ℕ) →
+        Obeys plan signals out → line < line_count plan →
+        ((taken : ℕ) → taken_at plan signals out (sender_of plan line) t ≡ Some (line_input taken) →
+        ¬ IsTrue (goes_back plan taken line)) →
+        out line t ≡ level_at plan signals out (sender_of plan line) t }
 {}
 
 /// The laws of events: later ones change nothing earlier, and of all of them only the order in which

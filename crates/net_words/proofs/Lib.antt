@@ -4,4 +4,3 @@ pub mod WordLaws
 pub mod FitLaws
 pub mod SplitWords
 pub mod NewElements
-pub mod TakenInputs

@@ -8,6 +8,7 @@ use Rattle.std.proofs.lemmas.Bool.Decides.{eqb_tells}
 use Rattle.std.proofs.lemmas.List.Folds.{list_any-append}
 use Rattle.std.proofs.lemmas.Option.{same_Some}
 use Rattle.std.proofs.Math.Bool.{or-false}
+use Rattle.sync_text.proofs.Tests.{if-same}
 use Rattle.sync_ql.specs.declared.levels.Level.{Level}
 use Rattle.sync_ql.specs.declared.rules.Cmd.{Cmd}
 use Rattle.sync_ql.specs.declared.rules.Cmd.TheVariants as command
@@ -69,45 +70,37 @@ abbrev pub clears_in : Saying → Bool
 clears_in IsCleared = true
 clears_in saying = false
 
-if-none : {A : Type 0} (b : Bool) → ◌≡◌ {A = Option A} (if b then None else None) None
-if-none true = refl
-if-none false = refl
-
-if-false : (b : Bool) → (if b then false else false) ≡ false
-if-false true = refl
-if-false false = refl
-
 up-at : (i : ℕ) (saying : Saying) (o : Option ℕ) → last_said (says_up i) (word_at saying o) ≡ (if is_place i o then up_in saying else None)
 up-at i (IsUp up) None = refl
 up-at i (IsUp up) (Some k) = refl
 up-at i (HasLevel level) None = refl
-up-at i (HasLevel level) (Some k) = sym (if-none (nat_eq k i))
+up-at i (HasLevel level) (Some k) = sym (if-same (nat_eq k i) None)
 up-at i IsCleared None = refl
-up-at i IsCleared (Some k) = sym (if-none (nat_eq k i))
+up-at i IsCleared (Some k) = sym (if-same (nat_eq k i) None)
 up-at i IsLocked None = refl
-up-at i IsLocked (Some k) = sym (if-none (nat_eq k i))
+up-at i IsLocked (Some k) = sym (if-same (nat_eq k i) None)
 up-at i IsUnlocked None = refl
-up-at i IsUnlocked (Some k) = sym (if-none (nat_eq k i))
+up-at i IsUnlocked (Some k) = sym (if-same (nat_eq k i) None)
 up-at i IsForced None = refl
-up-at i IsForced (Some k) = sym (if-none (nat_eq k i))
+up-at i IsForced (Some k) = sym (if-same (nat_eq k i) None)
 up-at i IsManual None = refl
-up-at i IsManual (Some k) = sym (if-none (nat_eq k i))
+up-at i IsManual (Some k) = sym (if-same (nat_eq k i) None)
 
 level-at : (i : ℕ) (saying : Saying) (o : Option ℕ) → last_said (says_level i) (word_at saying o) ≡ (if is_place i o then level_in saying else None)
 level-at i (IsUp up) None = refl
-level-at i (IsUp up) (Some k) = sym (if-none (nat_eq k i))
+level-at i (IsUp up) (Some k) = sym (if-same (nat_eq k i) None)
 level-at i (HasLevel level) None = refl
 level-at i (HasLevel level) (Some k) = refl
 level-at i IsCleared None = refl
-level-at i IsCleared (Some k) = sym (if-none (nat_eq k i))
+level-at i IsCleared (Some k) = sym (if-same (nat_eq k i) None)
 level-at i IsLocked None = refl
-level-at i IsLocked (Some k) = sym (if-none (nat_eq k i))
+level-at i IsLocked (Some k) = sym (if-same (nat_eq k i) None)
 level-at i IsUnlocked None = refl
-level-at i IsUnlocked (Some k) = sym (if-none (nat_eq k i))
+level-at i IsUnlocked (Some k) = sym (if-same (nat_eq k i) None)
 level-at i IsForced None = refl
-level-at i IsForced (Some k) = sym (if-none (nat_eq k i))
+level-at i IsForced (Some k) = sym (if-same (nat_eq k i) None)
 level-at i IsManual None = refl
-level-at i IsManual (Some k) = sym (if-none (nat_eq k i))
+level-at i IsManual (Some k) = sym (if-same (nat_eq k i) None)
 
 if-true : (b : Bool) → (if b then true else false) ≡ b
 if-true true = refl
@@ -115,19 +108,19 @@ if-true false = refl
 
 clear-at : (i : ℕ) (saying : Saying) (o : Option ℕ) → list_any (clears i) (word_at saying o) ≡ (if is_place i o then clears_in saying else false)
 clear-at i (IsUp up) None = refl
-clear-at i (IsUp up) (Some k) = sym (if-false (nat_eq k i))
+clear-at i (IsUp up) (Some k) = sym (if-same (nat_eq k i) false)
 clear-at i (HasLevel level) None = refl
-clear-at i (HasLevel level) (Some k) = sym (if-false (nat_eq k i))
+clear-at i (HasLevel level) (Some k) = sym (if-same (nat_eq k i) false)
 clear-at i IsCleared None = refl
 clear-at i IsCleared (Some k) = or-false (nat_eq k i) ∙ sym (if-true (nat_eq k i))
 clear-at i IsLocked None = refl
-clear-at i IsLocked (Some k) = sym (if-false (nat_eq k i))
+clear-at i IsLocked (Some k) = sym (if-same (nat_eq k i) false)
 clear-at i IsUnlocked None = refl
-clear-at i IsUnlocked (Some k) = sym (if-false (nat_eq k i))
+clear-at i IsUnlocked (Some k) = sym (if-same (nat_eq k i) false)
 clear-at i IsForced None = refl
-clear-at i IsForced (Some k) = sym (if-false (nat_eq k i))
+clear-at i IsForced (Some k) = sym (if-same (nat_eq k i) false)
 clear-at i IsManual None = refl
-clear-at i IsManual (Some k) = sym (if-false (nat_eq k i))
+clear-at i IsManual (Some k) = sym (if-same (nat_eq k i) false)
 
 pub last_said-append : {A : Type 0} (says : InputEvent → Option A) (xs ys : List InputEvent)
     → last_said says (xs ++ ys) ≡ option_or (last_said says ys) (last_said says xs)
@@ -187,13 +180,13 @@ module _ (plan : Topology) (element i : ℕ) (input : InputId) (at : slice_get (
 
   -- other words say nothing of it
   pub no-up : (saying : Saying) (other : InputId) → up_in saying ≡ None → last_said (says_up i) (input_words plan saying other element) ≡ None
-  no-up saying other none = up-word saying other ∙ ap (λ o. if is_same_input input other then o else None) none ∙ if-none (is_same_input input other)
+  no-up saying other none = up-word saying other ∙ ap (λ o. if is_same_input input other then o else None) none ∙ if-same (is_same_input input other) None
 
   no-level : (saying : Saying) (other : InputId) → level_in saying ≡ None → last_said (says_level i) (input_words plan saying other element) ≡ None
-  no-level saying other none = level-word saying other ∙ ap (λ o. if is_same_input input other then o else None) none ∙ if-none (is_same_input input other)
+  no-level saying other none = level-word saying other ∙ ap (λ o. if is_same_input input other then o else None) none ∙ if-same (is_same_input input other) None
 
   pub no-clear : (saying : Saying) (other : InputId) → clears_in saying ≡ false → list_any (clears i) (input_words plan saying other element) ≡ false
-  no-clear saying other none = clear-word saying other ∙ ap (λ b. if is_same_input input other then b else false) none ∙ if-false (is_same_input input other)
+  no-clear saying other none = clear-word saying other ∙ ap (λ b. if is_same_input input other then b else false) none ∙ if-same (is_same_input input other) false
 
   -- a part says of it what its going down or coming up does
   part-up : (up : Bool) (whole : Part) → last_said (says_up i) (part_words plan up whole element) ≡ (if is_of_part input whole then Some up else None)

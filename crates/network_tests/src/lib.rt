@@ -2,8 +2,8 @@
 #![tactic(auto)]
 
 #[cfg(test)]
-mod networks;
+mod event_sim_tests;
 #[cfg(test)]
-mod runs;
+mod sync_net_tests;
 #[cfg(test)]
-mod sweeps;
+mod sync_sweep_tests;

@@ -6,6 +6,7 @@ use Rattle.std.proofs.lemmas.Bool.{true≢false, eqb-true, eq-eqb, ne_eqb, or_pa
 use Rattle.std.proofs.lemmas.Bool.Decides.{eqb_tells}
 use Rattle.std.proofs.lemmas.List.Quantifiers.{position-Some}
 use Rattle.std.proofs.lemmas.Option.{slice_get-get_or}
+use Rattle.sync_text.proofs.Tests.{or-second}
 use Rattle.sync_text.proofs.Each.{each-at}
 use Rattle.sync_ql.specs.declared.rules.Cmd.TheVariants as command
 use Rattle.sync_topo.specs.declared.input.InputId.{InputId}
@@ -22,10 +23,6 @@ use Rattle.net_rules.specs.Activity.{is_at, is_part_at}
 use Rattle.net_rules.proofs.InputLaws.{inputs-are}
 use Rattle.net_rules.proofs.TouchLaws.{input-is_at, up-silent, level-silent, if_none, not_here}
 use Rattle.node_rules.specs.FromNetwork.{is_part_out, is_input_at, is_told_to}
-
-either : (a b : Bool) → b ≡ true → (a || b) ≡ true
-either true b is = refl
-either false b is = is
 
 -- ---- the two lines of a link
 
@@ -113,12 +110,12 @@ up-untold plan input element of (ClearWtr other) none = refl
 -- a part that a line out of an element is of is told
 part-told : (plan : Topology) (line element : ℕ) → sender_of plan line ≡ element → (p : Part) → is_of_part (line_input line) p ≡ true → (is_part_at plan element p || is_part_out plan element p) ≡ true
 part-told plan line element from (part.Line other) is =
-    either (is_at plan element (Line other)) (nat_eq (sender_of plan other.0) element) (eq-eqb (sender_of plan other.0) element (ap (sender_of plan) (sym (eqb-true line other.0 is)) ∙ from))
+    or-second (is_at plan element (Line other)) (nat_eq (sender_of plan other.0) element) (eq-eqb (sender_of plan other.0) element (ap (sender_of plan) (sym (eqb-true line other.0 is)) ∙ from))
 part-told plan line element from (part.Source source) is = cc
 part-told plan line element from (part.Link link) is = elim (halves line link (eqb-true (line / 2) link is)) [
   | inl even ↦
       let there : nat_eq (receiver_of plan (2 * link + 1)) element ≡ true = eq-eqb (receiver_of plan (2 * link + 1)) element (even-sender plan link ∙ ap (sender_of plan) (sym even) ∙ from) in
-      rw (either (nat_eq (receiver_of plan (2 * link)) element) (nat_eq (receiver_of plan (2 * link + 1)) element) there) refl
+      rw (or-second (nat_eq (receiver_of plan (2 * link)) element) (nat_eq (receiver_of plan (2 * link + 1)) element) there) refl
   | inr odd ↦
       let there : nat_eq (receiver_of plan (2 * link)) element ≡ true = eq-eqb (receiver_of plan (2 * link)) element (odd-sender plan link ∙ ap (sender_of plan) (sym odd) ∙ from) in
       rw there refl

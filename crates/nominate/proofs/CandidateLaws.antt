@@ -7,9 +7,8 @@ use Rattle.sync_topo.specs.Topology.{Topology}
 use Rattle.sync_topo.specs.Lines.{line_count, sender_of, receiver_of}
 use Rattle.sync_topo.specs.WellFormed.{IsWellFormed}
 use Rattle.net_rules.proofs.PlanLaws.{receiver-within}
-use Rattle.nominate.specs.HopCount.{Counts, count_at, AreHopCounts}
+use Rattle.nominate.specs.HopCount.{Counts, count_at, AreHopCounts, is_one_less}
 use Rattle.nominate.specs.LocalFacts.{AreNear}
-use Rattle.nominate.specs.Marks.{is_one_less}
 use Rattle.nominate.specs.Nomination.{count_below, comes_before, stands_before, is_candidate, is_candidate_into, is_earlier, candidate_number, numbered_priority, new_priority}
 use Rattle.nominate.specs.Numbering.{is_level, leads, leads_into, IsNumbered, ArePriorities}
 use Rattle.nominate.specs.declared.numbering.Numbering.{Numbering}

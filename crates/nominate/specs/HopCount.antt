@@ -1,5 +1,5 @@
 -- Hop counts: over how many links an element is reached from the nearest one with a clock. This project's own.
-use Rattle.std.specs.Prelude.{◌≡◌, ℕ, ◌<◌, ◌≤◌, zero, suc, List, length, Option, Some, None, slice_get}
+use Rattle.std.specs.Prelude.{◌≡◌, ℕ, ◌+◌, ◌<◌, ◌≤◌, zero, suc, Bool, false, ◌==◌, List, length, Option, Some, None, slice_get}
 use Rattle.std.specs.Option.{option_flatten}
 use Rattle.sync_topo.specs.Topology.{Topology}
 use Rattle.sync_topo.specs.Lines.{line_count, sender_of, receiver_of, sources_at}
@@ -11,6 +11,17 @@ Counts = List (Option ℕ)
 -- an element's count, if it has one
 abbrev pub count_at : Counts → ℕ → Option ℕ
 count_at counts element = option_flatten (slice_get counts element)
+
+-- it is this count
+abbrev pub is_count : ℕ → Option ℕ → Bool
+is_count hops None = false
+is_count hops (Some count) = count == hops
+
+-- both have counts, and the first one's is one less
+abbrev pub is_one_less : Option ℕ → Option ℕ → Bool
+is_one_less None other = false
+is_one_less (Some one) None = false
+is_one_less (Some one) (Some other) = one + 1 == other
 
 -- the element has a clock of its own: a nominated source, whatever its level
 abbrev pub IsRoot : Topology → ℕ → Type 0

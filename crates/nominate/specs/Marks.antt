@@ -2,13 +2,7 @@
 use Rattle.std.specs.Prelude.{◌≡◌, ℕ, ◌+◌, ◌<◌, ◌↔◌, Bool, true, false, ◌==◌, nat_lt, List, Option, Some, None, slice_index_or}
 use Rattle.sync_topo.specs.Topology.{Topology}
 use Rattle.sync_topo.specs.Lines.{sender_of, receiver_of}
-use Rattle.nominate.specs.HopCount.{Counts, count_at}
-
--- both have counts, and the first one's is one less
-abbrev pub is_one_less : Option ℕ → Option ℕ → Bool
-is_one_less None other = false
-is_one_less (Some one) None = false
-is_one_less (Some one) (Some other) = one + 1 == other
+use Rattle.nominate.specs.HopCount.{Counts, count_at, is_one_less}
 
 -- a line below n leads to the element from one with one less
 abbrev pub IsMarked : Topology → Counts → ℕ → ℕ → Type 0

@@ -5,8 +5,7 @@ use Rattle.sync_topo.specs.Topology.{Topology}
 use Rattle.sync_topo.specs.declared.input.InputId.{InputId}
 use Rattle.sync_topo.specs.declared.input.InputId.TheVariants.{Line, Source}
 use Rattle.sync_topo.specs.Lines.{line_count, sender_of, receiver_of, source_priority}
-use Rattle.nominate.specs.HopCount.{Counts, count_at}
-use Rattle.nominate.specs.Marks.{is_one_less}
+use Rattle.nominate.specs.HopCount.{Counts, count_at, is_one_less}
 use Rattle.nominate.specs.Nomination.{count_below, numbered_priority}
 use Rattle.nominate.specs.declared.numbering.Numbering.{Numbering}
 

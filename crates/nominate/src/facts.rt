@@ -1,8 +1,8 @@
 ghost use Rattle.std.specs.Prelude.{◌≡◌, ◌<◌, ◌+◌, ◌↔◌, false, length, replicate, Some, IsTrue};
 ghost use Rattle.sync_topo.specs.Lines.{line_count};
-ghost use Rattle.nominate.specs.HopCount.{count_at, IsRoot, AreHopCounts};
+ghost use Rattle.nominate.specs.HopCount.{count_at, IsRoot, AreHopCounts, is_one_less};
 ghost use Rattle.nominate.specs.LocalFacts.{AreNear, AreRootsRight, AreEndsNear, HaveCloser, AreLocallyRight};
-ghost use Rattle.nominate.specs.Marks.{is_one_less, is_above, AreMarks};
+ghost use Rattle.nominate.specs.Marks.{is_above, AreMarks};
 
 use crate::hops::Hops;
 use crate::search::is_root;
@@ -116,8 +116,9 @@ fn mark(plan: &Plan, hops: &Hops, marks: &mut [bool], line: LineId)
     }
 }
 
-/// Both have counts, and the first one's is one less.
-pub(crate) fn is_one_less(one: Option<u32>, other: Option<u32>) -> bool
+/// Whether both of two elements have counts of hops, and the first one's is one less: timing may come
+/// over a line from it.
+pub fn is_one_less(one: Option<u32>, other: Option<u32>) -> bool
     ensures { result ≡ is_one_less one other }
 {
     match (one, other) {

@@ -23,6 +23,6 @@ mod rows;
 mod search;
 
 pub use certificate::order_cert;
-pub use facts::hops_ok;
+pub use facts::{hops_ok, is_one_less};
 pub use hops::{Hops, least_hops};
 pub use nominated::nominate;

@@ -1,6 +1,5 @@
-pub mod KeyFacts
+pub mod ValueFacts
 pub mod EntryFacts
-pub mod HeadFacts
 pub mod RowsSoFar
 pub mod FirstBroken
 pub mod PlanLaws

@@ -7,13 +7,15 @@ use Rattle.sync_topo.specs.declared.place.Section.TheVariants.{Head, Elements, L
 use Rattle.sync_topo.specs.declared.place.Section.{Section}
 use Rattle.sync_topo.specs.declared.place.Place.{Place}
 use Rattle.plan_file.specs.declared.version.Version.{Version}
-use Rattle.plan_file.specs.declared.version.Version.TheVariants.{One}
+use Rattle.plan_file.specs.declared.version.Version.TheVariants.{One, Two}
 use Rattle.plan_file.specs.Format.{keys_of, version_of}
 use Rattle.plan_file.specs.declared.error.PlanFileErr.{PlanFileErr}
 use Rattle.sync_text.specs.Chain.{◌>>=◌, unless}
 use Rattle.plan_file.specs.Rules.{refusal_of, entries_of}
 use Rattle.plan_file.specs.Rows.{first_from, element_row, link_row, source_row, said_rows, rows_of_document}
-use Rattle.plan_file.specs.Steps.{rows_from, head_said}
+use Rattle.plan_file.specs.Slots.{slots_of}
+use Rattle.plan_file.specs.Values.{rows_from, head_said, head_in}
+use Rattle.plan_file.proofs.ValueFacts.{refusal_is}
 
 -- the rows before these, where there are these
 abbrev pub with_front : {A E : Type 0} → List A → Result (List A) E → Result (List A) E
@@ -66,7 +68,7 @@ first_from-same version other section n (entry ∷ entries) same =
 
 abbrev pub document_steps : Members → Result PlanRows PlanFileErr
 document_steps document = do
-  head ← unless (refusal_of (version_of document) (record { section = Head; row = 0 }) (table document)) (head_said document)
+  head ← head_in document
   elements ← rows_from One element_row Elements 1 head.elements
   links ← rows_from head.version (link_row head.version) Links 1 head.links
   sources ← rows_from One source_row Sources 1 head.sources
@@ -83,8 +85,9 @@ document_is document =
     let said = said_rows document in
     let elements : first_from version Elements 1 es ≡ first_from One Elements 1 es = first_from-same version One Elements 1 es refl in
     let sources : first_from version Sources 1 ss ≡ first_from One Sources 1 ss = first_from-same version One Sources 1 ss refl in
-    rw (elements, sources) (sym (step (unless (refusal_of version (record { section = Head; row = 0 }) (table document)) (head_said document))
-    (refusal_of version (record { section = Head; row = 0 }) (table document)) _ (head_said document) said _ refl
+    rw (elements, sources) (sym (step (head_in document)
+    (refusal_of version (record { section = Head; row = 0 }) (table document)) _ (head_said (slots_of (keys_of Two Head) document).values) said _
+    (rw (refusal_is version (record { section = Head; row = 0 }) document) refl)
     (step (rows_from One element_row Elements 1 es) (first_from One Elements 1 es) _ (map element_row es) said _ (rows_are One element_row Elements 1 es)
     (step (rows_from version (link_row version) Links 1 ls) (first_from version Links 1 ls) _ (map (link_row version) ls) said _ (rows_are version (link_row version) Links 1 ls)
     (last_step (rows_from One source_row Sources 1 ss) (first_from One Sources 1 ss) (map source_row ss) (λ rows. record said { sources = rows }) (rows_are One source_row Sources 1 ss))))))

@@ -5,7 +5,8 @@ pub mod PlanText
 pub mod IsPlanText
 pub mod Refusal
 pub mod Gives
-pub mod Steps
+pub mod Slots
+pub mod Values
 pub mod Writing
 pub mod Spelling
 pub mod Examples

@@ -1,31 +1,33 @@
 // The head of a document: its own keys.
 
-ghost use Rattle.std.specs.Prelude.{◌≡◌, map, codes};
-ghost use Rattle.toml.specs.Data.{table, integer};
+ghost use Rattle.std.specs.Prelude.{◌≡◌, true, option_and_then};
+ghost use Rattle.std.specs.Option.{option_map_or};
+ghost use Rattle.toml.specs.Data.{integer, as_str};
 ghost use Rattle.toml.specs.View.{view, table_view};
 ghost use Rattle.sync_topo.specs.declared.place.Section.TheVariants as section;
-ghost use Rattle.sync_text.specs.Chain.{unless};
-ghost use Rattle.plan_file.specs.Format.{is_option, option_of, version_of, version_said};
-ghost use Rattle.plan_file.specs.Rules.{refusal_of};
-ghost use Rattle.plan_file.specs.Rows.{network_option};
-ghost use Rattle.plan_file.specs.Steps.{of_kind, version_at, seen, head_said};
-ghost use Rattle.plan_file.specs.Gives.{Gives, GivesBy};
+ghost use Rattle.plan_file.specs.declared.version.Version.TheVariants.{Two};
+ghost use Rattle.plan_file.specs.Format.{keys_of, is_version, is_option, option_of, version_said};
+ghost use Rattle.plan_file.specs.Slots.{seen, fits, said_by};
+ghost use Rattle.plan_file.specs.Values.{head_slots, head_said, head_seen, head_in, version_in, option_in};
+ghost use Rattle.plan_file.specs.Gives.{GivesBy};
 
 use crate::error::PlanFileErr;
-use crate::fields::{entries_at, find, keyed};
+use crate::kinds::{entries_in, fits_array};
+use crate::values::HeadValues;
 use crate::version::Version;
+use std::alloc::Global;
 use sync_ql::NetOption;
 use sync_topo::{Place, Section};
 use toml::{Table, Value};
 
 /// What the head of a document says.
-#[derive(Clone, Copy)]
-pub(crate) struct Head<'a> {
+#[derive(Drop)]
+pub(crate) struct Head {
     pub(crate) version: Version,
     pub(crate) option: NetOption,
-    pub(crate) elements: &'a [Value],
-    pub(crate) links: &'a [Value],
-    pub(crate) sources: &'a [Value],
+    pub(crate) elements: Vec<Value>,
+    pub(crate) links: Vec<Value>,
+    pub(crate) sources: Vec<Value>,
 }
 
 /// The version that an integer says.
@@ -39,24 +41,15 @@ fn version_of_number(number: i64) -> Option<Version>
     }
 }
 
-/// The version of a document, and the first where it gives none.
-fn version_at(place: Place, document: &Table) -> Result<Version, PlanFileErr>
-    ensures { Gives result (version_at place (table_view document.now)) }
+/// The version that a value says.
+fn version_of(value: &Value) -> Option<Version>
+    ensures { result ≡ version_said (view value.now) }
 {
-    let Some(value) = find(document, "version") else {
-        return Ok(Version::One);
-    };
-    let Some(number) = value.as_integer() else {
-        return Err(PlanFileErr::Kind(place));
-    };
-    match version_of_number(number) {
-        Some(version) => Ok(version),
-        None => Err(PlanFileErr::Kind(place)),
-    }
+    version_of_number(value.as_integer()?)
 }
 
 /// The network option of a text.
-fn option_of(text: &str) -> Option<NetOption>
+fn option_of_text(text: &str) -> Option<NetOption>
     ensures { result ≡ option_of text.now }
 {
     match text {
@@ -66,51 +59,98 @@ fn option_of(text: &str) -> Option<NetOption>
     }
 }
 
-/// The network option of a document, and I where it gives none.
-fn option_at(place: Place, document: &Table) -> Result<NetOption, PlanFileErr>
-    ensures { let members = table_view document.now in
-        Gives result (of_kind place is_option (codes "option") members (network_option members)) }
+/// The network option that a value says.
+fn option_of(value: &Value) -> Option<NetOption>
+    ensures { result ≡ option_and_then option_of (as_str (view value.now)) }
 {
-    let Some(value) = find(document, "option") else {
-        return Ok(NetOption::I);
-    };
-    let Some(text) = value.as_str() else {
-        return Err(PlanFileErr::Kind(place));
-    };
-    match option_of(text) {
-        Some(option) => Ok(option),
-        None => Err(PlanFileErr::Kind(place)),
+    option_of_text(value.as_str()?)
+}
+
+/// What a slot has is a version, if it has anything.
+fn fits_version(slot: &Option<Value>) -> bool
+    ensures { result ≡ option_map_or is_version (seen slot.now) true }
+{
+    match slot {
+        Some(value) => version_of(value).is_some(),
+        None => true,
     }
 }
 
+/// What a slot has is a network option, if it has anything.
+fn fits_option(slot: &Option<Value>) -> bool
+    ensures { result ≡ option_map_or is_option (seen slot.now) true }
+{
+    match slot {
+        Some(value) => option_of(value).is_some(),
+        None => true,
+    }
+}
+
+/// The version in a slot, and the first where it has none.
+fn version_in(slot: &Option<Value>) -> Version
+    ensures { result ≡ version_in (seen slot.now) }
+{
+    match slot {
+        Some(value) => version_of(value).unwrap_or(Version::One),
+        None => Version::One,
+    }
+}
+
+/// The network option in a slot, and I where it has none.
+fn option_in(slot: &Option<Value>) -> NetOption
+    ensures { result ≡ option_in (seen slot.now) }
+{
+    match slot {
+        Some(value) => option_of(value).unwrap_or(NetOption::I),
+        None => NetOption::I,
+    }
+}
+
+/// What the head has is of its kinds.
+#[tactic(auto, using(crate::proofs::ValueFacts::all_five))]
+fn head_fits(values: &HeadValues) -> bool
+    ensures { result ≡ fits (keys_of Two section.Head) (head_slots values.now).values }
+{
+    fits_version(&values.version)
+        && fits_option(&values.option)
+        && fits_array(&values.elements)
+        && fits_array(&values.links)
+        && fits_array(&values.sources)
+}
+
+/// What the values of a head say.
+fn head_said(alloc: Global, values: HeadValues) -> Head
+    ensures { head_seen result ≡ head_said (head_slots values).values }
+{
+    Head {
+        version: version_in(&values.version),
+        option: option_in(&values.option),
+        elements: entries_in(alloc, values.elements),
+        links: entries_in(alloc, values.links),
+        sources: entries_in(alloc, values.sources),
+    }
+}
+
+/// The head that these values make.
+fn head_by(alloc: Global, place: Place, values: HeadValues) -> Result<Head, PlanFileErr>
+    ensures { GivesBy head_seen result (said_by place (keys_of Two section.Head) head_said (head_slots values)) }
+{
+    if values.other {
+        return Err(PlanFileErr::Key(place));
+    }
+    if !head_fits(&values) {
+        return Err(PlanFileErr::Kind(place));
+    }
+    Ok(head_said(alloc, values))
+}
+
 /// The head of a document.
-#[tactic(auto, using(crate::proofs::HeadFacts::head_is))]
-pub(crate) fn head_of(document: &Table) -> Result<Head<'_>, PlanFileErr>
-    ensures { let members = table_view document.now in
-        GivesBy seen result
-        (unless (refusal_of (version_of members) (record { section = section.Head; row = 0 })
-        (table members)) (head_said members)) }
+pub(crate) fn head_of(alloc: Global, document: Table) -> Result<Head, PlanFileErr>
+    ensures { GivesBy head_seen result (head_in (table_view document)) }
 {
     let place = Place {
         section: Section::Head,
         row: 0,
     };
-    keyed(
-        place,
-        document,
-        &[],
-        &["version", "option", "element", "link", "source"],
-    )?;
-    let version = version_at(place, document)?;
-    let option = option_at(place, document)?;
-    let elements = entries_at(place, document, "element")?;
-    let links = entries_at(place, document, "link")?;
-    let sources = entries_at(place, document, "source")?;
-    Ok(Head {
-        version,
-        option,
-        elements,
-        links,
-        sources,
-    })
+    head_by(alloc, place, HeadValues::of_table(document))
 }

@@ -9,10 +9,11 @@
 #![tactic(auto)]
 
 mod error;
-mod fields;
 mod head;
+mod kinds;
 mod reading;
 mod rows;
+mod values;
 mod version;
 mod writing;
 

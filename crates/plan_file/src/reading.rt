@@ -63,12 +63,12 @@ fn plan_in(alloc: Global, bytes: &[u8]) -> Result<Plan, PlanFileErr>
     Ok(Plan::new(alloc, rows)?)
 }
 
-/// The rows that a file says. Its document is freed before a plan is made of them.
+/// The rows that a file says. Its document is used up before a plan is made of them.
 fn rows_in(alloc: Global, bytes: &[u8]) -> Result<PlanRows, PlanFileErr>
     ensures { Gives result (rows_in_file bytes.now) }
 {
     let document = document_of(alloc, bytes)?;
-    rows_of(alloc, &document)
+    rows_of(alloc, document)
 }
 
 /// The TOML document that the bytes are.

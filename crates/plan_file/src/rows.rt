@@ -1,174 +1,252 @@
 // The rows of a document's tables.
 
-ghost use Rattle.std.specs.Prelude.{◌≡◌, ◌∷◌, [], map, codes};
+ghost use Rattle.std.specs.Prelude.{◌≡◌, ◌||◌, map};
 ghost use Rattle.toml.specs.View.{view, table_view};
 ghost use Rattle.sync_topo.specs.declared.place.Section.TheVariants as section;
+ghost use Rattle.plan_file.specs.declared.version.Version.TheVariants.{One, Two};
+ghost use Rattle.plan_file.specs.Format.{keys_of};
 ghost use Rattle.plan_file.specs.Rows.{element_row, link_row, source_row, row_at, rows_of_document};
-ghost use Rattle.plan_file.specs.Steps.{rows_from, table_with, link_keys, named_bundle};
-ghost use Rattle.plan_file.specs.declared.version.Version.TheVariants.{One};
-ghost use Rattle.plan_file.specs.Gives.{Gives, GivesBy};
+ghost use Rattle.plan_file.specs.Slots.{lacks, fits, said_by};
+ghost use Rattle.plan_file.specs.Values.{element_slots, link_slots, source_slots, element_said, link_said, source_said, rows_from};
+ghost use Rattle.plan_file.specs.Gives.{Gives};
 
 use crate::error::PlanFileErr;
-use crate::fields::{integer_at, name_at, table_with, text_at};
 use crate::head::head_of;
+use crate::kinds::{fits_integer, fits_text, integer_in, name_in, table_of, text_in};
+use crate::values::{ElementValues, LinkValues, SourceValues};
 use crate::version::Version;
 use std::alloc::Global;
-use sync_text::{Rows, Text};
+use sync_text::Rows;
 use sync_topo::{ElementRow, LinkRow, Place, PlanRows, Section, SourceRow};
 use toml::{Table, Value};
 
+/// An element has an unknown key, or lacks one that it must have.
+#[tactic(auto, using(crate::proofs::ValueFacts::needed_one))]
+fn element_lacks(values: &ElementValues) -> bool
+    ensures { let slots = element_slots values.now in
+        result ≡ (slots.other || lacks (keys_of Two section.Elements) slots.values) }
+{
+    values.other || values.name.is_none()
+}
+
+/// What an element has is of its kinds.
+#[tactic(auto, using(crate::proofs::ValueFacts::all_five))]
+fn element_fits(values: &ElementValues) -> bool
+    ensures { result ≡ fits (keys_of Two section.Elements) (element_slots values.now).values }
+{
+    fits_text(&values.name)
+        && fits_text(&values.own)
+        && fits_text(&values.floor)
+        && fits_integer(&values.holdoff)
+        && fits_integer(&values.wtr)
+}
+
+/// What the values of an element say.
+fn element_said(alloc: Global, values: ElementValues) -> ElementRow
+    ensures { result ≡ element_said (element_slots values).values }
+{
+    ElementRow {
+        name: name_in(alloc, values.name),
+        own: text_in(values.own),
+        floor: text_in(values.floor),
+        holdoff: integer_in(&values.holdoff),
+        wtr: integer_in(&values.wtr),
+    }
+}
+
+/// The row that these values make.
+fn element_by(alloc: Global, place: Place, values: ElementValues) -> Result<ElementRow, PlanFileErr>
+    ensures { result ≡ said_by place (keys_of Two section.Elements) element_said (element_slots values) }
+{
+    if element_lacks(&values) {
+        return Err(PlanFileErr::Key(place));
+    }
+    if !element_fits(&values) {
+        return Err(PlanFileErr::Kind(place));
+    }
+    Ok(element_said(alloc, values))
+}
+
 /// The row that an entry of `element` says.
-#[tactic(auto, using(crate::proofs::EntryFacts::element_is))]
-fn element_row(alloc: Global, row: u64, entry: &Value) -> Result<ElementRow, PlanFileErr>
-    ensures { Gives result (row_at One element_row section.Elements row (view entry.now)) }
+#[tactic(auto, using(crate::proofs::EntryFacts::element_in_entry))]
+fn element_row(alloc: Global, row: u64, entry: Value) -> Result<ElementRow, PlanFileErr>
+    ensures { Gives result (row_at One element_row section.Elements row (view entry)) }
 {
     let place = Place {
         section: Section::Elements,
         row,
     };
-    let fields = table_with(place, entry, &["name"], &["own", "floor", "holdoff", "wtr"])?;
-    let name = name_at(alloc, place, fields, "name")?;
-    let own = text_at(alloc, place, fields, "own")?;
-    let floor = text_at(alloc, place, fields, "floor")?;
-    let holdoff = integer_at(place, fields, "holdoff")?;
-    let wtr = integer_at(place, fields, "wtr")?;
-    Ok(ElementRow {
-        name,
-        own,
-        floor,
-        holdoff,
-        wtr,
-    })
+    let fields = table_of(place, entry)?;
+    element_by(alloc, place, ElementValues::of_table(fields))
 }
 
-/// The table of a link, with the keys that it must and may have in this version.
-fn link_table(version: Version, place: Place, entry: &Value) -> Result<&Table, PlanFileErr>
-    ensures { GivesBy (λ fields. table_view fields.now) result
-        (table_with place (codes "name" ∷ codes "a" ∷ codes "b" ∷ []) (link_keys version)
-        (view entry.now)) }
+/// The rows of the entries of `element`.
+fn element_rows(alloc: Global, entries: Vec<Value>) -> Result<Rows<ElementRow>, PlanFileErr>
+    ensures { Gives result (rows_from One element_row section.Elements 1 (map view entries.items)) }
 {
-    let needed = &["name", "a", "b"];
-    match version {
-        Version::One => table_with(
-            place,
-            entry,
-            needed,
-            &["priority_a", "priority_b", "delay_a", "delay_b"],
-        ),
-        Version::Two => table_with(
-            place,
-            entry,
-            needed,
-            &["priority_a", "priority_b", "delay_a", "delay_b", "bundle"],
-        ),
+    let mut rows = Rows::with_capacity(alloc, entries.len())?;
+    let mut number = 1;
+    for entry in entries {
+        rows.push(element_row(alloc, number, entry)?)?;
+        number += 1;
+    }
+    Ok(rows)
+}
+
+/// A link has an unknown key, or lacks one that it must have.
+#[tactic(auto, using(crate::proofs::ValueFacts::needed_three))]
+fn link_lacks(values: &LinkValues) -> bool
+    ensures { let slots = link_slots values.now in
+        result ≡ (slots.other || lacks (keys_of Two section.Links) slots.values) }
+{
+    values.other || values.name.is_none() || values.a.is_none() || values.b.is_none()
+}
+
+/// What a link has is of its kinds.
+#[tactic(auto, using(crate::proofs::ValueFacts::all_eight))]
+fn link_fits(values: &LinkValues) -> bool
+    ensures { result ≡ fits (keys_of Two section.Links) (link_slots values.now).values }
+{
+    fits_text(&values.name)
+        && fits_text(&values.a)
+        && fits_text(&values.b)
+        && fits_integer(&values.priority_a)
+        && fits_integer(&values.priority_b)
+        && fits_integer(&values.delay_a)
+        && fits_integer(&values.delay_b)
+        && fits_text(&values.bundle)
+}
+
+/// What the values of a link say.
+fn link_said(alloc: Global, values: LinkValues) -> LinkRow
+    ensures { result ≡ link_said (link_slots values).values }
+{
+    LinkRow {
+        name: name_in(alloc, values.name),
+        a: name_in(alloc, values.a),
+        b: name_in(alloc, values.b),
+        priority_a: integer_in(&values.priority_a),
+        priority_b: integer_in(&values.priority_b),
+        delay_a: integer_in(&values.delay_a),
+        delay_b: integer_in(&values.delay_b),
+        bundle: text_in(values.bundle),
     }
 }
 
-/// The bundle that a link's table names, if the version has bundles.
-fn named_bundle(
-    alloc: Global,
-    version: Version,
-    place: Place,
-    fields: &Table,
-) -> Result<Option<Text>, PlanFileErr>
-    ensures { Gives result (named_bundle version place (table_view fields.now)) }
+/// The row that these values make.
+fn link_by(alloc: Global, place: Place, values: LinkValues) -> Result<LinkRow, PlanFileErr>
+    ensures { result ≡ said_by place (keys_of Two section.Links) link_said (link_slots values) }
 {
-    match version {
-        Version::One => Ok(None),
-        Version::Two => text_at(alloc, place, fields, "bundle"),
+    if link_lacks(&values) {
+        return Err(PlanFileErr::Key(place));
     }
+    if !link_fits(&values) {
+        return Err(PlanFileErr::Kind(place));
+    }
+    Ok(link_said(alloc, values))
 }
 
 /// The row that an entry of `link` says.
-#[tactic(auto, using(crate::proofs::EntryFacts::link_is))]
-fn link_row(
-    alloc: Global,
-    version: Version,
-    row: u64,
-    entry: &Value,
-) -> Result<LinkRow, PlanFileErr>
-    ensures { Gives result (row_at version (link_row version) section.Links row (view entry.now)) }
+#[tactic(auto, using(crate::proofs::EntryFacts::link_in_entry))]
+fn link_row(alloc: Global, version: Version, row: u64, entry: Value) -> Result<LinkRow, PlanFileErr>
+    ensures { Gives result (row_at version (link_row version) section.Links row (view entry)) }
 {
     let place = Place {
         section: Section::Links,
         row,
     };
-    let fields = link_table(version, place, entry)?;
-    let name = name_at(alloc, place, fields, "name")?;
-    let a = name_at(alloc, place, fields, "a")?;
-    let b = name_at(alloc, place, fields, "b")?;
-    let priority_a = integer_at(place, fields, "priority_a")?;
-    let priority_b = integer_at(place, fields, "priority_b")?;
-    let delay_a = integer_at(place, fields, "delay_a")?;
-    let delay_b = integer_at(place, fields, "delay_b")?;
-    let bundle = named_bundle(alloc, version, place, fields)?;
-    Ok(LinkRow {
-        name,
-        a,
-        b,
-        priority_a,
-        priority_b,
-        delay_a,
-        delay_b,
-        bundle,
-    })
-}
-
-/// The row that an entry of `source` says.
-#[tactic(auto, using(crate::proofs::EntryFacts::source_is))]
-fn source_row(alloc: Global, row: u64, entry: &Value) -> Result<SourceRow, PlanFileErr>
-    ensures { Gives result (row_at One source_row section.Sources row (view entry.now)) }
-{
-    let place = Place {
-        section: Section::Sources,
-        row,
-    };
-    let fields = table_with(place, entry, &["name", "at", "level"], &["priority"])?;
-    let name = name_at(alloc, place, fields, "name")?;
-    let at = name_at(alloc, place, fields, "at")?;
-    let level = name_at(alloc, place, fields, "level")?;
-    let priority = integer_at(place, fields, "priority")?;
-    Ok(SourceRow {
-        name,
-        at,
-        level,
-        priority,
-    })
-}
-
-/// The rows of the entries of `element`.
-fn element_rows(alloc: Global, entries: &[Value]) -> Result<Rows<ElementRow>, PlanFileErr>
-    ensures { Gives result (rows_from One element_row section.Elements 1 (map view entries.now)) }
-{
-    let mut rows = Rows::new(alloc);
-    for (index, entry) in entries.iter().enumerate() {
-        rows.push(element_row(alloc, index as u64 + 1, entry)?)?;
-    }
-    Ok(rows)
+    let fields = table_of(place, entry)?;
+    link_by(
+        alloc,
+        place,
+        LinkValues::of_table(fields).of_version(version),
+    )
 }
 
 /// The rows of the entries of `link`.
 fn link_rows(
     alloc: Global,
     version: Version,
-    entries: &[Value],
+    entries: Vec<Value>,
 ) -> Result<Rows<LinkRow>, PlanFileErr>
-    ensures { Gives result (rows_from version (link_row version) section.Links 1 (map view entries.now)) }
+    ensures { Gives result (rows_from version (link_row version) section.Links 1 (map view entries.items)) }
 {
-    let mut rows = Rows::new(alloc);
-    for (index, entry) in entries.iter().enumerate() {
-        rows.push(link_row(alloc, version, index as u64 + 1, entry)?)?;
+    let mut rows = Rows::with_capacity(alloc, entries.len())?;
+    let mut number = 1;
+    for entry in entries {
+        rows.push(link_row(alloc, version, number, entry)?)?;
+        number += 1;
     }
     Ok(rows)
 }
 
-/// The rows of the entries of `source`.
-fn source_rows(alloc: Global, entries: &[Value]) -> Result<Rows<SourceRow>, PlanFileErr>
-    ensures { Gives result (rows_from One source_row section.Sources 1 (map view entries.now)) }
+/// A source has an unknown key, or lacks one that it must have.
+#[tactic(auto, using(crate::proofs::ValueFacts::needed_three))]
+fn source_lacks(values: &SourceValues) -> bool
+    ensures { let slots = source_slots values.now in
+        result ≡ (slots.other || lacks (keys_of Two section.Sources) slots.values) }
 {
-    let mut rows = Rows::new(alloc);
-    for (index, entry) in entries.iter().enumerate() {
-        rows.push(source_row(alloc, index as u64 + 1, entry)?)?;
+    values.other || values.name.is_none() || values.at.is_none() || values.level.is_none()
+}
+
+/// What a source has is of its kinds.
+#[tactic(auto, using(crate::proofs::ValueFacts::all_four))]
+fn source_fits(values: &SourceValues) -> bool
+    ensures { result ≡ fits (keys_of Two section.Sources) (source_slots values.now).values }
+{
+    fits_text(&values.name)
+        && fits_text(&values.at)
+        && fits_text(&values.level)
+        && fits_integer(&values.priority)
+}
+
+/// What the values of a source say.
+fn source_said(alloc: Global, values: SourceValues) -> SourceRow
+    ensures { result ≡ source_said (source_slots values).values }
+{
+    SourceRow {
+        name: name_in(alloc, values.name),
+        at: name_in(alloc, values.at),
+        level: name_in(alloc, values.level),
+        priority: integer_in(&values.priority),
+    }
+}
+
+/// The row that these values make.
+fn source_by(alloc: Global, place: Place, values: SourceValues) -> Result<SourceRow, PlanFileErr>
+    ensures { result ≡ said_by place (keys_of Two section.Sources) source_said (source_slots values) }
+{
+    if source_lacks(&values) {
+        return Err(PlanFileErr::Key(place));
+    }
+    if !source_fits(&values) {
+        return Err(PlanFileErr::Kind(place));
+    }
+    Ok(source_said(alloc, values))
+}
+
+/// The row that an entry of `source` says.
+#[tactic(auto, using(crate::proofs::EntryFacts::source_in_entry))]
+fn source_row(alloc: Global, row: u64, entry: Value) -> Result<SourceRow, PlanFileErr>
+    ensures { Gives result (row_at One source_row section.Sources row (view entry)) }
+{
+    let place = Place {
+        section: Section::Sources,
+        row,
+    };
+    let fields = table_of(place, entry)?;
+    source_by(alloc, place, SourceValues::of_table(fields))
+}
+
+/// The rows of the entries of `source`.
+fn source_rows(alloc: Global, entries: Vec<Value>) -> Result<Rows<SourceRow>, PlanFileErr>
+    ensures { Gives result (rows_from One source_row section.Sources 1 (map view entries.items)) }
+{
+    let mut rows = Rows::with_capacity(alloc, entries.len())?;
+    let mut number = 1;
+    for entry in entries {
+        rows.push(source_row(alloc, number, entry)?)?;
+        number += 1;
     }
     Ok(rows)
 }
@@ -176,10 +254,10 @@ fn source_rows(alloc: Global, entries: &[Value]) -> Result<Rows<SourceRow>, Plan
 /// The rows that a document says: its head first, then each element in order, each link, and each
 /// source.
 #[tactic(auto, using(crate::proofs::RowsSoFar::document_is))]
-pub(crate) fn rows_of(alloc: Global, document: &Table) -> Result<PlanRows, PlanFileErr>
-    ensures { Gives result (rows_of_document (table_view document.now)) }
+pub(crate) fn rows_of(alloc: Global, document: Table) -> Result<PlanRows, PlanFileErr>
+    ensures { Gives result (rows_of_document (table_view document)) }
 {
-    let head = head_of(document)?;
+    let head = head_of(alloc, document)?;
     let elements = element_rows(alloc, head.elements)?;
     let links = link_rows(alloc, head.version, head.links)?;
     let sources = source_rows(alloc, head.sources)?;

@@ -2,6 +2,6 @@
 #![tactic(auto)]
 
 #[cfg(test)]
-mod longest;
+mod cycle_plan_tests;
 #[cfg(test)]
-mod nominations;
+mod nominate_tests;

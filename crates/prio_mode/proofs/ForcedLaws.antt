@@ -8,6 +8,7 @@ use Rattle.std.proofs.lemmas.List.{get_or-replicate}
 use Rattle.std.proofs.lemmas.List.Elements.{All-nil, All-cons}
 use Rattle.std.proofs.lemmas.List.FromFn.{get_or-map-range_with_len}
 use Rattle.std.proofs.lemmas.Option.{slice_get_within}
+use Rattle.sync_text.proofs.Tests.{if-same}
 use Rattle.sync_text.proofs.Each.{Each-map, Each-unmade}
 use Rattle.sync_text.specs.Each.{Each}
 use Rattle.sync_ql.specs.declared.levels.NetOption.{NetOption}
@@ -44,14 +45,10 @@ use Rattle.net_words.proofs.PlaceLemmas.{no-place-there, stands-there}
 use Rattle.prio_mode.proofs.RingLaws.{IsFollowed, each_followed, receivers_apart, ring_apart, ring_joins}
 
 -- up in its first millisecond, an input isn't failed
-either_false : (b : Bool) → (if b then false else false) ≡ false
-either_false true = refl
-either_false false = refl
-
 good-first : (timers : Timers) (now : Signal) → now.up ≡ true → failed_at timers (now ∷ []) ≡ false
 unfolding failed_at
 good-first timers now up =
-    rw (up, le-ltb timers.holdoff 0 (omega arith)) (either_false (nat_lt timers.wtr 1 || now.clear))
+    rw (up, le-ltb timers.holdoff 0 (omega arith)) (if-same (nat_lt timers.wtr 1 || now.clear) false)
 
 -- a forced switch to an input that may be taken takes it
 module _ (settings : Settings) (now : Moment) (place : ℕ) (within : place < length settings.priorities) where

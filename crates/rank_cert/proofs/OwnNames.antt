@@ -49,7 +49,7 @@ same_place names i j distinct within inside same = elim (cases_lt i j) [
 ]
 
 -- a line of a plan with its link
-pub record HasLink (plan : Topology) (line : ℕ) : Type 0 where
+pub record HasNamedLink (plan : Topology) (line : ℕ) : Type 0 where
   pub link : Link
   pub at : slice_get plan.links (line / 2) ≡ Some link
   pub named_at : slice_get (map (λ link. link.name) plan.links) (line / 2) ≡ Some link.name
@@ -59,8 +59,8 @@ pub record HasLink (plan : Topology) (line : ℕ) : Type 0 where
   pub to : receiver_of plan line ≡ (if ends_at_b line then link.b else link.a)
   pub is_element : receiver_of plan line < length plan.elements
 
-pub has-link : (plan : Topology) (line : ℕ) → IsWellFormed plan → line < line_count plan → HasLink plan line
-has-link plan line well within =
+pub has-named-link : (plan : Topology) (line : ℕ) → IsWellFormed plan → line < line_count plan → HasNamedLink plan line
+has-named-link plan line well within =
     let there = item_at plan.links (line / 2) (omega arith) in
     let joins = well.links_join (line / 2) there.0 there.1 in
     let to : receiver_of plan line ≡ (if ends_at_b line then there.0.b else there.0.a) = rw there.1 refl in
@@ -91,11 +91,11 @@ element_named plan element within =
 pub same-line : (plan : Topology) (line other : ℕ) → IsWellFormed plan → line < line_count plan → other < line_count plan → line_name plan line ≡ line_name plan other → line ≡ other
 same-line plan line other well within inside same = by_ends a b half parts.1
   where
-    a : HasLink plan line
-    a = has-link plan line well within
+    a : HasNamedLink plan line
+    a = has-named-link plan line well within
 
-    b : HasLink plan other
-    b = has-link plan other well inside
+    b : HasNamedLink plan other
+    b = has-named-link plan other well inside
 
     parts : (a.link.name ≡ b.link.name) × (element_name plan (receiver_of plan line) ≡ element_name plan (receiver_of plan other))
     parts = cut_once a.link.name b.link.name _ _ a.named b.named (sym a.whole ∙ same ∙ b.whole)
@@ -116,7 +116,7 @@ same-line plan line other well within inside same = by_ends a b half parts.1
         (slice_get_within (map (λ e. e.name) plan.elements) (receiver_of plan other) _ second)
         (first ∙ ap Some named ∙ sym second)
 
-    by_ends : (x : HasLink plan line) (y : HasLink plan other) → line / 2 ≡ other / 2 → element_name plan (receiver_of plan line) ≡ element_name plan (receiver_of plan other) → line ≡ other
+    by_ends : (x : HasNamedLink plan line) (y : HasNamedLink plan other) → line / 2 ≡ other / 2 → element_name plan (receiver_of plan line) ≡ element_name plan (receiver_of plan other) → line ≡ other
     by_ends x y halves named =
         let one : x.link ≡ y.link = same_Some x.link y.link (sym x.at ∙ ap (slice_get plan.links) halves ∙ y.at) in
         let ends : (if ends_at_b line then x.link.b else x.link.a) ≡ (if ends_at_b other then y.link.b else y.link.a) = sym x.to ∙ receivers named ∙ y.to in
@@ -157,7 +157,7 @@ all-weaker test weaker implies (x ∷ xs) all = let parts = and_parts (test x) (
 pub line_name-all : (plan : Topology) (line : ℕ) (test : ℕ → Bool) → IsWellFormed plan → line < line_count plan → ((byte : ℕ) → is_name_byte byte ≡ true → test byte ≡ true) → test 62 ≡ true
     → list_all test (line_name plan line) ≡ true
 line_name-all plan line test well within implies sign =
-    let own = has-link plan line well within in
+    let own = has-named-link plan line well within in
     let element : list_all is_name (map (λ e. e.name) plan.elements) ≡ true = well.elements_named in
     let good : is_name (element_name plan (receiver_of plan line)) ≡ true
     = passes_at is_name (map (λ e. e.name) plan.elements) (receiver_of plan line) _ element (element_named plan (receiver_of plan line) own.is_element) in

@@ -1,12 +1,16 @@
 -- What the rows of a certificate give, one after the other.
-use Rattle.std.proofs.Common.{◌≡◌, ℕ, ◌+◌, zero, suc, List, [], ◌∷◌, ◌++◌, take, Option, Some, None, slice_get, refl, ap, sym, ◌∙◌, inl, inr, arith}
+use Rattle.std.proofs.Common.{◌≡◌, ℕ, ◌+◌, ◌<◌, ◌≤◌, zero, suc, Bool, true, false, List, [], ◌∷◌, ◌++◌, length, take, drop, Option, Some, None, Err, slice_get, refl, ap, sym, subst, ◌∙◌, inl, inr, arith}
 use Rattle.std.specs.Option.{option_or}
+use Rattle.std.proofs.Math.Seq.{drop-nil}
 use Rattle.std.proofs.lemmas.Bool.Decides.{eqb_tells}
 use Rattle.std.proofs.lemmas.Option.{none-some, same_Some}
 use Rattle.sync_topo.specs.Topology.{Topology}
 use Rattle.rank_cert.specs.Ranks.{Ranks}
+use Rattle.sync_text.specs.Gives.{UnlessWanting}
+use Rattle.rank_cert.specs.declared.error.CertErr.{CertErr}
+use Rattle.rank_cert.specs.Refusal.{is_want, Refuses}
 use Rattle.rank_cert.specs.Rows.{Fields, rank_in_row, line_in_row, rank_for, rank_by_rows}
-use Rattle.rank_cert.specs.CertificateText.{row_refusal, refusal_at}
+use Rattle.rank_cert.specs.CertificateText.{row_refusal, refusal_at, unless}
 use Rattle.rank_cert.specs.RowsTaken.{refusal_after, AreRanksAfter, AreRanksBy, AreTaken}
 
 -- one item more from the front
@@ -63,3 +67,28 @@ AreTaken-more plan rows place ranks now row taken at sound after = record {
         after.each line ∙ rw (taken.given.each line) (sym (rw (take-push rows place row at) (rank_by_rows-push plan (take place rows) row line)));
   };
 }
+
+-- the first of the rows that are left, where it stands among all
+pub at_drop : {A : Type 0} (all : List A) (n : ℕ) (x : A) (rest : List A) → drop n all ≡ x ∷ rest
+    → (slice_get all n ≡ Some x) × (rest ≡ drop (n + 1) all) × (n < length all)
+at_drop [] n x rest is = absurd (cc (rw (drop-nil n) at is))
+at_drop {A = A} (y ∷ ys) zero x rest is =
+    (ap (λ (all : List A). slice_get all 0) is, sym (ap (λ (all : List A). drop 1 all) is), omega arith)
+at_drop (y ∷ ys) (suc n) x rest is =
+    let later = at_drop ys n x rest is in
+    let more : suc n + 1 ≡ suc (n + 1) = omega arith in
+    (later.0, rw more later.1, omega (arith, later.2))
+
+-- where none are left, all were taken
+pub all_taken : {A : Type 0} (all : List A) (n : ℕ) → drop n all ≡ [] → length all ≤ n
+all_taken [] n is = omega arith
+all_taken (y ∷ ys) zero is = absurd (cc is)
+all_taken (y ∷ ys) (suc n) is = omega (arith, all_taken ys n is)
+
+-- the refusal of the first row that breaks a rule
+pub Refuses-first : (first : Option CertErr) (e : CertErr) → first ≡ Some e → Refuses e (unless first)
+Refuses-first first e is = rw is (same (is_want e))
+  where
+    same : (want : Bool) → UnlessWanting want (unless (Some e) ≡ Err e)
+    same true = tt
+    same false = refl

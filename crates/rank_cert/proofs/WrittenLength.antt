@@ -14,7 +14,7 @@ use Rattle.sync_topo.specs.WellFormed.{IsWellFormed}
 use Rattle.rank_cert.specs.Ranks.{Ranks, rank_at, rank_of, IsRanked}
 use Rattle.rank_cert.specs.CertificateText.{row_text, row_size, certificate_size}
 use Rattle.rank_cert.specs.Written.{AreWritten}
-use Rattle.rank_cert.proofs.OwnNames.{passes_at, element_named, has-link}
+use Rattle.rank_cert.proofs.OwnNames.{passes_at, element_named, has-named-link}
 
 -- rows of the numbers in a range that pass, each at most so long
 rows-short : (p : ℕ → Bool) (row : ℕ → List ℕ) (size a n : ℕ) → ((k : ℕ) → k < a + n → p k ≡ true → length (row k) ≤ size)
@@ -37,7 +37,7 @@ element-short plan element well within =
 -- a line's name has at most 65
 pub line-short : (plan : Topology) (line : ℕ) → IsWellFormed plan → line < line_count plan → length (line_name plan line) ≤ 65
 line-short plan line well within =
-    let has = has-link plan line well within in
+    let has = has-named-link plan line well within in
     let link = name-short has.link.name (passes_at is_name (map (λ link. link.name) plan.links) (line / 2) has.link.name well.links_named has.named_at) in
     let element = element-short plan (receiver_of plan line) well has.is_element in
     rw (has.whole, length-append has.link.name (62 ∷ element_name plan (receiver_of plan line))) (omega (arith, link, element))

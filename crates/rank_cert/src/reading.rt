@@ -1,19 +1,19 @@
 // The certificate of a text.
 
-ghost use Rattle.std.specs.Prelude.{◌≡◌, ◌≢◌, ◌<◌, ◌&&◌, [], length, is_none, option_map, None, Some, Ok, Err, IfOk, IfErr, IfSome, OnOk};
+ghost use Rattle.std.specs.Prelude.{◌≡◌, ◌≢◌, ◌<◌, ◌^◌, ◌&&◌, [], false, length, is_none, option_map, None, Some, Ok, Err, IfOk, IfErr, IfSome, OnOk};
 ghost use Rattle.csv_records.specs.FirstRefusal.{first_refusal};
 ghost use Rattle.sync_topo.specs.Lines.{line_count, is_nominated};
 ghost use Rattle.rank_cert.specs.Ranks.{Ranks, IsRanked, RanksNoOther, rank_at};
 ghost use Rattle.rank_cert.specs.Rows.{rank_in_row, line_in_row};
-ghost use Rattle.rank_cert.specs.CertificateText.{certificate_of, certificate_of_records, refusal_at, first_without, is_header};
+ghost use Rattle.rank_cert.specs.CertificateText.{certificate_of, certificate_of_records, refusal_at, first_without, is_header, unless};
 ghost use Rattle.csv_records.specs.Records.{records_of};
 ghost use Rattle.rank_cert.specs.Rules.{IsFirstBroken, NamesLine, IsCertificateOf};
 ghost use Rattle.rank_cert.specs.RowsTaken.{refusal_after, AreRanksAfter, AreRanksBy};
-ghost use Rattle.rank_cert.specs.Refusal.{Gives};
+ghost use Rattle.rank_cert.specs.Refusal.{Gives, Refuses};
 
 use crate::cert::Cert;
 use crate::error::CertErr;
-use csv_records::{Record, read_records};
+use csv_records::{Record, Records};
 use std::alloc::Global;
 use sync_text::read_number;
 use sync_topo::{InputId, LineId, Plan};
@@ -38,25 +38,24 @@ pub fn read_cert(alloc: Global, plan: &Plan, bytes: &[u8]) -> Result<Cert, CertE
     ensures accepted { IfOk result (IsCertificateOf plan.now (records_of bytes.now)) }
     ensures accepts { (ranks : Ranks) → IsCertificateOf plan.now (records_of bytes.now) ranks → Gives result (Ok ranks) }
 {
-    let records = read_records(alloc, bytes)?;
-    cert_of(alloc, plan, records.as_slice())
+    let mut records = Records::of(alloc, bytes);
+    cert_of(alloc, plan, &mut records)
 }
 
-/// The certificate of some records.
+/// The certificate of the records that are left.
 #[tactic(auto, unfolding(crate::specs::CertificateText::certificate_of_records))]
-fn cert_of(alloc: Global, plan: &Plan, records: &[Record]) -> Result<Cert, CertErr>
-    ensures exact { Gives result (certificate_of_records plan.now records.now) }
+fn cert_of(alloc: Global, plan: &Plan, records: &mut Records<'_>) -> Result<Cert, CertErr>
+    requires fresh { records.old.spent ≡ false }
+    requires few { length records.old.left < 2 ^ 64 }
+    ensures exact { Gives result (certificate_of_records plan.now records.old.left) }
     ensures ranked { IfOk result (IsRanked plan.now) }
     ensures no_other { IfOk result (RanksNoOther plan.now) }
 {
-    let Some((first, rows)) = records.split_first() else {
-        return Err(CertErr::Header);
-    };
-    if !is_header(first) {
+    if !records.advance()? || !is_header(records.taken()) {
         return Err(CertErr::Header);
     }
     let mut cert = Cert::new(alloc, plan)?;
-    match take_rows(&mut cert, plan, rows) {
+    match take_rows(&mut cert, plan, records) {
         Ok(()) => {}
         Err(error) => return Err(error),
     }
@@ -76,15 +75,21 @@ fn is_header(first: &Record) -> bool
     }
 }
 
-/// Takes the ranks of all rows.
-fn take_rows(cert: &mut Cert, plan: &Plan, rows: &[Record]) -> Result<(), CertErr>
-    requires { AreRanksBy plan.now [] cert.old }
-    ensures sound { OnOk result (first_refusal (refusal_at plan.now rows.now) (length rows.now) ≡ None) }
-    ensures taken { OnOk result (AreRanksBy plan.now rows.now cert.new) }
-    ensures refused { IfErr result (λ e. first_refusal (refusal_at plan.now rows.now) (length rows.now) ≡ Some e) }
+/// Takes the ranks of all rows that are left.
+fn take_rows(cert: &mut Cert, plan: &Plan, records: &mut Records<'_>) -> Result<(), CertErr>
+    requires begun { AreRanksBy plan.now [] cert.old }
+    requires fresh { records.old.spent ≡ false }
+    requires few { length records.old.left < 2 ^ 64 }
+    ensures sound { let rows = records.old.left in
+        OnOk result (first_refusal (refusal_at plan.now rows) (length rows) ≡ None) }
+    ensures taken { OnOk result (AreRanksBy plan.now records.old.left cert.new) }
+    ensures refused { let rows = records.old.left in
+        IfErr result (λ e. Refuses e (unless (first_refusal (refusal_at plan.now rows) (length rows)))) }
 {
-    for (place, row) in rows.iter().enumerate() {
-        match take_row(cert, plan, row, place as u64 + 1) {
+    let mut number = 0;
+    while records.advance()? {
+        number += 1;
+        match take_row(cert, plan, records.taken(), number) {
             Ok(()) => {}
             Err(error) => return Err(error),
         }

@@ -1,1 +1,4 @@
 pub mod ChainLaws
+pub mod BestChoice
+pub mod ReachLaws
+pub mod ProtectionLaws

@@ -1,4 +1,5 @@
-//! How far timing goes in a network: chains of timing, and the law that no trace is longer.
+//! How far timing goes in a network: how long chains of timing become, how far levels reach, and
+//! whom a failure cuts off.
 //!
 //! A chain is a list of nominated lines, each of which hops to the next: `Chains` says which
 //! chains lead into an element, which elements are filters, and what is counted of a chain. The
@@ -6,15 +7,30 @@
 //! elements take: a trace to a source or an own clock, read backwards, is a chain, so it is
 //! within the row.
 //!
-//! The law is the contract of a function that does nothing. It holds no simulator and no planner:
-//! the crate that makes the rows, and the program that prints them, cite it.
+//! A way is a list of lines from a source to an element, each of which ends where the next begins
+//! (`Ways`). [`reach_law`] says how far the level of a source comes over ways on which nothing
+//! keeps it out (`Reaching`): nobody there has a worse level.
+//!
+//! After a [`Failure`] an element is in reach where any way of lines that are left leads to it from
+//! a clock that remains, and served where a way of nominated ones does (`Protection`).
+//! [`protection_law`] says what those who are served have, and how one line tells that somebody is
+//! cut off who needn't be.
+//!
+//! The laws are the contracts of functions that do nothing. They hold no simulator and no planner:
+//! the crates that make rows, and the program that prints them, cite them.
 //!
 //! Filters and the numbers to hold chains against are after ITU-T G.803, the synchronization
-//! reference chain; which chains count is this project's own.
+//! reference chain; which chains count, ways and failures are this project's own.
 #![tactic(auto)]
 
 mod chain;
 mod chains;
+mod failure;
+mod protecting;
+mod reaching;
 
 pub use chain::Chain;
 pub use chains::chain_law;
+pub use failure::Failure;
+pub use protecting::protection_law;
+pub use reaching::reach_law;

@@ -2,4 +2,4 @@
 #![tactic(auto)]
 
 #[cfg(test)]
-mod forms;
+mod sync_top_tests;

@@ -2,5 +2,4 @@ pub mod Choices
 pub mod Table
 pub mod Standing
 pub mod Scanned
-pub mod OneOption
 pub use Rattle.sync_ql.specs.Selection

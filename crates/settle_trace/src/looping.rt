@@ -8,7 +8,7 @@ ghost use Rattle.sync_topo.specs.Hops.{IsRising};
 ghost use Rattle.net_rules.specs.Walks.{IsFacingPair};
 ghost use Rattle.sync_net.specs.Standing.{StandsFor};
 ghost use Rattle.settle_trace.specs.Now.{taken_now};
-ghost use Rattle.closed_walks.specs.Traces.{numbers};
+ghost use Rattle.sync_topo.specs.Lines.{numbers};
 ghost use Rattle.closed_walks.specs.Loops.{AreLoops};
 ghost use Rattle.closed_walks.specs.Within.{AreLinesOf};
 

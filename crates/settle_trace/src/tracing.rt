@@ -10,7 +10,8 @@ ghost use Rattle.sync_net.specs.Standing.{StandsFor};
 ghost use Rattle.settle_trace.specs.Now.{now_of, signals_of, out_of, taken_now, IsSettledNow};
 ghost use Rattle.sync_topo.specs.WellFormed.{IsWellFormed};
 ghost use Rattle.closed_walks.specs.Taking.{taken_in_list, AreTaken};
-ghost use Rattle.closed_walks.specs.Traces.{end_of, numbers};
+ghost use Rattle.sync_topo.specs.Lines.{numbers};
+ghost use Rattle.closed_walks.specs.Traces.{end_of};
 
 use crate::taking::taken_inputs;
 use closed_walks::{Traced, follow, no_marks};

@@ -1,13 +1,15 @@
 -- What an element answers from its last step up to but not at its due time.
-use Rattle.std.proofs.Common.{◌≡◌, ◌<◌, ℕ, Bool, true, false, List, [], ◌∷◌, Option, None, Some, refl, ap, sym, ◌∙◌, arith, subst}
+use Rattle.std.proofs.Common.{◌≡◌, ◌<◌, ◌-◌, ℕ, Bool, true, false, List, [], ◌∷◌, length, Option, None, Some, refl, ap, sym, ◌∙◌, arith, subst}
 use Rattle.std.specs.Prelude.{unwrap_or, option_and_then, if◌then◌else◌}
+use Rattle.std.specs.Option.{option_or}
 use Rattle.sync_ql.specs.declared.levels.Level.{Level}
 use Rattle.sync_ql.specs.Level.{do_not_use_of}
 use Rattle.sync_ql.specs.Selection.{candidate}
-use Rattle.sync_ql.specs.Moment.{Moment, level_now, selection_at}
+use Rattle.sync_ql.specs.Switches.{is_locked}
+use Rattle.sync_ql.specs.Moment.{Moment, Settings, level_now, switches_at, selection_at}
 use Rattle.sync_ql.specs.declared.levels.NetOption.{NetOption}
-use Rattle.sync_ql.specs.Told.{moments_until, IsOfOption}
-use Rattle.sync_ql.specs.Output.{goes_back, clock_level_at, sent_back_at, mode_of, mode_at, state_of, state_at}
+use Rattle.sync_ql.specs.Told.{last_level, moments_until, IsOfOption}
+use Rattle.sync_ql.specs.Output.{goes_back, clock_level_at, sent_back_at, mode_of, mode_at, switched_at, state_of, state_at}
 use Rattle.std.proofs.Math.Decide.{dec_lt}
 use Rattle.std.proofs.lemmas.List.{get_or_past}
 use Rattle.sync_ql.proofs.Eligible.{nobody}
@@ -16,6 +18,7 @@ use Rattle.sync_element.specs.Whole.{watched_of, level_of, level_back_of, IsWhol
 use Rattle.sync_element.specs.StandsFor.{IsAfter}
 use Rattle.sync_ql.proofs.QuietMoments.{selection_at-within, level_of_taken}
 use Rattle.sync_ql.proofs.DoNotUse.{do_not_use-option}
+use Rattle.sync_ql.proofs.Staying.{length-quiet_moments, last_level-quiet_moments}
 use Rattle.sync_element.proofs.Waiting.{stays_until}
 
 pub selected_until : (e : ElementState) → IsWhole e → (past : List Moment) (n : ℕ) → IsAfter e past → IsInTime e n → e.kept.selection ≡ selection_at e.settings (moments_until e.settings n past)
@@ -72,6 +75,27 @@ pub mode_until : (e : ElementState) → IsWhole e → (past : List Moment) (n : 
 unfolding mode_at
 mode_until e whole past n stands in_time =
     ap (λ s. mode_of s.forced s.manual) (stands.kept.switches ∙ sym (stays_until e past n whole stands in_time).switches)
+
+pub locked_until : (e : ElementState) → IsWhole e → (i : ℕ) (past : List Moment) (n : ℕ) → IsAfter e past → IsInTime e n → is_locked e.kept.switches i ≡ is_locked (switches_at e.settings (moments_until e.settings n past)) i
+locked_until e whole i past n stands in_time =
+    ap (λ s. is_locked s i) (stands.kept.switches ∙ sym (stays_until e past n whole stands in_time).switches)
+
+pub switched_until : (e : ElementState) → IsWhole e → (past : List Moment) (n : ℕ) → IsAfter e past → IsInTime e n → option_or e.kept.switches.forced e.kept.switches.manual ≡ switched_at e.settings (moments_until e.settings n past)
+unfolding switched_at
+switched_until e whole past n stands in_time =
+    ap (λ s. option_or s.forced s.manual) (stands.kept.switches ∙ sym (stays_until e past n whole stands in_time).switches)
+
+-- the level of an input at the last step, and up to the due time
+level_last_of : (settings : Settings) (i : ℕ) (past : List Moment) → 0 < length past → last_level settings i past ≡ level_now i past
+level_last_of settings i [] some = absurd (omega (arith, some))
+level_last_of settings i (now ∷ before) some = refl
+
+pub input_level_until : (e : ElementState) → IsWhole e → (i : ℕ) → i < inputs_of e → (past : List Moment) (n : ℕ) → IsAfter e past → IsInTime e n → 0 < n
+    → (watched_of e i).level ≡ level_now i (moments_until e.settings n past)
+input_level_until e whole i within past n stands in_time later =
+    stands.kept.levels i within
+    ∙ sym (last_level-quiet_moments e.settings i (n - length past) past within)
+    ∙ level_last_of e.settings i (moments_until e.settings n past) (omega (arith, length-quiet_moments e.settings (n - length past) past, in_time.later, stands.next, later))
 
 pub state_until : (e : ElementState) → IsWhole e → (past : List Moment) (n : ℕ) → IsAfter e past → IsInTime e n → state_of e.kept.selection e.kept.was_locked ≡ state_at e.settings (moments_until e.settings n past)
 unfolding state_at

@@ -15,7 +15,9 @@ use Rattle.input_monitor.specs.Monitored.{up_of}
 use Rattle.sync_element.specs.declared.watched.Watched.{Watched}
 use Rattle.agenda.specs.DueTimes.{due_in}
 use Rattle.sync_element.specs.Kept.{InputsKept, unused, watched_in, Follows, HasEnd}
-use Rattle.sync_element.specs.Renewing.{Renewal, differs, ends_at, must_step, signal_of, candidate_of, touches, IsReady, IsStepped, IsRenewed, CanRenew, IsDone, IsPending, IsDoneAt, IsPendingAt, AreRenewed, AreTaken, AreKept}
+use Rattle.sync_text.specs.Tests.{is_other}
+use Rattle.sync_text.proofs.Tests.{same-answer, answer-same}
+use Rattle.sync_element.specs.Renewing.{Renewal, ends_at, must_step, signal_of, candidate_of, touches, IsReady, IsStepped, IsRenewed, CanRenew, IsDone, IsPending, IsDoneAt, IsPendingAt, AreRenewed, AreTaken, AreKept}
 use Rattle.sync_element.proofs.Following.{follows-quiet, follows-told, follows-up, ends_after}
 
 -- two places are one, or they aren't
@@ -33,18 +35,6 @@ or-false true b c none = absurd (cc)
 or-false false true c none = absurd (cc)
 or-false false false true none = absurd (cc)
 
-same-up : (a b : Bool) → differs a b ≡ false → a ≡ b
-same-up true true none = refl
-same-up false false none = refl
-same-up true false none = absurd (cc)
-same-up false true none = absurd (cc)
-
-same-up-back : (a b : Bool) → a ≡ b → differs a b ≡ false
-same-up-back true true same = refl
-same-up-back false false same = refl
-same-up-back true false same = absurd (cc)
-same-up-back false true same = absurd (cc)
-
 pub record IsQuiet (now : ℕ) (w : Watched) : Type 0 where
   pub cleared : w.cleared ≡ false
   pub up : w.up ≡ up_of w.monitor.condition
@@ -52,11 +42,11 @@ pub record IsQuiet (now : ℕ) (w : Watched) : Type 0 where
 
 pub quiet_is : (now : ℕ) (w : Watched) → must_step now w ≡ false → IsQuiet now w
 quiet_is now w none =
-    let parts = or-false w.cleared (differs w.up (up_of w.monitor.condition)) (ends_at now w.monitor.due) none in
-    record { cleared = parts.0; up = same-up w.up (up_of w.monitor.condition) parts.1; not_due = parts.2 }
+    let parts = or-false w.cleared (is_other w.up (up_of w.monitor.condition)) (ends_at now w.monitor.due) none in
+    record { cleared = parts.0; up = same-answer w.up (up_of w.monitor.condition) parts.1; not_due = parts.2 }
 
 pub quiet_back : (now : ℕ) (w : Watched) → IsQuiet now w → must_step now w ≡ false
-quiet_back now w is = rw (is.cleared, same-up-back w.up (up_of w.monitor.condition) is.up, is.not_due) refl
+quiet_back now w is = rw (is.cleared, answer-same w.up (up_of w.monitor.condition) is.up, is.not_due) refl
 
 after_now : (now : ℕ) (o : Option ℕ) → ends_at now o ≡ false → IfSome o (λ d. now ≤ d) → IfSome o (λ d. now < d)
 after_now now None none in_time = tt

@@ -10,6 +10,7 @@ use Rattle.sync_ql.specs.declared.rules.Cmd.TheVariants.{Lockout, Unlock}
 use Rattle.sync_ql.specs.Condition as condition
 use Rattle.sync_ql.specs.Switches.{Switches, is_locked}
 use Rattle.sync_ql.specs.Selection.{candidate, is_better}
+use Rattle.sync_text.specs.Tests.{is_other}
 use Rattle.sync_ql.specs.Told.{IsOfOption}
 use Rattle.sync_ql.specs.declared.limits.TheConstants.{MOST_INPUTS}
 use Rattle.input_monitor.specs.Monitored.{Monitored, up_of}
@@ -18,10 +19,6 @@ use Rattle.sync_element.specs.declared.watched.Watched.{Watched}
 use Rattle.agenda.specs.DueTimes.{due_in}
 use Rattle.sync_element.specs.Kept.{InputsKept, watched_in, Follows, HasEnd}
 
-abbrev pub differs : Bool → Bool → Bool
-differs true b = not b
-differs false b = b
-
 abbrev pub ends_at : ℕ → Option ℕ → Bool
 ends_at now None = false
 ends_at now (Some due) = nat_eq due now
@@ -29,7 +26,7 @@ ends_at now (Some due) = nat_eq due now
 -- whether something happens to an input in a millisecond: it is cleared, goes up or down, or its
 -- running time ends
 abbrev pub must_step : ℕ → Watched → Bool
-must_step now w = w.cleared || differs w.up (up_of w.monitor.condition) || ends_at now w.monitor.due
+must_step now w = w.cleared || is_other w.up (up_of w.monitor.condition) || ends_at now w.monitor.due
 
 -- a monitor may be told of a millisecond
 pub record IsReady (now : ℕ) (m : Monitored) : Type 0 where

@@ -2,9 +2,10 @@ ghost use Rattle.std.specs.Prelude.{◌≡◌, ◌≤◌, ◌<◌, ◌+◌, ◌-
 ghost use Rattle.sync_ql.specs.Level.{do_not_use_of};
 ghost use Rattle.sync_ql.specs.Condition.{condition_at, IsSameKind};
 ghost use Rattle.sync_ql.specs.Selection.{candidate};
-ghost use Rattle.sync_ql.specs.Moment.{Moment, Settings, signals_of, selection_at};
+ghost use Rattle.sync_ql.specs.Switches.{is_locked};
+ghost use Rattle.sync_ql.specs.Moment.{Moment, Settings, signals_of, level_now, switches_at, selection_at};
 ghost use Rattle.sync_ql.specs.Told.{moment_after, moments_until, FitsElement, IsOfOption};
-ghost use Rattle.sync_ql.specs.Output.{clock_level_at, sent_back_at, mode_at, state_at, goes_back, mode_of, state_of};
+ghost use Rattle.sync_ql.specs.Output.{clock_level_at, sent_back_at, mode_at, switched_at, state_at, goes_back, mode_of, state_of};
 ghost use Rattle.sync_element.specs.Configured.{settings_of};
 ghost use Rattle.sync_element.specs.StandsFor.{StandsFor};
 ghost use Rattle.sync_ql.specs.Quiet.{IsElementDue};
@@ -182,6 +183,55 @@ impl Element {
         mode_of(self.commands.forced(), self.commands.manual())
     }
 
+    /// Whether an input is locked out, as from the last step up to but not at `due`, if nothing is told.
+    ///
+    /// After G.781, lockout.
+    pub fn locked(&self, i: u32) -> bool
+        requires place { i < inputs_of self.now }
+        ensures locked { (past : List Moment) (n : ℕ) → StandsFor self.now past →
+            IsInTime self.now n →
+            result ≡ is_locked (switches_at self.now.settings (moments_until self.now.settings n past)) i }
+    {
+        self.commands.locked(i)
+    }
+
+    /// The input that is switched to, the forced one or else the manual one, as from the last step up to
+    /// but not at `due`, if nothing is told.
+    ///
+    /// After G.781, forced and manual switch.
+    pub fn switched(&self) -> Option<u32>
+        ensures place { IfSome result (λ i. i < inputs_of self.now) }
+        ensures switched { (past : List Moment) (n : ℕ) → StandsFor self.now past →
+            IsInTime self.now n →
+            result ≡ switched_at self.now.settings (moments_until self.now.settings n past) }
+    {
+        self.commands.forced().or(self.commands.manual())
+    }
+
+    /// The level of an input, as it is heard or its source has it, as from the last step up to but not at
+    /// `due`, if nothing is told. Before the first step it is the one that the input is set to.
+    ///
+    /// After G.781, quality level of an input.
+    pub fn level_of(&self, i: u32) -> Option<Level>
+        requires place { i < inputs_of self.now }
+        ensures option { IsOfOption self.now.settings.own.option result }
+        ensures level { (past : List Moment) (n : ℕ) → StandsFor self.now past →
+            IsInTime self.now n → 0 < n →
+            result ≡ level_now i (moments_until self.now.settings n past) }
+    {
+        self.inputs.watched.as_slice()[i as usize].level
+    }
+
+    /// The level below which no input is taken, where there is one.
+    ///
+    /// This project's own.
+    pub fn floor(&self) -> Option<Level>
+        ensures value { result ≡ self.now.settings.floor }
+        ensures option { IsOfOption self.now.settings.own.option result }
+    {
+        self.config.floor
+    }
+
     /// What the element's clock follows, as from the last step up to but not at `due`, if nothing is
     /// told.
     ///
@@ -230,7 +280,7 @@ impl Element {
             (signals_of i (moments_until self.now.settings n past))
             ≡ later_by (n - self.now.next) result }
     {
-        let input = &self.inputs.watched[i as usize];
+        let input = &self.inputs.watched.as_slice()[i as usize];
         input.monitor.condition_before(self.next)
     }
 

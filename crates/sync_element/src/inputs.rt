@@ -13,6 +13,7 @@ use crate::watched::{Watched, step_if_told, try_clone_all};
 use agenda::DueTimes;
 use operator_cmds::Cmds;
 use selector::Table;
+use smallvec::SmallVec;
 use std::alloc::Global;
 use sync_ql::limits::LAST_MILLISECOND;
 use sync_ql::rules::{Candidate, InputEvent};
@@ -22,7 +23,8 @@ use sync_text::NoMemory;
 // The inputs, by place.
 #[derive(Debug, Drop)]
 pub struct Inputs {
-    pub watched: Vec<Watched>,
+    /// Four of them in place: most elements have no more.
+    pub watched: SmallVec<Watched, 4>,
     pub dues: DueTimes,
     pub table: Table,
 }
@@ -86,7 +88,7 @@ pub fn renew(inputs: &mut Inputs, i: u32, now: u64, commands: &Cmds, config: &Co
 {
     let place = i as usize;
     let priority = inputs.table.inputs()[place].priority;
-    let input = &mut inputs.watched[place];
+    let input = &mut inputs.watched.as_mut_slice()[place];
     let due = step_if_told(input, now);
     let level = input.level;
     let usable = !commands.locked(i) && !input.monitor.failed() && !is_below(config.floor, level);

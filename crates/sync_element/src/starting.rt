@@ -13,6 +13,7 @@ use crate::watched::Watched;
 use agenda::DueTimes;
 use input_monitor::Monitor;
 use selector::Table;
+use smallvec::SmallVec;
 use std::alloc::Global;
 use sync_ql::Level;
 use sync_ql::limits::{GREATEST_HOLDOFF, GREATEST_WTR, LEAST_HOLDOFF, MOST_INPUTS};
@@ -40,7 +41,7 @@ pub fn new_inputs(alloc: Global, config: &Config) -> Result<Inputs, NoMemory>
 }
 
 // Each input with a monitor that was told nothing.
-fn new_watched(alloc: Global, config: &Config) -> Result<Vec<Watched>, NoMemory>
+fn new_watched(alloc: Global, config: &Config) -> Result<SmallVec<Watched, 4>, NoMemory>
     requires not_short { LEAST_HOLDOFF ≤ config.now.holdoff }
     requires not_long { config.now.holdoff ≤ GREATEST_HOLDOFF }
     requires minutes { config.now.wtr ≤ GREATEST_WTR }
@@ -48,7 +49,7 @@ fn new_watched(alloc: Global, config: &Config) -> Result<Vec<Watched>, NoMemory>
     ensures new { IfOk result (λ watched. (i : ℕ) → i < length config.now.inputs →
         IsNew config.now i (watched_in watched.items i)) }
 {
-    let Ok(mut watched) = Vec::with_capacity(alloc, config.inputs.as_slice().len()) else {
+    let Ok(mut watched) = SmallVec::with_capacity(alloc, config.inputs.as_slice().len()) else {
         return Err(NoMemory);
     };
     for input in config.inputs.as_slice() {

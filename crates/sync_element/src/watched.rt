@@ -5,10 +5,11 @@ ghost use Rattle.sync_element.specs.Kept.{HasEnd};
 ghost use Rattle.sync_element.specs.Renewing.{must_step, IsReady, IsStepped};
 
 use input_monitor::Monitor;
+use smallvec::SmallVec;
 use std::alloc::Global;
 use sync_ql::Level;
-use sync_ql::limits::LAST_MILLISECOND;
-use sync_text::{NoMemory, Rows};
+use sync_ql::limits::{LAST_MILLISECOND, LEAST_HOLDOFF};
+use sync_text::NoMemory;
 
 // What an element keeps of an input, besides what the choice looks at.
 #[derive(Debug, Drop)]
@@ -21,20 +22,37 @@ pub struct Watched {
     pub cleared: bool,
 }
 
+// What stands in a list's empty places.
+impl Default for Watched {
+    fn default() -> Watched {
+        Watched {
+            monitor: Monitor::new(LEAST_HOLDOFF, 0),
+            up: true,
+            level: None,
+            cleared: false,
+        }
+    }
+}
+
 // The same inputs once more.
-pub fn try_clone_all(alloc: Global, watched: &[Watched]) -> Result<Vec<Watched>, NoMemory>
+pub fn try_clone_all(alloc: Global, watched: &[Watched]) -> Result<SmallVec<Watched, 4>, NoMemory>
     ensures { IfOk result (λ copies. copies.items ≡ watched.now) }
 {
-    let mut copies = Rows::with_capacity(alloc, watched.len())?;
+    let Ok(mut copies) = SmallVec::with_capacity(alloc, watched.len()) else {
+        return Err(NoMemory);
+    };
     for input in watched {
-        copies.push(Watched {
+        let copy = Watched {
             monitor: input.monitor.copy(),
             up: input.up,
             level: input.level,
             cleared: input.cleared,
-        })?;
+        };
+        if copies.push(copy).is_err() {
+            return Err(NoMemory);
+        }
     }
-    Ok(copies.into_vec())
+    Ok(copies)
 }
 
 // Whether something happens to the input in a millisecond: its wait-to-restore time is cleared, it

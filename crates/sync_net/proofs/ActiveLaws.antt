@@ -28,7 +28,8 @@ use Rattle.sync_topo.proofs.LineLaws.{IsNominated-within}
 use Rattle.net_rules.specs.Signals.{Signals, signals_by, events_at}
 use Rattle.net_rules.specs.Inputs.{IsInputOf}
 use Rattle.net_rules.specs.History.{Levels, settings_of, heard, moment_at, element_past, failed_by, out_at}
-use Rattle.net_rules.specs.Activity.{is_other, is_active, news_arrives, is_busy}
+use Rattle.sync_text.specs.Tests.{is_other}
+use Rattle.net_rules.specs.Activity.{is_active, news_arrives, is_busy}
 use Rattle.net_rules.proofs.InputLaws.{inputs-are}
 use Rattle.net_rules.proofs.NetLaws.{failed-at, many-inputs}
 use Rattle.net_rules.proofs.EventLaws.{up-same}

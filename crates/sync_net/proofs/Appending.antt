@@ -10,7 +10,7 @@ use Rattle.std.proofs.lemmas.List.{append-nil}
 use Rattle.std.proofs.lemmas.List.Elements.{filter-append}
 use Rattle.std.proofs.lemmas.Option.{slice_get_cases}
 use Rattle.sync_ql.proofs.SameMoments.{line_moment}
-use Rattle.sync_text.proofs.Each.{Each-map, each-all}
+use Rattle.sync_text.proofs.Each.{Each-map, each-all, filter-none}
 use Rattle.sync_text.specs.Each.{Each}
 use Rattle.sync_ql.specs.Pasts.{past_of}
 use Rattle.sync_ql.specs.Messages.{heard_at, line_until}
@@ -152,16 +152,11 @@ level-now : (plan : Topology) (events : List Event) (source t : ℕ) → source_
 unfolding source_level_at
 level-now plan events source t = refl
 
--- what a test keeps of events that don't pass it is nothing
-kept_none : (test : Event → Bool) (events : List Event) → Each (λ event. test event ≡ false) events → filter test events ≡ []
-kept_none test [] each = refl
-kept_none test (event ∷ events) each = rw (each.0, kept_none test events each.1) refl
-
 -- later events aren't before a millisecond
 before-appended : (events more : List Event) (n k : ℕ) → k ≤ n → All (λ event. n ≤ event.at) more → events_before k (events ++ more) ≡ events_before k events
 before-appended events more n k early later =
     filter-append (λ event. nat_lt event.at k) events more
-    ∙ ap (λ kept. events_before k events ++ kept) (kept_none (λ event. nat_lt event.at k) more
+    ∙ ap (λ kept. events_before k events ++ kept) (filter-none (λ event. nat_lt event.at k) more
     (Each-map (λ event. n ≤ event.at) (λ event. nat_lt event.at k ≡ false) (λ event after. le-ltb event.at k (omega (arith, early, after))) more
     (each-all (λ event. n ≤ event.at) more later)))
     ∙ append-nil (events_before k events)

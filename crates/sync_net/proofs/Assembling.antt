@@ -26,9 +26,9 @@ use Rattle.sync_net.specs.Telling.{IsTold}
 use Rattle.sync_net.specs.Noting.{line_at, names_line}
 use Rattle.net_rules.specs.Settling.{switches_line}
 use Rattle.sync_net.specs.Hearing.{told_in, HearsMore, CanTell}
-use Rattle.sync_net.specs.Stages.{is_marked}
+use Rattle.agenda.specs.Called.{is_marked}
 use Rattle.sync_net.specs.Whole.{state_of, IsReadyLine, IsWhole}
-use Rattle.sync_net.proofs.StageLaws.{or-second}
+use Rattle.sync_text.proofs.Tests.{or-second}
 use Rattle.sync_net.specs.PartSteps.{AreCalled, AreTakenIn}
 
 -- what an element is told of levels beside what it is told of events is all that it is told

@@ -5,6 +5,7 @@ use Rattle.std.specs.List.{list_any, All, IsDistinct}
 use Rattle.std.proofs.Math.Decide.{dec_lt}
 use Rattle.std.proofs.lemmas.Bool.{true≢false}
 use Rattle.std.proofs.lemmas.List.{get_or_past, length-replicate}
+use Rattle.sync_text.proofs.Tests.{or-second}
 use Rattle.sync_ql.specs.declared.limits.TheConstants.{LAST_MILLISECOND}
 use Rattle.sync_ql.specs.Told.{IsOfOption}
 use Rattle.sync_ql.specs.Messages.{is_same_level}
@@ -26,13 +27,14 @@ use Rattle.sync_net.specs.Noting.{line_at, AreOfOption}
 use Rattle.sync_net.proofs.QuietGap.{some_element}
 use Rattle.sync_net.specs.Hearing.{heard_in, told_in}
 use Rattle.sync_net.specs.Steps.{IsSteady, IsLineTold, IsLineSaid}
-use Rattle.sync_net.specs.Stages.{is_marked, IsSent, IsNotGiven, is_out_of}
+use Rattle.agenda.specs.Called.{is_marked}
+use Rattle.sync_net.specs.Stages.{IsSent, IsNotGiven, is_out_of}
 use Rattle.sync_net.specs.NetStep.{ElementStays, ElementMoves, LineIsTold, LineKeeps, LineIsSaid, LineMoves, IsNetStep, HasCause, AreEvaluatedFor}
 use Rattle.sync_net.specs.Evaluated.{IsCalledFor, AreAloneCalled}
 use Rattle.sync_net.proofs.OutLaws.{out-every, out-is}
 use Rattle.sync_net.specs.Whole.{kept_of, state_of, IsReadyElement, IsReadyLine, IsWhole}
 use Rattle.sync_net.specs.PartSteps.{AreCalled, AreTakenIn, AreHeardIn, AreEvaluatedIn, AreSentIn, IsOver}
-use Rattle.sync_net.proofs.StageLaws.{same-place, or-second}
+use Rattle.sync_net.proofs.StageLaws.{same-place}
 use Rattle.sync_net.proofs.Assembling.{unmarked-before, if_some_at, none-marked, exactly_now, kept_line, called_nominated, called_before, not_called_before, line_due_left}
 use Rattle.sync_net.proofs.Finishing.{called_in_end, c_elements, c_dues, not_active, told_line, untold_line, element_steps, element_stays, element_moves, called_later}
 

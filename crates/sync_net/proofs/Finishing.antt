@@ -21,7 +21,8 @@ use Rattle.sync_net.specs.NetState as Net
 use Rattle.sync_net.specs.Telling.{IsTold}
 use Rattle.sync_net.specs.Noting.{line_at}
 use Rattle.sync_net.specs.Hearing.{heard_in, told_in, HearsMore, IsToldAt}
-use Rattle.sync_net.specs.Stages.{is_marked, CanStep, CanSay}
+use Rattle.agenda.specs.Called.{is_marked}
+use Rattle.sync_net.specs.Stages.{CanStep, CanSay}
 use Rattle.sync_net.specs.NetStep.{ElementSteps, ElementStays, ElementMoves}
 use Rattle.sync_net.proofs.OutLaws.{out-is}
 use Rattle.sync_net.specs.Whole.{kept_of, state_of, IsReadyElement, IsReadyLine, IsWhole}

@@ -10,6 +10,7 @@ use Rattle.std.proofs.lemmas.List.{append-nil, get_or-set_same, get_or_default}
 use Rattle.std.proofs.lemmas.List.Elements.{All-push}
 use Rattle.std.proofs.lemmas.List.Folds.{list_any-append}
 use Rattle.std.proofs.lemmas.Option.{same_Some, none-some, slice_get_within}
+use Rattle.sync_text.proofs.Tests.{or-second}
 use Rattle.sync_ql.specs.declared.levels.Level.{Level}
 use Rattle.sync_ql.specs.declared.rules.InputEvent.{InputEvent}
 use Rattle.sync_ql.specs.declared.rules.InputEvent.TheVariants as tell
@@ -27,12 +28,12 @@ use Rattle.net_rules.specs.History.{settings_of}
 use Rattle.net_rules.proofs.WalkLaws.{line_input-same}
 use Rattle.net_rules.proofs.NetLaws.{many-inputs}
 use Rattle.net_words.specs.Tellings.{is_something}
-use Rattle.sync_net.specs.Stages.{is_marked}
+use Rattle.agenda.specs.Called.{is_marked}
 use Rattle.sync_net.specs.declared.signals.LineSignal.{LineSignal}
 use Rattle.sync_net.specs.NetState.{line_in}
 use Rattle.sync_net.specs.Steps.{IsLineTold}
 use Rattle.sync_net.specs.Hearing.{Ears, heard_in, IsToldAt, IsNotTold, HearsMore, told_in, AreTold, CanTell, IsPassedOn}
-use Rattle.sync_net.proofs.StageLaws.{one-of, none-of, is-place, keeps-marks, keeps-same, or-second}
+use Rattle.sync_net.proofs.StageLaws.{one-of, none-of, is-place, keeps-marks, keeps-same}
 use Rattle.net_rules.proofs.OwnLevels.{own-option}
 use Rattle.net_words.proofs.DistinctInputs.{place-at, input-of}
 use Rattle.net_words.proofs.PlaceLemmas.{found-at}

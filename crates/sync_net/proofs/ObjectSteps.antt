@@ -8,7 +8,7 @@ use Rattle.sync_element.proofs.ElementSteps.{later-due}
 use Rattle.link_model.specs.LineState.{LineState}
 use Rattle.link_model.specs.Calls.{told, turned, with_up, with_esmc, with_level}
 use Rattle.link_model.specs.StandsFor as Line
-use Rattle.link_model.proofs.Standing.{length-until, until-same, until-next}
+use Rattle.link_model.proofs.Standing.{length-until, until-same, until-next, until-told}
 use Rattle.sync_topo.specs.Topology.{Topology}
 use Rattle.sync_topo.specs.Lines.{line_input, delay_of}
 use Rattle.net_rules.specs.Signals.{Signals}
@@ -25,9 +25,6 @@ told_moment-up : (signal : LineSignal) (was : LineMoment) → (told_moment signa
 unfolding told_moment
 told_moment-up signal was = refl
 
-stays : (now : ℕ) (x : LineMoment) (before : List LineMoment) → length before ≡ now → line_until (suc now) (x ∷ before) ≡ x ∷ before
-stays now x before long = until-same (suc now) (x ∷ before) (ap suc long)
-
 told-past : (now : ℕ) (signal : LineSignal) (past : List LineMoment) → length past ≤ now →
     told_past now signal past ≡ told_moment signal (unchanged (line_until now past)) ∷ line_until now past
 unfolding told_moment
@@ -35,8 +32,8 @@ told-past now signal past early =
     let was : LineMoment = unchanged (line_until now past) in
     let long : length (line_until now past) ≡ now = length-until now past early in
     ap (λ p. line_until (suc now) (with_esmc signal.esmc (line_until (suc now) (with_up signal.up p)))) (until-next now past early)
-    ∙ ap (λ p. line_until (suc now) (with_esmc signal.esmc p)) (stays now (turned was signal.up was.esmc) (line_until now past) long)
-    ∙ stays now (turned (turned was signal.up was.esmc) signal.up signal.esmc) (line_until now past) long
+    ∙ ap (λ p. line_until (suc now) (with_esmc signal.esmc p)) (until-told now (turned was signal.up was.esmc) (line_until now past) long)
+    ∙ until-told now (turned (turned was signal.up was.esmc) signal.up signal.esmc) (line_until now past) long
 
 -- and the level that is given at its end
 said-past : (now : ℕ) (signal : LineSignal) (level : Level) (past : List LineMoment) → length past ≤ now →
@@ -44,7 +41,7 @@ said-past : (now : ℕ) (signal : LineSignal) (level : Level) (past : List LineM
 unfolding told_moment
 said-past now signal level past early =
     ap (λ p. with_level level (line_until (suc now) p)) (told-past now signal past early)
-    ∙ ap (with_level level) (stays now (told_moment signal (unchanged (line_until now past))) (line_until now past) (length-until now past early))
+    ∙ ap (with_level level) (until-told now (told_moment signal (unchanged (line_until now past))) (line_until now past) (length-until now past early))
 
 -- a line whose level alone is given
 given-past : (now : ℕ) (level : Level) (past : List LineMoment) → length past ≤ now →
@@ -99,7 +96,7 @@ told-heard plan signals out line now signal heard_then before between delayed st
     told_so.heard past stands.stands
     ∙ ap (λ d. heard_at d (line_until (suc now) (told_past now signal past))) stands.delay
     ∙ ap (λ p. heard_at (delay_of plan line) (line_until (suc now) p)) (told-past now signal past early)
-    ∙ ap (heard_at (delay_of plan line)) (stays now (told_moment signal was) (line_until now past) (length-until now past early))
+    ∙ ap (heard_at (delay_of plan line)) (until-told now (told_moment signal was) (line_until now past) (length-until now past early))
     ∙ ap (λ p. heard_at (delay_of plan line) (told_moment signal was ∷ p)) (sym stands.unchanged)
     ∙ heard_at-head (delay_of plan line) (told_moment signal was) (line_moment_at signals out line now) (past_of (line_moment_at signals out line) now) delayed (told_moment-up signal was ∙ up)
 

@@ -3,6 +3,7 @@ use Rattle.std.proofs.Common.{◌≡◌, ◌<◌, ◌⊎◌, ℕ, zero, suc, Boo
 use Rattle.std.specs.Prelude.{slice_index_or, IsSomeAnd}
 use Rattle.std.specs.List.{list_any}
 use Rattle.std.proofs.lemmas.Bool.Decides.{nat_tests}
+use Rattle.sync_text.proofs.Tests.{or-second}
 use Rattle.sync_element.specs.ElementState.{ElementState}
 use Rattle.sync_element.specs.StandsAfter.{IsStepped}
 use Rattle.sync_ql.specs.declared.levels.Level.{Level}
@@ -66,10 +67,6 @@ or-here : (a b : Bool) → a ≡ true → (a || b) ≡ true
 or-here true b is = refl
 or-here false b is = absurd (cc)
 
-or-there : (a b : Bool) → b ≡ true → (a || b) ≡ true
-or-there true b is = refl
-or-there false b is = is
-
 -- one element more
 pub evaluated-next : (now n m place : ℕ) (outs : ℕ → ℕ → Bool) (done done_then : ℕ → Bool) (s t u : Workplace) → done place ≡ false →
     ((e : ℕ) → done_then e ≡ (done e || nat_eq e place)) →
@@ -84,7 +81,7 @@ evaluated-next now n m place outs done done_then s t u fresh next all same one_o
       | inl earlier ↦ inl earlier
       | inr out ↦ inr (out.0, next out.0 ∙ or-here (done out.0) (nat_eq out.0 place) out.1, out.2)
     ]
-    | inr out ↦ inr (out.0, next out.0 ∙ or-there (done out.0) (nat_eq out.0 place) out.1, out.2)
+    | inr out ↦ inr (out.0, next out.0 ∙ or-second (done out.0) (nat_eq out.0 place) out.1, out.2)
   ];
   evaluated = λ e within is. elim (one-of (done e) (nat_eq e place) (sym (next e) ∙ is)) [
     | inl before ↦ evaluated-left now (outs e) e s t u (all.evaluated e within before) (one.others e within (apart e before (nat_eq e place) refl)) one.called
@@ -209,10 +206,6 @@ pub can-say-still : (plan : Topology) (elements : List ElementState) (now line :
     IsSomeAnd (line_in s.lines line) (CanSay now) → IsSomeAnd (line_in t.lines line) (CanSay now)
 can-say-still plan elements now line done s t within fresh all can =
     subst (λ o. IsSomeAnd o (CanSay now)) (sym (all.others line within fresh).same) can
-
-pub or-second : (a b : Bool) → b ≡ true → (a || b) ≡ true
-or-second true b is = refl
-or-second false b is = is
 
 -- what stands at a place of a list is among it
 pub is-listed : (xs : List ℕ) (i : ℕ) → i < length xs → list_any (nat_eq (slice_index xs i)) xs ≡ true

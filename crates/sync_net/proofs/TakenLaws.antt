@@ -29,7 +29,8 @@ use Rattle.sync_net.specs.declared.signals.SourceSignal.{SourceSignal}
 use Rattle.net_words.specs.declared.tellings.Tellings.{Tellings}
 use Rattle.sync_net.specs.Kept.{kept_up, kept_level}
 use Rattle.sync_net.specs.Noted.{AreNoted, IsSettled}
-use Rattle.sync_net.specs.Noting.{line_at, source_at, is_marked, names_line, AreOfOption, AreLinesNoted, AreSourcesNoted}
+use Rattle.agenda.specs.Called.{is_marked}
+use Rattle.sync_net.specs.Noting.{line_at, source_at, names_line, AreOfOption, AreLinesNoted, AreSourcesNoted}
 use Rattle.sync_net.specs.Settling.{named_source, is_it, names_source, settled, settle_if, AreSourcesSettled, all_level_words}
 use Rattle.sync_net.specs.Taking.{Taking, AreTaken, kept_in}
 use Rattle.sync_net.specs.Telling.{IsTold}

@@ -15,7 +15,8 @@ use Rattle.net_rules.specs.History.{settings_of}
 use Rattle.sync_net.specs.declared.signals.LineSignal.{LineSignal}
 use Rattle.sync_net.specs.NetState.{line_in}
 use Rattle.sync_net.specs.Steps.{IsLineTold}
-use Rattle.sync_net.specs.Stages.{is_marked, KeepsMarks}
+use Rattle.agenda.specs.Called.{is_marked}
+use Rattle.sync_net.specs.Stages.{KeepsMarks}
 
 -- the lines; the level that is heard on each; what each element is told; and which elements are
 -- marked

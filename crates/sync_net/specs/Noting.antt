@@ -8,6 +8,7 @@ use Rattle.sync_topo.specs.Topology.{Topology}
 use Rattle.sync_topo.specs.Lines.{line_input, is_nominated}
 use Rattle.net_rules.specs.Signals.{last_word, says_up, says_esmc, says_level}
 use Rattle.net_rules.specs.Settling.{switches_line}
+use Rattle.agenda.specs.Called.{is_marked}
 use Rattle.sync_net.specs.declared.signals.LineSignal.{LineSignal}
 use Rattle.sync_net.specs.declared.signals.SourceSignal.{SourceSignal}
 use Rattle.sync_net.specs.Kept.{no_source}
@@ -18,9 +19,6 @@ line_at lines line = slice_index_or lines line (record { up = true; esmc = true 
 
 abbrev pub source_at : List SourceSignal → ℕ → SourceSignal
 source_at sources source = slice_index_or sources source no_source
-
-abbrev pub is_marked : List Bool → ℕ → Bool
-is_marked flags k = slice_index_or flags k false
 
 -- a line's signal or its ESMC changed, and a mark set where the line is nominated
 abbrev pub with_up : List LineSignal → ℕ → Bool → List LineSignal

@@ -10,7 +10,8 @@ use Rattle.sync_net.specs.declared.parts.Parts.{Parts}
 use Rattle.sync_net.specs.Noting.{line_at, AreOfOption}
 use Rattle.sync_net.specs.Taking.{AreTaken}
 use Rattle.sync_net.specs.Hearing.{AreTold}
-use Rattle.sync_net.specs.Stages.{is_marked, KeepsMarks, AreDueMarked, AreEvaluated, AreSent, is_out_of}
+use Rattle.agenda.specs.Called.{is_marked}
+use Rattle.sync_net.specs.Stages.{KeepsMarks, AreDueMarked, AreEvaluated, AreSent, is_out_of}
 
 -- what no stage changes
 pub record SameTables (p q : Parts) : Type 0 where

@@ -10,6 +10,7 @@ use Rattle.sync_element.specs.StandsAfter.{IsStepped}
 use Rattle.sync_element.specs.StandsFor as Element
 use Rattle.link_model.specs.LineState.{LineState}
 use Rattle.agenda.specs.DueTimes.{due_in}
+use Rattle.agenda.specs.Called.{is_marked}
 use Rattle.sync_topo.specs.Topology.{Topology}
 use Rattle.sync_topo.specs.Lines.{line_count, sender_of}
 use Rattle.net_rules.specs.History.{sent_by}
@@ -18,10 +19,7 @@ use Rattle.sync_topo.specs.Lines.{lines_out}
 use Rattle.sync_net.specs.NetState.{line_in}
 use Rattle.sync_net.specs.Steps.{IsSteady, IsLineSaid}
 
--- whether a place is marked; and the places that pass a test all are
-abbrev pub is_marked : List Bool → ℕ → Bool
-is_marked flags k = slice_index_or flags k false
-
+-- the places that pass a test are all marked
 abbrev pub AreMarked : (ℕ → Bool) → List Bool → Type 0
 AreMarked test flags = (k : ℕ) → test k ≡ true → is_marked flags k ≡ true
 

@@ -11,7 +11,8 @@ use Rattle.sync_net.specs.declared.signals.SourceSignal.{SourceSignal}
 use Rattle.net_words.specs.declared.tellings.Tellings.{Tellings}
 use Rattle.sync_net.specs.Kept.{Kept}
 use Rattle.sync_net.specs.Noted.{AreNoted}
-use Rattle.sync_net.specs.Noting.{line_at, is_marked, names_line}
+use Rattle.agenda.specs.Called.{is_marked}
+use Rattle.sync_net.specs.Noting.{line_at, names_line}
 use Rattle.sync_net.specs.Telling.{IsTold}
 use Rattle.net_words.specs.Tellings.{told_to, is_active}
 

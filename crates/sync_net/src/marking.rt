@@ -5,7 +5,8 @@ ghost use Rattle.std.specs.List.{list_any};
 ghost use Rattle.agenda.specs.DueTimes.{AreLater};
 ghost use Rattle.sync_topo.specs.Lines.{line_count, IsNominated};
 ghost use Rattle.sync_net.specs.PartSteps.{IsFirstMarked};
-ghost use Rattle.sync_net.specs.Stages.{is_marked, is_among, AreMarked, KeepsMarks, AreDueMarked};
+ghost use Rattle.agenda.specs.Called.{is_marked};
+ghost use Rattle.sync_net.specs.Stages.{is_among, AreMarked, KeepsMarks, AreDueMarked};
 
 use agenda::{DueTimes, Marks};
 use sync_topo::{InputId, LineId, Plan};

@@ -1,6 +1,7 @@
 -- What one element gives: its level, what it sends back on each input, its mode and its state.
 -- After G.781, quality level of a clock, do not use on the way back, and clock modes.
 use Rattle.std.specs.Prelude.{ℕ, Bool, true, false, ◌||◌, nat_eq, if◌then◌else◌, List, [], ◌∷◌, slice_index, Option, None, Some, is_some, unwrap_or, option_and_then}
+use Rattle.std.specs.Option.{option_or}
 use Rattle.sync_ql.specs.declared.levels.Level.{Level}
 use Rattle.sync_ql.specs.declared.rules.Mode.{Mode}
 use Rattle.sync_ql.specs.declared.rules.Mode.TheVariants as mode
@@ -39,6 +40,10 @@ mode_of None None = mode.Auto
 
 unfoldable pub mode_at : Settings → List Moment → Mode
 mode_at settings past = mode_of (switches_at settings past).forced (switches_at settings past).manual
+
+-- the input that is switched to: the forced one, or where none is the manual one
+unfoldable pub switched_at : Settings → List Moment → Option ℕ
+switched_at settings past = option_or (switches_at settings past).forced (switches_at settings past).manual
 
 -- whether an input was taken in any of the milliseconds
 abbrev pub was_locked : Settings → List Moment → Bool

@@ -3,6 +3,7 @@ use Rattle.std.proofs.Common.{◌≡◌, ◌≤◌, ℕ, Bool, true, false, List
 use Rattle.std.specs.Prelude.{◌↔◌, MatchOption}
 use Rattle.std.specs.List.{range_with_len}
 use Rattle.std.proofs.lemmas.Option.{same_Some}
+use Rattle.sync_sweep.proofs.CountLemmas.{same-level}
 use Rattle.sync_ql.specs.declared.levels.Level.{Level}
 use Rattle.sync_ql.specs.Level.{level_at}
 use Rattle.sync_ql.proofs.Tables.{level_at-place}
@@ -21,11 +22,6 @@ one-truth P false false first second = refl
 one-truth P true false first second = sym (second.1 (first.0 refl))
 one-truth P false true first second = first.1 (second.0 refl)
 
--- a level is known by its option and its place
-one-level : (a b : Level) → a.option ≡ b.option → a.place ≡ b.place → a ≡ b
-one-level a b option place =
-    same_Some a b (sym (level_at-place a) ∙ ap (λ o. level_at o a.place) option ∙ ap (level_at b.option) place ∙ level_at-place b)
-
 -- there is one worst level
 one-worst : (plan : Topology) (events : List Event) (t n : ℕ) (a b : Level) → IsWorstOf plan events t n a → IsWorstOf plan events t n b → a ≡ b
 one-worst plan events t n a b first second =
@@ -33,7 +29,7 @@ one-worst plan events t n a b first second =
     let high = second.none_worse first.element first.within in
     let here = ap (λ (l : Level). l.place) first.has in
     let there = ap (λ (l : Level). l.place) second.has in
-    one-level a b (first.of_option ∙ sym second.of_option) (omega (arith, low, high, here, there))
+    same-level a b (first.of_option ∙ sym second.of_option) (omega (arith, low, high, here, there))
 
 -- there is one greatest number of a kind
 not-greater : (P : ℕ → Type 0) (one other : ℕ) → IsGreatest P one → IsGreatest P other → one ≤ other

@@ -78,6 +78,11 @@ pub item-if : {A : Type 0} (P : A → Type 0) (xs : List A) (place : Option ℕ)
 item-if P xs None each = tt
 item-if P xs (Some i) each = item-at P xs i each
 
+-- what passes no test isn't kept
+pub filter-none : {A : Type 0} (p : A → Bool) (xs : List A) → Each (λ x. p x ≡ false) xs → filter p xs ≡ []
+filter-none p [] each = refl
+filter-none p (x ∷ xs) each = rw (each.0, filter-none p xs each.1) refl
+
 pub Each-any : {A : Type 0} (P : A → Type 0) → ((x : A) → P x) → (xs : List A) → Each P xs
 Each-any P all [] = tt
 Each-any P all (x ∷ xs) = (all x, Each-any P all xs)

@@ -3,3 +3,4 @@ pub mod Ranges
 pub mod Options
 pub mod PutRows
 pub mod Each
+pub mod Tests

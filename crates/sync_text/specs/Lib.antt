@@ -3,3 +3,4 @@ pub mod Gives
 pub mod Chain
 pub mod Examples
 pub mod Each
+pub mod Tests

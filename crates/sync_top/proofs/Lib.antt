@@ -3,6 +3,7 @@ pub mod OneText
 pub mod Verdicts
 pub mod PriorityAnswers
 pub mod ChainAnswers
+pub mod ProtectionAnswers
 pub mod OneAnswer
 pub mod Accepted
 pub mod LoopFree

@@ -1,4 +1,5 @@
--- What a done answer says of the plan that was read: no timing loop can form in it, and its rows of chains are bounds.
+-- What a done answer says of the plan that was read: no timing loop can form in it, its rows of chains are bounds, and it
+-- holds out.
 use Rattle.std.proofs.Common.{◌≡◌, ℕ, Bool, true, false, List, length, Option, Some, None, Result, Ok, Err, refl, sym, ◌∙◌}
 use Rattle.std.specs.Prelude.{nat_lt, IfSome}
 use Rattle.std.specs.FinMap.{get}
@@ -18,7 +19,7 @@ use Rattle.rank_cert.specs.Ranks.{Ranks, rank_of}
 use Rattle.rank_cert.specs.CertificateText.{certificate_of}
 use Rattle.sync_top.specs.declared.status.Status.{Status}
 use Rattle.sync_top.specs.declared.status.Status.TheVariants.{Done}
-use Rattle.sync_top.specs.declared.form.PlanForm.TheVariants.{Rank, Chains, Hops, Nominate, PrioRank, Sweep}
+use Rattle.sync_top.specs.declared.form.PlanForm.TheVariants.{Rank, Chains, Protected, Hops, Nominate, PrioRank, Sweep}
 use Rattle.sync_top.specs.declared.form.RanksForm.TheVariants.{Check, PrioCheck}
 use Rattle.sync_top.specs.declared.form.LadderForm.TheVariants.{Gen, Trial}
 use Rattle.sync_top.specs.Form.{Form, form_of, on_plan, on_ranks, on_events, on_frames, on_ladder, node}
@@ -33,6 +34,9 @@ use Rattle.sync_top.proofs.Accepted.{never_done}
 use Rattle.sync_top.proofs.Cuts.{outside}
 use Rattle.sync_top.proofs.Endings.{done-from}
 use Rattle.sync_top.specs.ChainBounds.{IsBoundedByChains}
+use Rattle.sync_top.specs.Protection.{IsHoldingOut}
+use Rattle.sync_top.specs.Forms.Protected.{IsProtectedText}
+use Rattle.reach_rules.proofs.ProtectionLaws.{protected-holds}
 use Rattle.sync_top.specs.Forms.Chains.{IsChained}
 use Rattle.reach_rules.proofs.ChainLaws.{rows-bound}
 use Rattle.sync_topo.specs.Hops.{hops, hops_any}
@@ -145,6 +149,7 @@ form-bounds : (form : Option Form) (files : Contents) (text : List ℕ) → Form
 form-bounds None files text answer = tt
 form-bounds (Some (on_plan Chains plan)) files text answer = chains-bound plan text files answer
 form-bounds (Some (on_plan Rank plan)) files text answer = tt
+form-bounds (Some (on_plan Protected plan)) files text answer = tt
 form-bounds (Some (on_plan Hops plan)) files text answer = tt
 form-bounds (Some (on_plan Nominate plan)) files text answer = tt
 form-bounds (Some (on_plan PrioRank plan)) files text answer = tt
@@ -154,6 +159,28 @@ form-bounds (Some (on_events what plan events until)) files text answer = tt
 form-bounds (Some (on_frames what option name)) files text answer = tt
 form-bounds (Some (on_ladder what n)) files text answer = tt
 form-bounds (Some (node plan element name until)) files text answer = tt
+
+-- where `protected` is done, a plan was read, and it holds out
+protected-holds_out : (name text : List ℕ) (files : Contents) → Answered IsProtectedText (plan_in name files) Done text
+    → IsHoldingOut (Some (on_plan Protected name)) files
+protected-holds_out name text files answer =
+    let found = done-read IsProtectedText (plan_in name files) text (never_done name files) answer in
+    (found.0, found.1, protected-holds found.0 (file-well name files found.0 found.1) found.2.0)
+
+form-holds_out : (form : Option Form) (files : Contents) (text : List ℕ) → FormAnswer form files Done text → IsHoldingOut form files
+form-holds_out None files text answer = tt
+form-holds_out (Some (on_plan Protected plan)) files text answer = protected-holds_out plan text files answer
+form-holds_out (Some (on_plan Rank plan)) files text answer = tt
+form-holds_out (Some (on_plan Chains plan)) files text answer = tt
+form-holds_out (Some (on_plan Hops plan)) files text answer = tt
+form-holds_out (Some (on_plan Nominate plan)) files text answer = tt
+form-holds_out (Some (on_plan PrioRank plan)) files text answer = tt
+form-holds_out (Some (on_plan (Sweep at until) plan)) files text answer = tt
+form-holds_out (Some (on_ranks what plan name)) files text answer = tt
+form-holds_out (Some (on_events what plan events until)) files text answer = tt
+form-holds_out (Some (on_frames what option name)) files text answer = tt
+form-holds_out (Some (on_ladder what n)) files text answer = tt
+form-holds_out (Some (node plan element name until)) files text answer = tt
 
 -- so they are where the work ended in this status
 pub loop_free-from : (words : List (List ℕ)) (told : Option Contents) (steady : Bool) (before now : ℕ) (status : Status) (text : List ℕ)
@@ -173,3 +200,9 @@ pub bounds-from : (words : List (List ℕ)) (told : Option Contents) (steady : B
     → IfSome told (IsBoundedByChains (form_of words))
 bounds-from words told steady before now status text =
     done-from (IsBoundedByChains (form_of words)) words told steady before now status text (λ files. form-bounds (form_of words) files text)
+
+pub holds_out-from : (words : List (List ℕ)) (told : Option Contents) (steady : Bool) (before now : ℕ) (status : Status) (text : List ℕ)
+    → EndsIn (IsAnswer words) (MissesFile words) (outside told steady before now) status text → status ≡ Done
+    → IfSome told (IsHoldingOut (form_of words))
+holds_out-from words told steady before now status text =
+    done-from (IsHoldingOut (form_of words)) words told steady before now status text (λ files. form-holds_out (form_of words) files text)

@@ -17,9 +17,9 @@ use Rattle.sync_topo.specs.declared.input.LineId.{LineId}
 use Rattle.sync_topo.specs.Topology.{Topology}
 use Rattle.sync_topo.specs.Lines.{line_count, line_input, sender_of, receiver_of, lines_into, sources_at, inputs_of, line_name, source_name, input_name, IsInput}
 use Rattle.sync_topo.proofs.Lists.{slice_get-set_same, slice_get-set_other}
-use Rattle.nominate.specs.HopCount.{Counts, count_at}
-use Rattle.sync_top.specs.Forms.Hops.{is_count, leads_from}
-use Rattle.sync_top.specs.HopRows.{first_source, line_at, AreLinesFrom, is_next, from_name}
+use Rattle.nominate.specs.HopCount.{Counts, count_at, is_one_less, is_count}
+use Rattle.sync_top.specs.Forms.Hops.{leads_from}
+use Rattle.sync_top.specs.HopRows.{first_source, line_at, AreLinesFrom, from_name}
 
 first-inputs : (lines sources : List ℕ) → first_source (map line_input lines ++ map Source sources) ≡ slice_get sources 0
 first-inputs [] [] = refl
@@ -70,7 +70,7 @@ AreLinesFrom-none plan counts lines none = record {
     empty element = ap (λ (xs : List (Option LineId)). line_at xs element) none ∙ ap (option_map (λ (line : LineId). line.0)) (nothing_kept (length plan.elements) element)
 
 -- a line that leads on is one from one with one less
-next-leads : (one other : Option ℕ) (hops : ℕ) → other ≡ Some (suc hops) → is_count hops one ≡ true → is_next one other ≡ true
+next-leads : (one other : Option ℕ) (hops : ℕ) → other ≡ Some (suc hops) → is_count hops one ≡ true → is_one_less one other ≡ true
 next-leads None other hops is same = absurd (true≢false (sym same))
 next-leads (Some m) None hops is same = absurd (none-some (suc hops) is)
 next-leads (Some m) (Some n) hops is same =
@@ -78,7 +78,7 @@ next-leads (Some m) (Some n) hops is same =
     let second : n ≡ suc hops = same_Some n (suc hops) is in
     eq-eqb (m + 1) n (omega (arith, first, second))
 
-leads-next : (one other : Option ℕ) (hops : ℕ) → other ≡ Some (suc hops) → is_next one other ≡ true → is_count hops one ≡ true
+leads-next : (one other : Option ℕ) (hops : ℕ) → other ≡ Some (suc hops) → is_one_less one other ≡ true → is_count hops one ≡ true
 leads-next None other hops is next = absurd (true≢false (sym next))
 leads-next (Some m) None hops is next = absurd (none-some (suc hops) is)
 leads-next (Some m) (Some n) hops is next =
@@ -91,14 +91,14 @@ module _ (plan : Topology) (counts : Counts) (n : ℕ) where
   not-there : (element hops : ℕ) → element ≢ receiver_of plan n → leads_from plan counts element hops n ≡ false
   not-there element hops apart = rw (ne_eqb (receiver_of plan n) element (λ same. apart (sym same))) refl
 
-  not-next : (element hops : ℕ) → is_next (count_at counts (sender_of plan n)) (count_at counts (receiver_of plan n)) ≡ false → count_at counts element ≡ Some (suc hops)
+  not-next : (element hops : ℕ) → is_one_less (count_at counts (sender_of plan n)) (count_at counts (receiver_of plan n)) ≡ false → count_at counts element ≡ Some (suc hops)
       → leads_from plan counts element hops n ≡ false
   not-next element hops never is = false_from_ne_true (leads_from plan counts element hops n) (λ leads.
       let both = and_parts (receiver_of plan n == element) (is_count hops (count_at counts (sender_of plan n))) leads in
       let same : receiver_of plan n ≡ element = eqb-true (receiver_of plan n) element both.0 in
       true≢false (sym (next-leads (count_at counts (sender_of plan n)) (count_at counts (receiver_of plan n)) hops (ap (count_at counts) same ∙ is) both.1) ∙ never))
 
-  pub AreLinesFrom-not : (lines : List (Option LineId)) → is_next (count_at counts (sender_of plan n)) (count_at counts (receiver_of plan n)) ≡ false
+  pub AreLinesFrom-not : (lines : List (Option LineId)) → is_one_less (count_at counts (sender_of plan n)) (count_at counts (receiver_of plan n)) ≡ false
       → AreLinesFrom plan counts n lines → AreLinesFrom plan counts (n + 1) lines
   AreLinesFrom-not lines never before = record {
     counted = before.counted;
@@ -120,7 +120,7 @@ module _ (plan : Topology) (counts : Counts) (n : ℕ) where
   }
 
   pub AreLinesFrom-first : (lines after : List (Option LineId)) (line : LineId) → line.0 ≡ n → n < line_count plan → receiver_of plan n < length plan.elements
-      → is_next (count_at counts (sender_of plan n)) (count_at counts (receiver_of plan n)) ≡ true → line_at lines (receiver_of plan n) ≡ None
+      → is_one_less (count_at counts (sender_of plan n)) (count_at counts (receiver_of plan n)) ≡ true → line_at lines (receiver_of plan n) ≡ None
       → after ≡ slice_set lines (receiver_of plan n) (Some line) → AreLinesFrom plan counts n lines → AreLinesFrom plan counts (n + 1) after
   AreLinesFrom-first lines after line number low inside_n next none set before = record {
     counted = ap length set ∙ length-set lines (receiver_of plan n) (Some line) ∙ before.counted;
@@ -190,10 +190,10 @@ pub line_none : (o : Option LineId) → is_some o ≡ false → o ≡ None
 line_none None is = refl
 line_none (Some line) is = absurd (true≢false is)
 
-pub next-told : (counts : Counts) (answer : Bool) (one other : Option ℕ) (s sender r receiver : ℕ) → answer ≡ is_next one other → one ≡ count_at counts s → s ≡ sender
-    → other ≡ count_at counts r → r ≡ receiver → answer ≡ is_next (count_at counts sender) (count_at counts receiver)
+pub next-told : (counts : Counts) (answer : Bool) (one other : Option ℕ) (s sender r receiver : ℕ) → answer ≡ is_one_less one other → one ≡ count_at counts s → s ≡ sender
+    → other ≡ count_at counts r → r ≡ receiver → answer ≡ is_one_less (count_at counts sender) (count_at counts receiver)
 next-told counts answer one other s sender r receiver is first from second to =
-    is ∙ ap (λ (o : Option ℕ). is_next o other) (first ∙ ap (count_at counts) from) ∙ ap (λ (o : Option ℕ). is_next (count_at counts sender) o) (second ∙ ap (count_at counts) to)
+    is ∙ ap (λ (o : Option ℕ). is_one_less o other) (first ∙ ap (count_at counts) from) ∙ ap (λ (o : Option ℕ). is_one_less (count_at counts sender) o) (second ∙ ap (count_at counts) to)
 
 -- the name at an element of count 0, and at one of another
 pub from-root : (plan : Topology) (kept : Option ℕ) (element hops : ℕ) (count : Option ℕ) (from : Option InputId) → count ≡ Some hops → hops ≡ 0

@@ -6,6 +6,7 @@ pub mod Gen
 pub mod Trial
 pub mod Sim
 pub mod Chains
+pub mod Protected
 pub mod Hops
 pub mod Nominate
 pub mod Sweep

@@ -27,12 +27,6 @@ pub record AreLinesFrom (plan : Topology) (counts : Counts) (n : ℕ) (lines : L
       → line_at lines element ≡ find (leads_from plan counts element hops) (range_with_len 0 n)
   pub within : (element line : ℕ) → line_at lines element ≡ Some line → line < line_count plan
 
--- both have counts, and the second one's is one more
-abbrev pub is_next : Option ℕ → Option ℕ → Bool
-is_next None other = false
-is_next (Some one) None = false
-is_next (Some one) (Some other) = one + 1 == other
-
 -- the name of the input that an element of this count would take, where this line leads to it from one with one less
 abbrev pub from_name : Topology → Option ℕ → ℕ → Option ℕ → Option (List ℕ)
 from_name plan line element None = None

@@ -9,4 +9,5 @@ pub mod Runs
 pub mod FormSeen
 pub mod LoopFree
 pub mod ChainBounds
+pub mod Protection
 pub mod HopRows

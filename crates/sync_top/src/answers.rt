@@ -18,6 +18,7 @@ use crate::ladder::ladder_text;
 use crate::nomination::nominated;
 use crate::planner::planned;
 use crate::priority::priority_planned;
+use crate::protecting::gaps_found;
 use crate::sim::simulated;
 use crate::sweep::swept;
 use crate::trial::trial_text;
@@ -47,6 +48,7 @@ pub(crate) fn plan_found<R: Threads + Sync, G: Gate + Sync>(
     match what {
         PlanForm::Rank => planned(alloc, plan),
         PlanForm::Chains => chained(alloc, plan),
+        PlanForm::Protected => gaps_found(alloc, plan),
         PlanForm::Hops => counted(alloc, plan),
         PlanForm::Nominate => nominated(alloc, plan),
         PlanForm::PrioRank => priority_planned(alloc, plan),

@@ -17,6 +17,8 @@ pub(crate) enum PlanForm {
     Rank,
     /// The longest chains into each element, or the first cycle.
     Chains,
+    /// Whom each single failure cuts off that needn't be.
+    Protected,
     /// The hop counts.
     Hops,
     /// The plan with priorities by fewest hops.
@@ -139,6 +141,7 @@ fn plan_word(word: &str) -> Option<PlanForm>
     match word {
         "rank" => Some(PlanForm::Rank),
         "chains" => Some(PlanForm::Chains),
+        "protected" => Some(PlanForm::Protected),
         "hops" => Some(PlanForm::Hops),
         "nominate" => Some(PlanForm::Nominate),
         "prio-rank" => Some(PlanForm::PrioRank),

@@ -12,7 +12,7 @@ use sync_text::{NoMemory, Text};
 pub(crate) enum Finding {
     /// All was done.
     Done,
-    /// Ranks don't rise, or none do.
+    /// Ranks don't rise, or none do; or a plan isn't protected.
     Refuted,
     /// A report ends before what doesn't fit any more.
     Stopped,

@@ -2,14 +2,14 @@ ghost use Rattle.std.specs.Prelude.{◌≡◌, ◌≢◌, ◌+◌, ◌++◌, ◌
 ghost use Rattle.std.specs.Fmt.{decimal};
 ghost use Rattle.std.specs.Option.{option_map_or};
 ghost use Rattle.sync_topo.specs.Lines.{line_count, input_name, IsInput};
-ghost use Rattle.nominate.specs.HopCount.{count_at};
+ghost use Rattle.nominate.specs.HopCount.{count_at, is_one_less};
 ghost use Rattle.sync_topo.specs.declared.input.InputId.TheVariants.{Line, Source};
 ghost use Rattle.sync_top.specs.Forms.Hops.{none_text, from_text, hops_row, hops_text, AreHopRows};
-ghost use Rattle.sync_top.specs.HopRows.{first_source, line_at, is_next, from_name, AreLinesFrom};
+ghost use Rattle.sync_top.specs.HopRows.{first_source, line_at, from_name, AreLinesFrom};
 ghost use Rattle.sync_top.specs.Work.{ends_in};
 
 use crate::found::{Found, done};
-use nominate::{Hops, least_hops};
+use nominate::{Hops, is_one_less, least_hops};
 use std::alloc::Global;
 use sync_text::{NoMemory, Text};
 use sync_topo::{InputId, LineId, Plan};
@@ -44,23 +44,13 @@ fn keep_line(plan: &Plan, hops: &Hops, lines: &mut Vec<Option<LineId>>, line: Li
     ensures { AreLinesFrom plan.now hops.now (line.0 + 1) lines.new.items }
 {
     let receiver = plan.to(line);
-    if !is_next(hops.of(plan.from(line)), hops.of(receiver)) {
+    if !is_one_less(hops.of(plan.from(line)), hops.of(receiver)) {
         return;
     }
     if lines[receiver as usize].is_some() {
         return;
     }
     lines[receiver as usize] = Some(line);
-}
-
-/// Both have counts, and the second one's is one more.
-fn is_next(one: Option<u32>, other: Option<u32>) -> bool
-    ensures { result ≡ is_next one other }
-{
-    match (one, other) {
-        (Some(one), Some(other)) => one.checked_add(1) == Some(other),
-        _ => false,
-    }
 }
 
 /// The first source among some inputs.

@@ -24,6 +24,7 @@ mod plan_input;
 mod planner;
 mod priority;
 mod program;
+mod protecting;
 mod reply;
 mod running;
 mod sim;

@@ -1,16 +1,16 @@
-ghost use Rattle.std.specs.Prelude.{◌≡◌, ◌≢◌, ◌<◌, ◌++◌, ◌≤◌, ℕ, List, Some, IfOk, IsErr, OnOk, length};
+ghost use Rattle.std.specs.Prelude.{◌≡◌, ◌≢◌, ◌<◌, ◌++◌, ◌≤◌, ℕ, List, [], codes, Some, IfOk, IsErr, OnOk, length};
 ghost use Rattle.sync_edge.specs.Contents.{KeepsFolder};
-ghost use Rattle.sync_top.specs.Reading.{text_line, two_files};
+ghost use Rattle.sync_top.specs.Reading.{text_line, refusal_line, two_files};
 ghost use Rattle.sync_topo.specs.Topology.{Topology};
 ghost use Rattle.node_replay.specs.Sent.{IsSentText};
-ghost use Rattle.sync_top.specs.Forms.Node.{node_place, node_refusal, element_in, element_of_plan, received_in, node_bytes, IsNodeReply};
+ghost use Rattle.sync_top.specs.Forms.Node.{unknown_element, node_place, node_refusal, element_in, element_of_plan, received_in, node_bytes, IsNodeReply};
 ghost use Rattle.sync_top.specs.Answer.{across};
 ghost use Rattle.sync_top.specs.Work.{Gets, HasRead, ends_in, stopped_in};
 
 use crate::found::{Finding, Found, done};
 use crate::input::file;
 use crate::plan_input::plan_in;
-use crate::reply::{Reply, Stop, line_text, put_number, refusal};
+use crate::reply::{Reply, Stop, put_number, refusal};
 use crate::status::Status;
 use node_file::NodeErr;
 use node_replay::{NodeEnd, Replayed, replay};
@@ -53,6 +53,28 @@ fn put_place(text: &mut Text, refused: NodeErr) -> Result<(), NoMemory>
     }
 }
 
+/// The name that was given is that of no element of the plan.
+#[derive(Clone, Copy, Drop)]
+struct UnknownElement;
+
+impl UnknownElement {
+    /// The number by which this is printed, behind those of a file's refusals. This project's own.
+    fn number(self) -> u8
+        ensures { result ≡ unknown_element }
+    {
+        50
+    }
+}
+
+/// The line on a name that no element of the plan has.
+fn unknown_element_text(alloc: Global) -> Result<Text, NoMemory>
+    ensures { IfOk result (λ text. text ≡ text_line (refusal_line (codes "bad node ") (Some unknown_element) [])) }
+{
+    let mut text = refusal(alloc, b"bad node ", UnknownElement.number())?;
+    text.put(b"\n")?;
+    Ok(text)
+}
+
 /// An element of a plan, and then the bytes of a file.
 fn received_in<F: Folder>(
     alloc: Global,
@@ -71,7 +93,7 @@ fn received_in<F: Folder>(
     let Some(element) = plan.element_of_name(element.as_bytes()) else {
         return Err(Stop::Ended(Reply {
             status: Status::BadFrames,
-            text: line_text(alloc, b"bad node 50")?,
+            text: unknown_element_text(alloc)?,
         }));
     };
     match file(alloc, folder, name) {

@@ -8,6 +8,7 @@ ghost use Rattle.sync_top.specs.Form.{form_of};
 ghost use Rattle.sync_top.specs.Answer.{across, file_count, reads_file, IsAnswer, MissesFile, FirstEnds, HasFiles, Delivers, IsCut, MayFault, fault_text};
 ghost use Rattle.sync_top.specs.LoopFree.{IsCheckedLoopFree};
 ghost use Rattle.sync_top.specs.ChainBounds.{IsBoundedByChains};
+ghost use Rattle.sync_top.specs.Protection.{IsHoldingOut};
 ghost use Rattle.sync_top.specs.Forms.Priority.{IsCheckedForPriority};
 ghost use Rattle.sync_top.specs.Work.{EndsIn, Works};
 
@@ -89,8 +90,8 @@ fn reply_to<R: Threads + Sync, F: Folder, G: Gate + Sync>(
 ///
 /// The words are those after the program's name. `check PLAN CERT` tests the ranks of a certificate
 /// on a plan, and `rank PLAN` gives the least ranks as a certificate, or the first cycle. `chains
-/// PLAN` gives the longest chains of timing into each element, or the first cycle. `hops
-/// PLAN` gives the hop counts, and `nominate PLAN` the plan with priorities by fewest hops. `decode
+/// PLAN` gives the longest chains of timing into each element, or the first cycle. `protected PLAN`
+/// tells whom each single failure cuts off that needn't be. `hops PLAN` gives the hop counts, and `nominate PLAN` the plan with priorities by fewest hops. `decode
 /// OPTION FILE` gives the rows of captured frames, and `encode OPTION FILE` the frames of rows.
 /// `pcap-decode OPTION FILE` and `pcap-encode OPTION FILE` do the same for a classic pcap capture
 /// and rows with times. `sim PLAN EVENTS UNTIL` runs the plan's network from 0 to UNTIL with the
@@ -135,6 +136,12 @@ pub fn run<R: Threads + Sync, F: Folder, K: Sink, G: Gate + Sync>(
     // than the row of its element says.
     ensures chains_are_bounds { result ≡ Status.Done → IfSome (F.contents folder.old)
         (IsBoundedByChains (form_of (map string_bytes words.now))) }
+
+    // Where `protected` is done, a plan was read, and it holds out: under every list of events
+    // without commands, in each settled millisecond in which just one failure stands, no element
+    // that is in reach of a clock has a worse level than the worst of the sources that are left.
+    ensures protected_holds_out { result ≡ Status.Done → IfSome (F.contents folder.old)
+        (IsHoldingOut (form_of (map string_bytes words.now))) }
 
     // Which words are a form doesn't depend on any file. Other words, `gen` and `trial` call the
     // folder not at all.

@@ -45,13 +45,31 @@ pub(crate) fn trial_text(alloc: Global, n: u32) -> Result<Text, NoMemory>
     ensures text { IfOk result (IsTrialText n (ladder n)) }
 {
     let plan = generate(alloc, n)?;
-    let ranks = accepted_ranks(alloc, &plan)?;
-    let top = greatest_rank(&plan, &ranks);
+    tried(alloc, n, &plan)
+}
+
+/// The text of a trial of a plan of `n` elements in which each line leads up.
+fn tried(alloc: Global, n: u32, plan: &Plan) -> Result<Text, NoMemory>
+    requires leads_up { IsRising plan.now (receiver_of plan.now) }
+    requires link { 0 < length plan.now.links }
+    ensures text { IfOk result (IsTrialText n plan.now) }
+{
+    let ranks = accepted_ranks(alloc, plan)?;
+    ranked_text(alloc, n, plan, greatest_rank(plan, &ranks))
+}
+
+/// The text of a trial of a plan that was accepted, with the greatest of its least ranks.
+fn ranked_text(alloc: Global, n: u32, plan: &Plan, top: u64) -> Result<Text, NoMemory>
+    requires accepted { IsLoopFree plan.now }
+    requires top { IsGreatest (IsRank plan.now) top }
+    requires link { 0 < length plan.now.links }
+    ensures text { IfOk result (IsTrialText n plan.now) }
+{
     let mut text = Text::new(alloc);
     put_counted(&mut text, b"trial", u64::from(n))?;
     put_counted(&mut text, b"links", u64::from(plan.links()))?;
     put_counted(&mut text, b"top", top)?;
-    put_run(alloc, &mut text, &plan)?;
+    put_run(alloc, &mut text, plan)?;
     Ok(text)
 }
 

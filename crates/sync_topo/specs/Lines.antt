@@ -22,6 +22,10 @@ link_of plan line = slice_get plan.links (line / 2)
 abbrev pub ends_at_b : ℕ → Bool
 ends_at_b line = line % 2 == 0
 
+-- the numbers of some lines
+abbrev pub numbers : List LineId → List ℕ
+numbers lines = map (λ line. line.0) lines
+
 -- the element that a line brings timing from; 0 where there is no such line
 abbrev pub sender_of : Topology → ℕ → ℕ
 sender_of plan line = option_map_or (λ link. if ends_at_b line then link.a else link.b) (link_of plan line) 0

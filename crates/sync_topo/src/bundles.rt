@@ -1,11 +1,11 @@
-ghost use Rattle.std.specs.Prelude.{◌≡◌, [], ◌∷◌, ◌++◌, ◌<◌, ◌^◌, length, List, OnOk, Some, is_some, slice_get};
+ghost use Rattle.std.specs.Prelude.{◌≡◌, [], ◌∷◌, ◌++◌, ◌<◌, ◌^◌, length, List, OnOk, Some, is_some, slice_get, IfOk};
 ghost use Rattle.sync_topo.specs.declared.link.Link.{Link};
 ghost use Rattle.sync_topo.specs.Names.{is_named};
 ghost use Rattle.sync_topo.specs.Kept.{first_beside, AreBundlesOf};
 
 use crate::names::Names;
 use std::alloc::Global;
-use sync_text::{NoMemory, Text};
+use sync_text::{NoMemory, Rows, Text};
 
 /// The bundles of some links: each bundle by its name, with its first link, and each link with the
 /// number of its bundle.
@@ -19,15 +19,16 @@ pub(crate) struct Bundles {
 }
 
 impl Bundles {
-    /// Of no links.
-    pub(crate) fn new(alloc: Global) -> Bundles
-        ensures { AreBundlesOf result.names result.firsts.items result.numbers.items [] }
+    /// Of no links, with room for the bundles of so many, of which none need name one.
+    pub(crate) fn with_capacity(alloc: Global, links: usize) -> Result<Bundles, NoMemory>
+        ensures { IfOk result (λ made.
+            AreBundlesOf made.names made.firsts.items made.numbers.items []) }
     {
-        Bundles {
+        Ok(Bundles {
             names: Names::new(alloc),
             firsts: Vec::new(alloc),
-            numbers: Vec::new(alloc),
-        }
+            numbers: Rows::with_capacity(alloc, links)?.into_vec(),
+        })
     }
 
     /// The number of a link's bundle.

@@ -36,6 +36,16 @@ impl Names {
         }
     }
 
+    /// No names, with room for so many.
+    pub(crate) fn with_capacity(alloc: Global, count: usize) -> Result<Names, NoMemory>
+        ensures { IfOk result (λ names. names ≡ []) }
+    {
+        let Ok(set) = IndexSet::with_capacity(alloc, count) else {
+            return Err(NoMemory);
+        };
+        Ok(Names { alloc, set })
+    }
+
     /// The place of a name, counted from 0.
     pub(crate) fn place_of(&self, name: &[u8]) -> Option<usize>
         ensures place { result ≡ place_of self.now name.now }

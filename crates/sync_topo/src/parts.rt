@@ -24,7 +24,7 @@ use crate::wiring::Wiring;
 use std::alloc::Global;
 use sync_ql::NetOption;
 use sync_ql::limits::MOST_INPUTS;
-use sync_text::Text;
+use sync_text::{NoMemory, Rows, Text};
 
 /// The most elements that a plan may have. This project's own.
 pub const MOST_ELEMENTS: usize = 2000;
@@ -52,25 +52,28 @@ pub(crate) struct Parts {
 impl Parts {
     ghost use Rattle.sync_topo.specs.Indexed.{topology, IsIndexed};
 
-    /// No elements, no links and no sources.
-    pub(crate) fn new(alloc: Global, option: NetOption) -> Parts
-        ensures indexed { IsIndexed result }
-        ensures option { result.option ≡ option }
-        ensures no_elements { result.elements.items ≡ [] }
-        ensures no_links { result.links.items ≡ [] }
-        ensures no_sources { result.sources.items ≡ [] }
+    /// No elements, no links and no sources, with room for those of the rows.
+    fn with_room(alloc: Global, rows: &PlanRows) -> Result<Parts, NoMemory>
+        ensures indexed { IfOk result IsIndexed }
+        ensures option { IfOk result (λ parts. parts.option ≡ rows.now.option) }
+        ensures no_elements { IfOk result (λ parts. parts.elements.items ≡ []) }
+        ensures no_links { IfOk result (λ parts. parts.links.items ≡ []) }
+        ensures no_sources { IfOk result (λ parts. parts.sources.items ≡ []) }
     {
-        Parts {
-            option,
-            elements: Vec::new(alloc),
-            links: Vec::new(alloc),
-            sources: Vec::new(alloc),
-            element_names: Names::new(alloc),
-            link_names: Names::new(alloc),
-            source_names: Names::new(alloc),
-            bundles: Bundles::new(alloc),
+        let elements = rows.elements.as_slice().len();
+        let links = rows.links.as_slice().len();
+        let sources = rows.sources.as_slice().len();
+        Ok(Parts {
+            option: rows.option,
+            elements: Rows::with_capacity(alloc, elements)?.into_vec(),
+            links: Rows::with_capacity(alloc, links)?.into_vec(),
+            sources: Rows::with_capacity(alloc, sources)?.into_vec(),
+            element_names: Names::with_capacity(alloc, elements)?,
+            link_names: Names::with_capacity(alloc, links)?,
+            source_names: Names::with_capacity(alloc, sources)?,
+            bundles: Bundles::with_capacity(alloc, links)?,
             wiring: Wiring::new(alloc),
-        }
+        })
     }
 
     /// What the rows give, or the refusal of the first rule that they break.
@@ -80,7 +83,7 @@ impl Parts {
         ensures plan { IfOk result (λ parts. topology parts ≡ plan_from rows) }
     {
         check_limits(&rows)?;
-        let mut parts = Parts::new(alloc, rows.option);
+        let mut parts = Parts::with_room(alloc, &rows)?;
         parts.add_elements(alloc, rows.elements)?;
         parts.add_links(rows.links)?;
         parts.add_sources(rows.sources)?;

@@ -5,7 +5,7 @@ ghost use Rattle.std.specs.List.{All};
 ghost use Rattle.sync_topo.specs.declared.event.Event.{Event};
 ghost use Rattle.sync_net.specs.Standing.{StandsFor};
 ghost use Rattle.settle_trace.specs.Now.{now_of};
-ghost use Rattle.closed_walks.specs.Traces.{numbers};
+ghost use Rattle.sync_topo.specs.Lines.{numbers};
 ghost use Rattle.closed_walks.specs.Within.{IsEndOf, AreLinesOf};
 ghost use Rattle.trace_report.specs.Report.{inputs_part, conditions_at};
 ghost use Rattle.trace_report.specs.LastParts.{AreLastParts, end_name, end_word, loops_part, settled_part, trace_row, traces_part};

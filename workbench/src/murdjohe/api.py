@@ -110,6 +110,11 @@ def chains(plan: Source) -> Answered[reports.Chains]:
     return answered("chains", reports.chains, plan)
 
 
+def protected(plan: Source) -> Answered[reports.Gaps]:
+    """Whom each single failure cuts off that needn't be."""
+    return answered("protected", reports.gaps, plan)
+
+
 def hops(plan: Source) -> Answered[reports.Hops]:
     """How many links each element is from a clock."""
     return answered("hops", reports.hops, plan)

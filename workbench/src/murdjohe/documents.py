@@ -31,11 +31,13 @@ BEGINNINGS = (
     (b"at,what,target,value", "an event list"),
     (b"element,hops,from", "a table of `hops`"),
     (b"element,links,since,clocks", "a table of `chains`"),
+    (b"kind,failure,elements,first", "a table of `protected`"),
     (b"link,settled,", "a table of `sweep`"),
     (b"changes\n", "a report of a run"),
     (b"cycle ", "the answer of a `rank` that found a ring, and no certificate"),
     (b"falls ", "an answer of `check`"),
     (b"accepted\n", "an answer of `check`"),
+    (b"protected\n", "an answer of `protected`"),
 )
 WIDE_MARKS = (b"\xff\xfe", b"\xfe\xff")
 REFUSALS = (b"bad ", b"usage\n", b"read fault\n", b"too long\n")

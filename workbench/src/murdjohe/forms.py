@@ -127,6 +127,14 @@ _ALL = (
         (_MAKE, "murdjohe nominate plan.toml > nominated.toml", "murdjohe chains nominated.toml"),
     ),
     Form(
+        "protected",
+        (_PLAN,),
+        PLANNING,
+        "says whom one failure cuts off that needn't be",
+        (0, 1, 3, 7, 9),
+        (_MAKE, "murdjohe nominate plan.toml > nominated.toml", "murdjohe protected nominated.toml || echo has gaps"),
+    ),
+    Form(
         "hops",
         (_PLAN,),
         PLANNING,

@@ -139,8 +139,20 @@ def on_fall(words: Words, before: str, line: str) -> str:
     )
 
 
+def on_gaps(text: str) -> list[str]:
+    """How many failures cut off elements that needn't be, and what to do."""
+    rows = text.splitlines()[1:]
+    verb = "leaves" if len(rows) == 1 else "leave"
+    return [
+        f"{plural(len(rows), 'failure')} {verb} elements without a clock that they could have: nominate lines that lead there "
+        "from elements that have one"
+    ]
+
+
 def on_refuted(words: Words, text: str) -> list[str]:
-    """Why ranks fall, or no ranks rise."""
+    """Why ranks fall, or no ranks rise, or a plan isn't protected."""
+    if words.form.name == "protected":
+        return on_gaps(text)
     said = text.split()
     if said and said[0] == "falls":
         return [on_fall(words, said[1], said[2])]
@@ -289,6 +301,9 @@ def on_done(words: Words, text: str) -> list[str]:
         return on_sweep(text)
     if name == "chains":
         return on_chains(text)
+    if name == "protected":
+        first, *rest = on_plan(words, None) or ["no single failure cuts anybody off who needn't be"]
+        return [f"protected: {first}", *rest]
     if name == "hops":
         return on_hops(text)
     if name == "nominate":

@@ -55,6 +55,23 @@ class Chains:
 
 
 @dataclass(frozen=True)
+class Gap:
+    """A failure, its kind and name (none of nothing), how many elements it cuts off that needn't be, and the first of them."""
+
+    kind: str
+    failure: str | None
+    elements: int
+    first: str
+
+
+@dataclass(frozen=True)
+class Gaps:
+    """What `protected` says: a row for each failure that cuts somebody off; none where the plan is protected."""
+
+    rows: tuple[Gap, ...]
+
+
+@dataclass(frozen=True)
 class Hop:
     """How many links an element is from a clock, and the source or line from there; both None where there is no way."""
 
@@ -214,6 +231,11 @@ def chains(answer: Answer) -> Chains:
     return Chains(tuple(Chain(name, int(links), int(since), int(clocks)) for name, links, since, clocks in rows), None)
 
 
+def gaps(answer: Answer) -> Gaps:
+    rows = fields_of(answer.said.splitlines()[1:])
+    return Gaps(tuple(Gap(kind, failure or None, int(elements), first) for kind, failure, elements, first in rows))
+
+
 def hops(answer: Answer) -> Hops:
     rows = fields_of(answer.said.splitlines()[1:])
     none = ("none", "none")
@@ -311,6 +333,7 @@ READERS: dict[str, Callable[[Answer], Any]] = {
     "rank": ranking,
     "prio-rank": ranking,
     "chains": chains,
+    "protected": gaps,
     "hops": hops,
     "nominate": written,
     "gen": written,

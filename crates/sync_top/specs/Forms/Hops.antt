@@ -5,18 +5,13 @@ use Rattle.std.specs.Option.{option_map_or}
 use Rattle.std.specs.Fmt.{decimal}
 use Rattle.sync_topo.specs.Topology.{Topology}
 use Rattle.sync_topo.specs.Lines.{line_count, line_name, source_name, element_name, sender_of, receiver_of, sources_at}
-use Rattle.nominate.specs.HopCount.{Counts, count_at, AreHopCounts}
+use Rattle.nominate.specs.HopCount.{Counts, count_at, AreHopCounts, is_count}
 use Rattle.sync_top.specs.declared.status.Status.{Status}
 use Rattle.sync_top.specs.declared.status.Status.TheVariants.{Done}
 
 -- what isn't there
 abbrev pub none_text : List ℕ
 none_text = codes "none"
-
--- it is this count
-abbrev pub is_count : ℕ → Option ℕ → Bool
-is_count hops None = false
-is_count hops (Some count) = count == hops
 
 -- a line, nominated or not, leads to the element from one with this count
 abbrev pub leads_from : Topology → Counts → ℕ → ℕ → ℕ → Bool

@@ -36,9 +36,13 @@ abbrev pub accepted_rows : Result (List NodeRow) NodeErr → Result (List NodeRo
 accepted_rows (Ok rows) = Ok rows
 accepted_rows (Err refused) = Err (answered BadFrames (text_line (node_refusal refused)))
 
+-- the number by which it is printed that no element of the plan has the name, behind the refusals of a file
+abbrev pub unknown_element : ℕ
+unknown_element = 50
+
 -- the element of a name
 abbrev pub element_there : Option ℕ → Result ℕ End
-element_there None = Err (answered BadFrames (text_line (codes "bad node 50")))
+element_there None = Err (answered BadFrames (text_line (refusal_line (codes "bad node ") (Some unknown_element) [])))
 element_there (Some element) = Ok element
 
 abbrev pub element_in : Topology → List ℕ → Result ℕ End

@@ -1,6 +1,6 @@
 use Rattle.std.proofs.Common.{inl, inr}
 use Rattle.closed_walks.specs.Taking.{taken_in_list}
-use Rattle.closed_walks.specs.Traces.{numbers}
+use Rattle.sync_topo.specs.Lines.{numbers}
 use Rattle.closed_walks.proofs.KnownLaws.{taken-own, end-at, known-way}
 use Rattle.closed_walks.proofs.endings.resolve.Goals as goal
 

@@ -2,10 +2,9 @@ use Rattle.std.proofs.Common.{◌≡◌, ◌∷◌, ◌++◌, ◌⊎◌, [], ℕ
 use Rattle.std.specs.Prelude.{Some, slice_set}
 use Rattle.sync_topo.specs.declared.input.InputId.TheVariants.{Line}
 use Rattle.sync_topo.specs.declared.input.LineId.{LineId}
-use Rattle.sync_topo.specs.Lines.{sender_of}
+use Rattle.sync_topo.specs.Lines.{sender_of, numbers}
 use Rattle.net_rules.specs.Walks.{Taken}
 use Rattle.closed_walks.specs.Taking.{taken_in_list}
-use Rattle.closed_walks.specs.Traces.{numbers}
 use Rattle.closed_walks.specs.Following.{Follows, IsPassed, is_met, IsOnTrace}
 use Rattle.closed_walks.proofs.FollowLaws.{follows-more, met-then, trace-begins, trace-more, ends-at_loop, takes-on, ends-over}
 use Rattle.closed_walks.proofs.following.follow.Goals as goal

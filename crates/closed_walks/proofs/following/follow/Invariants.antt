@@ -1,6 +1,6 @@
 use Rattle.std.proofs.Common.{◌≡◌, ◌<◌, ◌⊎◌, ℕ, true, List, length, sum_by, cond}
 use Rattle.closed_walks.specs.Taking.{taken_in_list}
-use Rattle.closed_walks.specs.Traces.{numbers}
+use Rattle.sync_topo.specs.Lines.{numbers}
 use Rattle.closed_walks.specs.Following.{Follows, IsPassed, is_met, AreMet, IsOnTrace}
 use Rattle.closed_walks.proofs.following.follow.Given as goal
 

@@ -4,7 +4,7 @@ use Rattle.std.proofs.lemmas.List.{map-append}
 use Rattle.std.proofs.lemmas.Result.{on_ok_weaker}
 use Rattle.net_rules.specs.Walks.{Taken}
 use Rattle.closed_walks.specs.Taking.{taken_in_list}
-use Rattle.closed_walks.specs.Traces.{numbers}
+use Rattle.sync_topo.specs.Lines.{numbers}
 use Rattle.closed_walks.specs.Listing.{AreListed}
 use Rattle.closed_walks.proofs.KnownLaws.{taken-own}
 use Rattle.closed_walks.proofs.LoopLaws.{listed-skip, listed-one}

@@ -4,7 +4,7 @@ use Rattle.std.proofs.lemmas.List.{take_all}
 use Rattle.std.proofs.lemmas.Simd.{map-map}
 use Rattle.sync_text.proofs.PutRows.{one-row}
 use Rattle.sync_topo.specs.declared.input.LineId.{LineId}
-use Rattle.closed_walks.specs.Traces.{numbers}
+use Rattle.sync_topo.specs.Lines.{numbers}
 use Rattle.closed_walks.specs.WalkText.{walk_row}
 use Rattle.closed_walks.proofs.walk_text.put_walks.Goals as goal
 

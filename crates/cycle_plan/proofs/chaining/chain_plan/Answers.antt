@@ -1,10 +1,9 @@
 use Rattle.std.proofs.Common.{refl}
 use Rattle.sync_topo.specs.declared.returns.Returns.TheVariants.{Barred}
-use Rattle.sync_topo.specs.Lines.{is_nominated}
+use Rattle.sync_topo.specs.Lines.{is_nominated, numbers}
 use Rattle.sync_topo.specs.Hops.{hops}
 use Rattle.rank_cert.specs.Ranks.{rank_at, rank_of}
 use Rattle.net_rules.proofs.WalkLaws.{no_cycle}
-use Rattle.cycle_plan.specs.Rings.{numbers}
 use Rattle.cycle_plan.proofs.HopFacts.{hop_parts}
 use Rattle.cycle_plan.proofs.Walks.{ranks_rise}
 use Rattle.cycle_plan.proofs.CycleLaws.{IsCycle-first, All_within-first}

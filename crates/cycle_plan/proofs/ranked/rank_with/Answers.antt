@@ -1,8 +1,7 @@
 use Rattle.std.proofs.Common.{refl}
-use Rattle.sync_topo.specs.Lines.{is_nominated}
+use Rattle.sync_topo.specs.Lines.{is_nominated, numbers}
 use Rattle.rank_cert.specs.Ranks.{rank_at}
 use Rattle.sync_topo.specs.Hops.{hops_by}
-use Rattle.cycle_plan.specs.Rings.{numbers}
 use Rattle.cycle_plan.proofs.HopFacts.{hop_parts}
 use Rattle.cycle_plan.proofs.Walks.{least_ranks, none_rise, ranks_rise}
 use Rattle.cycle_plan.proofs.CycleLaws.{IsCycle-first, All_within-first}

@@ -4,7 +4,7 @@ use Rattle.sync_ql.specs.Messages.{LineMoment, unchanged, line_until}
 use Rattle.link_model.specs.Calls.{told, turned, with_up, with_esmc, with_level}
 use Rattle.link_model.specs.StandsFor.{StandsFor}
 use Rattle.link_model.proofs.Pasts.{unchanged-after}
-use Rattle.link_model.proofs.Standing.{length-until, until-same, until-next}
+use Rattle.link_model.proofs.Standing.{length-until, until-same, until-next, until-told}
 use Rattle.link_model.proofs.laws.calls_law.Goals as goal
 
 abbrev moment : Bool → Bool → Option Level → LineMoment
@@ -14,16 +14,12 @@ same_level : (speaks : Bool) (level : Option Level) → (if speaks && not speaks
 same_level true level = refl
 same_level false level = refl
 
--- a past that has come to a millisecond stays
-stays : (now : ℕ) (x : LineMoment) (before : List LineMoment) → length before ≡ now → line_until (suc now) (x ∷ before) ≡ x ∷ before
-stays now x before long = until-same (suc now) (x ∷ before) (ap suc long)
-
 one_after_another : (up esmc : Bool) (level : Level) (now : ℕ) (x : LineMoment) (before : List LineMoment) → length before ≡ now
     → with_level level (line_until (suc now) (line_until (suc now) (with_esmc esmc (line_until (suc now) (with_up up (x ∷ before)))))) ≡ told up esmc level ∷ before
 one_after_another up esmc level now x before long =
-    ap (λ p. with_level level (line_until (suc now) (line_until (suc now) (with_esmc esmc p)))) (stays now (turned x up x.esmc) before long)
-    ∙ ap (λ p. with_level level (line_until (suc now) p)) (stays now (turned (turned x up x.esmc) up esmc) before long)
-    ∙ ap (with_level level) (stays now (turned (turned x up x.esmc) up esmc) before long)
+    ap (λ p. with_level level (line_until (suc now) (line_until (suc now) (with_esmc esmc p)))) (until-told now (turned x up x.esmc) before long)
+    ∙ ap (λ p. with_level level (line_until (suc now) p)) (until-told now (turned (turned x up x.esmc) up esmc) before long)
+    ∙ ap (with_level level) (until-told now (turned (turned x up x.esmc) up esmc) before long)
 
 pub returns-clause-all : goal.returns-clause-all
 returns-clause-all c up esmc level now before = refl

@@ -1,5 +1,6 @@
 use Rattle.net_rules.proofs.PlanLaws.{IsDelayed-well, sender-within}
 use Rattle.net_rules.proofs.HistoryLaws.{out_at-sent, only_one, until_same}
+use Rattle.net_rules.proofs.PassingOn.{passed-on}
 use Rattle.net_rules.proofs.history.history_law.Goals as goal
 
 pub returns-clause-obeys : goal.returns-clause-obeys
@@ -11,3 +12,6 @@ returns-clause-one c = λ plan signals out well. only_one plan (IsDelayed-well p
 pub returns-clause-looks_back : goal.returns-clause-looks_back
 returns-clause-looks_back c = λ plan signals others t well.
     until_same plan (IsDelayed-well plan well) (sender-within plan well) signals others t
+
+pub returns-clause-passed_on : goal.returns-clause-passed_on
+returns-clause-passed_on c = passed-on

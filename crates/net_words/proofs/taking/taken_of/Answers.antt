@@ -3,7 +3,7 @@ use Rattle.std.specs.Prelude.{Option, IfSome, option_and_then, slice_get}
 use Rattle.sync_text.proofs.Each.{each-all}
 use Rattle.sync_topo.specs.declared.input.InputId.{InputId}
 use Rattle.sync_topo.specs.Lines.{IsInput, inputs_of}
-use Rattle.net_words.proofs.TakenInputs.{item-if}
+use Rattle.sync_text.proofs.Each.{item-if}
 use Rattle.net_words.proofs.taking.taken_of.Goals as goal
 
 pub returns-clause-taken : goal.returns-clause-taken

@@ -1,21 +1,23 @@
-use Rattle.std.proofs.Common.{◌≡◌, ◌∙◌, None, sym, ap}
+use Rattle.std.proofs.Common.{◌≡◌, ◌∙◌, None, Ok, sym, ap}
 use Rattle.std.specs.Option.{option_map}
 use Rattle.sync_topo.specs.declared.input.LineId.{LineId}
 use Rattle.rank_cert.specs.CertificateText.{first_without}
 use Rattle.rank_cert.proofs.Certificates.{certificate-of, line-missing, IsRanked-complete, RanksNoOther-from}
 use Rattle.rank_cert.proofs.reading.cert_of.Goals as goal
 
-pub returns-in-Some-first_without-clause-exact : goal.returns-in-Some-first_without-clause-exact
-returns-in-Some-first_without-clause-exact c =
-    rw c.in-Some.ensures.cases.0
-    (line-missing c.args.plan.now c.in-Some.first.now c.in-Some.rows.now c.take_rows.new.cert c.in-Some-first_without.line (sym c.is_header.ensures ∙ c.if-not-is_header.false)
-    c.in-Ok.ensures.sound c.in-Ok.ensures.taken c.in-Some-first_without.ensures)
+pub returns-in-Some-clause-exact : goal.returns-in-Some-clause-exact
+returns-in-Some-clause-exact c =
+    let header = rw c.taken.ensures at (sym c.is_header.ensures ∙ c.if-not-is_header.false) in
+    rw (c.in_ok-advance.ensures.found (ap Ok c.if-not-branch.false))
+    (line-missing c.args.plan.now c.advance.new.self.taken c.advance.new.self.left c.take_rows.new.cert c.in-Some.line header
+    c.in-Ok.ensures.sound c.in-Ok.ensures.taken c.in-Some.ensures)
 
 pub returns-in-None-clause-exact : goal.returns-in-None-clause-exact
 returns-in-None-clause-exact c =
+    let header = rw c.taken.ensures at (sym c.is_header.ensures ∙ c.if-not-is_header.false) in
     let lacks : first_without c.args.plan.now c.take_rows.new.cert ≡ None = sym c.first_without.ensures ∙ ap (option_map (λ (line : LineId). line.0)) c.in-None.is in
-    rw c.in-Some.ensures.cases.0
-    (certificate-of c.args.plan.now c.in-Some.first.now c.in-Some.rows.now c.take_rows.new.cert (sym c.is_header.ensures ∙ c.if-not-is_header.false)
+    rw (c.in_ok-advance.ensures.found (ap Ok c.if-not-branch.false))
+    (certificate-of c.args.plan.now c.advance.new.self.taken c.advance.new.self.left c.take_rows.new.cert header
     c.in-Ok.ensures.sound c.in-Ok.ensures.taken lacks)
 
 pub returns-in-None-clause-ranked : goal.returns-in-None-clause-ranked
@@ -24,4 +26,4 @@ returns-in-None-clause-ranked c =
     IsRanked-complete c.args.plan.now c.take_rows.new.cert c.in-Ok.ensures.taken.counted lacks
 
 pub returns-in-None-clause-no_other : goal.returns-in-None-clause-no_other
-returns-in-None-clause-no_other c = RanksNoOther-from c.args.plan.now c.in-Some.rows.now c.take_rows.new.cert c.in-Ok.ensures.taken
+returns-in-None-clause-no_other c = RanksNoOther-from c.args.plan.now c.advance.new.self.left c.take_rows.new.cert c.in-Ok.ensures.taken

@@ -1,23 +1,44 @@
-use Rattle.std.proofs.Common.{◌∙◌, refl, length, arith}
-use Rattle.std.proofs.lemmas.Option.{slice_get_read}
+use Rattle.std.proofs.Common.{◌≡◌, ◌∙◌, ◌∷◌, [], Ok, Some, length, drop, take, ap, sym, subst, arith}
+use Rattle.std.proofs.lemmas.List.{take_all}
 use Rattle.csv_records.proofs.FirstRefusals.{first_refusal-some, first_refusal-none}
+use Rattle.csv_records.specs.FirstRefusal.{first_refusal}
+use Rattle.rank_cert.specs.Rows.{Fields}
 use Rattle.rank_cert.specs.CertificateText.{refusal_at}
-use Rattle.rank_cert.proofs.Taking.{refusal_at-is, AreTaken-more}
+use Rattle.rank_cert.specs.RowsTaken.{AreRanksBy}
+use Rattle.rank_cert.proofs.Taking.{refusal_at-is, AreTaken-more, Refuses-first, at_drop, all_taken}
 use Rattle.rank_cert.proofs.reading.take_rows.Goals as goal
+
+pub loop-number-preserved : goal.loop-number-preserved
+loop-number-preserved c =
+    let all = c.args.records.now.left in let so_far = c.loop-number.invariant in
+    let next = sym so_far.left ∙ c.in_ok-advance.ensures.found (ap Ok c.if-branch.true) in
+    let here = at_drop all c.loop-number.number c.advance.new.self.taken c.advance.new.self.left next in
+    record {
+      taken = AreTaken-more c.args.plan.now all c.loop-number.number c.loop-number.cert c.take_row.new.cert c.taken.result.now so_far.taken
+          (here.0 ∙ ap (λ (row : Fields). Some row) (sym c.taken.ensures)) c.in-Ok.ensures.sound c.in-Ok.ensures.taken;
+      left = here.1;
+      counted = omega (arith, here.2);
+      fresh = c.in_ok-advance.ensures.goes_on;
+    }
 
 pub returns-in-Err-clause-refused : goal.returns-in-Err-clause-refused
 returns-in-Err-clause-refused c =
-    let plan = c.args.plan.now in let rows = c.args.rows.now in let place = c.loop-place.place in
-    first_refusal-some (refusal_at plan rows) (length rows) place c.in-Err.error (omega (arith, c.loop-place-test.true))
-    (refusal_at-is plan rows place c.loop-place.cert c.index-rows-place.result c.loop-place.invariant (slice_get_read rows (length rows) place c.index-rows-place.result refl c.loop-place-test.true c.index-rows-place.is) ∙ c.in-Err.ensures.refused)
-    c.loop-place.invariant.sound
-
-pub loop-place-preserved : goal.loop-place-preserved
-loop-place-preserved c =
-    AreTaken-more c.args.plan.now c.args.rows.now c.loop-place.place c.loop-place.cert c.take_row.new.cert c.index-rows-place.result c.loop-place.invariant
-    (slice_get_read c.args.rows.now (length c.args.rows.now) c.loop-place.place c.index-rows-place.result refl c.loop-place-test.true c.index-rows-place.is) c.in-Ok.ensures.sound c.in-Ok.ensures.taken
+    let plan = c.args.plan.now in let all = c.args.records.now.left in let so_far = c.loop-number.invariant in
+    let next = sym so_far.left ∙ c.in_ok-advance.ensures.found (ap Ok c.if-branch.true) in
+    let here = at_drop all c.loop-number.number c.advance.new.self.taken c.advance.new.self.left next in
+    let at = here.0 ∙ ap (λ (row : Fields). Some row) (sym c.taken.ensures) in
+    Refuses-first (first_refusal (refusal_at plan all) (length all)) c.in-Err.error
+    (first_refusal-some (refusal_at plan all) (length all) c.loop-number.number c.in-Err.error here.2
+    (refusal_at-is plan all c.loop-number.number c.loop-number.cert c.taken.result.now so_far.taken at ∙ c.in-Err.ensures.refused) so_far.taken.sound)
 
 pub returns-clause-sound : goal.returns-clause-sound
 returns-clause-sound c =
-    first_refusal-none (refusal_at c.args.plan.now c.args.rows.now) (length c.args.rows.now)
-    (λ i before. c.loop-place.invariant.sound i (omega (arith, c.loop-place-test.false)))
+    let all = c.args.records.now.left in let so_far = c.loop-number.invariant in
+    let ended = all_taken all c.loop-number.number (sym so_far.left ∙ c.in_ok-advance.ensures.none (ap Ok c.if-branch.false)) in
+    first_refusal-none (refusal_at c.args.plan.now all) (length all) (λ i before. so_far.taken.sound i (omega (arith, ended)))
+
+pub returns-clause-taken : goal.returns-clause-taken
+returns-clause-taken c =
+    let all = c.args.records.now.left in let so_far = c.loop-number.invariant in
+    let ended = all_taken all c.loop-number.number (sym so_far.left ∙ c.in_ok-advance.ensures.none (ap Ok c.if-branch.false)) in
+    subst (λ rows. AreRanksBy c.args.plan.now rows c.loop-number.cert) (take_all c.loop-number.number all ended) so_far.taken.given

@@ -10,7 +10,7 @@ use Rattle.sync_net.specs.Standing.{StandsFor}
 use Rattle.settle_trace.specs.Now.{now_of, signals_of, out_of, taken_now}
 use Rattle.closed_walks.specs.Taking.{taken_in_list}
 use Rattle.closed_walks.specs.Within.{AreLinesOf}
-use Rattle.closed_walks.specs.Traces.{numbers}
+use Rattle.sync_topo.specs.Lines.{numbers}
 use Rattle.closed_walks.specs.Loops.{AreLoops}
 use Rattle.settle_trace.proofs.TracedNow.{loops-now, loops-facing}
 use Rattle.settle_trace.proofs.looping.loops.Goals as goal

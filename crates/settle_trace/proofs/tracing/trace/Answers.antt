@@ -10,7 +10,8 @@ use Rattle.sync_net.specs.Standing.{StandsFor}
 use Rattle.closed_walks.specs.declared.traced.Traced.{Traced}
 use Rattle.settle_trace.specs.Now.{now_of, signals_of, out_of, taken_now, IsSettledNow}
 use Rattle.closed_walks.specs.Taking.{taken_in_list}
-use Rattle.closed_walks.specs.Traces.{end_of, numbers}
+use Rattle.sync_topo.specs.Lines.{numbers}
+use Rattle.closed_walks.specs.Traces.{end_of}
 use Rattle.settle_trace.proofs.TracedNow.{trace-now}
 use Rattle.settle_trace.proofs.tracing.trace.Goals as goal
 

@@ -1,8 +1,7 @@
 use Rattle.std.proofs.Common.{◌≤◌, length, map, sym, ap, ◌∙◌, arith}
 use Rattle.std.proofs.lemmas.List.{length-map}
-use Rattle.sync_topo.specs.Lines.{line_count}
+use Rattle.sync_topo.specs.Lines.{line_count, numbers}
 use Rattle.settle_trace.specs.Now.{now_of, signals_of, out_of, taken_now}
-use Rattle.closed_walks.specs.Traces.{numbers}
 use Rattle.sync_sweep.specs.Sweep.{failure}
 use Rattle.sync_sweep.proofs.LoopLemmas.{loops-few}
 use Rattle.sync_sweep.proofs.row.count_loops.Goals as goal

@@ -1,7 +1,7 @@
 use Rattle.std.proofs.Common.{map}
 use Rattle.std.specs.String.{string_bytes}
 use Rattle.sync_top.proofs.Cuts.{cut-from}
-use Rattle.sync_top.proofs.LoopFree.{loop_free-from, never_loops-from, bounds-from}
+use Rattle.sync_top.proofs.LoopFree.{loop_free-from, never_loops-from, bounds-from, holds_out-from}
 use Rattle.sync_top.proofs.program.run.Goals as goal
 
 pub returns-clause-cut : goal.returns-clause-cut
@@ -27,4 +27,10 @@ pub returns-in-Ok-write_all-clause-chains_are_bounds : goal.returns-in-Ok-write_
 returns-in-Ok-write_all-clause-chains_are_bounds g c =
     let F = g.F.Folder in
     bounds-from (map string_bytes c.args.words.now) (F.contents c.args.folder.now) (F.steady c.args.folder.now) (F.faults c.args.folder.now) (F.faults c.reply_to.new.folder)
+    c.in-Ok.reply.status c.in-Ok.reply.text c.in-Ok.ensures.ends
+
+pub returns-in-Ok-write_all-clause-protected_holds_out : goal.returns-in-Ok-write_all-clause-protected_holds_out
+returns-in-Ok-write_all-clause-protected_holds_out g c =
+    let F = g.F.Folder in
+    holds_out-from (map string_bytes c.args.words.now) (F.contents c.args.folder.now) (F.steady c.args.folder.now) (F.faults c.args.folder.now) (F.faults c.reply_to.new.folder)
     c.in-Ok.reply.status c.in-Ok.reply.text c.in-Ok.ensures.ends

@@ -1,5 +1,5 @@
 use Rattle.std.proofs.Common.{◌++◌, map, ap, refl, ◌∙◌}
-use Rattle.closed_walks.specs.Traces.{numbers}
+use Rattle.sync_topo.specs.Lines.{numbers}
 use Rattle.trace_report.specs.LastParts.{traces_part, loops_part, settled_part}
 use Rattle.trace_report.proofs.ReportLaws.{three-parts}
 use Rattle.trace_report.proofs.last_parts.put_last_parts.Goals as goal

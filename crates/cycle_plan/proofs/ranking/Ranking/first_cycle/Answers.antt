@@ -2,8 +2,7 @@ use Rattle.std.proofs.Common.{◌≡◌, ◌∷◌, reverse}
 use Rattle.std.proofs.lemmas.Result.{IfOk-weaker}
 use Rattle.sync_topo.specs.Ranks.{IsFirstCycle}
 use Rattle.sync_topo.specs.Hops.{hops_by}
-use Rattle.cycle_plan.specs.Rings.{numbers}
-use Rattle.sync_topo.specs.Lines.{line_count}
+use Rattle.sync_topo.specs.Lines.{line_count, numbers}
 use Rattle.cycle_plan.proofs.Before.{round_there}
 use Rattle.cycle_plan.proofs.Rounds.{ring_low, round_low, first_from, numbers-reverse}
 use Rattle.cycle_plan.proofs.ranking.Ranking.first_cycle.Goals as goal

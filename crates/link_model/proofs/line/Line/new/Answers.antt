@@ -6,11 +6,11 @@ use Rattle.link_model.proofs.Replies.{IsOf, stands-as}
 use Rattle.link_model.proofs.Dues.{new-stands}
 use Rattle.link_model.proofs.line.Line.new.Goals as goal
 
-pub returns-in-Ok-clause-options : goal.returns-in-Ok-clause-options
+pub returns-clause-options : goal.returns-clause-options
 unfolding AreOfOption
-returns-in-Ok-clause-options c option = subst (λ (words : WordsKept). Each (IsOf option) (all_words words)) (sym c.in-Ok.ensures) tt
+returns-clause-options c option = subst (λ (words : WordsKept). Each (IsOf option) (all_words words)) (sym c.new.ensures) tt
 
-pub returns-in-Ok-clause-stands : goal.returns-in-Ok-clause-stands
+pub returns-clause-stands : goal.returns-clause-stands
 unfolding StandsFor
-returns-in-Ok-clause-stands c =
-    stands-as c.from.result 0 true true None None (words_kept c.in-Ok.words) (record { arrived = None; on_way = [] }) [] refl c.in-Ok.ensures (new-stands c.from.result)
+returns-clause-stands c =
+    stands-as c.from.result 0 true true None None (words_kept c.new.result) (record { arrived = None; on_way = [] }) [] refl c.new.ensures (new-stands c.from.result)

@@ -7,20 +7,20 @@ use Rattle.link_model.proofs.line.Line.on_way.Goals as goal
 
 pub returns-clause-few : goal.returns-clause-few
 returns-clause-few c =
-    rw (← c.self.view_is, c.as_slice.ensures.value)
+    rw (← c.self.view_is, c.as_slice.ensures)
     (few-words c.self.inside.delay (next_of c.self.inside.turn) c.self.inside.words.arrived c.self.inside.words.on_way.items c.self.invariant.ordered)
 
 pub returns-clause-options : goal.returns-clause-options
 unfolding AreOfOption
 returns-clause-options c =
-    rw (← c.self.view_is, c.as_slice.ensures.value)
+    rw (← c.self.view_is, c.as_slice.ensures)
     (λ option are k d within. option-words option c.self.inside.words.arrived c.self.inside.words.on_way.items are k d within)
 
 pub returns-clause-on_way : goal.returns-clause-on_way
 unfolding StandsFor
 returns-clause-on_way c =
     rw (← c.self.view_is)
-    (λ past stands. ap (map message_of) c.as_slice.ensures.value ∙ stands.kept.on_way)
+    (λ past stands. ap (map message_of) c.as_slice.ensures ∙ stands.kept.on_way)
 
 pub returns-clause-carried : goal.returns-clause-carried
 unfolding StandsFor

@@ -1,6 +1,6 @@
 use Rattle.std.proofs.Common.{◌≡◌, ◌<◌, [], length, sym, ◌∙◌, arith, IfSome, subst}
-use Rattle.std.specs.Vec.{with_items}
-use Rattle.std.proofs.lemmas.List.{with_items_is}
+use Rattle.smallvec.specs.SmallVec.{with_items}
+use Rattle.smallvec.proofs.SmallVecLemmas.{items-with_items}
 use Rattle.sync_element.specs.StandsFor.{StandsFor}
 use Rattle.sync_element.specs.ElementState.{ElementState, inputs_of, IsInTime}
 use Rattle.sync_element.specs.Telling.{IsToldSoFar}
@@ -17,7 +17,7 @@ told_first c = rw c.as_mut_slice.ensures.value at c.tell_all.ensures
 pub renew_told-requires-clause-can : goal.renew_told-requires-clause-can
 renew_told-requires-clause-can c =
     let e = element_state c.self.inside in
-    let are : (with_items c.self.inside.inputs.watched c.tell_all.new.watched).items ≡ c.tell_all.new.watched = with_items_is c.self.inside.inputs.watched c.tell_all.new.watched ((told_first c).count ∙ sym c.self.inside.inputs.watched.ok.0) in
+    let are : (with_items c.self.inside.inputs.watched c.tell_all.new.watched).items ≡ c.tell_all.new.watched = items-with_items c.self.inside.inputs.watched c.tell_all.new.watched (told_first c).count in
     rw are
     (can_first e c.args.now c.args.changes.now c.tell_all.new.watched c.tell_all.new.commands c.self.invariant (rw (← c.self.view_is) at c.requires.in_time) (rw (← c.self.view_is) at c.requires.fits) (told_first c) (candidate_option e c.self.invariant))
 
@@ -27,7 +27,7 @@ told_before c = rw c.as_mut_slice.ensures.value at c.tell_all.ensures
 
 count_before : (c : goal.After-evaluate-arg-3-1) → length c.renew_due.new.inputs.table ≡ inputs_of (element_state c.self.inside)
 count_before c =
-    let are : (with_items c.self.inside.inputs.watched c.tell_all.new.watched).items ≡ c.tell_all.new.watched = with_items_is c.self.inside.inputs.watched c.tell_all.new.watched ((told_before c).count ∙ sym c.self.inside.inputs.watched.ok.0) in
+    let are : (with_items c.self.inside.inputs.watched c.tell_all.new.watched).items ≡ c.tell_all.new.watched = items-with_items c.self.inside.inputs.watched c.tell_all.new.watched (told_before c).count in
     let told : length c.renew_told.new.inputs.watched.items ≡ length c.tell_all.new.watched = rw are at c.renew_told.ensures.count in
     c.renew_due.ensures.can.candidates_length ∙ c.renew_due.ensures.count ∙ told ∙ (told_before c).count ∙ c.self.invariant.watched_length
 
@@ -61,7 +61,7 @@ is_told c = rw c.as_mut_slice.ensures.value at c.tell_all.ensures
 
 are_taken : (c : goal.After-self-5-1) → AreTaken (record { now = c.args.now; switches = c.tell_all.new.commands; floor = c.self.inside.config.floor }) c.tell_all.new.watched c.self.inside.inputs.table c.args.changes.now [] (inputs_kept c.renew_told.new.inputs)
 are_taken c =
-    let are : (with_items c.self.inside.inputs.watched c.tell_all.new.watched).items ≡ c.tell_all.new.watched = with_items_is c.self.inside.inputs.watched c.tell_all.new.watched ((is_told c).count ∙ sym c.self.inside.inputs.watched.ok.0) in
+    let are : (with_items c.self.inside.inputs.watched c.tell_all.new.watched).items ≡ c.tell_all.new.watched = items-with_items c.self.inside.inputs.watched c.tell_all.new.watched (is_told c).count in
     let renewed = rw are at c.renew_told.ensures.taken in
     renewed c.tell_all.new.watched c.self.inside.inputs.table (all_pending (state c) c.args.now c.args.changes.now c.tell_all.new.watched c.tell_all.new.commands c.self.invariant (is_told c))
 

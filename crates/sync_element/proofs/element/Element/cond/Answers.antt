@@ -21,7 +21,7 @@ within c = rw (← c.self.view_is) at c.requires.place
 given : (c : goal.After-condition_before) → later_by ((state c).next - (monitor_of (state c) c.args.i).next) (monitor_of (state c) c.args.i).condition ≡ c.condition_before.result
 given c =
     let inside : c.args.i < length c.self.inside.inputs.watched.items = omega (arith, within c, c.self.invariant.watched_length) in
-    let read : watched_of (state c) c.args.i ≡ c.index-input.result.now = get_or_default c.self.inside.inputs.watched.items c.args.i unused c.index-input.result.now inside ∙ sym c.index-input.ensures in
+    let read : watched_of (state c) c.args.i ≡ c.index-as_slice-i.result = get_or_default c.self.inside.inputs.watched.items c.args.i unused c.index-as_slice-i.result inside ∙ sym (rw c.as_slice.ensures at c.index-as_slice-i.is) in
     ap (λ w. later_by ((state c).next - w.monitor.next) w.monitor.condition) read ∙ sym c.condition_before.ensures.value
 
 pub returns-clause-last : goal.returns-clause-last

@@ -14,12 +14,12 @@ returns-in_err-check_limits-clause-rules c =
 pub returns-in_err-add_elements-clause-rules : goal.returns-in_err-add_elements-clause-rules
 returns-in_err-add_elements-clause-rules c =
     let p = err_from_is_err_and c.from_residual-in_err-add_elements.result c.from_residual-in_err-add_elements.ensures.1 in
-    rw (p.1, p.2) (elements-told c.args.rows _ _ c.in_ok-check_limits.ensures.rules (element_rules-are c.args.rows _ c.new-parts.ensures.option) c.in_err-add_elements.ensures.rules)
+    rw (p.1, p.2) (elements-told c.args.rows _ _ c.in_ok-check_limits.ensures.rules (element_rules-are c.args.rows _ c.in_ok-parts.ensures.option) c.in_err-add_elements.ensures.rules)
 
 pub returns-in_err-add_links-clause-rules : goal.returns-in_err-add_links-clause-rules
 returns-in_err-add_links-clause-rules c =
     let p = err_from_is_err_and c.from_residual-in_err-add_links.result c.from_residual-in_err-add_links.ensures.1 in
-    let rows = c.args.rows in let made = c.in_ok-add_elements.ensures in let option = c.new-parts.ensures.option in
+    let rows = c.args.rows in let made = c.in_ok-add_elements.ensures in let option = c.in_ok-parts.ensures.option in
     let elements = made.elements ∙ ap (λ (o : NetOption). map (element_from o) rows.elements) option in
     rw (p.1, p.2) (links-told rows _ _ _ c.in_ok-check_limits.ensures.rules (element_rules-are rows _ option) made.rules
     (link_rules-are rows _ _ (made.option ∙ option) elements) c.in_err-add_links.ensures.rules)
@@ -27,7 +27,7 @@ returns-in_err-add_links-clause-rules c =
 pub returns-in_err-add_sources-clause-rules : goal.returns-in_err-add_sources-clause-rules
 returns-in_err-add_sources-clause-rules c =
     let p = err_from_is_err_and c.from_residual-in_err-add_sources.result c.from_residual-in_err-add_sources.ensures.1 in
-    let rows = c.args.rows in let made = c.in_ok-add_elements.ensures in let linked = c.in_ok-add_links.ensures in let option = c.new-parts.ensures.option in
+    let rows = c.args.rows in let made = c.in_ok-add_elements.ensures in let linked = c.in_ok-add_links.ensures in let option = c.in_ok-parts.ensures.option in
     let elements = made.elements ∙ ap (λ (o : NetOption). map (element_from o) rows.elements) option in
     rw (p.1, p.2) (sources-told rows _ _ _ _ c.in_ok-check_limits.ensures.rules (element_rules-are rows _ option) made.rules
     (link_rules-are rows _ _ (made.option ∙ option) elements) linked.rules
@@ -35,7 +35,7 @@ returns-in_err-add_sources-clause-rules c =
 
 pub returns-clause-rules : goal.returns-clause-rules
 returns-clause-rules c =
-    let rows = c.args.rows in let made = c.in_ok-add_elements.ensures in let linked = c.in_ok-add_links.ensures in let option = c.new-parts.ensures.option in
+    let rows = c.args.rows in let made = c.in_ok-add_elements.ensures in let linked = c.in_ok-add_links.ensures in let option = c.in_ok-parts.ensures.option in
     let elements = made.elements ∙ ap (λ (o : NetOption). map (element_from o) rows.elements) option in
     none-told rows _ _ _ c.in_ok-check_limits.ensures.rules (element_rules-are rows _ option) made.rules
     (link_rules-are rows _ _ (made.option ∙ option) elements) linked.rules

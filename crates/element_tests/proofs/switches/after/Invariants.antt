@@ -1,5 +1,0 @@
-use Rattle.std.proofs.Common.{◌≡◌, length}
-use Rattle.element_tests.proofs.switches.after.Given as goal
-
-abbrev pub invariant-loop-command : goal.invariant-loop-command
-invariant-loop-command g l = length l.cmds.locked ≡ l.inputs

@@ -1,0 +1,83 @@
+-- What a table has at the keys of its section, and which rule it breaks by that: what only private clauses cite.
+use Rattle.std.specs.Prelude.{◌≡◌, ℕ, ℤ, Bool, true, false, not, ◌&&◌, ◌||◌, List, [], ◌∷◌, ◌++◌, map, take, Option, Some, None, is_some, is_none, option_map, option_and_then, unwrap_or, slice_get, Result, Ok, Err, if◌then◌else◌}
+use Rattle.std.specs.Option.{option_map_or, option_or}
+use Rattle.std.specs.List.{list_any}
+use Rattle.std.specs.Str.{bytes_eq}
+use Rattle.toml.specs.Data.{Data, table, Members, no_members, member, get_member, as_str, as_integer, as_array}
+use Rattle.toml.specs.View.{view}
+use Rattle.toml.specs.declared.value.Value.{Value}
+use Rattle.sync_topo.specs.declared.place.Place.{Place}
+use Rattle.plan_file.specs.declared.error.PlanFileErr.{PlanFileErr}
+use Rattle.plan_file.specs.declared.error.PlanFileErr.TheVariants.{Key as WrongKey, Kind as WrongKind}
+use Rattle.sync_text.specs.Chain.{unless}
+use Rattle.plan_file.specs.Format.{Key}
+use Rattle.plan_file.specs.Rules.{has_only, data_of}
+
+-- what a table has at each of some keys, in the order of the keys, and whether it has another key
+pub record Slots : Type 0 where
+  pub values : List (Option Data)
+  pub other : Bool
+
+-- the slots of a table
+abbrev pub slots_of : List Key → Members → Slots
+slots_of keys fields = record { values = map (λ key. get_member key.name fields) keys; other = not (has_only keys fields) }
+
+abbrev pub no_slots : List Key → Slots
+no_slots keys = record { values = map (λ key. None) keys; other = false }
+
+-- the value, put into the slot of its key. A slot that has one keeps it
+abbrev pub put_at : List Key → List (Option Data) → List ℕ → Data → List (Option Data)
+put_at (key ∷ keys) (slot ∷ slots) name value =
+    if bytes_eq name key.name then option_or slot (Some value) ∷ slots else slot ∷ put_at keys slots name value
+put_at keys slots name value = slots
+
+abbrev pub put : List Key → Slots → List ℕ → Data → Slots
+put keys slots name value = record {
+  values = put_at keys slots.values name value;
+  other = slots.other || not (list_any (λ key. bytes_eq name key.name) keys);
+}
+
+-- all members, put one after the other
+abbrev pub taken : List Key → Slots → Members → Slots
+taken keys slots no_members = slots
+taken keys slots (member name value rest) = taken keys (put keys slots name value) rest
+
+-- a slot that must have a value has none
+abbrev pub lacks : List Key → List (Option Data) → Bool
+lacks (key ∷ keys) (slot ∷ slots) = (key.needed && is_none slot) || lacks keys slots
+lacks keys slots = false
+
+-- what the slots have is of the kinds of their keys
+abbrev pub fits : List Key → List (Option Data) → Bool
+fits (key ∷ keys) (slot ∷ slots) = option_map_or key.takes slot true && fits keys slots
+fits keys slots = true
+
+-- the rule that slots break, if they break one, and what they say
+abbrev pub slots_refusal : Place → List Key → Slots → Option PlanFileErr
+slots_refusal place keys slots =
+    if slots.other || lacks keys slots.values then Some (WrongKey place)
+    else if not (fits keys slots.values) then Some (WrongKind place)
+    else None
+
+abbrev pub said_by : {A : Type 0} → Place → List Key → (List (Option Data) → A) → Slots → Result A PlanFileErr
+said_by place keys said slots = unless (slots_refusal place keys slots) (said slots.values)
+
+-- the data in a slot
+abbrev pub seen : Option Value → Option Data
+seen slot = option_map view slot
+
+abbrev pub slot_at : ℕ → List (Option Data) → Option Data
+slot_at n slots = unwrap_or (slice_get slots n) None
+
+-- the text in a slot, the integer, the text that must be there, and the entries of an array
+abbrev pub text_in : Option Data → Option (List ℕ)
+text_in slot = option_and_then as_str slot
+
+abbrev pub integer_in : Option Data → Option ℤ
+integer_in slot = option_and_then as_integer slot
+
+abbrev pub name_in : Option Data → List ℕ
+name_in slot = unwrap_or (text_in slot) []
+
+abbrev pub entries_in : Option Data → List Data
+entries_in slot = option_map_or data_of (option_and_then as_array slot) []

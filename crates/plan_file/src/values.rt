@@ -1,0 +1,239 @@
+// What a table of the document has at each key of its section. Each value is moved into the slot of
+// its key; of each section there are slots of their own, in the order of the keys.
+
+ghost use Rattle.std.specs.Prelude.{◌≡◌, Some};
+ghost use Rattle.std.specs.Option.{option_or};
+ghost use Rattle.toml.specs.View.{view, table_view};
+ghost use Rattle.sync_topo.specs.declared.place.Section.TheVariants.{Head, Elements, Links, Sources};
+ghost use Rattle.plan_file.specs.declared.version.Version.TheVariants.{Two};
+ghost use Rattle.plan_file.specs.Format.{keys_of};
+ghost use Rattle.plan_file.specs.Slots.{put, slots_of, seen};
+ghost use Rattle.plan_file.specs.Values.{head_slots, element_slots, link_slots, source_slots, without_bundle, of_version};
+
+use crate::version::Version;
+use toml::{Table, Value};
+
+/// Keeps the value, unless the slot has one.
+fn keep(slot: &mut Option<Value>, value: Value)
+    ensures { seen slot.new ≡ option_or (seen slot.old) (Some (view value)) }
+{
+    if slot.is_none() {
+        *slot = Some(value);
+    }
+}
+
+/// What the head of a document has.
+#[derive(Drop)]
+pub(crate) struct HeadValues {
+    pub(crate) version: Option<Value>,
+    pub(crate) option: Option<Value>,
+    pub(crate) elements: Option<Value>,
+    pub(crate) links: Option<Value>,
+    pub(crate) sources: Option<Value>,
+    /// It has another key.
+    pub(crate) other: bool,
+}
+
+impl HeadValues {
+    /// What this document has.
+    #[tactic(auto, using(crate::proofs::ValueFacts::head_taken))]
+    pub(crate) fn of_table(document: Table) -> HeadValues
+        ensures { head_slots result ≡ slots_of (keys_of Two Head) (table_view document) }
+    {
+        let mut values = HeadValues {
+            version: None,
+            option: None,
+            elements: None,
+            links: None,
+            sources: None,
+            other: false,
+        };
+        for (key, value) in document {
+            values.put(key.as_str(), value);
+        }
+        values
+    }
+
+    /// Puts the value at a key into its slot.
+    fn put(&mut self, key: &str, value: Value)
+        ensures { head_slots self.new ≡ put (keys_of Two Head) (head_slots self.old) key.now (view value) }
+    {
+        match key {
+            "version" => keep(&mut self.version, value),
+            "option" => keep(&mut self.option, value),
+            "element" => keep(&mut self.elements, value),
+            "link" => keep(&mut self.links, value),
+            "source" => keep(&mut self.sources, value),
+            _ => self.other = true,
+        }
+    }
+}
+
+/// What the table of an element has.
+#[derive(Drop)]
+pub(crate) struct ElementValues {
+    pub(crate) name: Option<Value>,
+    pub(crate) own: Option<Value>,
+    pub(crate) floor: Option<Value>,
+    pub(crate) holdoff: Option<Value>,
+    pub(crate) wtr: Option<Value>,
+    /// It has another key.
+    pub(crate) other: bool,
+}
+
+impl ElementValues {
+    /// What this table has.
+    #[tactic(auto, using(crate::proofs::ValueFacts::element_taken))]
+    pub(crate) fn of_table(fields: Table) -> ElementValues
+        ensures { element_slots result ≡ slots_of (keys_of Two Elements) (table_view fields) }
+    {
+        let mut values = ElementValues {
+            name: None,
+            own: None,
+            floor: None,
+            holdoff: None,
+            wtr: None,
+            other: false,
+        };
+        for (key, value) in fields {
+            values.put(key.as_str(), value);
+        }
+        values
+    }
+
+    /// Puts the value at a key into its slot.
+    fn put(&mut self, key: &str, value: Value)
+        ensures { element_slots self.new
+            ≡ put (keys_of Two Elements) (element_slots self.old) key.now (view value) }
+    {
+        match key {
+            "name" => keep(&mut self.name, value),
+            "own" => keep(&mut self.own, value),
+            "floor" => keep(&mut self.floor, value),
+            "holdoff" => keep(&mut self.holdoff, value),
+            "wtr" => keep(&mut self.wtr, value),
+            _ => self.other = true,
+        }
+    }
+}
+
+/// What the table of a link has.
+#[derive(Drop)]
+pub(crate) struct LinkValues {
+    pub(crate) name: Option<Value>,
+    pub(crate) a: Option<Value>,
+    pub(crate) b: Option<Value>,
+    pub(crate) priority_a: Option<Value>,
+    pub(crate) priority_b: Option<Value>,
+    pub(crate) delay_a: Option<Value>,
+    pub(crate) delay_b: Option<Value>,
+    pub(crate) bundle: Option<Value>,
+    /// It has another key.
+    pub(crate) other: bool,
+}
+
+impl LinkValues {
+    /// What this table has, with the keys of the second version.
+    #[tactic(auto, using(crate::proofs::ValueFacts::link_taken))]
+    pub(crate) fn of_table(fields: Table) -> LinkValues
+        ensures { link_slots result ≡ slots_of (keys_of Two Links) (table_view fields) }
+    {
+        let mut values = LinkValues {
+            name: None,
+            a: None,
+            b: None,
+            priority_a: None,
+            priority_b: None,
+            delay_a: None,
+            delay_b: None,
+            bundle: None,
+            other: false,
+        };
+        for (key, value) in fields {
+            values.put(key.as_str(), value);
+        }
+        values
+    }
+
+    /// Puts the value at a key into its slot.
+    fn put(&mut self, key: &str, value: Value)
+        ensures { link_slots self.new
+            ≡ put (keys_of Two Links) (link_slots self.old) key.now (view value) }
+    {
+        match key {
+            "name" => keep(&mut self.name, value),
+            "a" => keep(&mut self.a, value),
+            "b" => keep(&mut self.b, value),
+            "priority_a" => keep(&mut self.priority_a, value),
+            "priority_b" => keep(&mut self.priority_b, value),
+            "delay_a" => keep(&mut self.delay_a, value),
+            "delay_b" => keep(&mut self.delay_b, value),
+            "bundle" => keep(&mut self.bundle, value),
+            _ => self.other = true,
+        }
+    }
+
+    /// What it has by the keys of a version: in the first, `bundle` is an unknown one.
+    pub(crate) fn of_version(self, version: Version) -> LinkValues
+        ensures { link_slots result ≡ of_version version (link_slots self) }
+    {
+        match version {
+            Version::One => self.without_bundle(),
+            Version::Two => self,
+        }
+    }
+
+    /// The same, where `bundle` is an unknown key.
+    fn without_bundle(mut self) -> LinkValues
+        ensures { link_slots result ≡ without_bundle (link_slots self) }
+    {
+        self.other = self.other || self.bundle.is_some();
+        self.bundle = None;
+        self
+    }
+}
+
+/// What the table of a source has.
+#[derive(Drop)]
+pub(crate) struct SourceValues {
+    pub(crate) name: Option<Value>,
+    pub(crate) at: Option<Value>,
+    pub(crate) level: Option<Value>,
+    pub(crate) priority: Option<Value>,
+    /// It has another key.
+    pub(crate) other: bool,
+}
+
+impl SourceValues {
+    /// What this table has.
+    #[tactic(auto, using(crate::proofs::ValueFacts::source_taken))]
+    pub(crate) fn of_table(fields: Table) -> SourceValues
+        ensures { source_slots result ≡ slots_of (keys_of Two Sources) (table_view fields) }
+    {
+        let mut values = SourceValues {
+            name: None,
+            at: None,
+            level: None,
+            priority: None,
+            other: false,
+        };
+        for (key, value) in fields {
+            values.put(key.as_str(), value);
+        }
+        values
+    }
+
+    /// Puts the value at a key into its slot.
+    fn put(&mut self, key: &str, value: Value)
+        ensures { source_slots self.new
+            ≡ put (keys_of Two Sources) (source_slots self.old) key.now (view value) }
+    {
+        match key {
+            "name" => keep(&mut self.name, value),
+            "at" => keep(&mut self.at, value),
+            "level" => keep(&mut self.level, value),
+            "priority" => keep(&mut self.priority, value),
+            _ => self.other = true,
+        }
+    }
+}

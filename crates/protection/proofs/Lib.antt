@@ -1,0 +1,5 @@
+mod OutputLemmas
+mod MarkLemmas
+mod WalkLemmas
+mod TallyLemmas
+pub mod GapLaws

@@ -1,0 +1,20 @@
+use Rattle.reach_rules.proofs.ProtectionLaws.{served-level, served-reached, not-reached, closed-served, gap-shows, protected-holds}
+use Rattle.reach_rules.proofs.protecting.protection_law.Goals as goal
+
+pub returns-clause-served : goal.returns-clause-served
+returns-clause-served c = served-level
+
+pub returns-clause-reached : goal.returns-clause-reached
+returns-clause-reached c = served-reached
+
+pub returns-clause-gone : goal.returns-clause-gone
+returns-clause-gone c = not-reached
+
+pub returns-clause-closed : goal.returns-clause-closed
+returns-clause-closed c = closed-served
+
+pub returns-clause-gap : goal.returns-clause-gap
+returns-clause-gap c = gap-shows
+
+pub returns-clause-holds : goal.returns-clause-holds
+returns-clause-holds c = protected-holds

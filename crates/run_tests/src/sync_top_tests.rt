@@ -1,0 +1,180 @@
+// Runs over files that fail and an output that fails or ends early; all other runs are in cases/.
+
+use std::alloc::{AllocError, Global};
+use std::process::Abort;
+use std::test::Fail;
+use std::thread::Threads;
+use sync_edge::{MemFile, MemFolder, MemSink};
+use sync_sweep::FreeGate;
+use sync_text::{NoMemory, Rows, Text};
+use sync_top::{Status, run};
+use test_makers::{CHAIN, PAIR, SOURCED_CHAIN, numbers};
+
+const RISING: &[u8] = b"line,rank\nL1>B,0\nL2>C,1\n";
+
+/// Where the outside fails, and how much of it there is.
+#[derive(Clone, Copy)]
+struct Outside {
+    folder_fails: &'static [u32],
+    room: usize,
+    piece: usize,
+    sink_fails: &'static [u32],
+}
+
+const CALM: Outside = Outside {
+    folder_fails: &[],
+    room: 400,
+    piece: 400,
+    sink_fails: &[],
+};
+
+fn file(alloc: Global, name: &[u8], bytes: &[u8]) -> Result<MemFile, NoMemory> {
+    let mut file = MemFile {
+        name: Text::new(alloc),
+        bytes: Text::new(alloc),
+    };
+    file.name.put(name)?;
+    file.bytes.put(bytes)?;
+    Ok(file)
+}
+
+fn words(alloc: Global, words: &[&str]) -> Result<Vec<String>, AllocError> {
+    let mut all = Vec::new(alloc);
+    for word in words {
+        all.push(String::from_str(alloc, word)?)?;
+    }
+    Ok(all)
+}
+
+/// Runs the words over the files `plan` and `cert`, and compares the status and what was written.
+fn answers(
+    rt: &(impl Abort + AllocGlobal + Threads + Sync),
+    line: &[&str],
+    files: (&[u8], &[u8]),
+    outside: Outside,
+    want: (Status, &[u8]),
+) -> Result<(), Fail> {
+    let alloc = rt.alloc();
+    let mut kept = Rows::new(alloc);
+    kept.push(file(alloc, b"plan", files.0)?)?;
+    kept.push(file(alloc, b"cert", files.1)?)?;
+    let mut folder = MemFolder::new(kept, 65_536, numbers(alloc, outside.folder_fails)?);
+    let fails = numbers(alloc, outside.sink_fails)?;
+    let mut sink = MemSink::new(alloc, outside.room, outside.piece.max(1), fails)?;
+    let line = words(alloc, line)?;
+    let status = run(
+        rt,
+        alloc,
+        line.as_slice(),
+        &mut folder,
+        &mut sink,
+        &FreeGate,
+    );
+    assert_eq!(rt; (status, sink.bytes()), want, "{line:?} {:?}", files.1);
+    Ok(())
+}
+
+#[test]
+fn faults_are_told(rt: HostRuntime) -> Result<(), Fail> {
+    let check: &[&str] = &["check", "plan", "cert"];
+    let text: &[u8] = b"accepted\n";
+    let read: (Status, &[u8]) = (Status::ReadFault, b"read fault\n");
+    // Each file is started, read, and read once more at its end.
+    let folders: [(&[u32], (Status, &[u8])); 8] = [
+        (&[1], read),
+        (&[2], read),
+        (&[3], read),
+        (&[4], read),
+        (&[5], read),
+        (&[6], read),
+        (&[7], (Status::Done, text)),
+        (&[9, 2], read),
+    ];
+    for (folder_fails, want) in folders {
+        let outside = Outside {
+            folder_fails,
+            ..CALM
+        };
+        answers(
+            &rt,
+            &["check", "plan", "cert"],
+            (CHAIN, RISING),
+            outside,
+            want,
+        )?;
+    }
+    let sinks: [(&[u32], (Status, &[u8])); 10] = [
+        (&[1], (Status::WriteFault, b"")),
+        (&[2], (Status::WriteFault, b"a")),
+        (&[3], (Status::WriteFault, b"ac")),
+        (&[4], (Status::WriteFault, b"acc")),
+        (&[5], (Status::WriteFault, b"acce")),
+        (&[6], (Status::WriteFault, b"accep")),
+        (&[7], (Status::WriteFault, b"accept")),
+        (&[8], (Status::WriteFault, b"accepte")),
+        (&[9], (Status::WriteFault, b"accepted")),
+        (&[10], (Status::Done, text)),
+    ];
+    for (sink_fails, want) in sinks {
+        let outside = Outside {
+            piece: 1,
+            sink_fails,
+            ..CALM
+        };
+        answers(&rt, check, (CHAIN, RISING), outside, want)?;
+    }
+    let outside = Outside { room: 5, ..CALM };
+    answers(
+        &rt,
+        &["check", "plan", "cert"],
+        (CHAIN, RISING),
+        outside,
+        (Status::WriteFault, b"accep"),
+    )
+}
+
+#[test]
+fn a_front_of_the_report_is_written_where_the_output_fails(rt: HostRuntime) -> Result<(), Fail> {
+    let outside = Outside {
+        piece: 16,
+        sink_fails: &[2],
+        ..CALM
+    };
+    let want: (Status, &[u8]) = (Status::WriteFault, b"changes\n0,A,auto");
+    let line: &[&str] = &["sim", "plan", "cert", "100"];
+    let events: &[u8] = b"at,what,target,value\n";
+    answers(&rt, line, (SOURCED_CHAIN, events), outside, want)
+}
+
+/// Runs a swinging pair to the last millisecond there is over an output of so much room, and gives
+/// the status and what was written.
+fn swings(rt: &(impl AllocGlobal + Threads + Sync), room: usize) -> Result<(Status, Text), Fail> {
+    let alloc = rt.alloc();
+    let mut files = Rows::new(alloc);
+    files.push(file(alloc, b"plan", PAIR)?)?;
+    files.push(file(alloc, b"cert", b"at,what,target,value\n")?)?;
+    let mut folder = MemFolder::new(files, 65_536, Rows::new(alloc));
+    let mut sink = MemSink::new(alloc, room, 1000, Rows::new(alloc))?;
+    let line = words(alloc, &["sim", "plan", "cert", "86400000"])?;
+    let status = run(
+        rt,
+        alloc,
+        line.as_slice(),
+        &mut folder,
+        &mut sink,
+        &FreeGate,
+    );
+    let mut text = Text::new(alloc);
+    text.put(sink.bytes())?;
+    Ok((status, text))
+}
+
+#[test]
+fn a_front_of_a_long_report_is_written_where_the_room_ends(rt: HostRuntime) -> Result<(), Fail> {
+    let (stopped, whole) = swings(&rt, 10_000_000)?;
+    let (fault, front) = swings(&rt, 4096)?;
+    assert_eq!(&rt; (stopped, fault), (Status::Stopped, Status::WriteFault));
+    assert_eq!(&rt; front.bytes().len(), 4096);
+    assert!(&rt; whole.bytes().starts_with(front.bytes()));
+    Ok(())
+}

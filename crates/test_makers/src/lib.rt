@@ -1,0 +1,43 @@
+//! What the tests of several crates are made of: plans that stand in more than one, texts, and lists of
+//! numbers. No crate but those of tests stands on it.
+#![tactic(auto)]
+
+ghost use Rattle.std.specs.Prelude.{◌≡◌, IfOk};
+
+use std::alloc::Global;
+use sync_text::{NoMemory, Rows, Text};
+
+/// Three elements in a row, each of which takes its timing from the one before it. There is no source.
+pub const CHAIN: &[u8] =
+    b"[[element]]\nname = \"A\"\n[[element]]\nname = \"B\"\n[[element]]\nname = \"C\"\n\
+[[link]]\nname = \"L1\"\na = \"A\"\nb = \"B\"\npriority_b = 1\n\
+[[link]]\nname = \"L2\"\na = \"B\"\nb = \"C\"\npriority_b = 1\n";
+
+/// The same with ten milliseconds on each line, and a source at the first element.
+pub const SOURCED_CHAIN: &[u8] = b"element = [{ name = 'A' }, { name = 'B' }, { name = 'C' }]\n\
+link = [{ name = 'L1', a = 'A', b = 'B', priority_b = 1, delay_a = 10, delay_b = 10 },\n\
+ { name = 'L2', a = 'B', b = 'C', priority_b = 1, delay_a = 10, delay_b = 10 }]\n\
+source = [{ name = 'S', at = 'A', level = 'QL-PRC' }]\n";
+
+/// Two elements on one link, each of which may take its timing from the other, with ten milliseconds on
+/// each line.
+pub const PAIR: &[u8] = b"element = [{ name = 'A' }, { name = 'B' }]\n\
+link = [{ name = 'L1', a = 'A', b = 'B', priority_a = 1, priority_b = 1, delay_a = 10, delay_b = 10 }]\n";
+
+/// A text of these bytes.
+pub fn text(alloc: Global, bytes: &[u8]) -> Result<Text, NoMemory>
+    ensures { IfOk result (λ text. text ≡ bytes.now) }
+{
+    let mut text = Text::new(alloc);
+    text.put(bytes)?;
+    Ok(text)
+}
+
+/// A list of these numbers.
+pub fn numbers(alloc: Global, numbers: &[u32]) -> Result<Rows<u32>, NoMemory> {
+    let mut rows = Rows::new(alloc);
+    for number in numbers {
+        rows.push(*number)?;
+    }
+    Ok(rows)
+}
