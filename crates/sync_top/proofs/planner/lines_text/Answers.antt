@@ -2,7 +2,7 @@ use Rattle.std.proofs.Common.{◌<◌, ℕ, map, length, get_or}
 use Rattle.std.proofs.lemmas.List.{get_or-map, length-map}
 use Rattle.sync_topo.specs.Lines.{line_count}
 use Rattle.sync_topo.specs.declared.input.LineId.{LineId}
-use Rattle.sync_top.proofs.planner.cycle_text.Goals as goal
+use Rattle.sync_top.proofs.planner.lines_text.Goals as goal
 
 -- the line's number is one of those that are within
 pub put_line-requires : goal.put_line-requires
