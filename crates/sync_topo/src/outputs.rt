@@ -1,13 +1,19 @@
-ghost use Rattle.std.specs.Prelude.{◌≡◌, ◌<◌, ◌+◌, length, IfOk, OnOk};
-ghost use Rattle.sync_topo.specs.Lines.{line_count};
-ghost use Rattle.nominate.specs.Outputs.{AreOutputs};
+// The lines out of each element, nominated or not.
 
+ghost use Rattle.std.specs.Prelude.{◌<◌, ◌+◌, IfOk, OnOk};
+ghost use Rattle.sync_topo.specs.Lines.{line_count};
+ghost use Rattle.sync_topo.specs.Outputs.{AreOutputs};
+
+use crate::input::LineId;
+use crate::plan::Plan;
 use std::alloc::Global;
 use sync_text::NoMemory;
-use sync_topo::{LineId, Plan};
 
-/// For each element the lines out of it, in order of number.
-pub(crate) fn outputs(alloc: Global, plan: &Plan) -> Result<Vec<Vec<LineId>>, NoMemory>
+/// For each element the lines out of it, nominated or not, in order of number: those over which it
+/// may send timing. [`Plan::lines_out`] has the nominated ones alone.
+///
+/// `NoMemory` comes for want of memory alone. This project's own.
+pub fn all_lines_out(alloc: Global, plan: &Plan) -> Result<Vec<Vec<LineId>>, NoMemory>
     ensures { IfOk result (λ outputs. AreOutputs plan.now (line_count plan.now) outputs.items) }
 {
     let mut outputs = no_outputs(alloc, plan)?;

@@ -1,7 +1,7 @@
 use Rattle.std.proofs.Common.{◌<◌, length}
 use Rattle.sync_topo.specs.Lines.{sender_of}
-use Rattle.protection.proofs.OutputLemmas.{AreOutputs-push}
-use Rattle.protection.proofs.outputs.add_output.Goals as goal
+use Rattle.sync_topo.proofs.OutputLemmas.{AreOutputs-push}
+use Rattle.sync_topo.proofs.outputs.add_output.Goals as goal
 
 pub returns : goal.returns
 returns c =
