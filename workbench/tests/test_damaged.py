@@ -1,6 +1,6 @@
 """Damaged files through every command that reads them: a status, at most one complaint, and never a trace.
 
-The damage, and the whole files, are those of bench/fuzz.py. Commands run within this process, pictures are worked out but
+The damage, and the whole files, are those of bench/compare/fuzz.py. Commands run within this process, pictures are worked out but
 not drawn.
 """
 
@@ -20,8 +20,8 @@ from murdjohe.forms import FORMS
 from murdjohe.streams import Output
 from murdjohe.wrong import Wrong
 
-sys.path.append(str(TOP / "bench"))
-fuzz: Any = pytest.importorskip("fuzz")
+sys.path.append(str(TOP))
+fuzz: Any = pytest.importorskip("bench.compare.fuzz")
 INVENTORY = EXAMPLES / "inventory"
 
 

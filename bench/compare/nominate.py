@@ -1,0 +1,179 @@
+#!/usr/bin/env python3
+"""Compares `hops` and `nominate` on random plans with the graph library networkx and with the rules.
+
+usage: python3 -m bench.compare.nominate PROGRAM [--plans N] [--seed N] [--keep FOLDER]
+
+Of each plan: the counts of `hops` are the distances from the nearest element with a nominated source that networkx
+finds, and each `from` is the lowest-numbered source or line that may stand there; what `nominate` writes has the
+priorities that the rules give, and all else as before; `check` accepts it with the certificate by the order of
+elements; and `rank` gives it ranks. The plans have up to 14 elements, several parts, parallel links, bundles, sources
+that aren't nominated, and priorities up to 255; some have elements with 60 sources and more. It needs Python 3.11 and
+networkx.
+"""
+import argparse
+import os
+import random
+import subprocess
+import sys
+import tempfile
+import tomllib
+
+import networkx
+
+
+def random_plan(numbers):
+    count = numbers.randrange(1, 15)
+    elements = [f"E{i}" for i in range(count)]
+    links, bundles = [], {}
+    if count > 1:
+        for k in range(numbers.randrange(0, 3 * count)):
+            a, b = numbers.sample(elements, 2)
+            bundle = None
+            if numbers.randrange(4) == 0:
+                bundle = "B" + "-".join(sorted((a, b)))
+            links.append({"name": f"L{k}", "a": a, "b": b, "bundle": bundle})
+    sources = []
+    for at in elements:
+        few = numbers.choice((0, 0, 0, 1, 1, 2))
+        if numbers.randrange(40) == 0:
+            few = numbers.randrange(58, 65)
+        for _ in range(few):
+            priority = numbers.choice((0, 1, 1, 2, 7, 251, 253, 254, 255))
+            sources.append({"name": f"S{len(sources)}", "at": at, "priority": priority})
+    return elements, links, sources
+
+
+def plan_text(elements, links, sources):
+    bundled = any(link["bundle"] for link in links)
+    parts = ["version = 2\n" if bundled else "", 'option = "I"\n']
+    for name in elements:
+        parts.append(f'\n[[element]]\nname = "{name}"\n')
+    for link in links:
+        parts.append(f'\n[[link]]\nname = "{link["name"]}"\na = "{link["a"]}"\nb = "{link["b"]}"\n')
+        if link["bundle"]:
+            parts.append(f'bundle = "{link["bundle"]}"\n')
+    for source in sources:
+        parts.append(
+            f'\n[[source]]\nname = "{source["name"]}"\nat = "{source["at"]}"\nlevel = "QL-PRC"\n'
+            f'priority = {source["priority"]}\n'
+        )
+    return "".join(parts)
+
+
+def counts_of(elements, links, sources):
+    graph = networkx.Graph()
+    graph.add_nodes_from(elements)
+    graph.add_edges_from((link["a"], link["b"]) for link in links)
+    roots = {source["at"] for source in sources if source["priority"]}
+    if not roots:
+        return {}
+    return networkx.multi_source_dijkstra_path_length(graph, roots, weight=None)
+
+
+def lines_of(links):
+    """The lines in order of number: name, sender, receiver."""
+    for link in links:
+        yield f'{link["name"]}>{link["b"]}', link["a"], link["b"]
+        yield f'{link["name"]}>{link["a"]}', link["b"], link["a"]
+
+
+def hops_text(elements, links, sources, counts):
+    rows = ["element,hops,from\n"]
+    for element in elements:
+        count = counts.get(element)
+        found = []
+        if count == 0:
+            found = [s["name"] for s in sources if s["at"] == element and s["priority"]]
+        elif count is not None:
+            found = [name for name, a, b in lines_of(links) if b == element and counts.get(a) == count - 1]
+        rows.append(f'{element},{"none" if count is None else count},{found[0] if found else "none"}\n')
+    return "".join(rows)
+
+
+def priorities_of(elements, links, sources, counts):
+    numbers = {element: i for i, element in enumerate(elements)}
+    lines = list(lines_of(links))
+    given = [0] * len(lines)
+    for element in elements:
+        own = [s["priority"] for s in sources if s["at"] == element and s["priority"]]
+        into = [
+            (counts[a], line)
+            for line, (_, a, b) in enumerate(lines)
+            if b == element and a in counts and b in counts and (counts[a], numbers[a]) < (counts[b], numbers[b])
+        ]
+        for q, (_, line) in enumerate(sorted(into), 1):
+            priority = max(own, default=0) + q
+            if priority <= 255 and q + len(own) <= 64:
+                given[line] = priority
+    return given
+
+
+def run(program, *words):
+    done = subprocess.run([program, *words], capture_output=True)
+    return done.returncode, done.stdout.decode()
+
+
+def differences(program, plan):
+    elements, links, sources = plan
+    counts = counts_of(*plan)
+    with open("plan", "w") as file:
+        file.write(plan_text(*plan))
+    if run(program, "hops", "plan") != (0, hops_text(*plan, counts)):
+        yield "hops"
+    status, text = run(program, "nominate", "plan")
+    if status:
+        yield f"nominate ends with {status}"
+        return
+    read = tomllib.loads(text)
+    given = priorities_of(*plan, counts)
+    wrote = [p for link in read.get("link", []) for p in (link.get("priority_b", 0), link.get("priority_a", 0))]
+    if wrote != given:
+        yield "priorities"
+    if [link.get("bundle") for link in read.get("link", [])] != [link["bundle"] for link in links]:
+        yield "bundles"
+    if [s.get("priority", 1) for s in read.get("source", [])] != [s["priority"] for s in sources]:
+        yield "sources"
+    order = sorted((e for e in elements if e in counts), key=lambda e: (counts[e], elements.index(e)))
+    rows = [f"{name},{order.index(a)}\n" for (name, a, _), p in zip(lines_of(links), given) if p]
+    with open("nominated", "w") as file:
+        file.write(text)
+    with open("cert", "w") as file:
+        file.write("line,rank\n" + "".join(rows))
+    if run(program, "check", "nominated", "cert") != (0, "accepted\n"):
+        yield "check"
+    if run(program, "rank", "nominated")[0]:
+        yield "rank"
+
+
+def main():
+    parser = argparse.ArgumentParser(description=__doc__, formatter_class=argparse.RawDescriptionHelpFormatter)
+    parser.add_argument("program")
+    parser.add_argument("--plans", type=int, default=500)
+    parser.add_argument("--seed", type=int, default=1)
+    parser.add_argument("--keep")
+    options = parser.parse_args()
+    program = os.path.abspath(options.program)
+    numbers = random.Random(options.seed)
+    with tempfile.TemporaryDirectory() as folder:
+        os.chdir(options.keep or folder)
+        lines = nominated = unreached = wrong = 0
+        for number in range(options.plans):
+            plan = random_plan(numbers)
+            counts = counts_of(*plan)
+            lines += 2 * len(plan[1])
+            nominated += sum(1 for p in priorities_of(*plan, counts) if p)
+            unreached += sum(1 for e in plan[0] if e not in counts)
+            for difference in differences(program, plan):
+                wrong += 1
+                print(f"plan {number}: {difference}")
+                if options.keep:
+                    sys.exit(1)
+        print(
+            f"{options.plans} plans, {lines} lines of which {nominated} are nominated, {unreached} elements without"
+            f" a count: {wrong} differences"
+        )
+        sys.exit(1 if wrong else 0)
+
+
+if __name__ == "__main__":
+    main()

@@ -1,0 +1,212 @@
+#!/usr/bin/env python3
+"""Compares `rank` and `check` with networkx on random plans of up to nine elements.
+
+usage: python3 -m bench.compare.ranks PROGRAM [--without-bundles] [--plans N] [--seed N]
+       python3 -m bench.compare.ranks --write FOLDER [--without-bundles] [--plans N] [--seed N]
+
+Four plans of five are of version 2: links get parallel ones, with their ends swapped at random, and each link
+names one of two bundles between its elements or none; so there are bundles of one link, and links beside bundles.
+The others have no bundle and say version 1, 2 or none. With --without-bundles no plan has parallel links
+but by chance, and none a version.
+
+The graph has a node for each nominated line and an edge for each hop: the first line ends where the second
+begins, and their links are not of one bundle. Where it has no cycle, the rank of a line has to be the length of
+the longest path that ends there, and `check` has to accept these ranks; else the answer has to be the first cycle:
+networkx gives the lines that can be reached from a ring, and the ring is found by going back from the lowest of
+them. That it is a cycle of hops is tested apart from how it was found. On random ranks `check` has to name the
+first hop over which they don't rise. With --write the plans are written to a folder, each with the text that is
+expected of `rank`, for `rt try --cases FOLDER`. It needs networkx.
+"""
+import os
+import random
+import subprocess
+import sys
+import tempfile
+
+import networkx
+
+from bench.compare import cases
+
+
+def random_plan(chance):
+    """The version, the number of elements, the links (end a, end b, priorities there, bundle), and the elements
+    with a source."""
+    count = chance.randint(1, 9)
+    density = chance.choice([0.2, 0.4, 0.6, 0.9])
+    links = []
+    for _ in range(chance.randint(0, 3 * count) if count > 1 else 0):
+        a, b = chance.sample(range(count), 2)
+        # Most plans have a direction, so that not all of them have a cycle.
+        if chance.random() < 0.7 and a > b:
+            a, b = b, a
+        forth = chance.randint(1, 3) if chance.random() < density else 0
+        back = chance.randint(1, 3) if chance.random() < density / 5 else 0
+        links.append((a, b, back, forth, None))
+    return None, count, links, [e for e in range(count) if chance.random() < 0.3]
+
+
+def with_bundles(chance, plan):
+    """The plan with parallel links at random places, and with bundles; one of five gets a version alone."""
+    _, count, links, sources = plan
+    if chance.random() < 0.2:
+        return chance.choice([None, 1, 2]), count, links, sources
+    links, density = list(links), chance.choice([0.5, 0.9, 1.0])
+    for a, b, back, forth, _ in list(links):
+        while chance.random() < 0.4:
+            if chance.random() < 0.3:
+                back, forth = forth, back
+            other = (b, a, forth, back, None) if chance.random() < 0.5 else (a, b, back, forth, None)
+            links.insert(chance.randint(0, len(links)), other)
+    # Bundles may have the names of links and elements: they are a space of their own.
+    names = [f"{letter}{number}" for letter in "BEL" for number in range(40)]
+    chance.shuffle(names)
+    pairs = sorted({(min(a, b), max(a, b)) for a, b, *_ in links})
+    of_pair = {pair: (names.pop(), names.pop()) for pair in pairs}
+    for k, (a, b, back, forth, _) in enumerate(links):
+        first, second = of_pair[min(a, b), max(a, b)]
+        named = chance.choice([first] * 9 + [second]) if chance.random() < density else None
+        links[k] = (a, b, back, forth, named)
+    return 2, count, links, sources
+
+
+def plan_text(plan):
+    version, count, links, sources = plan
+    rows = [f"version = {version}\n"] if version else []
+    rows += [f'[[element]]\nname = "E{e}"\n' for e in range(count)]
+    rows += [
+        f'[[link]]\nname = "L{k}"\na = "E{a}"\nb = "E{b}"\npriority_a = {back}\npriority_b = {forth}\n'
+        + (f'bundle = "{named}"\n' if named else "")
+        for k, (a, b, back, forth, named) in enumerate(links)
+    ]
+    rows += [f'[[source]]\nname = "P{e}"\nat = "E{e}"\nlevel = "QL-PRC"\n' for e in sources]
+    return "".join(rows)
+
+
+def hops_of(links):
+    """The nominated lines by number, with sender and receiver, and the graph of their hops."""
+    ends = {}
+    for k, (a, b, back, forth, _) in enumerate(links):
+        if forth:
+            ends[2 * k] = (a, b)
+        if back:
+            ends[2 * k + 1] = (b, a)
+
+    def are_bundled(k, m):
+        return k == m or (links[k][4] is not None and links[k][4] == links[m][4])
+
+    graph = networkx.DiGraph()
+    graph.add_nodes_from(ends)
+    graph.add_edges_from(
+        (line, after)
+        for line in ends
+        for after in ends
+        if ends[line][1] == ends[after][0] and not are_bundled(line // 2, after // 2)
+    )
+    return ends, graph
+
+
+def first_cycle(graph):
+    on_ring = {line for part in networkx.strongly_connected_components(graph) if len(part) > 1 for line in part}
+    residue = set(on_ring)
+    for line in on_ring:
+        residue |= networkx.descendants(graph, line)
+    at, seen = min(residue), []
+    while at not in seen:
+        seen.append(at)
+        at = min(residue.intersection(graph.predecessors(at)))
+    ring = seen[seen.index(at) :][::-1]
+    start = ring.index(min(ring))
+    ring = ring[start:] + ring[:start]
+    assert all(graph.has_edge(line, after) for line, after in zip(ring, ring[1:] + ring[:1]))
+    return ring
+
+
+def name_of(line, ends):
+    return f"L{line // 2}>E{ends[line][1]}"
+
+
+def certificate(ranks, ends):
+    return "line,rank\n" + "".join(f"{name_of(line, ends)},{ranks[line]}\n" for line in sorted(ranks))
+
+
+def expected(plan):
+    """The status and the text of the answer of `rank`."""
+    ends, graph = hops_of(plan[2])
+    if not networkx.is_directed_acyclic_graph(graph):
+        return 1, "cycle " + " ".join(name_of(line, ends) for line in first_cycle(graph)) + "\n"
+    ranks = {}
+    for line in networkx.topological_sort(graph):
+        ranks[line] = max((ranks[before] + 1 for before in graph.predecessors(line)), default=0)
+    if ends:
+        assert max(ranks.values()) == networkx.dag_longest_path_length(graph)
+    return 0, certificate(ranks, ends)
+
+
+def random_certificate(chance, plan):
+    """Ranks that rise over some hops, and what `check` has to answer to them."""
+    ends, graph = hops_of(plan[2])
+    span = chance.choice([2, 10, 2**64])
+    ranks = {line: chance.randrange(span) for line in ends}
+    if chance.random() < 0.5 and networkx.is_directed_acyclic_graph(graph):
+        ranks = {line: 2 * place for place, line in enumerate(networkx.topological_sort(graph))}
+        for line in ends:
+            if chance.random() < 0.1:
+                ranks[line] = max(ranks[line] - chance.randint(1, 4), 0)
+    falls = [hop for hop in graph.edges if ranks[hop[0]] >= ranks[hop[1]]]
+    want = (1, "falls " + " ".join(name_of(line, ends) for line in min(falls)) + "\n") if falls else (0, "accepted\n")
+    return certificate(ranks, ends), want
+
+
+def compare(program, plans, chance):
+    wrong = fallen = 0
+    with tempfile.TemporaryDirectory() as folder:
+        path, second = os.path.join(folder, "plan"), os.path.join(folder, "certificate")
+
+        def put(name, text):
+            with open(name, "w", encoding="ascii") as out:
+                out.write(text)
+
+        def answers(number, words, want):
+            run = subprocess.run([program, *words], capture_output=True, text=True, check=False)
+            if (run.returncode, run.stdout) == want:
+                return 0
+            print(f"plan {number}, {words[0]}: {want} is expected, and {(run.returncode, run.stdout)} was answered")
+            return 1
+
+        for number, plan in enumerate(plans):
+            put(path, plan_text(plan))
+            want = expected(plan)
+            wrong += answers(number, ["rank", path], want)
+            if want[0] == 0:
+                put(second, want[1])
+                wrong += answers(number, ["check", path, second], (0, "accepted\n"))
+            ranks, want = random_certificate(chance, plan)
+            put(second, ranks)
+            wrong += answers(number, ["check", path, second], want)
+            fallen += want[0]
+    print(f"{fallen} random certificates fall")
+    return wrong
+
+
+def main():
+    words = cases.words("plans", 500)
+    words.add_argument("--without-bundles", action="store_true")
+    given = words.parse_args()
+    chance = random.Random(given.seed)
+    plans = [random_plan(chance) for _ in range(given.plans)]
+    if not given.without_bundles:
+        plans = [with_bundles(chance, plan) for plan in plans]
+    wanted = [(plan, *expected(plan)) for plan in plans]
+    bundled = sum(any(link[4] for link in plan[2]) for plan in plans)
+    print(f"{len(plans)} plans, {bundled} with a bundle, {sum(status for _, status, _ in wanted)} with a cycle")
+    if given.write:
+        texts = [(plan_text(plan).encode("ascii"), status, text.encode("ascii")) for plan, status, text in wanted]
+        cases.write(given.write, [cases.Case(("rank", "{}"), *text) for text in texts])
+        return 0
+    wrong = compare(os.path.abspath(given.program), plans, chance)
+    print(f"{wrong} wrong")
+    return 1 if wrong else 0
+
+
+if __name__ == "__main__":
+    sys.exit(main())
