@@ -1,4 +1,3 @@
-#!/usr/bin/env python3
 """Looks for timing loops in the runs of random plans that `check` accepts.
 
 usage: python3 -m bench.compare.accepted PROGRAM [--plans N] [--seed N]
@@ -8,21 +7,20 @@ in a few lines here, the rings of elements that take timing from one another: no
 again to each millisecond in which something changed: the part `loops` has to name just these rings, and none where the network is
 settled. It needs Python 3.11.
 """
-import argparse
+
 import collections
-import os
 import random
 import sys
 import tempfile
+from collections import Counter
 
-from bench.reference.plan import read_plan
-from bench.reference.random_plans import events_text, plan_text
-from bench.compare.sim import answer_of, random_case
+from bench.compare.sim import SimCase, random_case
+from bench.program import answer, program_words, put_files
+from bench.reference.plan import Plan, events_text, plan_text, read_plan
 
-
-def senders_of(plan):
+def senders_of(plan: Plan) -> dict[str, dict[str, str]]:
     """For each element its lines by name: the element at the other end."""
-    senders = {element.name: {} for element in plan.elements}
+    senders: dict[str, dict[str, str]] = {element.name: {} for element in plan.elements}
     for link in plan.links:
         a, b = plan.elements[link.a].name, plan.elements[link.b].name
         senders[b][f"{link.name}>{b}"] = a
@@ -30,9 +28,9 @@ def senders_of(plan):
     return senders
 
 
-def selections_of(text):
+def selections_of(text: str) -> dict[int, dict[str, str]]:
     """The millisecond of each change, and what each element takes from then on."""
-    taken, moments = {}, {}
+    taken, moments = dict[str, str](), dict[int, dict[str, str]]()
     for row in text.split("inputs\n")[0].split("\n")[1:-1]:
         at, element, _, name = row.split(",")[:4]
         taken[element] = name
@@ -40,67 +38,67 @@ def selections_of(text):
     return moments
 
 
-def rings_of(senders, taken):
+def rings_of(senders: dict[str, dict[str, str]], taken: dict[str, str]) -> set[frozenset[str]]:
     """The rings of elements that take timing from one another, each as the set of its lines."""
-    rings = set()
+    rings: set[frozenset[str]] = set()
     for element in taken:
-        passed, here = [], element
+        passed, here = list[str](), element
         while here not in passed and taken.get(here) in senders[here]:
             passed.append(here)
             here = senders[here][taken[here]]
         if here in passed:
-            rings.add(frozenset(taken[name] for name in passed[passed.index(here):]))
+            rings.add(frozenset(taken[name] for name in passed[passed.index(here) :]))
     return rings
 
 
-def reported(text):
+def reported(text: str) -> tuple[set[frozenset[str]], bool]:
     """The rings that a report names, and whether it says settled."""
     loops, settled = text.split("loops\n")[1].rsplit("settled ", 1)
     return {frozenset(row.split(" ")) for row in loops.splitlines()}, settled == "yes\n"
 
 
-def tried(program, case, folder, counted):
+def tried(program: str, case: SimCase, folder: str, counted: Counter[str]) -> tuple[str | None, bool]:
     """The first thing that is wrong with an accepted plan, or None; whether it is accepted."""
     plan, events, until = case
-    paths = [os.path.join(folder, name) for name in ("plan", "events", "certificate")]
-    for path, text in zip(paths, (plan_text(plan), events_text(plan, events))):
-        with open(path, "w", encoding="ascii") as out:
-            out.write(text)
-    status, certificate = answer_of(program, ["rank", paths[0]])
+    put_files(folder, {"plan": plan_text(plan), "events": events_text(plan, events)})
+    status, certificate = answer(program, "rank", "plan", folder=folder)
     if status != 0:
         return None, False
-    with open(paths[2], "w", encoding="ascii") as out:
-        out.write(certificate)
-    if answer_of(program, ["check", paths[0], paths[2]]) != (0, "accepted\n"):
+    put_files(folder, {"certificate": certificate})
+    if answer(program, "check", "plan", "certificate", folder=folder) != (0, "accepted\n"):
         return "its own certificate is refused", True
-    status, text = answer_of(program, ["sim", *paths[:2], until])
+    status, text = answer(program, "sim", "plan", "events", until, folder=folder)
     if status != 0:
         return f"status {status}", True
     senders = senders_of(read_plan(plan_text(plan)))
     for at, taken in selections_of(text).items():
         rings = rings_of(senders, taken)
-        named, settled = reported(answer_of(program, ["sim", *paths[:2], at])[1])
+        named, settled = reported(answer(program, "sim", "plan", "events", at, folder=folder)[1])
         counted.update({"moments": 1, "pairs": len(rings), "settled": settled})
         if any(len(ring) > 2 for ring in rings) or named != rings or (settled and rings):
-            return f"at {at}: rings {sorted(map(sorted, rings))}, named {sorted(map(sorted, named))}, settled {settled}", True
+            return (
+                f"at {at}: rings {sorted(map(sorted, rings))}, named {sorted(map(sorted, named))}, settled {settled}",
+                True,
+            )
     return None, True
 
 
-def main():
-    words = argparse.ArgumentParser(description=__doc__, formatter_class=argparse.RawDescriptionHelpFormatter, usage=argparse.SUPPRESS)
-    words.add_argument("program")
+def main() -> int:
+    words = program_words(__doc__)
     words.add_argument("--plans", type=int, default=500)
     words.add_argument("--seed", type=int, default=1)
     given = words.parse_args()
-    chance, counted = random.Random(given.seed), collections.Counter()
+    chance, counted = random.Random(given.seed), collections.Counter[str]()
     while counted["accepted"] < given.plans:
         with tempfile.TemporaryDirectory() as folder:
             wrong, accepted = tried(given.program, random_case(chance, False), folder, counted)
         counted.update({"accepted": accepted, "cyclic": not accepted, "wrong": wrong is not None})
         if wrong:
             print(f"accepted plan {counted['accepted']}: {wrong}")
-    print(f"{counted['accepted']} accepted plans ({counted['cyclic']} others passed over), {counted['moments']} milliseconds with "
-          f"changes, of which {counted['settled']} settled; {counted['pairs']} facing pairs; {counted['wrong']} wrong")
+    print(
+        f"{counted['accepted']} accepted plans ({counted['cyclic']} others passed over), {counted['moments']} milliseconds with "
+        f"changes, of which {counted['settled']} settled; {counted['pairs']} facing pairs; {counted['wrong']} wrong"
+    )
     return 1 if counted["wrong"] else 0
 
 

@@ -1,4 +1,3 @@
-#!/usr/bin/python3
 """Compares what `murdjohe capture read` reads of captures of every kind with what Debian's tshark reads of them.
 
 usage: python3 -m bench.compare.captures_by_tshark PROGRAM
@@ -17,13 +16,16 @@ import pathlib
 import subprocess
 import sys
 import tempfile
+from typing import Any
 
-TOP = pathlib.Path(__file__).resolve().parent.parent.parent
-sys.path[:0] = [str(TOP / "workbench" / "tests"), str(TOP / "workbench" / "src")]
-import captures_made as made  # noqa: E402
-from scapy.layers.l2 import CookedLinux, Dot1AD, Dot1Q, Ether  # noqa: E402
-from scapy.utils import EDecimal, PcapNgWriter, PcapWriter  # noqa: E402
+from scapy.layers.l2 import CookedLinux, Dot1AD, Dot1Q, Ether
+from scapy.utils import EDecimal, PcapNgWriter, PcapWriter
 
+from bench.program import WORKBENCH, program_words
+from bench.workbench import captures_made as made
+
+# The nanosecond, the source, event or info, both codes, the clock and the counts.
+Row = tuple[int | str | None, ...]
 # The codes of the levels in the stored capture, of option I.
 CODES = {"QL-PRTC": (2, 0x20), "QL-eEEC": (11, 0x22), "QL-SEC": (11, None), "code-3": (3, None)}
 FIELDS = (
@@ -33,21 +35,23 @@ FIELDS = (
 )
 
 
-def output(*words):
+def output(*words: str) -> str:
     run = subprocess.run(words, capture_output=True, text=True, check=False)
     if run.returncode:
         sys.exit(f"{' '.join(words)}: {run.stderr}")
     return run.stdout
 
 
-def number(text):
+def number(text: str) -> int | None:
     return int(text, 0) if text else None
 
 
-def by_tshark(path):
+def by_tshark(path: str) -> list[Row]:
     words = [word for field in FIELDS for word in ("-e", field)]
-    rows = []
-    for line in output("tshark", "-r", path, "-Y", "ossp.esmc.version", "-T", "fields", "-E", "separator=,", *words).splitlines():
+    rows: list[Row] = []
+    for line in output(
+        "tshark", "-r", path, "-Y", "ossp.esmc.version", "-T", "fields", "-E", "separator=,", *words
+    ).splitlines():
         time, ethernet, cooked, event, code, enhanced, clock, eeecs, eecs = line.split(",")
         seconds, _, part = time.partition(".")
         source = (ethernet or cooked).replace(":", "")
@@ -57,9 +61,9 @@ def by_tshark(path):
     return rows
 
 
-def by_us(path):
-    rows = []
-    for line in output(str(TOP / "workbench" / "murdjohe"), "capture", "read", "-q", "--frames", path).splitlines()[1:]:
+def by_us(path: str) -> list[Row]:
+    rows: list[Row] = []
+    for line in output(str(WORKBENCH), "capture", "read", "-q", "--frames", path).splitlines()[1:]:
         time, _, _, source, kind, level, clock, _, eeecs, eecs = line.split(",")
         day, _, part = time.partition(".")
         seconds = int(output("date", "-u", "-d", f"{day} UTC", "+%s"))
@@ -68,7 +72,7 @@ def by_us(path):
     return rows
 
 
-def remade(folder, plain):
+def remade(folder: pathlib.Path, plain: str) -> dict[str, str]:
     """The captures that Wireshark's tools make of the plain one, by name."""
     found = {}
     for kind in ("pcap", "nsecpcap", "modpcap", "pcapng"):
@@ -86,21 +90,21 @@ def remade(folder, plain):
     return found
 
 
-def tagged(tags, frame):
+def tagged(tags: Any, frame: bytes) -> Any:
     """A frame behind these tags, as scapy puts them on."""
     whole = Ether(frame)
     tags.lastlayer().type = whole.type
     return Ether(src=whole.src, dst=whole.dst) / tags / whole.payload
 
 
-def cooked(frame):
+def cooked(frame: bytes) -> Any:
     """A frame with a cooked header in place of its own, as scapy writes it."""
     whole = Ether(frame)
     header = CookedLinux(pkttype=2, lladdrlen=6, src=bytes.fromhex(whole.src.replace(":", "")), proto=whole.type)
     return header / whole.payload
 
 
-def by_scapy(folder):
+def by_scapy(folder: pathlib.Path) -> dict[str, str]:
     """The captures that scapy writes, by name."""
     kinds = {
         "plain": Ether,
@@ -131,10 +135,8 @@ def by_scapy(folder):
     return found
 
 
-def main():
-    if len(sys.argv) != 2:
-        sys.exit(__doc__.strip())
-    os.environ["MURDJOHE_CORE"] = os.path.abspath(sys.argv[1])
+def main() -> int:
+    os.environ["MURDJOHE_CORE"] = program_words(__doc__).parse_args().program
     with tempfile.TemporaryDirectory() as name:
         folder = pathlib.Path(name)
         paths = {}
@@ -142,7 +144,7 @@ def main():
             paths[kind] = str(folder / str(index))
             pathlib.Path(paths[kind]).write_bytes(data)
         paths |= remade(folder, paths["pcap"]) | by_scapy(folder)
-        differ, frames = [], 0
+        differ, frames = list[str](), 0
         for kind, path in paths.items():
             theirs, ours = by_tshark(path), by_us(path)
             frames += len(theirs)

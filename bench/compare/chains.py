@@ -1,4 +1,3 @@
-#!/usr/bin/env python3
 """Compares `chains` on random plans with the greatest over all chains, and with the traces of random runs.
 
 usage: python3 -m bench.compare.chains PROGRAM [--plans N] [--runs N] [--seed N] [--keep FOLDER]
@@ -8,28 +7,31 @@ plan with a cycle of hops the answer has to be that of `rank`. Of each other pla
 without a number, each to a random millisecond: no trace that ends at a source or an own clock may have more lines than its
 element's row says, and how many elements came to as many is told. It needs Python 3.11.
 """
-import argparse
+
 import collections
-import os
 import random
-import subprocess
 import sys
 import tempfile
+from collections import Counter
+from collections.abc import Iterator
 
-from bench.reference.element import LEVELS
-from bench.reference.plan import read_plan
-from bench.reference.random_plans import events_text, plan_text, random_events, random_plan
+from bench.levels import LEVELS
+from bench.program import answer, program_words, put_files
+from bench.reference.plan import Plan, events_text, plan_text, read_plan
+from bench.reference.random_plans import random_events, random_plan
 
+# The greatest lines, lines since the last filter, and filters of a chain.
+Row = tuple[int, int, int]
 WORST_FILTER = {"I": "QL-SSU-B", "II": "QL-ST3E"}
 
 
-def is_filter(plan, e):
+def is_filter(plan: Plan, e: int) -> bool:
     """An own clock that is not worse than that of a synchronization supply unit."""
     levels = LEVELS[plan.option]
     return levels.index(plan.elements[e].own) <= levels.index(WORST_FILTER[plan.option])
 
 
-def rows_of(plan):
+def rows_of(plan: Plan) -> list[Row] | None:
     """For each element the greatest lines, lines since the last filter, and filters of a chain; none with a cycle."""
     if plan.least_ranks() is None:
         return None
@@ -45,23 +47,17 @@ def rows_of(plan):
     return greatest
 
 
-def chains_text(plan, rows):
+def chains_text(plan: Plan, rows: list[Row]) -> str:
     text = "element,links,since,clocks\n"
     return text + "".join(f"{element.name},{','.join(map(str, row))}\n" for element, row in zip(plan.elements, rows))
 
 
-def answer_of(program, *words):
-    run = subprocess.run([program, *map(str, words)], capture_output=True, check=False)
-    return run.returncode, run.stdout.decode("ascii")
-
-
-def longest_traces(program, plan, name, chance, runs):
+def longest_traces(program: str, plan: Plan, folder: str, chance: random.Random, runs: int) -> list[int]:
     """For each element the most lines of its trace, where it ends at a source or an own clock, over random runs."""
     longest = [0] * len(plan.elements)
     for _ in range(runs):
-        with open("events", "w", encoding="ascii") as out:
-            out.write(events_text(plan, random_events(chance, plan, 3000)))
-        text = answer_of(program, "sim", name, "events", chance.randint(0, 6000))[1]
+        put_files(folder, {"events": events_text(plan, random_events(chance, plan, 3000))})
+        text = answer(program, "sim", "plan", "events", chance.randint(0, 6000), folder=folder)[1]
         part = text.partition("traces\n")[2].partition("loops\n")[0]
         for e, row in enumerate(part.splitlines()):
             _, lines, end, _ = row.split(",")
@@ -70,39 +66,39 @@ def longest_traces(program, plan, name, chance, runs):
     return longest
 
 
-def differences(program, plan, chance, runs, counted):
+def differences(
+    program: str, plan: Plan, folder: str, chance: random.Random, runs: int, counted: Counter[str]
+) -> Iterator[str]:
     """What is wrong with the answer on a plan, in words."""
     rows = rows_of(plan)
     if rows is None:
         counted["cyclic"] += 1
-        if answer_of(program, "chains", "plan") != answer_of(program, "rank", "plan"):
+        if answer(program, "chains", "plan", folder=folder) != answer(program, "rank", "plan", folder=folder):
             yield "another answer than that of rank"
         return
     counted["elements"] += len(rows)
-    if answer_of(program, "chains", "plan") != (0, chains_text(plan, rows)):
+    if answer(program, "chains", "plan", folder=folder) != (0, chains_text(plan, rows)):
         yield "other rows"
-    for (most, _, _), seen in zip(rows, longest_traces(program, plan, "plan", chance, runs)):
+    for (most, _, _), seen in zip(rows, longest_traces(program, plan, folder, chance, runs)):
         counted["reached"] += seen == most
         if seen > most:
             yield f"a trace of {seen} lines, and not {most}"
 
 
-def main():
-    words = argparse.ArgumentParser(description=__doc__, formatter_class=argparse.RawDescriptionHelpFormatter)
-    words.add_argument("program")
+def main() -> int:
+    words = program_words(__doc__)
     words.add_argument("--plans", type=int, default=300)
     words.add_argument("--runs", type=int, default=3)
     words.add_argument("--seed", type=int, default=1)
     words.add_argument("--keep", help="stop at a plan with a difference, and leave its files in this folder")
     given = words.parse_args()
-    program, chance, counted = os.path.abspath(given.program), random.Random(given.seed), collections.Counter()
-    with tempfile.TemporaryDirectory() as folder:
-        os.chdir(given.keep or folder)
+    program, chance, counted = given.program, random.Random(given.seed), collections.Counter[str]()
+    with tempfile.TemporaryDirectory() as passing:
+        folder = given.keep or passing
         for number in range(given.plans):
             text = plan_text(random_plan(chance, [0]))
-            with open("plan", "w", encoding="ascii") as out:
-                out.write(text)
-            for difference in differences(program, read_plan(text), chance, given.runs, counted):
+            put_files(folder, {"plan": text})
+            for difference in differences(program, read_plan(text), folder, chance, given.runs, counted):
                 counted["differ"] += 1
                 print(f"plan {number}: {difference}")
             if given.keep and counted["differ"]:

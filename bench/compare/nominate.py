@@ -1,4 +1,3 @@
-#!/usr/bin/env python3
 """Compares `hops` and `nominate` on random plans with the graph library networkx and with the rules.
 
 usage: python3 -m bench.compare.nominate PROGRAM [--plans N] [--seed N] [--keep FOLDER]
@@ -10,21 +9,27 @@ elements; and `rank` gives it ranks. The plans have up to 14 elements, several p
 that aren't nominated, and priorities up to 255; some have elements with 60 sources and more. It needs Python 3.11 and
 networkx.
 """
-import argparse
-import os
+
 import random
-import subprocess
 import sys
 import tempfile
 import tomllib
+from collections.abc import Iterator
+from typing import Any
 
 import networkx
 
+from bench.program import answer, program_words, put_files
 
-def random_plan(numbers):
+Row = dict[str, Any]
+# Elements by name, links and sources.
+Tables = tuple[list[str], list[Row], list[Row]]
+
+
+def random_plan(numbers: random.Random) -> Tables:
     count = numbers.randrange(1, 15)
     elements = [f"E{i}" for i in range(count)]
-    links, bundles = [], {}
+    links: list[Row] = []
     if count > 1:
         for k in range(numbers.randrange(0, 3 * count)):
             a, b = numbers.sample(elements, 2)
@@ -32,7 +37,7 @@ def random_plan(numbers):
             if numbers.randrange(4) == 0:
                 bundle = "B" + "-".join(sorted((a, b)))
             links.append({"name": f"L{k}", "a": a, "b": b, "bundle": bundle})
-    sources = []
+    sources: list[Row] = []
     for at in elements:
         few = numbers.choice((0, 0, 0, 1, 1, 2))
         if numbers.randrange(40) == 0:
@@ -43,7 +48,7 @@ def random_plan(numbers):
     return elements, links, sources
 
 
-def plan_text(elements, links, sources):
+def plan_text(elements: list[str], links: list[Row], sources: list[Row]) -> str:
     bundled = any(link["bundle"] for link in links)
     parts = ["version = 2\n" if bundled else "", 'option = "I"\n']
     for name in elements:
@@ -60,7 +65,7 @@ def plan_text(elements, links, sources):
     return "".join(parts)
 
 
-def counts_of(elements, links, sources):
+def counts_of(elements: list[str], links: list[Row], sources: list[Row]) -> dict[str, int]:
     graph = networkx.Graph()
     graph.add_nodes_from(elements)
     graph.add_edges_from((link["a"], link["b"]) for link in links)
@@ -70,14 +75,14 @@ def counts_of(elements, links, sources):
     return networkx.multi_source_dijkstra_path_length(graph, roots, weight=None)
 
 
-def lines_of(links):
+def lines_of(links: list[Row]) -> Iterator[tuple[str, str, str]]:
     """The lines in order of number: name, sender, receiver."""
     for link in links:
         yield f'{link["name"]}>{link["b"]}', link["a"], link["b"]
         yield f'{link["name"]}>{link["a"]}', link["b"], link["a"]
 
 
-def hops_text(elements, links, sources, counts):
+def hops_text(elements: list[str], links: list[Row], sources: list[Row], counts: dict[str, int]) -> str:
     rows = ["element,hops,from\n"]
     for element in elements:
         count = counts.get(element)
@@ -90,7 +95,7 @@ def hops_text(elements, links, sources, counts):
     return "".join(rows)
 
 
-def priorities_of(elements, links, sources, counts):
+def priorities_of(elements: list[str], links: list[Row], sources: list[Row], counts: dict[str, int]) -> list[int]:
     numbers = {element: i for i, element in enumerate(elements)}
     lines = list(lines_of(links))
     given = [0] * len(lines)
@@ -108,19 +113,13 @@ def priorities_of(elements, links, sources, counts):
     return given
 
 
-def run(program, *words):
-    done = subprocess.run([program, *words], capture_output=True)
-    return done.returncode, done.stdout.decode()
-
-
-def differences(program, plan):
+def differences(program: str, folder: str, plan: Tables) -> Iterator[str]:
     elements, links, sources = plan
     counts = counts_of(*plan)
-    with open("plan", "w") as file:
-        file.write(plan_text(*plan))
-    if run(program, "hops", "plan") != (0, hops_text(*plan, counts)):
+    put_files(folder, {"plan": plan_text(*plan)})
+    if answer(program, "hops", "plan", folder=folder) != (0, hops_text(*plan, counts)):
         yield "hops"
-    status, text = run(program, "nominate", "plan")
+    status, text = answer(program, "nominate", "plan", folder=folder)
     if status:
         yield f"nominate ends with {status}"
         return
@@ -135,27 +134,23 @@ def differences(program, plan):
         yield "sources"
     order = sorted((e for e in elements if e in counts), key=lambda e: (counts[e], elements.index(e)))
     rows = [f"{name},{order.index(a)}\n" for (name, a, _), p in zip(lines_of(links), given) if p]
-    with open("nominated", "w") as file:
-        file.write(text)
-    with open("cert", "w") as file:
-        file.write("line,rank\n" + "".join(rows))
-    if run(program, "check", "nominated", "cert") != (0, "accepted\n"):
+    put_files(folder, {"nominated": text, "certificate": "line,rank\n" + "".join(rows)})
+    if answer(program, "check", "nominated", "certificate", folder=folder) != (0, "accepted\n"):
         yield "check"
-    if run(program, "rank", "nominated")[0]:
+    if answer(program, "rank", "nominated", folder=folder)[0]:
         yield "rank"
 
 
-def main():
-    parser = argparse.ArgumentParser(description=__doc__, formatter_class=argparse.RawDescriptionHelpFormatter)
-    parser.add_argument("program")
+def main() -> int:
+    parser = program_words(__doc__)
     parser.add_argument("--plans", type=int, default=500)
     parser.add_argument("--seed", type=int, default=1)
     parser.add_argument("--keep")
     options = parser.parse_args()
-    program = os.path.abspath(options.program)
+    program = options.program
     numbers = random.Random(options.seed)
-    with tempfile.TemporaryDirectory() as folder:
-        os.chdir(options.keep or folder)
+    with tempfile.TemporaryDirectory() as passing:
+        folder = options.keep or passing
         lines = nominated = unreached = wrong = 0
         for number in range(options.plans):
             plan = random_plan(numbers)
@@ -163,7 +158,7 @@ def main():
             lines += 2 * len(plan[1])
             nominated += sum(1 for p in priorities_of(*plan, counts) if p)
             unreached += sum(1 for e in plan[0] if e not in counts)
-            for difference in differences(program, plan):
+            for difference in differences(program, folder, plan):
                 wrong += 1
                 print(f"plan {number}: {difference}")
                 if options.keep:

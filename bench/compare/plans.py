@@ -1,4 +1,3 @@
-#!/usr/bin/env python3
 """Compares the answer of `rank` to random plans with up to three faults with a reading of its own.
 
 usage: python3 -m bench.compare.plans PROGRAM [--plans N] [--seed N]
@@ -7,18 +6,21 @@ usage: python3 -m bench.compare.plans PROGRAM [--plans N] [--seed N]
 A plan is made as tables of keys and values, some of them wrong: a key that is unknown or missing, a value of
 another kind, a version, a name, an end, a range, a level, a bundle, too many inputs. What is expected is made of
 these tables by the order of rules in docs/formats.md, and the ranks of a plan without fault are those of
-rank_random.py. The tables are written in random spellings of TOML: sections as headers in any order or inline, keys
+compare/ranks.py. The tables are written in random spellings of TOML: sections as headers in any order or inline, keys
 in any order, quotes, escapes, bases of integers, comments and both line ends. With --write the plans are written to
 a folder for `rt try --cases FOLDER`. It needs networkx.
 """
+
 import collections
 import random
 import re
 import sys
+from typing import Any
 
-from bench.compare import cases
-from bench.compare import ranks as rank_random
-from bench.readings.plans import KEYS, LEVELS, MUST, RANGES, SECTIONS, Other, Refused, read_rows, read_tables
+from bench.compare import cases, ranks as rank_random
+from bench.levels import LEVELS
+from bench.readings.plans import KEYS, MUST, RANGES, SECTIONS, Other, Row, read_rows, read_tables
+from bench.readings.refused import Refused
 
 # Values as they are written that are neither text nor integer.
 OTHERS = ["1.0", "true", "[]", "{}", "1979-05-27", "07:32:00", "nan", "[1]", "{x = 1}", "1e3"]
@@ -27,7 +29,7 @@ OTHERS = ["1.0", "true", "[]", "{}", "1979-05-27", "07:32:00", "nan", "[1]", "{x
 # ---- what is expected
 
 
-def expected(head):
+def expected(head: dict[str, Any]) -> tuple[int, str]:
     try:
         option, sections = read_tables(head)
         read_rows(option, sections)
@@ -45,7 +47,7 @@ def expected(head):
 # ---- random plans
 
 
-def random_tables(chance):
+def random_tables(chance: random.Random) -> dict[str, Any]:
     """A plan without a fault."""
     option = chance.choice(["I", "I", "II"])
     bundled = chance.random() < 0.7
@@ -54,7 +56,7 @@ def random_tables(chance):
         head["option"] = option
     letters = ["A", "B", "C", "a", "_", "-", "0", "x" * 32, "L1", "T"]
     chance.shuffle(letters)
-    elements, links, sources = [], [], []
+    elements, links, sources = list[Row](), list[Row](), list[Row]()
     for name in letters[: chance.randint(1, 6)]:
         keys = {"own": chance.choice(LEVELS[option][:-1]), "floor": chance.choice(LEVELS[option][:-1])}
         keys |= {"holdoff": chance.choice([300, 301, 1000, 1799, 1800]), "wtr": chance.choice([0, 1, 5, 11, 12])}
@@ -77,7 +79,7 @@ def random_tables(chance):
     return head | dict(element=elements, link=links, source=sources)
 
 
-def put_fault(chance, head):
+def put_fault(chance: random.Random, head: dict[str, Any]) -> None:
     """Makes one thing wrong, mostly."""
     fault = chance.choice("head unknown missing kind table name twice end range level level bundle bundle".split())
     section = "link" if fault == "bundle" else chance.choice(["element", "link", "link", "source"])
@@ -108,7 +110,9 @@ def put_fault(chance, head):
         sections = [head[section] for section in SECTIONS if isinstance(head[section], list)]
         row["name"] = chance.choice([r.get("name", "A") for rows in sections for r in rows if isinstance(r, dict)])
     elif fault == "end":
-        row[chance.choice(["at"] if section == "source" else ["a", "b"])] = chance.choice(["A", "B", "", "Q", "L1", row.get("a", "A")])
+        row[chance.choice(["at"] if section == "source" else ["a", "b"])] = chance.choice(
+            ["A", "B", "", "Q", "L1", row.get("a", "A")]
+        )
     elif fault == "range":
         key = chance.choice([key for key, kind in KEYS[section].items() if kind is int])
         low, high = RANGES[key.removesuffix("_a").removesuffix("_b")]
@@ -126,13 +130,13 @@ def put_fault(chance, head):
 # ---- spellings
 
 
-def spell_key(chance, key):
+def spell_key(chance: random.Random, key: str) -> str:
     if key and chance.random() < 0.9:
         return key
     return chance.choice(["'%s'", '"%s"']) % key
 
 
-def spell_text(chance, text):
+def spell_text(chance: random.Random, text: str) -> str:
     how = chance.randrange(5)
     if how == 0 and "'" not in text and text.isprintable():
         return f"'{text}'"
@@ -143,7 +147,7 @@ def spell_text(chance, text):
     return f'"""\n{escaped}"""' if how == 3 else f'"{escaped}"'
 
 
-def spell(chance, value, wide):
+def spell(chance: random.Random, value: Any, wide: bool) -> str:
     if isinstance(value, Other):
         return str(value)
     if isinstance(value, str):
@@ -161,8 +165,8 @@ def spell(chance, value, wide):
     return "{ " + ", ".join(f"{spell_key(chance, k)} = {spell(chance, v, wide)}" for k, v in keys) + " }"
 
 
-def plan_text(chance, head):
-    lines, tables = [], []
+def plan_text(chance: random.Random, head: dict[str, Any]) -> str:
+    lines, tables = list[str](), list[list[tuple[str, Row]]]()
     for key, value in chance.sample(list(head.items()), len(head)):
         if isinstance(value, list) and all(isinstance(row, dict) for row in value) and chance.random() < 0.8:
             tables.append([(key, row) for row in value])
@@ -185,7 +189,7 @@ def plan_text(chance, head):
     return text.replace("\n", "\r\n") if chance.random() < 0.2 else text
 
 
-def random_plan(chance):
+def random_plan(chance: random.Random) -> tuple[bytes, tuple[int, str]]:
     head = random_tables(chance)
     for _ in range(chance.choice([0, 1, 1, 1, 2, 3])):
         put_fault(chance, head)
@@ -195,11 +199,11 @@ def random_plan(chance):
 # ---- the comparison
 
 
-def main():
-    given = cases.words("plans", 5000).parse_args()
+def main() -> int:
+    given = cases.read(cases.random_words(__doc__, "plans", 5000))
     chance = random.Random(given.seed)
     plans = [random_plan(chance) for _ in range(given.plans)]
-    told = collections.Counter()
+    told = collections.Counter[str]()
     for _, (status, text) in plans:
         told[re.sub(r"( \w+ \d+)?\n", "", text) if status == 3 else ("ranked", "a cycle")[status]] += 1
     print(f"{len(plans)} plans: " + ", ".join(f"{count} {what}" for what, count in sorted(told.items())))

@@ -1,4 +1,3 @@
-#!/usr/bin/env python3
 """Compares the answers to plans and certificates that were written by hand with answers worked out by hand.
 
 usage: python3 -m bench.compare.plans_by_hand PROGRAM
@@ -8,30 +7,31 @@ Each case has the bytes of a plan and what has to be answered: by `rank`, and wh
 With --write those of `rank` are written to a folder, for `rt try --cases FOLDER`. The answers follow the rules of
 docs/formats.md and of TOML 1.1; they are no outputs of the program.
 """
-import os
-import subprocess
+
 import sys
 import tempfile
+from collections.abc import Iterator
 
 from bench.compare import cases
+from bench.program import answer, put_files
 
 STATUS = {"bad plan": 3, "bad cert": 4, "read fau": 7, "too long": 9, "falls": 1, "cycle": 1}
 EMPTY = "line,rank\n"
 
 
-def element(name, more=""):
+def element(name: str, more: str = "") -> str:
     return f'[[element]]\nname = "{name}"\n{more}\n'
 
 
-def link(name, a, b, more="priority_b = 1"):
+def link(name: str, a: str, b: str, more: str = "priority_b = 1") -> str:
     return f'[[link]]\nname = "{name}"\na = "{a}"\nb = "{b}"\n{more}\n'
 
 
-def source(name, at, more='level = "QL-PRC"'):
+def source(name: str, at: str, more: str = 'level = "QL-PRC"') -> str:
     return f'[[source]]\nname = "{name}"\nat = "{at}"\n{more}\n'
 
 
-def bundled(name, a, b, bundle, more="priority_b = 1"):
+def bundled(name: str, a: str, b: str, bundle: str, more: str = "priority_b = 1") -> str:
     return link(name, a, b, f'bundle = "{bundle}"\n{more}')
 
 
@@ -44,7 +44,7 @@ ONE = "line,rank\nL1>B,0\n"
 LONG = "x" * 32
 
 
-def heads():
+def heads() -> Iterator[tuple[str, str]]:
     """Plans that differ in their head."""
     for version in ("1", "2", "0x2", "0b10", "0o2", "+2", "+1", "0x01"):
         yield f"version = {version}\n" + CHAIN, CHAINED
@@ -94,7 +94,7 @@ def heads():
     yield 'element = [{name = "A"}, {nam = "B"}, 3]\n', "bad plan 23 element 2"
 
 
-def bundles():
+def bundles() -> Iterator[tuple[str, str]]:
     """Plans with bundles."""
     t = 'bundle = "T"\n'
     for head in ("", "version = 1\n"):
@@ -172,7 +172,7 @@ def bundles():
     )
 
 
-def limits():
+def limits() -> Iterator[tuple[str, str]]:
     """Plans at their limits."""
     links = [link(f"L{k}", "A", "B") for k in range(1, 66)]
     rows = "".join(f"L{k}>B,0\n" for k in range(1, 65))
@@ -213,7 +213,7 @@ def limits():
     yield elements + many + link("M", "E1", "E2", "priority_b = 'x'"), "bad plan 24 link 4001"
 
 
-def rows():
+def rows() -> Iterator[tuple[str, str]]:
     """Rows of elements, links and sources, and the order of the rules."""
     for name in ("", "x" * 33, "A>", "A B", "A.B", "ä", " A", "A,B", "A\\u0000", "\\u202E"):
         yield element(name), "bad plan 25 16 element 1"
@@ -296,7 +296,7 @@ def rows():
         yield element("A", f'"{key}" = 1'), "bad plan 23 element 1"
 
 
-def documents():
+def documents() -> Iterator[tuple[bytes, str]]:
     """The same plan in other spellings, and bytes that are no document."""
     mark = b"\xef\xbb\xbf"
     chain = CHAIN.encode("ascii")
@@ -384,7 +384,7 @@ def documents():
     yield b"element = [] # [\nsource = [ # ]\n]\n", EMPTY
 
 
-def certificates():
+def certificates() -> Iterator[tuple[str, str | bytes | None, str]]:
     """Plans, certificates, and what `check` has to answer."""
     twin = TWO + link("L1", "A", "B", BOTH) + link("L2", "A", "B", BOTH)
     same = V2 + TWO + "".join(bundled(f"L{k}", "A", "B", "T", BOTH) for k in (1, 2))
@@ -403,7 +403,7 @@ def certificates():
     yield same + bundled("L3", "B", "A", "T"), zeros + "L3>A,0\n", "accepted"
     yield same.replace('"A"\nb = "B"', '"B"\nb = "A"', 1), zeros, "accepted"
     yield CHAIN, "line,rank\nL1>B,0\nL2>C,0\n", "falls L1>B L2>C"
-    yield V2 + CHAIN, "line,rank\r\n\r\nL2>C,1\r\n\"L1>B\",\"0\"", "accepted"
+    yield V2 + CHAIN, 'line,rank\r\n\r\nL2>C,1\r\n"L1>B","0"', "accepted"
     yield V2 + CHAIN, "\ufeffline,rank\nL2>C,1\nL1>B,0\n", "accepted"
     yield V2 + CHAIN, "", "bad certificate 34"
     yield V2 + CHAIN, "line,rank,\n", "bad certificate 34"
@@ -455,59 +455,43 @@ def certificates():
     yield V2 + CHAIN, "x" * 8_388_609, "too long"
 
 
-def plans():
+def plans() -> Iterator[tuple[bytes, str]]:
     for group in (heads, bundles, limits, rows, documents):
         for text, answer in group():
             yield text if isinstance(text, bytes) else text.encode("utf-8"), answer.rstrip("\n") + "\n"
 
 
-def status_of(text):
+def status_of(text: str) -> int:
     return next((status for front, status in STATUS.items() if text.startswith(front)), 0)
 
 
-def wanted_plans():
+def wanted_plans() -> list[cases.Case]:
     return [cases.Case(("rank", "{}"), plan, status_of(text), text.encode("ascii")) for plan, text in plans()]
 
 
-def compare(program):
+def compare(program: str) -> int:
     plan_cases = wanted_plans()
     wrong = cases.compare(program, plan_cases)
     count = len(plan_cases)
     with tempfile.TemporaryDirectory() as folder:
-        path, second = os.path.join(folder, "plan"), os.path.join(folder, "certificate")
-
-        def answers(words, answer):
-            run = subprocess.run([program, *words], capture_output=True, check=False)
-            want = status_of(answer), answer.encode("ascii")
-            if (run.returncode, run.stdout) == want:
-                return 0
-            answer = run.returncode, run.stdout[:400]
-            print(f"{words[0]} of {plan[:400]}: {want} is expected, and {answer} was answered")
-            return 1
-
-        def put(name, text):
-            with open(name, "wb") as out:
-                out.write(text)
-
-        for text, certificate, answer in certificates():
-            plan = text.encode("utf-8")
-            put(path, plan)
-            if certificate is None:
-                words = ["check", path, os.path.join(folder, "absent")]
-            else:
-                put(second, certificate if isinstance(certificate, bytes) else certificate.encode("utf-8"))
-                words = ["check", path, second]
-            wrong += answers(words, answer + "\n")
+        for text, certificate, wanted in certificates():
+            put_files(folder, {"plan": text, "certificate": b"" if certificate is None else certificate})
+            name = "absent" if certificate is None else "certificate"
+            want, answered = (status_of(wanted), wanted + "\n"), answer(program, "check", "plan", name, folder=folder)
+            if answered != want:
+                wrong += 1
+                print(f"check of {text[:400]}: {want} is expected, and {(answered[0], answered[1][:400])} was answered")
             count += 1
     print(f"{count} cases, {wrong} wrong")
     return wrong
 
 
-def main():
-    if sys.argv[1] == "--write":
-        cases.write(sys.argv[2], wanted_plans())
+def main() -> int:
+    given = cases.read(cases.case_words(__doc__))
+    if given.write:
+        cases.write(given.write, wanted_plans())
         return 0
-    return 1 if compare(os.path.abspath(sys.argv[1])) else 0
+    return 1 if compare(given.program) else 0
 
 
 if __name__ == "__main__":

@@ -1,4 +1,3 @@
-#!/usr/bin/env python3
 """Compares `rank` and `check` with networkx on random plans of up to nine elements.
 
 usage: python3 -m bench.compare.ranks PROGRAM [--without-bundles] [--plans N] [--seed N]
@@ -17,23 +16,29 @@ them. That it is a cycle of hops is tested apart from how it was found. On rando
 first hop over which they don't rise. With --write the plans are written to a folder, each with the text that is
 expected of `rank`, for `rt try --cases FOLDER`. It needs networkx.
 """
-import os
+
 import random
-import subprocess
 import sys
 import tempfile
+from typing import Any
 
 import networkx
 
 from bench.compare import cases
+from bench.program import answer, put_files
+from bench.reference.plan import Link
+
+Link = tuple[int, int, int, int, str | None]  # both ends, the priorities there, and the bundle
+Ends = dict[int, tuple[int, int]]  # of each nominated line its sender and receiver
+RandomPlan = tuple[int | None, int, list[Link], list[int]]
 
 
-def random_plan(chance):
+def random_plan(chance: random.Random) -> RandomPlan:
     """The version, the number of elements, the links (end a, end b, priorities there, bundle), and the elements
     with a source."""
     count = chance.randint(1, 9)
     density = chance.choice([0.2, 0.4, 0.6, 0.9])
-    links = []
+    links: list[Link] = []
     for _ in range(chance.randint(0, 3 * count) if count > 1 else 0):
         a, b = chance.sample(range(count), 2)
         # Most plans have a direction, so that not all of them have a cycle.
@@ -45,7 +50,7 @@ def random_plan(chance):
     return None, count, links, [e for e in range(count) if chance.random() < 0.3]
 
 
-def with_bundles(chance, plan):
+def with_bundles(chance: random.Random, plan: RandomPlan) -> RandomPlan:
     """The plan with parallel links at random places, and with bundles; one of five gets a version alone."""
     _, count, links, sources = plan
     if chance.random() < 0.2:
@@ -69,7 +74,7 @@ def with_bundles(chance, plan):
     return 2, count, links, sources
 
 
-def plan_text(plan):
+def plan_text(plan: RandomPlan) -> str:
     version, count, links, sources = plan
     rows = [f"version = {version}\n"] if version else []
     rows += [f'[[element]]\nname = "E{e}"\n' for e in range(count)]
@@ -82,16 +87,16 @@ def plan_text(plan):
     return "".join(rows)
 
 
-def hops_of(links):
+def hops_of(links: list[Link]) -> tuple[Ends, Any]:
     """The nominated lines by number, with sender and receiver, and the graph of their hops."""
-    ends = {}
+    ends: Ends = {}
     for k, (a, b, back, forth, _) in enumerate(links):
         if forth:
             ends[2 * k] = (a, b)
         if back:
             ends[2 * k + 1] = (b, a)
 
-    def are_bundled(k, m):
+    def are_bundled(k: int, m: int) -> bool:
         return k == m or (links[k][4] is not None and links[k][4] == links[m][4])
 
     graph = networkx.DiGraph()
@@ -105,12 +110,12 @@ def hops_of(links):
     return ends, graph
 
 
-def first_cycle(graph):
+def first_cycle(graph: Any) -> list[int]:
     on_ring = {line for part in networkx.strongly_connected_components(graph) if len(part) > 1 for line in part}
     residue = set(on_ring)
     for line in on_ring:
         residue |= networkx.descendants(graph, line)
-    at, seen = min(residue), []
+    at, seen = min(residue), list[int]()
     while at not in seen:
         seen.append(at)
         at = min(residue.intersection(graph.predecessors(at)))
@@ -121,20 +126,20 @@ def first_cycle(graph):
     return ring
 
 
-def name_of(line, ends):
+def name_of(line: int, ends: Ends) -> str:
     return f"L{line // 2}>E{ends[line][1]}"
 
 
-def certificate(ranks, ends):
+def certificate(ranks: dict[int, int], ends: Ends) -> str:
     return "line,rank\n" + "".join(f"{name_of(line, ends)},{ranks[line]}\n" for line in sorted(ranks))
 
 
-def expected(plan):
+def expected(plan: RandomPlan) -> tuple[int, str]:
     """The status and the text of the answer of `rank`."""
     ends, graph = hops_of(plan[2])
     if not networkx.is_directed_acyclic_graph(graph):
         return 1, "cycle " + " ".join(name_of(line, ends) for line in first_cycle(graph)) + "\n"
-    ranks = {}
+    ranks: dict[int, int] = {}
     for line in networkx.topological_sort(graph):
         ranks[line] = max((ranks[before] + 1 for before in graph.predecessors(line)), default=0)
     if ends:
@@ -142,7 +147,7 @@ def expected(plan):
     return 0, certificate(ranks, ends)
 
 
-def random_certificate(chance, plan):
+def random_certificate(chance: random.Random, plan: RandomPlan) -> tuple[str, tuple[int, str]]:
     """Ranks that rise over some hops, and what `check` has to answer to them."""
     ends, graph = hops_of(plan[2])
     span = chance.choice([2, 10, 2**64])
@@ -157,41 +162,29 @@ def random_certificate(chance, plan):
     return certificate(ranks, ends), want
 
 
-def compare(program, plans, chance):
+def compare(program: str, plans: list[RandomPlan], chance: random.Random) -> int:
     wrong = fallen = 0
     with tempfile.TemporaryDirectory() as folder:
-        path, second = os.path.join(folder, "plan"), os.path.join(folder, "certificate")
-
-        def put(name, text):
-            with open(name, "w", encoding="ascii") as out:
-                out.write(text)
-
-        def answers(number, words, want):
-            run = subprocess.run([program, *words], capture_output=True, text=True, check=False)
-            if (run.returncode, run.stdout) == want:
-                return 0
-            print(f"plan {number}, {words[0]}: {want} is expected, and {(run.returncode, run.stdout)} was answered")
-            return 1
-
         for number, plan in enumerate(plans):
-            put(path, plan_text(plan))
-            want = expected(plan)
-            wrong += answers(number, ["rank", path], want)
+            want, (ranks, wanted) = expected(plan), random_certificate(chance, plan)
+            put_files(folder, {"plan": plan_text(plan), "least": want[1], "certificate": ranks})
+            asked = [(["rank", "plan"], want), (["check", "plan", "certificate"], wanted)]
             if want[0] == 0:
-                put(second, want[1])
-                wrong += answers(number, ["check", path, second], (0, "accepted\n"))
-            ranks, want = random_certificate(chance, plan)
-            put(second, ranks)
-            wrong += answers(number, ["check", path, second], want)
-            fallen += want[0]
+                asked.append((["check", "plan", "least"], (0, "accepted\n")))
+            for words, right in asked:
+                answered = answer(program, *words, folder=folder)
+                if answered != right:
+                    wrong += 1
+                    print(f"plan {number}, {words}: {right} is expected, and {answered} was answered")
+            fallen += wanted[0]
     print(f"{fallen} random certificates fall")
     return wrong
 
 
-def main():
-    words = cases.words("plans", 500)
+def main() -> int:
+    words = cases.random_words(__doc__, "plans", 500)
     words.add_argument("--without-bundles", action="store_true")
-    given = words.parse_args()
+    given = cases.read(words)
     chance = random.Random(given.seed)
     plans = [random_plan(chance) for _ in range(given.plans)]
     if not given.without_bundles:
@@ -203,7 +196,7 @@ def main():
         texts = [(plan_text(plan).encode("ascii"), status, text.encode("ascii")) for plan, status, text in wanted]
         cases.write(given.write, [cases.Case(("rank", "{}"), *text) for text in texts])
         return 0
-    wrong = compare(os.path.abspath(given.program), plans, chance)
+    wrong = compare(given.program, plans, chance)
     print(f"{wrong} wrong")
     return 1 if wrong else 0
 

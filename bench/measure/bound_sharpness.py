@@ -1,4 +1,3 @@
-#!/usr/bin/env python3
 """How sharp the settling bound is: when the last change comes after a link's failure, as a part of the bound.
 
 usage: python3 -m bench.measure.bound_sharpness PROGRAM [--plans N] [--seed N]
@@ -8,13 +7,13 @@ nominated both ways. One link goes down at AT; `sweep` gives the bound, and `sim
 plans has the usual waits, a third no wait-to-restore time, and a third none and delays of up to a second. Told is the
 part of the time from AT to the bound after which nothing changes any more. It needs Python 3.11 and the program alone.
 """
-import argparse
-import os
+
 import random
 import statistics
-import subprocess
 import sys
 import tempfile
+
+from bench.program import answer, program_words, put_files
 
 AT = 20000
 
@@ -26,7 +25,7 @@ KINDS = {
 }
 
 
-def plan_text(numbers, longest, waits):
+def plan_text(numbers: random.Random, longest: int, waits: tuple[int, ...]) -> tuple[str, int]:
     count = numbers.randrange(3, 13)
     parts = ['option = "I"\n']
     for i in range(count):
@@ -43,44 +42,39 @@ def plan_text(numbers, longest, waits):
     return "".join(parts), len(joined)
 
 
-def run(program, *words):
-    done = subprocess.run([program, *words], capture_output=True, check=False)
-    if done.returncode != 0:
-        sys.exit(f"{' '.join(words)}: status {done.returncode}: {done.stdout[:200]}")
-    return done.stdout
+def run(program: str, folder: str, *words: str) -> str:
+    """The text that the program writes, where it ends with status 0."""
+    status, text = answer(program, *words, folder=folder)
+    if status != 0:
+        sys.exit(f"{' '.join(words)}: status {status}: {text[:200]}")
+    return text
 
 
-def part_of(program, numbers, kind):
+def part_of(program: str, folder: str, numbers: random.Random, kind: str) -> tuple[int | None, int]:
     """The last change after the failure and the bound, both counted from the failure; none where nothing changes."""
     text, links = plan_text(numbers, *KINDS[kind])
     link = f"L{numbers.randrange(links)}"
-    with open("topology", "w") as out:
-        out.write(text)
-    with open("plan", "wb") as out:
-        out.write(run(program, "nominate", "topology"))
-    with open("events", "w") as out:
-        out.write(f"at,what,target,value\n{AT},down,{link},\n")
-    row = run(program, "sweep", "plan", str(AT), str(AT)).decode().splitlines()[1]
+    put_files(folder, {"topology": text, "events": f"at,what,target,value\n{AT},down,{link},\n"})
+    put_files(folder, {"plan": run(program, folder, "nominate", "topology")})
+    row = run(program, folder, "sweep", "plan", str(AT), str(AT)).splitlines()[1]
     bound = int(row.rsplit(",", 1)[1])
-    report = run(program, "sim", "plan", "events", str(bound)).decode()
+    report = run(program, folder, "sim", "plan", "events", str(bound))
     assert report.endswith("settled yes\n"), report
     changes = report.split("inputs\n")[0].splitlines()[1:]
     last = max((int(row.split(",", 1)[0]) for row in changes), default=0)
     return (last - AT if last >= AT else None), bound - AT
 
 
-def main():
-    parser = argparse.ArgumentParser()
-    parser.add_argument("program")
+def main() -> None:
+    parser = program_words(__doc__)
     parser.add_argument("--plans", type=int, default=300)
     parser.add_argument("--seed", type=int, default=1)
     given = parser.parse_args()
-    program = os.path.abspath(given.program)
+    program = given.program
     numbers = random.Random(given.seed)
     with tempfile.TemporaryDirectory() as folder:
-        os.chdir(folder)
         for kind in KINDS:
-            found = [part_of(program, numbers, kind) for _ in range(given.plans // len(KINDS))]
+            found = [part_of(program, folder, numbers, kind) for _ in range(given.plans // len(KINDS))]
             parts = sorted(last / bound for last, bound in found if last is not None)
             quiet = len(found) - len(parts)
             worst = max((last for last, _ in found if last is not None), default=0)

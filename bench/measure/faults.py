@@ -1,9 +1,8 @@
-#!/usr/bin/env python3
 """Makes each open, read and write of a run fail in turn, or do less than was asked, and looks at what the program answers.
 
 usage: python3 -m bench.measure.faults PROGRAM
 
-Each work of works.py is run once for each call that it makes and each way in which that may go wrong, alone and from there on:
+Each work of bench/measure/works.py is run once for each call that it makes and each way in which that may go wrong, alone and from there on:
 
   a file that can't be opened, a read that fails, one that is interrupted   `read fault` with status 7, or, interrupted, the usual answer
   a read that gives one octet, and then fails                               the same, or, at the end of a file, the usual answer
@@ -15,73 +14,18 @@ Each work of works.py is run once for each call that it makes and each way in wh
 Nothing else may be answered, and the front is what the writes before had taken. Then the output is full, closed, and a pipe that
 nobody reads. Needs a C compiler and Linux.
 """
+
 import collections
 import os
 import subprocess
 import sys
 import tempfile
 
-from bench.measure import failing as shims
-from bench.measure import works
+from bench.measure import failing
+from bench.measure.works import works
+from bench.program import program_words, put_files
 
-SHIM = r"""
-#define _GNU_SOURCE
-#include <dlfcn.h>
-#include <errno.h>
-#include <stdarg.h>
-#include <string.h>
-#include <sys/types.h>
-#include <unistd.h>
-static ssize_t write_through(int fd, const void *bytes, size_t n) {
-  static ssize_t (*real)(int, const void *, size_t);
-  if (!real) real = dlsym(RTLD_NEXT, "write");
-  return real(fd, bytes, n);
-}
-""" + shims.TOLD + r"""
-static long at = -1, count;
-static int from_on;
-static const char *call, *how;
-/* Whether this call of that name is to go wrong. */
-static int is_due(const char *name) {
-  if (at < 0) {
-    at = atol(getenv("FAIL_AT")), call = getenv("FAIL_CALL"), how = getenv("FAIL_HOW");
-    from_on = getenv("FAIL_ON") != NULL;
-  }
-  if (strcmp(name, call)) return 0;
-  ++count;
-  return count == at || (from_on && count > at && at > 0);
-}
-/* Whether this call is to do a part of what is asked: `cut` is one such call, and all after it fail. */
-static int does_part(const char *part) {
-  return strcmp(how, part) == 0 || (strcmp(how, "cut") == 0 && count == at);
-}
-static int fail(void) { errno = strcmp(how, "interrupted") ? EIO : EINTR; return -1; }
-int open(const char *path, int flags, ...) {
-  static int (*real)(const char *, int, ...);
-  va_list rest; va_start(rest, flags); int mode = va_arg(rest, int); va_end(rest);
-  if (!real) real = dlsym(RTLD_NEXT, "open");
-  return is_due("open") ? fail() : real(path, flags, mode);
-}
-ssize_t read(int fd, void *bytes, size_t n) {
-  static ssize_t (*real)(int, void *, size_t);
-  if (!real) real = dlsym(RTLD_NEXT, "read");
-  if (is_due("read")) {
-    if (!does_part("one")) return fail();
-    n = n > 1 ? 1 : n;
-  }
-  return real(fd, bytes, n);
-}
-ssize_t write(int fd, const void *bytes, size_t n) {
-  if (is_due("write")) {
-    if (!strcmp(how, "nothing")) return 0;
-    if (!strcmp(how, "one")) n = n > 1 ? 1 : n;
-    else if (does_part("half")) n = (n + 1) / 2;
-    else return fail();
-  }
-  return write_through(fd, bytes, n);
-}
-__attribute__((destructor)) static void told(void) { tell_fewer(at, count); }
-""" + shims.ENDING
+Answer = tuple[int, bytes]  # the status and the text
 READ_FAULT = (7, b"read fault\n")
 # For each call the ways in which it may go wrong.
 WAYS = {
@@ -92,7 +36,7 @@ WAYS = {
 GREATEST = 10_000
 
 
-def is_right(call, how, usual, answer):
+def is_right(call: str, how: str, usual: Answer, answer: Answer) -> bool:
     status, text = answer
     if how in ("one", "half"):
         return answer == usual
@@ -103,15 +47,15 @@ def is_right(call, how, usual, answer):
     return status == 8 and usual[1].startswith(text) and text != usual[1] and (text != b"" or how != "cut")
 
 
-def fail_each(program, words, shim, folder):
+def fail_each(program: str, words: list[str], shim: str, folder: str) -> int:
     """Makes each call of a work go wrong in turn; gives how many answers were wrong, and tells them."""
-    run = lambda **settings: shims.run([program, *words], shim, folder, **settings)
+    run = lambda **settings: failing.run([program, *words], shim, folder, **settings)
     usual = run(FAIL_AT="0", FAIL_CALL="", FAIL_HOW="")[:2]
-    wrong, told = 0, collections.Counter()
+    wrong, told = 0, collections.Counter[str]()
     for call, ways in WAYS.items():
         for how in ways:
             # (a call that is interrupted for ever may be tried for ever)
-            alone, from_on = {}, {"FAIL_ON": "1"}
+            alone, from_on = dict[str, str](), {"FAIL_ON": "1"}
             for on in {"interrupted": (alone,), "cut": (from_on,)}.get(how, (alone, from_on)):
                 for at in range(1, GREATEST):
                     *answer, fewer = run(FAIL_AT=str(at), FAIL_CALL=call, FAIL_HOW=how, **on)
@@ -120,19 +64,25 @@ def fail_each(program, words, shim, folder):
                     told[f"{call} {how}"] += 1
                     if not is_right(call, how, usual, tuple(answer)):
                         wrong += 1
-                        print(f"{' '.join(words)}: {call} {at} {how}{' and all after it' if on else ''}: {answer[0]}, {answer[1][:200]!r}")
+                        print(
+                            f"{' '.join(words)}: {call} {at} {how}{' and all after it' if on else ''}: {answer[0]}, {answer[1][:200]!r}"
+                        )
     counts = ", ".join(f"{count} {what}" for what, count in told.items())
     print(f"{' '.join(words)}: status {usual[0]}, {len(usual[1])} octets; {counts}; {wrong} wrong", flush=True)
     return wrong
 
 
-def outputs(program, folder):
+def outputs(program: str, folder: str) -> int:
     """How many of the outputs that take nothing are not answered with a write fault."""
     words, wrong = [program, "gen", "100"], 0
     read, write = os.pipe()
     os.close(read)
     with open("/dev/full", "wb") as full:
-        for what, how in (("full", {"stdout": full}), ("closed", {"preexec_fn": lambda: os.close(1)}), ("not read", {"stdout": write})):
+        for what, how in (
+            ("full", {"stdout": full}),
+            ("closed", {"preexec_fn": lambda: os.close(1)}),
+            ("not read", {"stdout": write}),
+        ):
             status = subprocess.run(words, cwd=folder, check=False, **how).returncode
             if status != 8:
                 wrong += 1
@@ -142,18 +92,17 @@ def outputs(program, folder):
     return wrong
 
 
-def main():
-    if len(sys.argv) != 2:
-        sys.exit("usage: faults.py PROGRAM")
-    program = os.path.abspath(sys.argv[1])
+def main() -> int:
+    given = program_words(__doc__).parse_args()
+    program = given.program
     with tempfile.TemporaryDirectory() as folder:
-        shim, wrong = shims.build(folder, SHIM), 0
-        for words, files in works.works().values():
-            shims.put_files(folder, files)
+        shim, wrong = failing.build(folder, "failing_calls"), 0
+        for words, files in works().values():
+            put_files(folder, files)
             wrong += fail_each(program, words, shim, folder)
         wrong += outputs(program, folder)
     print(f"{wrong} wrong")
-    return wrong > 0
+    return 1 if wrong else 0
 
 
 if __name__ == "__main__":

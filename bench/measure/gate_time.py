@@ -1,4 +1,3 @@
-#!/usr/bin/env python3
 """Runs the gate from nothing in a clone, and says how much processor time each crate takes of it.
 
 usage: python3 -m bench.measure.gate_time [COMMIT] [--keep FOLDER]
@@ -8,7 +7,7 @@ a second; the crate is the one that the prover was given, and the time what the 
 so a process of less than a second may be missed. Wall time means something on a quiet machine alone. It wants the
 toolchain, Linux and Python 3.11, and an hour and a half on four processors.
 """
-import argparse
+
 import collections
 import os
 import re
@@ -18,12 +17,18 @@ import sys
 import tempfile
 import time
 
+from bench.program import TOP, parser
+
 TICKS = os.sysconf("SC_CLK_TCK")
 
 
-def processes():
+# Of a process its parent, the words that it was started with, and its processor time in seconds.
+Process = tuple[int, str, float]
+
+
+def processes() -> dict[int, Process]:
     """Each process by its number: its parent, the words that it was started with, and its processor time in seconds."""
-    found = {}
+    found: dict[int, Process] = {}
     for name in filter(str.isdigit, os.listdir("/proc")):
         try:
             with open(f"/proc/{name}/stat", encoding="utf-8", errors="replace") as file:
@@ -36,7 +41,7 @@ def processes():
     return found
 
 
-def below(found, top):
+def below(found: dict[int, Process], top: int) -> list[int]:
     """The numbers of the processes below one."""
     children = collections.defaultdict(list)
     for number, (parent, _, _) in found.items():
@@ -49,17 +54,16 @@ def below(found, top):
     return all_below
 
 
-def main():
-    words = argparse.ArgumentParser(description=__doc__, formatter_class=argparse.RawDescriptionHelpFormatter)
+def main() -> int:
+    words = parser(__doc__)
     words.add_argument("commit", nargs="?", default="HEAD")
     words.add_argument("--keep")
     given = words.parse_args()
-    root = os.path.dirname(os.path.dirname(os.path.dirname(os.path.abspath(__file__))))
     folder = given.keep or tempfile.mkdtemp(prefix="gate-time-")
     clone, log = f"{folder}/repository", f"{folder}/log"
-    used = {}
+    used: dict[int, tuple[str, float]] = {}
     try:
-        subprocess.run(["git", "clone", "-q", root, clone], check=True)
+        subprocess.run(["git", "clone", "-q", str(TOP), clone], check=True)
         subprocess.run(["git", "checkout", "-q", given.commit], cwd=clone, check=True)
         start = time.monotonic()
         with open(log, "w", encoding="utf-8") as out:
@@ -67,12 +71,12 @@ def main():
             while gate.poll() is None:
                 found = processes()
                 for number in below(found, gate.pid):
-                    crate = re.search(r"--crate-name (\S+)", found[number][1])
-                    if crate:
-                        used[number] = crate[1], found[number][2]
+                    named = re.search(r"--crate-name (\S+)", found[number][1])
+                    if named:
+                        used[number] = named[1], found[number][2]
                 time.sleep(1)
         wall = time.monotonic() - start
-        shares = collections.Counter()
+        shares = collections.Counter[str]()
         for crate, seconds in used.values():
             shares[crate] += seconds
         for crate, seconds in shares.most_common():

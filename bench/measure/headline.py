@@ -1,26 +1,34 @@
-#!/usr/bin/env python3
 """Lists the definitions of specs/ on which a word of a clause rests, file by file, with their lengths.
 
 usage: python3 -m bench.measure.headline CRATE.FILE.NAME [CRATE.FILE.NAME ..]
 
-As `headline.py sync_top.LoopFree.IsCheckedLoopFree`: a definition counts with the lines of its signature and body, without
+As `sync_top.LoopFree.IsCheckedLoopFree`: a definition counts with the lines of its signature and body, without
 comments, and each once. Words of the toolchain's library aren't counted. It needs Python 3.11.
 """
+
+import functools
 import pathlib
 import re
 import sys
 
-CRATES = pathlib.Path(__file__).resolve().parent.parent.parent / "crates"
+from bench.program import TOP, parser
+
+CRATES = TOP / "crates"
 HEAD = re.compile(r"^(?:abbrev |unfoldable )?(?:pub )?(?:record |data )?([^\s:(]+)(?: \(.*\))* :")
 USE = re.compile(r"^use Rattle\.(\w+)\.specs\.([\w.]+?)(?:\.\{([^}]*)\}| as (\w+))$")
+
+
+Key = tuple[str, str, str]  # a crate, a file of it, and a name there
 
 
 class File:
     """A file of specs/: its definitions with their lines, and where the names that it uses come from."""
 
-    def __init__(self, crate, path):
-        self.definitions, self.names, self.modules = {}, {}, {}
-        name = None
+    def __init__(self, crate: str, path: pathlib.Path) -> None:
+        self.definitions: dict[str, list[str]] = {}
+        self.names: dict[str, Key] = {}
+        self.modules: dict[str, tuple[str, str]] = {}
+        name: str | None = None
         for line in path.read_text(encoding="utf-8").splitlines():
             use = USE.match(line)
             if use:
@@ -32,7 +40,7 @@ class File:
             if name and line.strip() and not line.lstrip().startswith("--") and not use:
                 self.definitions.setdefault(name, []).append(line)
 
-    def take_use(self, use):
+    def take_use(self, use: re.Match[str]) -> None:
         crate, module, names, alias = use.groups()
         if alias:
             self.modules[alias] = (crate, module)
@@ -42,19 +50,19 @@ class File:
                 self.names[word.split(" as ")[-1]] = (crate, module, word.split(" as ")[0])
 
 
-def read_file(crate, module, cache={}):
-    key = (crate, module)
-    if key not in cache:
-        path = CRATES / crate / "specs" / (module.replace(".", "/") + ".antt")
-        cache[key] = File(crate, path) if path.exists() else None
-    return cache[key]
+@functools.cache
+def read_file(crate: str, module: str) -> File | None:
+    """A file of a crate's definitions, where it is there."""
+    path = CRATES / crate / "specs" / (module.replace(".", "/") + ".antt")
+    return File(crate, path) if path.exists() else None
 
 
-def closure(roots):
+def closure(roots: list[str]) -> list[Key]:
     """All definitions that the roots rest on, in the order in which they are met, the deepest first."""
-    seen, order = set(), []
+    seen: set[Key] = set()
+    order: list[Key] = []
 
-    def visit(crate, module, name):
+    def visit(crate: str, module: str, name: str) -> None:
         key = (crate, module, name)
         file = read_file(crate, module)
         if key in seen or file is None or name not in file.definitions:
@@ -76,18 +84,21 @@ def closure(roots):
     return order
 
 
-def main():
-    if len(sys.argv) < 2 or sys.argv[1] in ("-h", "--help"):
-        print(__doc__)
-        return 0 if len(sys.argv) > 1 else 2
-    files, total = {}, 0
-    for crate, module, name in closure(sys.argv[1:]):
-        lines = len(read_file(crate, module).definitions[name])
+def main() -> int:
+    words = parser(__doc__)
+    words.add_argument("names", nargs="+", metavar="CRATE.FILE.NAME")
+    given = words.parse_args()
+    files: dict[tuple[str, str], list[tuple[str, int]]] = {}
+    total = 0
+    for crate, module, name in closure(given.names):
+        file = read_file(crate, module)
+        lines = len(file.definitions[name]) if file else 0
         files.setdefault((crate, module), []).append((name, lines))
         total += lines
     for (crate, module), names in files.items():
         count = sum(lines for _, lines in names)
-        print(f"| {crate} `specs/{module.replace('.', '/')}.antt` | {count} | {', '.join(f'`{name}`' for name, _ in names)} |")
+        listed = ", ".join(f"`{name}`" for name, _ in names)
+        print(f"| {crate} `specs/{module.replace('.', '/')}.antt` | {count} | {listed} |")
     print(f"{total} lines")
     return 0
 

@@ -1,4 +1,3 @@
-#!/usr/bin/env python3
 """Files at each limit and one past it: what the program answers, and the time and memory that it takes.
 
 usage: python3 -m bench.measure.limits PROGRAM [--only WORD]
@@ -6,63 +5,121 @@ usage: python3 -m bench.measure.limits PROGRAM [--only WORD]
 Each case has its answer, or how that begins and ends, worked out by hand. A line of a Markdown table is printed for each: processor
 time and peak memory, by GNU time (Debian: time). --only takes the cases in whose names the word stands. It needs Python 3.11.
 """
-import argparse
-import collections
+
 import os
 import struct
 import subprocess
 import sys
 import tempfile
+from collections.abc import Iterator, Mapping
+from typing import NamedTuple
+
+from bench.program import program_words
 
 LONGEST = 8_388_608
 DAY = 86_400_000
-# The words, with names of files among them; the files; the status; and how the text begins and ends.
-Case = collections.namedtuple("Case", "name words files status begins ends", defaults=("",))
 
 
-def rows(section, count, keys):
+class Case(NamedTuple):
+    """The words, with names of files among them; the files; the status; and how the text begins and ends."""
+
+    name: str
+    words: list[str]
+    files: Mapping[str, str | bytes]
+    status: int
+    begins: str
+    ends: str = ""
+
+
+def rows(section: str, count: int, keys: str) -> str:
     """So many rows of a plan; {} in the keys is the row's number from 0 on."""
     return "".join(f"[[{section}]]\n" + keys.replace("{}", str(n)) for n in range(count))
 
 
-def elements(count):
+def elements(count: int) -> str:
     return rows("element", count, 'name = "E{}"\n')
 
 
-def links(count):
+def links(count: int) -> str:
     """Links between E0 and E1, none of them nominated."""
     return rows("link", count, 'name = "L{}"\na = "E0"\nb = "E1"\n')
 
 
-def nominated(count):
+def nominated(count: int) -> str:
     return links(count).replace('b = "E1"\n', 'b = "E1"\npriority_b = 1\n')
 
 
-def sources(count, keys=""):
+def sources(count: int, keys: str = "") -> str:
     return rows("source", count, 'name = "S{}"\nat = "E0"\nlevel = "QL-PRC"\n' + keys)
 
 
-def padded(text, size, piece="\n"):
+def padded(text: str, size: int, piece: str = "\n") -> str:
     """The text with pieces after it, of just this size."""
     return text + piece * (size - len(text))
 
 
-def plan_cases():
+def plan_cases() -> Iterator[Case]:
     none = "line,rank\n"
-    for section, most, make in (("element", 2000, elements), ("link", 4000, lambda n: elements(2) + links(n)), ("source", 2000, lambda n: elements(1) + sources(n, "priority = 0\n"))):
+    for section, most, make in (
+        ("element", 2000, elements),
+        ("link", 4000, lambda n: elements(2) + links(n)),
+        ("source", 2000, lambda n: elements(1) + sources(n, "priority = 0\n")),
+    ):
         yield Case(f"{most} {section}s", ["rank", "plan"], {"plan": make(most)}, 0, none)
-        yield Case(f"{most + 1} {section}s", ["rank", "plan"], {"plan": make(most + 1)}, 3, f"bad plan 25 15 {section} {most + 1}\n")
-    yield Case("64 lines into an element", ["rank", "plan"], {"plan": elements(2) + nominated(64)}, 0, none, "L63>E1,0\n")
-    yield Case("65 lines into an element", ["rank", "plan"], {"plan": elements(2) + nominated(65)}, 3, "bad plan 25 15 link 65\n")
-    yield Case("65 sources at an element", ["rank", "plan"], {"plan": elements(1) + sources(65)}, 3, "bad plan 25 15 source 65\n")
-    for length, status, text in ((32, 0, none), (33, 3, "bad plan 25 16 element 1\n")):
-        yield Case(f"a name of {length}", ["rank", "plan"], {"plan": f'[[element]]\nname = "{"x" * length}"\n'}, status, text)
-    chain = elements(2000) + "".join(
-        f'[[link]]\nname = "{kind}{n}"\na = "E{n - 1}"\nb = "E{n}"\npriority_b = {priority}\n' for n in range(1, 2000) for kind, priority in (("L", 1), ("M", 2))
+        yield Case(
+            f"{most + 1} {section}s",
+            ["rank", "plan"],
+            {"plan": make(most + 1)},
+            3,
+            f"bad plan 25 15 {section} {most + 1}\n",
+        )
+    yield Case(
+        "64 lines into an element", ["rank", "plan"], {"plan": elements(2) + nominated(64)}, 0, none, "L63>E1,0\n"
     )
-    full = chain + links(2).replace('"L', '"N') + rows("source", 2000, 'name = "S{}"\nat = "E{}"\nlevel = "QL-PRC"\npriority = 3\n')
-    yield Case("2000 elements in a chain, 4000 links, 2000 sources", ["rank", "plan"], {"plan": full}, 0, none, "M1999>E1999,1998\n")
-    yield Case("the same, run for a day", ["sim", "plan", "events", str(DAY)], {"plan": full, "events": EVENTS}, 0, "changes\n0,E0,auto,S0,", "settled yes\n")
+    yield Case(
+        "65 lines into an element",
+        ["rank", "plan"],
+        {"plan": elements(2) + nominated(65)},
+        3,
+        "bad plan 25 15 link 65\n",
+    )
+    yield Case(
+        "65 sources at an element",
+        ["rank", "plan"],
+        {"plan": elements(1) + sources(65)},
+        3,
+        "bad plan 25 15 source 65\n",
+    )
+    for length, status, text in ((32, 0, none), (33, 3, "bad plan 25 16 element 1\n")):
+        yield Case(
+            f"a name of {length}", ["rank", "plan"], {"plan": f'[[element]]\nname = "{"x" * length}"\n'}, status, text
+        )
+    chain = elements(2000) + "".join(
+        f'[[link]]\nname = "{kind}{n}"\na = "E{n - 1}"\nb = "E{n}"\npriority_b = {priority}\n'
+        for n in range(1, 2000)
+        for kind, priority in (("L", 1), ("M", 2))
+    )
+    full = (
+        chain
+        + links(2).replace('"L', '"N')
+        + rows("source", 2000, 'name = "S{}"\nat = "E{}"\nlevel = "QL-PRC"\npriority = 3\n')
+    )
+    yield Case(
+        "2000 elements in a chain, 4000 links, 2000 sources",
+        ["rank", "plan"],
+        {"plan": full},
+        0,
+        none,
+        "M1999>E1999,1998\n",
+    )
+    yield Case(
+        "the same, run for a day",
+        ["sim", "plan", "events", str(DAY)],
+        {"plan": full, "events": EVENTS},
+        0,
+        "changes\n0,E0,auto,S0,",
+        "settled yes\n",
+    )
 
 
 EVENTS = "at,what,target,value\n"
@@ -70,82 +127,156 @@ ONE = '[[element]]\nname = "A"\n'
 CHAIN = elements(3) + '[[link]]\nname = "L"\na = "E0"\nb = "E1"\npriority_b = 1\n' + sources(1)
 
 
-def event_cases():
+def event_cases() -> Iterator[Case]:
     most = EVENTS + "0,clear,E0,\n" * 100_000
-    yield Case("100,000 events", ["sim", "plan", "events", "0"], {"plan": CHAIN, "events": most}, 0, "changes\n", "settled no\n")
-    yield Case("100,001 events", ["sim", "plan", "events", "0"], {"plan": CHAIN, "events": most + "0,clear,E0,\n"}, 5, "bad events 33\n")
+    yield Case(
+        "100,000 events",
+        ["sim", "plan", "events", "0"],
+        {"plan": CHAIN, "events": most},
+        0,
+        "changes\n",
+        "settled no\n",
+    )
+    yield Case(
+        "100,001 events",
+        ["sim", "plan", "events", "0"],
+        {"plan": CHAIN, "events": most + "0,clear,E0,\n"},
+        5,
+        "bad events 33\n",
+    )
     # The last event of them is up, at 79,999,200; 300,000 after it the line is good again.
     busy = EVENTS + "".join(f"{n * 800},{'down' if n % 2 == 0 else 'up'},L>E1,\n" for n in range(100_000))
-    yield Case("100,000 faults in a day", ["sim", "plan", "events", str(DAY)], {"plan": CHAIN, "events": busy}, 0, "changes\n0,E0,auto,S0,QL-PRC,locked\n80299200,E1,auto,L>E1,", "settled yes\n")
+    yield Case(
+        "100,000 faults in a day",
+        ["sim", "plan", "events", str(DAY)],
+        {"plan": CHAIN, "events": busy},
+        0,
+        "changes\n0,E0,auto,S0,QL-PRC,locked\n80299200,E1,auto,L>E1,",
+        "settled yes\n",
+    )
     pair = elements(2) + '[[link]]\nname = "L"\na = "E0"\nb = "E1"\npriority_a = 1\npriority_b = 1\n'
-    yield Case("200,000 changes of two elements that swing", ["sim", "plan", "events", str(DAY)], {"plan": pair, "events": EVENTS}, 11, "changes\n1,E0,auto,L>E0,", "stopped,100000\n")
+    yield Case(
+        "200,000 changes of two elements that swing",
+        ["sim", "plan", "events", str(DAY)],
+        {"plan": pair, "events": EVENTS},
+        11,
+        "changes\n1,E0,auto,L>E0,",
+        "stopped,100000\n",
+    )
     for at, status, text in ((DAY, 0, "changes\n"), (DAY + 1, 5, "bad events 28 1\n")):
-        yield Case(f"an event at {at}", ["sim", "plan", "events", "0"], {"plan": CHAIN, "events": EVENTS + f"{at},down,L,\n"}, status, text)
-    yield Case(f"a run to {DAY + 1}", ["sim", "plan", "events", str(DAY + 1)], {"plan": CHAIN, "events": EVENTS}, 2, "usage\n")
+        yield Case(
+            f"an event at {at}",
+            ["sim", "plan", "events", "0"],
+            {"plan": CHAIN, "events": EVENTS + f"{at},down,L,\n"},
+            status,
+            text,
+        )
+    yield Case(
+        f"a run to {DAY + 1}", ["sim", "plan", "events", str(DAY + 1)], {"plan": CHAIN, "events": EVENTS}, 2, "usage\n"
+    )
 
 
-def certificate_cases():
+def certificate_cases() -> Iterator[Case]:
     plan = elements(2) + nominated(1)
     for rank, status, text in ((2**64 - 1, 0, "accepted\n"), (2**64, 4, "bad certificate 35 1\n")):
-        yield Case(f"the rank {rank}", ["check", "plan", "cert"], {"plan": plan, "cert": f"line,rank\nL0>E1,{rank}\n"}, status, text)
+        yield Case(
+            f"the rank {rank}",
+            ["check", "plan", "cert"],
+            {"plan": plan, "cert": f"line,rank\nL0>E1,{rank}\n"},
+            status,
+            text,
+        )
 
 
-def capture_of(size):
+def capture_of(size: int) -> bytes:
     """A capture of one Ethernet packet that is no frame of ESMC, of just this size."""
     length = size - 40
-    return struct.pack("<IHHIIII", 0xA1B2C3D4, 2, 4, 0, 0, 65535, 1) + struct.pack("<4I", 0, 0, length, length) + bytes(length)
+    return (
+        struct.pack("<IHHIIII", 0xA1B2C3D4, 2, 4, 0, 0, 65535, 1)
+        + struct.pack("<4I", 0, 0, length, length)
+        + bytes(length)
+    )
 
 
-def length_cases():
+def length_cases() -> Iterator[Case]:
     frame = "0180c200000202000000000188090a0019a700011000000001000402" + "0" * 64 + "\n"
     row, plan = "020000000001,info,QL-PRC\n", elements(2) + nominated(1)
     forms = [
         ("plan", ["rank", "file"], lambda n: padded(plan, n, "#"), {}, "line,rank\nL0>E1,0\n"),
-        ("certificate", ["check", "plan", "file"], lambda n: padded("line,rank\nL0>E1,0\n", n), {"plan": plan}, "accepted\n"),
+        (
+            "certificate",
+            ["check", "plan", "file"],
+            lambda n: padded("line,rank\nL0>E1,0\n", n),
+            {"plan": plan},
+            "accepted\n",
+        ),
         ("event list", ["sim", "plan", "file", "0"], lambda n: padded(EVENTS, n), {"plan": ONE}, "changes\n"),
         ("list of frames", ["decode", "I", "file"], lambda n: padded(frame * (n // len(frame)), n), {}, row),
         ("list of rows", ["encode", "I", "file"], lambda n: padded(row * (n // len(row)), n), {}, frame),
         ("capture", ["pcap-decode", "I", "file"], capture_of, {}, "passed,1\n"),
-        ("list of rows with times", ["pcap-encode", "I", "file"], lambda n: padded(("0,0," + row) * (n // (len(row) + 4)), n), {}, ""),
+        (
+            "list of rows with times",
+            ["pcap-encode", "I", "file"],
+            lambda n: padded(("0,0," + row) * (n // (len(row) + 4)), n),
+            {},
+            "",
+        ),
     ]
     for name, words, make, others, text in forms:
         yield Case(f"a {name} of {LONGEST} octets", words, others | {"file": make(LONGEST)}, 0, text)
         yield Case(f"a {name} of {LONGEST + 1} octets", words, others | {"file": make(LONGEST + 1)}, 9, "too long\n")
 
 
-def other_cases():
-    for n, status, text in ((1, 2, "usage\n"), (2, 0, 'option = "I"\n'), (2000, 0, 'option = "I"\n'), (2001, 2, "usage\n")):
+def other_cases() -> Iterator[Case]:
+    for n, status, text in (
+        (1, 2, "usage\n"),
+        (2, 0, 'option = "I"\n'),
+        (2000, 0, 'option = "I"\n'),
+        (2001, 2, "usage\n"),
+    ):
         yield Case(f"gen {n}", ["gen", str(n)], {}, status, text)
 
 
-def run(program, case, folder):
+def run(program: str, case: Case, folder: str) -> tuple[int, bytes, float, int]:
     """The status, the text, the processor time in milliseconds and the peak of memory in kilobytes."""
     for name, data in case.files.items():
         with open(os.path.join(folder, name), "wb") as file:
             file.write(data if isinstance(data, bytes) else data.encode("ascii"))
     told = os.path.join(folder, "told")
-    done = subprocess.run(["time", "-q", "-o", told, "-f", "%U %S %M", program, *case.words], cwd=folder, capture_output=True, check=False)
+    done = subprocess.run(
+        ["time", "-q", "-o", told, "-f", "%U %S %M", program, *case.words], cwd=folder, capture_output=True, check=False
+    )
     with open(told, encoding="ascii") as file:
         user, system, memory = file.read().split()[-3:]
     return done.returncode, done.stdout, 1000 * (float(user) + float(system)), int(memory)
 
 
-def main():
-    words = argparse.ArgumentParser(description=__doc__, formatter_class=argparse.RawDescriptionHelpFormatter)
-    words.add_argument("program")
+def main() -> int:
+    words = program_words(__doc__)
     words.add_argument("--only", default="")
     given = words.parse_args()
-    program, wrong = os.path.abspath(given.program), 0
+    program, wrong = given.program, 0
     print("| what | answer | time | peak memory |\n|---|---|---|---|")
     cases = [*plan_cases(), *event_cases(), *certificate_cases(), *length_cases(), *other_cases()]
     for case in (case for case in cases if given.only in case.name):
         with tempfile.TemporaryDirectory() as folder:
             status, text, milliseconds, memory = run(program, case, folder)
-        right = status == case.status and text.startswith(case.begins.encode("ascii")) and text.endswith(case.ends.encode("ascii"))
+        right = (
+            status == case.status
+            and text.startswith(case.begins.encode("ascii"))
+            and text.endswith(case.ends.encode("ascii"))
+        )
         right = right and (status in (0, 11) or text == case.begins.encode("ascii"))
         wrong += not right
-        answer = f"status {status}, {len(text)} octets" if status in (0, 11) else f"`{text[:60].decode('ascii', 'replace').strip()}`"
-        print(f"| {case.name} | {answer}{'' if right else ' WRONG'} | {milliseconds:.0f} ms | {memory / 1000:.1f} MB |", flush=True)
+        answer = (
+            f"status {status}, {len(text)} octets"
+            if status in (0, 11)
+            else f"`{text[:60].decode('ascii', 'replace').strip()}`"
+        )
+        print(
+            f"| {case.name} | {answer}{'' if right else ' WRONG'} | {milliseconds:.0f} ms | {memory / 1000:.1f} MB |",
+            flush=True,
+        )
     print(f"{wrong} wrong", file=sys.stderr)
     return 1 if wrong else 0
 

@@ -1,4 +1,3 @@
-#!/usr/bin/python3
 """Times `murdjohe capture read` on a long capture, and says how much memory it takes at most.
 
 usage: python3 -m bench.measure.long_capture PROGRAM [--frames N]
@@ -9,24 +8,21 @@ each 50,000 frames. The report has to count them all. Memory is the greatest tha
 Wants python3-dpkt, python3-pytest and python3-hypothesis.
 """
 
-import argparse
 import os
-import pathlib
 import resource
 import subprocess
 import sys
 import tempfile
 import time
 
-TOP = pathlib.Path(__file__).resolve().parent.parent.parent
-sys.path[:0] = [str(TOP / "workbench" / "tests"), str(TOP / "workbench" / "src")]
-import captures_made as made  # noqa: E402
+from bench.program import WORKBENCH, program_words
+from bench.workbench import captures_made as made
 
 PORTS = 10
 BEGIN = 1_764_288_000_000_000  # microseconds
 
 
-def write(path, count):
+def write(path: str, count: int) -> None:
     frames = [made.tagged(made.FRAMES[at], (0x8100, 100)) for at in (0, 4)]
     with open(path, "wb") as file:
         file.write(made.section() + b"".join(made.interface(name=b"port %d" % port) for port in range(PORTS)))
@@ -34,9 +30,8 @@ def write(path, count):
             file.write(made.packet(BEGIN + at * 100_000, frames[at // 50_000 % 2], at=at % PORTS))
 
 
-def main():
-    parser = argparse.ArgumentParser(description=__doc__, formatter_class=argparse.RawDescriptionHelpFormatter)
-    parser.add_argument("program")
+def main() -> int:
+    parser = program_words(__doc__)
     parser.add_argument("--frames", type=int, default=1_000_000)
     asked = parser.parse_args()
     os.environ["MURDJOHE_CORE"] = os.path.abspath(asked.program)
@@ -44,7 +39,7 @@ def main():
         path = os.path.join(name, "long.pcapng")
         write(path, asked.frames)
         size, start = os.path.getsize(path), time.monotonic()
-        words = [str(TOP / "workbench" / "murdjohe"), "capture", "read", path]
+        words = [str(WORKBENCH), "capture", "read", path]
         run = subprocess.run(words, capture_output=True, text=True, check=True)
         seconds = time.monotonic() - start
     head, _, rest = run.stdout.partition("\n")

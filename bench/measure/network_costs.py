@@ -1,4 +1,3 @@
-#!/usr/bin/env python3
 """What a network of the crate sync_net costs, in a proved build: instructions and time a step, bytes, want of memory.
 
 usage: python3 -m bench.measure.network_costs [--elements N[,N..]] [--keep FOLDER]
@@ -13,7 +12,8 @@ allocation of the crate's own test of a hundred busy steps fails in turn, and ea
 
 It wants the toolchain, valgrind, a C compiler and Python 3.11, and half an hour where the copy has no kept checks.
 """
-import argparse
+
+import collections
 import os
 import re
 import shutil
@@ -22,137 +22,20 @@ import sys
 import tempfile
 import time
 
-from bench.measure.failing_allocations import SHIM
-
-SIZES = r"""//! Networks over ladders.
-
-ghost use Rattle.std.specs.Prelude.{◌≡◌, ◌<◌};
-
-use super::making::Told::Says;
-use super::making::{Told, all_fit, element_row, events_of, link_row, source_row};
-use super::running::is_in_time;
-use crate::Net;
-use std::alloc::Global;
-use std::process::Abort;
-use std::sync::ledger::{Blank, Ledger};
-use std::test::Fail;
-use sync_ql::NetOption;
-use sync_ql::limits::LAST_MILLISECOND;
-use sync_text::{NoMemory, Rows, Steps};
-use sync_topo::{ElementRow, LinkRow, Plan, PlanRows, SourceRow};
-
-fn elements_of(alloc: Global, count: u64) -> Result<Rows<ElementRow>, NoMemory> {
-    let mut rows = Rows::new(alloc);
-    for number in 0..count {
-        rows.push(element_row(alloc, number, 5)?)?;
-    }
-    Ok(rows)
-}
-
-fn links_of(alloc: Global, count: u64) -> Result<Rows<LinkRow>, NoMemory> {
-    let mut rows = Rows::new(alloc);
-    for number in 1..count {
-        rows.push(link_row(alloc, number, (number - 1, number, 0, 2, 10))?)?;
-    }
-    for number in 2..count {
-        rows.push(link_row(alloc, 10_000_u64.saturating_add(number), (number - 2, number, 0, 1, 10))?)?;
-    }
-    Ok(rows)
-}
-
-fn sources_of(alloc: Global, count: u64) -> Result<Rows<SourceRow>, NoMemory> {
-    let mut rows = Rows::new(alloc);
-    rows.push(source_row(alloc, 0, (0, "QL-PRC", 1))?)?;
-    rows.push(source_row(alloc, 1, (1, "QL-SSU-A", 1))?)?;
-    rows.push(source_row(alloc, 2, (count.saturating_sub(10), "QL-PRC", 1))?)?;
-    Ok(rows)
-}
-
-fn ladder(alloc: Global, count: u64) -> Result<Plan, Fail> {
-    let rows = PlanRows {
-        option: NetOption::I,
-        elements: elements_of(alloc, count)?,
-        links: links_of(alloc, count)?,
-        sources: sources_of(alloc, count)?,
-    };
-    let plan = Plan::new(alloc, rows)?;
-    Ok(plan)
-}
-
-fn told(now: u64, from: u64) -> &'static [Told] {
-    if now < from {
-        return &[];
-    }
-    match now % 2 {
-        0 => &[Says(2, "QL-PRTC")],
-        _ => &[Says(2, "QL-ePRTC")],
-    }
-}
-
-fn step<L: Ledger>(
-    rt: &(impl Abort + AllocGlobal),
-    net: &mut Net<'_>,
-    now: u64,
-    from: u64,
-    steps: &mut Steps<L>,
-) -> Result<(), Fail> {
-    if net.spent() {
-        return Ok(());
-    }
-    let events = events_of(rt, now, told(now, from))?;
-    assert!(rt; now <= LAST_MILLISECOND);
-    assert!(rt; is_in_time(net, now));
-    assert!(rt; all_fit(net.plan(), events.as_slice()));
-    let refused = net.step(now, events.as_slice(), steps).is_err();
-    assert_eq!(rt; net.spent(), refused, "{now}");
-    Ok(())
-}
-
-/// Runs up to a millisecond, with a level that changes in each from another on.
-pub fn run<L: Ledger>(
-    rt: &(impl Abort + AllocGlobal),
-    blank: Blank,
-    count: u64,
-    until: u64,
-    from: u64,
-) -> Result<(), Fail>
-    requires name { blank.name ≡ L.name }
-    requires parts { blank.parts ≡ L.parts }
-    requires some { 0 < blank.parts }
-{
-    let mut steps = Steps::<L>::new(blank);
-    let plan = ladder(rt.alloc(), count)?;
-    let mut net = Net::new(rt.alloc(), &plan)?;
-    assert!(rt; !net.spent());
-    for now in 0..until {
-        step(rt, &mut net, now, from, &mut steps)?;
-    }
-    Ok(())
-}
-
-pub fn plan_alone(rt: &(impl Abort + AllocGlobal), count: u64) -> Result<(), Fail> {
-    let plan = ladder(rt.alloc(), count)?;
-    assert!(rt; plan.elements() > 1);
-    Ok(())
-}
-"""
+from bench import programs
+from bench.measure import failing
+from bench.program import TOP, parser
 
 # The name of a run, until when it goes, and from when on a level changes in it: a ladder of 2,000 has settled by 21,000.
 RUNS = {"made": (0, 0), "quiet": (22_000, 100_000), "busy": (22_000, 21_000)}
 
 BUSY_STEPS = 1_000
 
-INVARIANTS = """use Rattle.sync_net.proofs.tests.{name}.Given as goal
 
-abbrev pub ghosts-run : goal.ghosts-run
-ghosts-run g a = record {{ name = a.blank.name; parts = a.blank.parts }}
-"""
-
-
-def add_sizes(crate, sizes):
+def add_sizes(crate: str, sizes: list[int]) -> None:
     """The tests of the sizes, beside the crate's own."""
     with open(f"{crate}/src/tests/sizes.rt", "w", encoding="utf-8") as file:
-        file.write(SIZES)
+        file.write(programs.text("network_sizes.rt.txt"))
     with open(f"{crate}/src/tests/making.rt", encoding="utf-8") as file:
         making = re.sub(r"^fn (element|link|source)_row", r"pub fn \1_row", file.read(), flags=re.M)
     with open(f"{crate}/src/tests/making.rt", "w", encoding="utf-8") as file:
@@ -167,25 +50,25 @@ def add_sizes(crate, sizes):
             tests += head.format(name, f"sizes::run::<Brand>(&rt, Blank::new(1), {size}, {until}, {since})")
             os.makedirs(f"{crate}/proofs/tests/{name}")
             with open(f"{crate}/proofs/tests/{name}/Invariants.antt", "w", encoding="utf-8") as file:
-                file.write(INVARIANTS.format(name=name))
+                file.write(programs.text("network_sizes.antt.txt").replace("NAME", name))
     with open(f"{crate}/src/tests.rt", "w", encoding="utf-8") as file:
         file.write(tests)
 
 
-def instructions(program, test, folder):
+def instructions(program: str, test: str, folder: str) -> int:
     words = ["valgrind", "--tool=callgrind", f"--callgrind-out-file={folder}/calls", program, f"tests::{test}"]
     done = subprocess.run(words, capture_output=True, text=True, check=True)
     return int(re.search(r"Collected : (\d+)", done.stderr)[1])
 
 
-def peak(program, test, folder):
+def peak(program: str, test: str, folder: str) -> int:
     words = ["valgrind", "--tool=massif", f"--massif-out-file={folder}/heap", program, f"tests::{test}"]
     subprocess.run(words, capture_output=True, check=True)
     with open(f"{folder}/heap", encoding="utf-8") as file:
         return max(int(it) for it in re.findall(r"mem_heap_B=(\d+)", file.read()))
 
 
-def seconds(program, test):
+def seconds(program: str, test: str) -> float:
     times = []
     for _ in range(20):
         start = time.perf_counter()
@@ -194,38 +77,26 @@ def seconds(program, test):
     return min(times)
 
 
-def fail_each(program, test, folder):
-    """The number of allocations, and which of them give which answer."""
-    with open(f"{folder}/shim.c", "w", encoding="utf-8") as file:
-        file.write(SHIM)
-    subprocess.run(["cc", "-shared", "-fPIC", "-O2", "-o", f"{folder}/shim.so", f"{folder}/shim.c", "-ldl"], check=True)
-    answers, at = {}, 0
-    while True:
+def fail_each(program: str, test: str, folder: str) -> tuple[int, dict[str, int]]:
+    """The number of allocations, and how many of them that fail give which answer."""
+    shim, answers, at = failing.build(folder, "failing_allocations"), collections.Counter[str](), 1
+    while not (failed := failing.run([program, f"tests::{test}"], shim, None, FAIL_AT=str(at))).fewer:
+        answers[failed.text.decode().strip().splitlines()[0]] += 1
         at += 1
-        read, write = os.pipe()
-        env = dict(os.environ, LD_PRELOAD=f"{folder}/shim.so", FAIL_AT=str(at), COUNT_TO=str(write))
-        done = subprocess.run([program, f"tests::{test}"], capture_output=True, text=True, env=env, pass_fds=[write])
-        os.close(write)
-        fewer = os.read(read, 8) == b"end"
-        os.close(read)
-        if fewer:
-            return at - 1, answers
-        answer = (done.stdout + done.stderr).strip().splitlines()[0]
-        answers.setdefault(answer, []).append(at)
+    return at - 1, answers
 
 
-def main():
-    words = argparse.ArgumentParser(description=__doc__, formatter_class=argparse.RawDescriptionHelpFormatter)
+def main() -> None:
+    words = parser(__doc__)
     words.add_argument("--elements", default="250,2000")
     words.add_argument("--keep")
     given = words.parse_args()
     sizes = [int(it) for it in given.elements.split(",")]
-    root = os.path.dirname(os.path.dirname(os.path.dirname(os.path.abspath(__file__))))
     folder = given.keep or tempfile.mkdtemp(prefix="net-costs-")
     crate = f"{folder}/repository/crates/sync_net"
     program = f"{crate}/out/sync_net_tests"
     try:
-        shutil.copytree(root, f"{folder}/repository", symlinks=True)
+        shutil.copytree(TOP, f"{folder}/repository", symlinks=True)
         add_sizes(crate, sizes)
         subprocess.run(["rt", "fmt"], cwd=crate, check=True)
         subprocess.run(["rt", "test"], cwd=crate, check=True, stdout=subprocess.DEVNULL)
@@ -236,7 +107,7 @@ def main():
             print(f"{size} elements: {(busy - quiet) // BUSY_STEPS} instructions and", end=" ")
             print(f"{(slow - fast) / BUSY_STEPS * 1e6:.1f} us a step, {taken} bytes")
         count, answers = fail_each(program, "a_network_is_spent_where_memory_is_wanted", folder)
-        print(f"{count} allocations fail:", ", ".join(f"{len(at)} {answer}" for answer, at in answers.items()))
+        print(f"{count} allocations fail:", ", ".join(f"{times} {answer}" for answer, times in answers.items()))
     finally:
         if not given.keep:
             shutil.rmtree(folder)

@@ -1,4 +1,3 @@
-#!/usr/bin/env python3
 """How much longer the workbench's command takes to start than the program itself.
 
 usage: python3 -m bench.measure.start_time PROGRAM [--runs N]
@@ -6,31 +5,30 @@ usage: python3 -m bench.measure.start_time PROGRAM [--runs N]
 A `check` of examples/metro-ring, by the program and by the command, in turn; the least of each is printed, and how much more
 the command takes. It wants nothing but Python 3.11 and a quiet machine.
 """
-import argparse
+
 import os
-import pathlib
 import subprocess
 import time
 
-TOP = pathlib.Path(__file__).resolve().parent.parent.parent
+from bench.program import TOP, WORKBENCH, program_words
+
 WORDS = ["check", "plan.toml", "certificate.csv"]
 
 
-def taken(words, environment):
+def taken(words: list[str], environment: dict[str, str]) -> float:
     """The seconds that a run takes."""
     before = time.perf_counter()
     subprocess.run(words, cwd=TOP / "examples" / "metro-ring", env=environment, capture_output=True, check=True)
     return time.perf_counter() - before
 
 
-def main():
-    words = argparse.ArgumentParser(description=__doc__, formatter_class=argparse.RawDescriptionHelpFormatter)
-    words.add_argument("program")
+def main() -> None:
+    words = program_words(__doc__)
     words.add_argument("--runs", type=int, default=40)
     given = words.parse_args()
-    program = os.path.abspath(given.program)
+    program = given.program
     environment = {**os.environ, "MURDJOHE_CORE": program}
-    command = str(TOP / "workbench" / "murdjohe")
+    command = str(WORKBENCH)
     pairs = [(taken([program, *WORDS], environment), taken([command, *WORDS], environment)) for _ in range(given.runs)]
     its, own = (1000 * min(times) for times in zip(*pairs))
     print(f"program {its:.1f} ms, command {own:.1f} ms, {own - its:.1f} ms more")

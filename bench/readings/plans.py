@@ -1,24 +1,16 @@
-"""What the program is to answer to a file, whole or damaged: readings of their own of plans, certificates, event files and captures,
-written from docs/formats.md. They share nothing with the program; ranks are those of reference_plan.py, rows of frames those of
-captures_random.py. It needs Python 3.11 alone."""
+"""Plan files, whole or damaged, read as docs/formats.md says, and the answer of `rank`; ranks are those of the reference."""
+
 import collections
-import csv
-import io
 import re
-import struct
-import sys
 import tomllib
+from typing import Any
 
-from bench.readings import frames as captures_random
-from bench.reference.plan import read_plan
+from bench.levels import LEVELS
+from bench.readings.refused import Refused, Unsure
+from bench.reference.plan import Plan, certificate_text, read_plan
 
-csv.field_size_limit(sys.maxsize)
+Row = dict[str, Any]
 
-LEVELS = {
-    "I": "ePRTC PRTC ePRC PRC SSU-A SSU-B eEEC SEC DNU".split(),
-    "II": "ePRTC PRTC ePRC PRS STU ST2 TNC ST3E eEEC ST3 SMC PROV DUS".split(),
-}
-LEVELS = {option: ["QL-" + name for name in names] for option, names in LEVELS.items()}
 # For each section its keys with their kind, those that a row must have first.
 KEYS = {
     "element": {"name": str, "own": str, "floor": str, "holdoff": int, "wtr": int},
@@ -34,24 +26,20 @@ class Other(str):
     """A value that is neither text nor integer, as it is written."""
 
 
-class Refused(Exception):
-    """The plan is refused."""
-
-
-def is_kind(value, kind):
+def is_kind(value: object, kind: type) -> bool:
     return isinstance(value, kind) and not isinstance(value, Other)
 
 
-def is_name(text):
+def is_name(text: str) -> bool:
     return re.fullmatch(r"[A-Za-z0-9_-]{1,32}", text) is not None
 
 
-def refuse(broken, text):
+def refuse(broken: object, text: str) -> None:
     if broken:
         raise Refused(f"bad plan {text}\n")
 
 
-def read_tables(head):
+def read_tables(head: dict[str, Any]) -> tuple[str, list[list[Row]]]:
     known = {"version", "option", *SECTIONS}
     refuse(set(head) - known, "23 head 0")
     version, option = head.get("version", 1), head.get("option", "I")
@@ -68,7 +56,7 @@ def read_tables(head):
     return option, sections
 
 
-def out_of_range(row):
+def out_of_range(row: Row) -> bool:
     for key, value in row.items():
         low, high = RANGES.get(key.removesuffix("_a").removesuffix("_b"), (value, value))
         if isinstance(value, int) and not low <= value <= high:
@@ -76,11 +64,11 @@ def out_of_range(row):
     return False
 
 
-def read_rows(option, sections):
+def read_rows(option: str, sections: list[list[Row]]) -> None:
     elements, links, sources = sections
-    inputs = collections.Counter()
+    inputs = collections.Counter[str]()
 
-    def check(number, place, broken):
+    def check(number: int, place: str, broken: object) -> None:
         refuse(broken, f"25 {number} {place}")
 
     for number, row in enumerate(elements):
@@ -116,19 +104,12 @@ def read_rows(option, sections):
         check(15, place, inputs[row["at"]] > 64)
 
 
-# ---- plans
-
-
-class Unsure(Exception):
-    """Python's TOML reader refuses a document that a newer version of TOML may accept."""
-
-
 # What TOML 1.1 takes and Python's reader doesn't: two escapes, times without seconds, inline tables over several lines or with a
 # comma at the end.
 NEWER = re.compile(rb"\\[ex]|\d:\d|\{")
 
 
-def plain(value):
+def plain(value: Any) -> Any:
     """A value of Python's TOML reader as the tables have it: what is neither text, integer, list nor table is another."""
     if isinstance(value, dict):
         return {key: plain(item) for key, item in value.items()}
@@ -141,7 +122,7 @@ def plain(value):
     return value
 
 
-def text_of_plan(data):
+def text_of_plan(data: bytes) -> str:
     """The text of a plan file without its byte order mark."""
     try:
         return data.decode("utf-8").removeprefix("\ufeff")
@@ -149,7 +130,7 @@ def text_of_plan(data):
         raise Refused("bad plan 22\n") from None
 
 
-def plan_of(data):
+def plan_of(data: bytes) -> Plan:
     """The plan of a file, or it is refused."""
     text = text_of_plan(data)
     try:
@@ -162,23 +143,7 @@ def plan_of(data):
     return read_plan(text)
 
 
-def first_cycle(plan):
-    """The cycle that `rank` names: the lines that repeat on going back from the lowest line that a walk without end leads to."""
-    lines = plan.nominated_lines
-    before = {line: [other for other in lines if plan.hops(other, line)] for line in lines}
-    left = set(lines)
-    while gone := {line for line in left if not left.intersection(before[line])}:
-        left -= gone
-    at, seen = min(left), []
-    while at not in seen:
-        seen.append(at)
-        at = min(left.intersection(before[at]))
-    ring = seen[seen.index(at) :][::-1]
-    start = ring.index(min(ring))
-    return ring[start:] + ring[:start]
-
-
-def rank_answer(data):
+def rank_answer(data: bytes) -> tuple[int, str]:
     """The status and the text of `rank` on a plan file."""
     try:
         plan = plan_of(data)
@@ -186,153 +151,5 @@ def rank_answer(data):
         return 3, refused.args[0]
     ranks = plan.least_ranks()
     if ranks is None:
-        return 1, "cycle " + " ".join(map(plan.input_name, first_cycle(plan))) + "\n"
-    return 0, "line,rank\n" + "".join(f"{plan.input_name(line)},{ranks[line]}\n" for line in plan.nominated_lines)
-
-
-# ---- records
-
-
-def records(data):
-    """The records of a file of commas, with each octet as one sign; blank lines are none."""
-    text = data.removeprefix(b"\xef\xbb\xbf").decode("latin-1")
-    return [record for record in csv.reader(io.StringIO(text, newline="")) if record]
-
-
-def number_of(field, greatest):
-    """The number that a field is, none where it is no number without sign and leading zero up to the greatest."""
-    if not re.fullmatch("0|[1-9][0-9]{0,19}", field, re.ASCII) or int(field) > greatest:
-        return None
-    return int(field)
-
-
-def ranks_of(plan, data):
-    """The rank of each nominated line of a certificate, or it is refused."""
-    rows = records(data)
-    if rows[:1] != [["line", "rank"]]:
-        raise Refused("bad certificate 34\n")
-    named = {plan.input_name(line): line for line in plan.nominated_lines}
-    ranks = {}
-    for number, row in enumerate(rows[1:], 1):
-        rank = number_of(row[1], 2**64 - 1) if len(row) == 2 else None
-        if rank is None:
-            raise Refused(f"bad certificate 35 {number}\n")
-        if row[0] not in named:
-            raise Refused(f"bad certificate 36 {number}\n")
-        if named[row[0]] in ranks:
-            raise Refused(f"bad certificate 37 {number}\n")
-        ranks[named[row[0]]] = rank
-    for line in plan.nominated_lines:
-        if line not in ranks:
-            raise Refused(f"bad certificate 38 {plan.input_name(line)}\n")
-    return ranks
-
-
-def check_answer(plan, data):
-    """The status and the text of `check` on a certificate of an accepted plan."""
-    try:
-        ranks = ranks_of(plan, data)
-    except Refused as refused:
-        return 4, refused.args[0]
-    lines = plan.nominated_lines
-    for line in lines:
-        for after in lines:
-            if plan.hops(line, after) and ranks[line] >= ranks[after]:
-                return 1, f"falls {plan.input_name(line)} {plan.input_name(after)}\n"
-    return 0, "accepted\n"
-
-
-LINKS_TOO = ("down", "up")
-LINES_ALONE = ("esmc-off", "esmc-on")
-INPUTS = ("lockout", "unlock", "forced", "manual", "clear-wtr")
-
-
-def targets_of(plan):
-    """For each word the names that it is said of."""
-    links = {link.name for link in plan.links}
-    lines = {plan.input_name(line) for line in range(plan.lines)}
-    sources = {source.name for source in plan.sources}
-    targets = {word: links | lines | sources for word in LINKS_TOO} | {word: lines for word in LINES_ALONE}
-    return targets | {word: lines | sources for word in INPUTS} | {"level": sources, "clear": {element.name for element in plan.elements}}
-
-
-def events_refusal(plan, data):
-    """The text that an event list of an accepted plan is refused with, none where it is accepted."""
-    rows = records(data)
-    if rows[:1] != [["at", "what", "target", "value"]]:
-        return "bad events 26\n"
-    targets, last = targets_of(plan), 0
-    for number, row in enumerate(rows[1:], 1):
-        if number > 100_000:
-            return "bad events 33\n"
-        wrong = event_refusal(targets, LEVELS[plan.option], last, row)
-        if wrong:
-            return f"bad events {wrong} {number}\n"
-        last = int(row[0])
-    return None
-
-
-def event_refusal(targets, levels, last, row):
-    """The number that a row is refused with, after one at the time `last`; none where it is an event."""
-    if len(row) != 4:
-        return 27
-    at, what, target, value = row
-    if number_of(at, 86_400_000) is None:
-        return 28
-    if int(at) < last:
-        return 29
-    if what not in targets:
-        return 30
-    if target not in targets[what]:
-        return 31
-    if value not in levels if what == "level" else value != "":
-        return 32
-    return None
-
-
-# ---- captures
-
-
-def rows_answer(form, option, data):
-    """The status and the text of `decode` or `encode`."""
-    status, text = captures_random.expected(form, option, data)
-    return status, text.encode("ascii")
-
-
-def pcap_answer(option, data):
-    """The status and the text of `pcap-decode`."""
-    order = {bytes.fromhex("a1b2c3d400020004"): ">", bytes.fromhex("d4c3b2a102000400"): "<"}.get(data[:8])
-    if len(data) < 24 or order is None:
-        return 6, b"bad capture 40\n"
-    if struct.unpack(order + "I", data[20:24]) != (1,):
-        return 6, b"bad capture 41\n"
-    written, passed, at, number = [], 0, 24, 0
-    while at < len(data):
-        number += 1
-        head = data[at : at + 16]
-        seconds, micros, length, _ = struct.unpack(order + "4I", head) if len(head) == 16 else (0, 0, 2**32, 0)
-        packet = data[at + 16 : at + 16 + length]
-        if len(packet) < length:
-            return 6, f"bad capture 42 {number}\n".encode("ascii")
-        try:
-            written.append(f"{seconds},{micros}," + captures_random.row_of(option, packet.hex().encode("ascii")) + "\n")
-        except captures_random.Wrong:
-            passed += 1
-        at += 16 + length
-    return 0, ("".join(written) + f"passed,{passed}\n").encode("ascii")
-
-
-def pcap_bytes(option, data):
-    """The status and the bytes of `pcap-encode`."""
-    written = struct.pack("<IHHIIII", 0xA1B2C3D4, 2, 4, 0, 0, 65535, 1)
-    for number, line in captures_random.lines_of(data):
-        try:
-            *times, row = line.split(b",", 2)
-            seconds, micros = (number_of(time.decode("latin-1"), 2**32 - 1) for time in times)
-            if seconds is None or micros is None:
-                raise ValueError
-            frame = bytes.fromhex(captures_random.frame_of(option, row))
-        except (ValueError, captures_random.Wrong):
-            return 6, f"bad frames 14 {number}\n".encode("ascii")
-        written += struct.pack("<4I", seconds, micros, len(frame), len(frame)) + frame
-    return 0, written
+        return 1, "cycle " + " ".join(map(plan.input_name, plan.first_cycle())) + "\n"
+    return 0, certificate_text(plan, ranks)

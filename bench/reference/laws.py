@@ -2,19 +2,28 @@
 
 A law goes through a run, counts in `met` how often what it asks for was there, and gives each contradiction.
 """
+
 import collections
 import dataclasses
 import random
+from collections import Counter
+from collections.abc import Callable, Iterable, Iterator, Mapping, Sequence
+from typing import Any
 
 from bench.reference.network import Network, closed_walks, is_facing_pair, trace_of
 from bench.reference.plan import Event, Link, Plan, PlanElement, Source, ladder
 from bench.reference.random_plans import LINE_WORDS, random_events, random_plan
 
+# A plan, events, and how long it runs; the contradictions to laws by name; and how often each was found, by kind of plan.
+Case = tuple[Plan, list[Event], int]
+Laws = dict[str, Iterator[str]]
+Found = dict[str, Counter[str]]
+
 
 class Run:
     """A network that was gone through, with what is asked of each millisecond."""
 
-    def __init__(self, plan, events, until, network=Network):
+    def __init__(self, plan: Plan, events: list[Event], until: int, network: type[Network] = Network) -> None:
         self.plan, self.events, self.until = plan, events, until
         self.network = network(plan, events).go_to(until)
         self.last = events[-1].at if events else 0
@@ -28,11 +37,11 @@ class Run:
         walks = {taken: closed_walks(plan, taken) for taken in set(self.taken)}
         self.walks = [walks[taken] for taken in self.taken]
 
-    def is_settled(self, t, without=None):
+    def is_settled(self, t: int, without: str | None = None) -> bool:
         """Whether a millisecond is settled; a wrong text leaves a part out."""
         return self.settled[without][t]
 
-    def line_events(self, lines):
+    def line_events(self, lines: Iterable[int]) -> list[int]:
         """The events on the signals of some lines or their links, by time."""
         on_lines = [e for e in self.events if e.what in LINE_WORDS and set(self.plan.named(e.target)) & set(lines)]
         return [event.at for event in on_lines]
@@ -41,7 +50,7 @@ class Run:
 # ---- the laws
 
 
-def loop_freedom(run, met, plan=None, without=None):
+def loop_freedom(run: Run, met: Counter[str], plan: Plan | None = None, without: str | None = None) -> Iterator[str]:
     """Each closed walk is a facing pair or a cycle; none is settled where ranks rise; traces end as they say.
 
     `plan` says what a hop and a facing pair is.
@@ -62,7 +71,7 @@ def loop_freedom(run, met, plan=None, without=None):
             yield from wrong_traces(run, met, t)
 
 
-def wrong_traces(run, met, t):
+def wrong_traces(run: Run, met: Counter[str], t: int) -> Iterator[str]:
     """In a settled millisecond each trace ends in a source or own clock, whose level the element has."""
     network = run.network
     met["settled milliseconds where ranks rise"] += 1
@@ -77,7 +86,7 @@ def wrong_traces(run, met, t):
             yield f"{t}: {e} hasn't the level of {kind} {end}, in which its trace ends"
 
 
-def settled_stays(run, met, without=None, late_events=False):
+def settled_stays(run: Run, met: Counter[str], without: str | None = None, late_events: bool = False) -> Iterator[str]:
     """After the last event, and a delay after the last on each line's signals, a settled millisecond stays.
 
     A wrong text leaves the delay out.
@@ -96,14 +105,17 @@ def settled_stays(run, met, without=None, late_events=False):
                 yield f"{t}: settled, but not the next millisecond, or not the same"
 
 
-def pairs_are_short(run, met, lifetime=5000, delay=max, spoken=0):
+def pairs_are_short(
+    run: Run, met: Counter[str], lifetime: int = 5000, delay: Callable[[Iterable[int]], int] = max, spoken: int = 0
+) -> Iterator[str]:
     """A facing pair stands less than the delay of a line of it that speaks all the while.
 
     Without an event on the signals of its links it stands less than 5000 and its greater delay.
     """
-    plan, since, events = run.plan, {}, {}
+    plan, events = run.plan, dict[tuple[int, ...], list[int]]()
+    since: dict[tuple[tuple[int, ...], int | str], int] = {}
     for t, walks in enumerate(run.walks):
-        limits = {}
+        limits: dict[tuple[tuple[int, ...], int | str], int] = {}
         for pair in (tuple(walk) for walk in walks if is_facing_pair(plan, walk)):
             speaking = [line for line in pair if run.network.speaks[line][t]]
             met["milliseconds of a facing pair" if speaking else "milliseconds of a silent facing pair"] += 1
@@ -119,7 +131,7 @@ def pairs_are_short(run, met, lifetime=5000, delay=max, spoken=0):
                 yield f"{t}: {pair} has stood since {start}"
 
 
-def bound_holds(run, met, delays=1, sooner=0):
+def bound_holds(run: Run, met: Counter[str], delays: int = 1, sooner: int = 0) -> Iterator[str]:
     """From the settling bound on every millisecond is settled."""
     bound = run.plan.settling_bound(run.last, delays)
     if bound is None:
@@ -133,7 +145,7 @@ def bound_holds(run, met, delays=1, sooner=0):
             yield f"{t}: not settled, though the bound is {bound}"
 
 
-def idle_elements_stay(run, met):
+def idle_elements_stay(run: Run, met: Counter[str]) -> Iterator[str]:
     """An element that isn't active gives what it gave, and nothing changes in a quiet millisecond."""
     network, elements = run.network, range(len(run.plan.elements))
     for t in range(1, run.until + 1):
@@ -152,9 +164,10 @@ def idle_elements_stay(run, met):
                 yield f"{t}: quiet, and another level is sent"
 
 
-def same_until(one, other, until):
+def same_until(one: Run, other: Run, until: int) -> bool:
     """Whether two histories of one plan are the same up to a millisecond."""
-    def kept(network):
+
+    def kept(network: Network) -> list[list[Any]]:
         by_input = [network.up, network.failed, network.input_level, network.speaks, network.out, network.is_sent]
         lists = [values for kind in by_input for values in kind.values()]
         lists += network.taken + network.level + network.mode + network.state
@@ -163,7 +176,7 @@ def same_until(one, other, until):
     return kept(one.network) == kept(other.network)
 
 
-def past_stays(run, met, chance):
+def past_stays(run: Run, met: Counter[str], chance: random.Random) -> Iterator[str]:
     """Later events change nothing earlier: a run that is cut off after some event is the same until the next one.
 
     On the run that is cut off a settled millisecond stays, too.
@@ -179,12 +192,12 @@ def past_stays(run, met, chance):
     yield from settled_stays(other, met)
 
 
-def order_is_free(run, met, chance, touching=True):
+def order_is_free(run: Run, met: Counter[str], chance: random.Random, touching: bool = True) -> Iterator[str]:
     """The order of a millisecond's events is free where those that touch an element keep theirs.
 
     A wrong text lets them stand in any order.
     """
-    events, left = [], list(run.events)
+    events, left = list[Event](), list(run.events)
     while left:
         now = [event for event in left if event.at == left[0].at]
         free = [event for k, event in enumerate(now) if not touching or is_apart(run.plan, event, now[:k])]
@@ -197,13 +210,13 @@ def order_is_free(run, met, chance, touching=True):
         yield "the history is another"
 
 
-def is_apart(plan, event, others):
+def is_apart(plan: Plan, event: Event, others: list[Event]) -> bool:
     """No element is touched by an event and by one of the others."""
     touched = [e for e in range(len(plan.elements)) if plan.touches(event, e)]
     return not any(plan.touches(other, e) for other in others for e in touched)
 
 
-def line_is_a_delay(run, met):
+def line_is_a_delay(run: Run, met: Counter[str]) -> Iterator[str]:
     """A line that was up all the way is heard as it spoke a delay ago, whether or not a message was sent then."""
     network = run.network
     for line in run.plan.nominated_lines:
@@ -215,7 +228,7 @@ def line_is_a_delay(run, met):
                     yield f"{t}: {line} isn't heard as it spoke"
 
 
-def news_alone_settles(run, met):
+def news_alone_settles(run: Run, met: Counter[str]) -> Iterator[str]:
     """A millisecond is settled exactly where it is by the messages that are news alone."""
     for t in range(run.until + 1):
         settled = run.is_settled(t)
@@ -227,7 +240,7 @@ def news_alone_settles(run, met):
 # ---- plans by hand, for what is rare
 
 
-def small_plan(count, links, sources=(), wtr=0):
+def small_plan(count: int, links: list[Link], sources: Sequence[tuple[int, str]] = (), wtr: int = 0) -> Plan:
     """A plan of option I whose sources are given by their element and level."""
     elements = [PlanElement(f"E{e}", "QL-SEC", None, 300, wtr) for e in range(count)]
     return Plan("I", elements, links, [Source(f"S{j}", at, level, 1) for j, (at, level) in enumerate(sources)])
@@ -238,11 +251,11 @@ PAIR = [Link("L0", 0, 1, 1, 1, 10, 10, None)]
 CROSSED = [Link("L0", 0, 1, 1, 2, 10, 10, None), Link("L1", 0, 1, 2, 1, 10, 10, None)]
 
 
-def forced_and_cleared(at):
+def forced_and_cleared(at: int) -> list[Event]:
     return [Event(at, "forced", ("source", 1)), Event(at, "clear", ("element", 0))]
 
 
-def plans_by_hand():
+def plans_by_hand() -> list[Case]:
     """Plans, events and how long they run, that come to where a law just holds."""
     chain = small_plan(3, CHAIN, [(0, "QL-PRC")])
     slow = small_plan(3, CHAIN, [(0, "QL-PRC")], wtr=6000)
@@ -279,7 +292,7 @@ def plans_by_hand():
 # ---- the trial
 
 
-def random_case(chance):
+def random_case(chance: random.Random) -> Case:
     """A plan, events, and how long it runs: past its settling bound, or past the loss of what was heard."""
     plan = random_plan(chance, [0, 0, 0, 500, 2000, 6000])
     events = random_events(chance, plan, chance.choice([300, 3000]))
@@ -290,19 +303,19 @@ def random_case(chance):
 class NeverSentBack(Network):
     """A wrong network, in which do-not-use never goes back."""
 
-    def is_way_back(self, line, taken):
+    def is_way_back(self, line: int, taken: int | None) -> bool:
         return False
 
 
-def parallel_links_bundled(plan):
+def parallel_links_bundled(plan: Plan) -> Plan:
     """The plan with each pair of elements joined by one bundle: a wrong text of hops and facing pairs."""
     links = [dataclasses.replace(link, bundle=f"{min(link.a, link.b)}-{max(link.a, link.b)}") for link in plan.links]
     return Plan(plan.option, plan.elements, links, plan.sources)
 
 
-def right_laws(run, met, seed):
+def right_laws(run: Run, met: Counter[str], seed: int) -> Laws:
     """The contradictions to each law, by its name; the sharper ones are this trial's own."""
-    chance, unmet = random.Random(seed), collections.Counter()
+    chance, unmet = random.Random(seed), collections.Counter[str]()
     return {
         "a line is a delay": line_is_a_delay(run, met),
         "settled by news alone": news_alone_settles(run, met),
@@ -328,9 +341,9 @@ NOT_WRONG = {
 }
 
 
-def wrong_laws(run, seed):
+def wrong_laws(run: Run, seed: int) -> Laws:
     """The contradictions to wrong texts, by name."""
-    met, chance = collections.Counter(), random.Random(seed)
+    met, chance = collections.Counter[str](), random.Random(seed)
     never = Run(run.plan, run.events, run.until, NeverSentBack)
     laws = {
         "a facing pair is short by 4999": pairs_are_short(run, met, 4999),
@@ -349,7 +362,7 @@ def wrong_laws(run, seed):
     return laws
 
 
-def count_found(found, laws, kind):
+def count_found(found: Found, laws: Laws, kind: str) -> dict[str, str]:
     """In how many runs each text was contradicted; gives the first contradiction to each that was."""
     first = {name: next(iter(contradictions), None) for name, contradictions in laws.items()}
     for name, contradiction in first.items():
@@ -357,21 +370,21 @@ def count_found(found, laws, kind):
     return {name: text for name, text in first.items() if text is not None}
 
 
-def show(title, found):
+def show(title: str, found: Mapping[str, Counter[str]]) -> None:
     for name, counts in found.items():
         print(f"{title}  {name}: {counts['random']} and {counts['by hand']} by hand")
 
 
-def try_laws(count, seed):
+def try_laws(count: int, seed: int) -> int:
     """Tries all laws on so many random plans and on those by hand; gives how many texts are judged wrongly.
 
     A law is to be contradicted nowhere, and a wrong text somewhere.
     """
     chance = random.Random(seed)
     cases = [("random", random_case(chance)) for _ in range(count)] + [("by hand", case) for case in plans_by_hand()]
-    met, right, wrong = (collections.defaultdict(collections.Counter) for _ in range(3))
+    met, right, wrong = (collections.defaultdict[str, Counter[str]](collections.Counter) for _ in range(3))
     for number, (kind, case) in enumerate(cases):
-        run, counted = Run(*case), collections.Counter()
+        run, counted = Run(*case), collections.Counter[str]()
         for name, text in count_found(right, right_laws(run, counted, number), kind).items():
             print(f"CONTRADICTION to {name}, plan {number} ({kind}), {text}")
         count_found(wrong, wrong_laws(run, number), kind)

@@ -1,12 +1,16 @@
 """Random plans and events for the reference, and their texts."""
-from bench.reference.element import LEVELS
-from bench.reference.plan import Event, Link, Plan, PlanElement, Source
+
+import random
+from collections.abc import Sequence
+
+from bench.levels import LEVELS
+from bench.reference.plan import Event, Link, Plan, PlanElement, Source, Target
 
 LINE_WORDS = ("down", "up", "esmc-off", "esmc-on")
 INPUT_WORDS = ("lockout", "unlock", "forced", "manual", "clear-wtr")
 
 
-def random_plan(chance, waits):
+def random_plan(chance: random.Random, waits: Sequence[int]) -> Plan:
     """A plan of up to 8 elements: a tree with both ends nominated, lines in one direction without a cycle, or any.
 
     `waits` are the wait-to-restore times that elements may have, in milliseconds.
@@ -35,7 +39,7 @@ def random_plan(chance, waits):
     return Plan(option, elements, links, sources)
 
 
-def random_links(chance, count, shape):
+def random_links(chance: random.Random, count: int, shape: str) -> list[Link]:
     """The ends by shape, some of them joined by several links, in a bundle or not."""
     if count == 1:
         return []
@@ -58,7 +62,7 @@ def random_links(chance, count, shape):
     return links
 
 
-def random_events(chance, plan, until):
+def random_events(chance: random.Random, plan: Plan, until: int) -> list[Event]:
     """Up to 40 events of every word, some in one millisecond, some where a time just ends."""
     times = [chance.randint(0, until) for _ in range(chance.choice([0, 1, 2, 5, 10, 17]))]
     offsets = [0, 0, 1, 2, 10, 299, 300, 301, 500, 501]
@@ -80,7 +84,7 @@ def random_events(chance, plan, until):
     return sorted(events, key=lambda event: event.at)
 
 
-def rare_events(chance, plan, until):
+def rare_events(chance: random.Random, plan: Plan, until: int) -> list[Event]:
     """What is rare among random events and comes to where a time just ends, in some of the cases."""
     kind = chance.choice(["silence", "restoring", "just in time", "nothing", "nothing"])
     if kind == "restoring" and plan.nominated:
@@ -98,41 +102,7 @@ def rare_events(chance, plan, until):
     return []
 
 
-def silence(line, back, at):
+def silence(line: Target, back: Target, at: int) -> list[Event]:
     """Both lines of a link fall silent and are free to be taken after that: only what they said last is heard."""
     words = [(0, "lockout"), (at, "esmc-off"), (at + 1, "unlock")]
     return [Event(when, word, target) for when, word in words for target in (line, back)]
-
-
-def plan_text(plan):
-    """A plan file of a plan, of version 2, with every key. The wait-to-restore times are whole minutes."""
-    text = f'version = 2\noption = "{plan.option}"\n'
-    for element in plan.elements:
-        floor = {} if element.floor is None else {"floor": element.floor}
-        minutes = element.wtr // 60000
-        row = {"name": element.name, "own": element.own, **floor, "holdoff": element.holdoff, "wtr": minutes}
-        text += section_text("element", row)
-    for link in plan.links:
-        row = {**vars(link), "a": plan.elements[link.a].name, "b": plan.elements[link.b].name}
-        text += section_text("link", {key: value for key, value in row.items() if value is not None})
-    for source in plan.sources:
-        text += section_text("source", {**vars(source), "at": plan.elements[source.at].name})
-    return text
-
-
-def section_text(section, row):
-    values = {key: f'"{value}"' if isinstance(value, str) else value for key, value in row.items()}
-    return f"[[{section}]]\n" + "".join(f"{key} = {value}\n" for key, value in values.items())
-
-
-def events_text(plan, events):
-    """An event file of events."""
-    text = "at,what,target,value\n"
-    for event in events:
-        kind, number = event.target
-        if kind == "line":
-            name = plan.input_name(number)
-        else:
-            name = {"link": plan.links, "source": plan.sources, "element": plan.elements}[kind][number].name
-        text += f"{event.at},{event.what},{name},{event.level or ''}\n"
-    return text

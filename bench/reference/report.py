@@ -1,17 +1,20 @@
 """The texts of the reference for a simulation and for a sweep."""
-from bench.reference.element import LEVELS
+
+from collections.abc import Iterator
+
+from bench.levels import LEVELS
 from bench.reference.network import Network, closed_walks, trace_of
-from bench.reference.plan import Event
+from bench.reference.plan import Event, Plan
 
 MOST_ROWS = 200_000
 PIECE = 20_000  # how many milliseconds are gone through before rows are counted
 
 
-def name_or_none(plan, i):
+def name_or_none(plan: Plan, i: int | None) -> str:
     return "none" if i is None else plan.input_name(i)
 
 
-def change_rows(network, start):
+def change_rows(network: Network, start: int) -> Iterator[tuple[int, str]]:
     """The changes from a millisecond on, as (t, row): where mode, input, level or state differ from those before."""
     plan = network.plan
     for t in range(start, network.length):
@@ -22,10 +25,10 @@ def change_rows(network, start):
                 yield t, f"{t},{element.name},{mode},{name_or_none(plan, taken)},{level},{state}\n"
 
 
-def sim_text(plan, events, until):
+def sim_text(plan: Plan, events: list[Event], until: int) -> str:
     """The report of a simulation, whole."""
     network = Network(plan, events)
-    rows = []
+    rows: list[tuple[int, str]] = []
     while network.length <= until and len(rows) <= MOST_ROWS:
         start = network.length
         network.go_to(min(until, start + PIECE))
@@ -37,7 +40,7 @@ def sim_text(plan, events, until):
     return "changes\n" + "".join(row for _, row in rows) + state_text(network)
 
 
-def state_text(network):
+def state_text(network: Network) -> str:
     """The parts of a report on its last millisecond."""
     plan, t = network.plan, network.length - 1
     taken = network.taken_at(t)
@@ -57,7 +60,7 @@ def state_text(network):
     return text + f"settled {'yes' if network.is_settled(t) else 'no'}\n"
 
 
-def sweep_text(plan, at, until):
+def sweep_text(plan: Plan, at: int, until: int) -> str:
     """The table of a sweep: for each link a run in which it goes down."""
     text = "link,settled,locked,holdover,freerun,loops,worst,bound\n"
     bound = plan.settling_bound(at)

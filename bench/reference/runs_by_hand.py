@@ -1,4 +1,5 @@
 """Runs worked out by hand, with which the reference is compared. Each case is named for what it shows."""
+
 import time
 
 from bench.reference.network import Network
@@ -8,15 +9,15 @@ from bench.reference.report import sim_text, sweep_text
 # ---- plans
 
 
-def elements(*rows):
+def elements(*rows: str) -> str:
     return "".join(f"[[element]]\n{row}\n" for row in rows)
 
 
-def links(*rows):
+def links(*rows: str) -> str:
     return "".join(f"[[link]]\n{row}\n" for row in rows)
 
 
-def source(name, at, level, priority=1):
+def source(name: str, at: str, level: str, priority: int = 1) -> str:
     return f'[[source]]\nname = "{name}"\nat = "{at}"\nlevel = "{level}"\npriority = {priority}\n'
 
 
@@ -94,68 +95,68 @@ COMMANDS = """1000,level,S2,QL-DNU
 """
 
 
-def report(plan, events, until):
+def report(plan: str, events: str, until: int) -> str:
     plan = read_plan(plan)
     return sim_text(plan, read_events(plan, "at,what,target,value\n" + events), until)
 
 
-def changes(plan, events, until):
+def changes(plan: str, events: str, until: int) -> str:
     """The rows of changes of a report."""
     return report(plan, events, until).removeprefix("changes\n").partition("inputs\n")[0]
 
 
-def state(plan, events, until):
+def state(plan: str, events: str, until: int) -> str:
     """What follows the changes in a report."""
     text = report(plan, events, until)
     return text[text.index("inputs\n") :]
 
 
-def ends(plan, events, until, count):
+def ends(plan: str, events: str, until: int, count: int) -> str:
     """The last lines of a report."""
     return "".join(report(plan, events, until).splitlines(keepends=True)[-count:])
 
 
-def rows_of_changes(text):
+def rows_of_changes(text: str) -> int:
     """How many rows of changes a report has that is stopped."""
     return text.count("\n") - 2
 
 
-def taken_names(plan, t):
+def taken_names(plan: str, t: int) -> list[str | None]:
     """What the elements take at a millisecond in which nothing was told before."""
     plan = read_plan(plan)
     return [None if i is None else plan.input_name(i) for i in Network(plan, []).go_to(t).taken_at(t)]
 
 
-def hop_names(plan):
+def hop_names(plan: str) -> list[str]:
     """Each hop of a plan, as the names of its lines."""
     plan = read_plan(plan)
     lines = range(plan.lines)
     return [f"{plan.input_name(line)} {plan.input_name(m)}" for line in lines for m in lines if plan.hops(line, m)]
 
 
-def ranks(plan):
+def ranks(plan: str) -> dict[str, int] | None:
     """The least ranks of a plan by line, or none."""
     plan = read_plan(plan)
     least = plan.least_ranks()
     return least and {plan.input_name(line): rank for line, rank in least.items()}
 
 
-def swinging(last):
+def swinging(last: int) -> str:
     """The changes at a millisecond in which both elements of a pair lose each other."""
     return f"{last},A,auto,none,QL-SEC,holdover\n{last},B,auto,none,QL-SEC,holdover\n"
 
 
-def bound_of_ladder_of_200():
+def bound_of_ladder_of_200() -> int | None:
     return ladder(200).settling_bound(20000)
 
 
-def small_ladder_with_a_rail_down():
+def small_ladder_with_a_rail_down() -> str:
     plan = ladder(20)
     text = sim_text(plan, read_events(plan, "at,what,target,value\n3000,down,R10,\n"), 9000)
     return text.partition("inputs\n")[0].splitlines()[-1] + " " + text.splitlines()[-1]
 
 
-def ladder_with_its_first_step_down(count, at, until):
+def ladder_with_its_first_step_down(count: int, at: int, until: int) -> tuple[int, str, str]:
     """How many changes there are, the last one, and whether it is settled."""
     plan = ladder(count)
     text = sim_text(plan, read_events(plan, f"at,what,target,value\n{at},down,S1,\n"), until)
@@ -163,13 +164,13 @@ def ladder_with_its_first_step_down(count, at, until):
     return len(rows) - 1, rows[-1], text.splitlines()[-1]
 
 
-def small_ladder_swept():
+def small_ladder_swept() -> tuple[list[str], set[str]]:
     """Whether each row of a sweep is settled, and the bounds."""
     rows = [row.split(",") for row in sweep_text(ladder(6), 2000, 9000).splitlines()[1:]]
     return [row[1] for row in rows], {row[-1] for row in rows}
 
 
-def swept(plan, at, until):
+def swept(plan: str, at: int, until: int) -> str:
     return sweep_text(read_plan(plan), at, until)
 
 
@@ -195,8 +196,11 @@ CASES = [
         "changes\n"
         + CHAIN_CHANGES
         + "1300,A,auto,none,QL-SEC,holdover\n1310,B,auto,L1>B,QL-SEC,locked\n1320,C,auto,L2>C,QL-SEC,locked\n"
-        + CHAIN_END.replace("A,S,good,0", "A,S,restoring,299301").replace("A,0,source,S", "A,0,own,A")
-        .replace("B,1,source,S", "B,1,own,A").replace("C,2,source,S", "C,2,own,A").replace("yes", "no"),
+        + CHAIN_END.replace("A,S,good,0", "A,S,restoring,299301")
+        .replace("A,0,source,S", "A,0,own,A")
+        .replace("B,1,source,S", "B,1,own,A")
+        .replace("C,2,source,S", "C,2,own,A")
+        .replace("yes", "no"),
     ),
     (
         "wait-to-restore ends at 305000",
@@ -302,7 +306,8 @@ CASES = [
         "a bundle lets go at once, over both its links",
         report,
         (BUNDLE, "", 2),
-        "changes\n1,A,auto,L1>A,QL-SEC,locked\n1,B,auto,L1>B,QL-SEC,locked\n" + swinging(2)
+        "changes\n1,A,auto,L1>A,QL-SEC,locked\n1,B,auto,L1>B,QL-SEC,locked\n"
+        + swinging(2)
         + "inputs\nA,L1>A,good,0\nA,L2>A,good,0\nB,L1>B,good,0\nB,L2>B,good,0\n"
         + "traces\nA,0,own,A\nB,0,own,B\nloops\nsettled no\n",
     ),
@@ -328,7 +333,7 @@ CASES = [
 ]
 
 
-def compare():
+def compare() -> int:
     """How many cases differ; each of these is printed."""
     wrong = 0
     for shown, compute, given, expected in CASES:
