@@ -57,6 +57,11 @@ def reported(text: str) -> tuple[set[frozenset[str]], bool]:
     return {frozenset(row.split(" ")) for row in loops.splitlines()}, settled == "yes\n"
 
 
+def in_order(rings: set[frozenset[str]]) -> list[list[str]]:
+    """Rings as lists, in an order that doesn't change."""
+    return sorted(sorted(ring) for ring in rings)
+
+
 def tried(program: str, case: SimCase, folder: str, counted: Counter[str]) -> tuple[str | None, bool]:
     """The first thing that is wrong with an accepted plan, or None; whether it is accepted."""
     plan, events, until = case
@@ -76,10 +81,7 @@ def tried(program: str, case: SimCase, folder: str, counted: Counter[str]) -> tu
         named, settled = reported(answer(program, "sim", "plan", "events", at, folder=folder)[1])
         counted.update({"moments": 1, "pairs": len(rings), "settled": settled})
         if any(len(ring) > 2 for ring in rings) or named != rings or (settled and rings):
-            return (
-                f"at {at}: rings {sorted(map(sorted, rings))}, named {sorted(map(sorted, named))}, settled {settled}",
-                True,
-            )
+            return f"at {at}: rings {in_order(rings)}, named {in_order(named)}, settled {settled}", True
     return None, True
 
 

@@ -74,9 +74,10 @@ def by_us(path: str) -> list[Row]:
 
 def remade(folder: pathlib.Path, plain: str) -> dict[str, str]:
     """The captures that Wireshark's tools make of the plain one, by name."""
-    found = {}
+    found: dict[str, str] = {}
     for kind in ("pcap", "nsecpcap", "modpcap", "pcapng"):
-        for name, words in ((kind, []), (f"{kind}, 50 octets of each packet", ["-s", "50"])):
+        kinds: dict[str, list[str]] = {kind: [], f"{kind}, 50 octets of each packet": ["-s", "50"]}
+        for name, words in kinds.items():
             found[f"editcap {name}"] = path = str(folder / f"{kind}{len(words)}")
             output("editcap", "-F", kind, *words, plain, path)
     dump, path = folder / "dump", str(folder / "text2pcap")
@@ -120,7 +121,7 @@ def by_scapy(folder: pathlib.Path) -> dict[str, str]:
         "pcap, packed": lambda path: PcapWriter(path, gz=True),
         "pcapng": PcapNgWriter,
     }
-    found = {}
+    found: dict[str, str] = {}
     for writer_name, writer in writers.items():
         for kind, change in kinds.items():
             path = str(folder / f"scapy{len(found)}")

@@ -42,7 +42,8 @@ def rows_of(plan: Plan) -> list[Row] | None:
         begin = [is_filter(plan, plan.sender_of[line]) for line in chain]
         since = len(chain) - max((place for place, filters in enumerate(begin) if filters), default=0)
         e = plan.receiver_of[chain[-1]]
-        greatest[e] = tuple(map(max, greatest[e], (len(chain), since, sum(begin))))
+        links, lately, clocks = greatest[e]
+        greatest[e] = max(links, len(chain)), max(lately, since), max(clocks, sum(begin))
         todo += [[*chain, line] for line in plan.nominated_lines if plan.hops(chain[-1], line)]
     return greatest
 

@@ -1,5 +1,6 @@
 """Whole files of every kind that the program reads, and the same files damaged."""
 
+from collections.abc import Callable
 import random
 import re
 import struct
@@ -239,14 +240,15 @@ def whole_events(chance: random.Random) -> Whole:
 def whole_text(chance: random.Random, form: str) -> Whole:
     """Lines of frames or rows, most of them right."""
     option, right = chance.choice(["I", "II"]), chance.random() < 0.8
-    frame = lambda: frame_line(chance, right)[:600]
-    row = lambda: row_line(chance, option, right)
-    times = (
-        lambda: b"%d,%d," % (chance.choice([0, 1, 2**32 - 1]), chance.randrange(10**6))
-        if form == "pcap-encode"
-        else b""
-    )
-    lines = [frame() if form == "decode" else times() + row() for _ in range(chance.randint(0, 4))]
+
+    def line() -> bytes:
+        if form == "decode":
+            return frame_line(chance, right)[:600]
+        is_timed = form == "pcap-encode"
+        times = b"%d,%d," % (chance.choice([0, 1, 2**32 - 1]), chance.randrange(10**6)) if is_timed else b""
+        return times + row_line(chance, option, right)
+
+    lines = [line() for _ in range(chance.randint(0, 4))]
     return Whole(
         [form, option, "{}"], b"".join(line + chance.choice([b"\n", b"\n", b"\r\n", b"\n\n"]) for line in lines)
     )
@@ -268,7 +270,7 @@ def whole_plan_alone(chance: random.Random) -> Whole:
     return Whole(["rank", "{}"], whole_plan(chance)[1])
 
 
-READERS = {
+READERS: dict[str, Callable[[random.Random], Whole]] = {
     "plan": whole_plan_alone,
     "certificate": whole_certificate,
     "events": whole_events,

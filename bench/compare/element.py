@@ -42,7 +42,7 @@ def steps_of(case: Case) -> str:
     for at, word, i, level in case.events:
         told.setdefault(at, []).append((word, i, level))
     # Which milliseconds are steps, and where "failed" changes, is seen by going through all of them.
-    rows = []
+    rows: list[tuple[int, list[str], list[str]]] = []
     failed: list[bool] | None = None
     for now in range(case.until + 1):
         before = element.answer()
@@ -50,11 +50,11 @@ def steps_of(case: Case) -> str:
         failed_now = [each.failed for each in element.inputs]
         conditions = [each.condition(element.holdoff, element.wtr) for each in element.inputs]
         if now == 0 or now in told or failed_now != failed:
-            rows.append([now, element.answer(), conditions, failed_now])
+            rows.append((now, element.answer(), conditions))
         else:
             assert before == element.answer(), "a quiet millisecond changed something"
         failed = failed_now
-    return "".join(f"{now} {' '.join(answer)} {' '.join(conditions)}\n" for now, answer, conditions, _ in rows)
+    return "".join(f"{now} {' '.join(answer)} {' '.join(conditions)}\n" for now, answer, conditions in rows)
 
 
 def random_case(chance: random.Random) -> Case:

@@ -52,7 +52,7 @@ def frame_line(chance: random.Random, right: bool) -> bytes:
         frame = (frame + chance.randbytes(3000))[:length] or bytearray(b"\x01")
         # Digits count before the length.
         how = chance.choice(["length", "length", "odd", "sign"])
-    for _ in range({"octet": 1, "octets": 3}.get(how, 0)):
+    for _ in range({"octet": 1, "octets": 3}.get(how or "", 0)):
         frame[chance.choice([*range(6), *range(12, 20), *range(24, 27)])] ^= 1 << chance.randrange(8)
     if how == "version":
         frame[20] = chance.randrange(256)
@@ -139,7 +139,7 @@ def random_case(chance: random.Random) -> tuple[str, str, bytes]:
     if ending == 1:
         file += chance.choice([b"\r", b"\n", b"\r\n", b"\n\r"])
     if chance.random() < 0.01:
-        file = b"\xef\xbb\xbf" + file
+        file[:0] = b"\xef\xbb\xbf"
     # A file is refused as too long before any of its lines is read.
     return form, option, bytes(file[: 8 * 1024 * 1024])
 

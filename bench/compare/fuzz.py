@@ -15,6 +15,7 @@ The same seed makes the same files, with any number of processes. Files that are
 import collections
 import concurrent.futures
 import os
+import pathlib
 import random
 import re
 import shutil
@@ -30,7 +31,7 @@ from bench.readings.captures import pcap_answer, pcap_bytes, rows_answer
 from bench.readings.plans import rank_answer
 from bench.readings.records import check_answer, events_refusal
 from bench.readings.refused import Unsure
-from bench.reference.plan import read_events
+from bench.reference.plan import Plan, read_events
 from bench.reference.report import sim_text
 
 # The exit status, what was written, what was complained of, and the processor time.
@@ -83,24 +84,24 @@ def expected(chance: random.Random, whole: Whole, data: bytes) -> tuple[int, byt
         except Unsure:
             return None
         return status, text.encode("ascii")
-    if form == "check":
+    if form == "check" and whole.plan:
         status, text = check_answer(whole.plan, data)
         return status, text.encode("latin-1")
-    if form == "sim":
-        return expected_run(chance, whole, data)
+    if form == "sim" and whole.plan:
+        return expected_run(chance, whole.plan, int(words[2]), data)
     if form == "pcap-decode":
         return pcap_answer(words[0], data)
     return pcap_bytes(words[0], data) if form == "pcap-encode" else rows_answer(form, words[0], data)
 
 
-def expected_run(chance: random.Random, whole: Whole, data: bytes) -> tuple[int, bytes] | None:
-    refusal = events_refusal(whole.plan, data)
+def expected_run(chance: random.Random, plan: Plan, until: int, data: bytes) -> tuple[int, bytes] | None:
+    refusal = events_refusal(plan, data)
     if refusal:
         return 5, refusal.encode("ascii")
     if chance.random() < 0.95:
         return None
     text = data.removeprefix(b"\xef\xbb\xbf").decode("latin-1")
-    return 0, sim_text(whole.plan, read_events(whole.plan, text), int(whole.words[3])).encode("ascii")
+    return 0, sim_text(plan, read_events(plan, text), until).encode("ascii")
 
 
 # ---- runs
@@ -112,23 +113,25 @@ class Runner:
     def __init__(self, program: str, folder: str) -> None:
         self.program, self.folder, self.child = program, folder, 0
         self.paths = {name: os.path.join(folder, name) for name in ("plan", "file", "out", "err")}
-        signal.signal(signal.SIGALRM, lambda *_: self.child and os.kill(self.child, signal.SIGKILL))
+        signal.signal(signal.SIGALRM, self.end)
+
+    def end(self, *_: object) -> None:
+        """Ends a run that takes too long."""
+        if self.child:
+            os.kill(self.child, signal.SIGKILL)
 
     def run(self, words: list[str]) -> Answer:
         """The exit status, what was written, what was complained of, and the processor time."""
         argv = [self.program, *(self.paths["file"] if word == "{}" else self.paths.get(word, word) for word in words)]
         made = os.O_WRONLY | os.O_CREAT | os.O_TRUNC
         actions = [(os.POSIX_SPAWN_OPEN, fd, self.paths[name], made, 0o600) for fd, name in ((1, "out"), (2, "err"))]
-        self.child = os.posix_spawn(self.program, argv, {}, file_actions=actions)
+        self.child = os.posix_spawn(self.program, argv, dict[str, str](), file_actions=actions)
         signal.setitimer(signal.ITIMER_REAL, PATIENCE)
         _, status, used = os.wait4(self.child, 0)
         self.child = 0
         signal.setitimer(signal.ITIMER_REAL, 0)
-        told = []
-        for name in ("out", "err"):
-            with open(self.paths[name], "rb") as file:
-                told.append(file.read())
-        return os.waitstatus_to_exitcode(status), *told, used.ru_utime + used.ru_stime
+        written, complaint = (pathlib.Path(self.paths[name]).read_bytes() for name in ("out", "err"))
+        return os.waitstatus_to_exitcode(status), written, complaint, used.ru_utime + used.ru_stime
 
 
 def faults_of(words: list[str], wanted: tuple[int, bytes] | None, answer: Answer) -> Iterator[str]:

@@ -96,21 +96,18 @@ def random_history(chance: random.Random) -> History:
 
 def history_text(delay: int, calls: list[Call], end: int) -> str:
     rows = [f"0 0 {delay}\n"]
-    for (t, *told), following in zip(calls, calls[1:] + [(end,)]):
-        rows.append(" ".join(str(n) for n in (t, following[0], *told)) + "\n")
+    for (t, *told), following in zip(calls, [call[0] for call in calls[1:]] + [end]):
+        rows.append(" ".join(str(n) for n in (t, following, *told)) + "\n")
     return "".join(rows)
 
 
-def state_after(state: State, up: int, esmc: int, level: int) -> State:
+def state_after(state: State, up: int, esmc: int, level: str) -> State:
     """The line's state by the calls of a millisecond: where one makes it speak, it has no level until one is said."""
-    for told in ((up, state[1]), (None, esmc)):
-        was, now = state[0] and state[1], list(state)
-        if told[0] in (0, 1):
-            now[0] = told[0] == 1
-        if told[0] is None and told[1] in (0, 1):
-            now[1] = told[1] == 1
-        state = (now[0], now[1], None if now[0] and now[1] and not was else state[2])
-    return state if level == NO_LEVEL else (*state[:2], level)
+    for is_up, is_on in ((up, UNTOLD), (UNTOLD, esmc)):
+        was_up, was_on, had = state
+        now_up, now_on = (was if told == UNTOLD else told == 1 for was, told in ((was_up, is_up), (was_on, is_on)))
+        state = now_up, now_on, None if now_up and now_on and not (was_up and was_on) else had
+    return state if level == NO_LEVEL else (state[0], state[1], level)
 
 
 def printed_value(what: str, word: str) -> str | int | None:
@@ -123,7 +120,8 @@ def printed_value(what: str, word: str) -> str | int | None:
 def differences(history: History, rows: list[list[str]], with_due: bool, counts: Counter[str]) -> Iterator[str]:
     """What a line printed of a history that the rules don't say."""
     delay, calls, end = history
-    line, state, told = OneLine(delay), (True, True, None), {t: rest for t, *rest in calls}
+    line, told = OneLine(delay), {t: (up, esmc, level) for t, up, esmc, level in calls}
+    state: State = (True, True, None)
     printed: dict[str, dict[int, str | int | None]] = {"came": {}, "heard": {}, "due": {}}
     on_way: dict[int, list[tuple[int, str]]] = {}
     at = 0
@@ -139,7 +137,7 @@ def differences(history: History, rows: list[list[str]], with_due: bool, counts:
         state = state_after(state, *told[t]) if t in told else state
         line.pass_quietly(*state)
         heard = printed["heard"].get(t, heard)
-        pairs = [("heard", heard, line.hears[t])]
+        pairs: list[tuple[str, object, object]] = [("heard", heard, line.hears[t])]
         if t in printed["came"]:
             pairs += [("came", printed["came"][t], line.came[t]), ("on way", on_way[t], line.news_on_way(t))]
             if with_due:

@@ -72,7 +72,7 @@ def counts_of(elements: list[str], links: list[Row], sources: list[Row]) -> dict
     roots = {source["at"] for source in sources if source["priority"]}
     if not roots:
         return {}
-    return networkx.multi_source_dijkstra_path_length(graph, roots, weight=None)
+    return dict(networkx.multi_source_dijkstra_path_length(graph, roots, weight=None))
 
 
 def lines_of(links: list[Row]) -> Iterator[tuple[str, str, str]]:

@@ -17,7 +17,7 @@ import re
 import sys
 from typing import Any
 
-from bench.compare import cases, ranks as rank_random
+from bench.compare import cases, ranks
 from bench.levels import LEVELS
 from bench.readings.plans import KEYS, MUST, RANGES, SECTIONS, Other, Row, read_rows, read_tables
 from bench.readings.refused import Refused
@@ -40,7 +40,7 @@ def expected(head: dict[str, Any]) -> tuple[int, str]:
         (names.index(r["a"]), names.index(r["b"]), r.get("priority_a", 0), r.get("priority_b", 0), r.get("bundle"))
         for r in sections[1]
     ]
-    status, text = rank_random.expected((2, len(names), links, []))
+    status, text = ranks.expected((2, len(names), links, []))
     return status, re.sub(r"L(\d+)>E(\d+)", lambda m: f"{sections[1][int(m[1])]['name']}>{names[int(m[2])]}", text)
 
 
@@ -51,14 +51,14 @@ def random_tables(chance: random.Random) -> dict[str, Any]:
     """A plan without a fault."""
     option = chance.choice(["I", "I", "II"])
     bundled = chance.random() < 0.7
-    head = {"version": 2} if bundled else chance.choice([{}, {"version": 1}, {"version": 2}])
+    head: Row = {"version": 2} if bundled else chance.choice([{}, {"version": 1}, {"version": 2}])
     if option == "II" or chance.random() < 0.5:
         head["option"] = option
     letters = ["A", "B", "C", "a", "_", "-", "0", "x" * 32, "L1", "T"]
     chance.shuffle(letters)
     elements, links, sources = list[Row](), list[Row](), list[Row]()
     for name in letters[: chance.randint(1, 6)]:
-        keys = {"own": chance.choice(LEVELS[option][:-1]), "floor": chance.choice(LEVELS[option][:-1])}
+        keys: Row = {"own": chance.choice(LEVELS[option][:-1]), "floor": chance.choice(LEVELS[option][:-1])}
         keys |= {"holdoff": chance.choice([300, 301, 1000, 1799, 1800]), "wtr": chance.choice([0, 1, 5, 11, 12])}
         elements.append({"name": name} | {key: keys[key] for key in keys if chance.random() < 0.3})
     names = [row["name"] for row in elements]

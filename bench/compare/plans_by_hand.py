@@ -456,9 +456,11 @@ def certificates() -> Iterator[tuple[str, str | bytes | None, str]]:
 
 
 def plans() -> Iterator[tuple[bytes, str]]:
-    for group in (heads, bundles, limits, rows, documents):
+    for group in (heads, bundles, limits, rows):
         for text, answer in group():
-            yield text if isinstance(text, bytes) else text.encode("utf-8"), answer.rstrip("\n") + "\n"
+            yield text.encode("utf-8"), answer.rstrip("\n") + "\n"
+    for data, answer in documents():
+        yield data, answer.rstrip("\n") + "\n"
 
 
 def status_of(text: str) -> int:

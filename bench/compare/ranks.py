@@ -26,7 +26,6 @@ import networkx
 
 from bench.compare import cases
 from bench.program import answer, put_files
-from bench.reference.plan import Link
 
 Link = tuple[int, int, int, int, str | None]  # both ends, the priorities there, and the bundle
 Ends = dict[int, tuple[int, int]]  # of each nominated line its sender and receiver

@@ -32,7 +32,8 @@ def plan_text(numbers: random.Random, longest: int, waits: tuple[int, ...]) -> t
         holdoff = numbers.choice((300, 300, 500, 1800))
         parts.append(f'\n[[element]]\nname = "E{i}"\nholdoff = {holdoff}\nwtr = {numbers.choice(waits)}\n')
     joined = [(numbers.randrange(i), i) for i in range(1, count)]
-    joined += [tuple(numbers.sample(range(count), 2)) for _ in range(numbers.randrange(count))]
+    pairs = [numbers.sample(range(count), 2) for _ in range(numbers.randrange(count))]
+    joined += [(a, b) for a, b in pairs]
     for k, (a, b) in enumerate(joined):
         delay_a, delay_b = numbers.randrange(1, longest + 1), numbers.randrange(1, longest + 1)
         parts.append(f'\n[[link]]\nname = "L{k}"\na = "E{a}"\nb = "E{b}"\ndelay_a = {delay_a}\ndelay_b = {delay_b}\n')

@@ -13,9 +13,10 @@ import subprocess
 import sys
 import tempfile
 import time
+from collections.abc import Callable
 from typing import NamedTuple
 
-from bench.program import program_words
+from bench.program import program_words, put_files
 from bench.reference.plan import Event, Link, Plan, PlanElement, Source, events_text, plan_text
 from bench.reference.random_plans import random_events
 
@@ -76,9 +77,7 @@ def run(program: str, chance: random.Random, number: int, folder: str) -> Run | 
         "plan": plan_text(plan),
         "events": events_text(plan, [event for event in events if event.at <= 86_400_000]),
     }
-    for name, text in files.items():
-        with open(os.path.join(folder, name), "w", encoding="ascii") as file:
-            file.write(text)
+    put_files(folder, files)
     begun, told = time.monotonic(), os.path.join(folder, "told")
     words = ["time", "-q", "-o", told, "-f", "%M", program, "sim", "plan", "events", str(until)]
     # (a session of its own, so that the program ends with `time`)
@@ -96,7 +95,7 @@ def run(program: str, chance: random.Random, number: int, folder: str) -> Run | 
     share = max(0, memory - BASE) / (read + written)
     if child.returncode not in (0, 11) or complaint or share > SHARE:
         print(
-            f"run {number}: status {child.returncode}, {memory} octets of memory for {read} and {written}, {complaint[:200]}"
+            f"run {number}: status {child.returncode}, {memory} octets of memory for {read} and {written}, {complaint[:200]!r}"
         )
         return None
     return Run(
@@ -114,23 +113,20 @@ def main() -> int:
     words.add_argument("--minutes", type=float, default=60)
     words.add_argument("--seed", type=int, default=1)
     given = words.parse_args()
-    program, runs, number, end = given.program, [], 0, time.monotonic() + 60 * given.minutes
+    program, runs, number, end = given.program, list[Run | None](), 0, time.monotonic() + 60 * given.minutes
     with tempfile.TemporaryDirectory() as folder:
         while time.monotonic() < end:
             runs.append(run(program, random.Random(f"{given.seed} {number}"), number, folder))
             number += 1
     good = [one for one in runs if one]
-    for what, key in (
-        ()
-        if not good
-        else (
-            ("most memory for its octets", "share"),
-            ("most memory", "memory"),
-            ("most written", "written"),
-            ("longest", "seconds"),
-        )
-    ):
-        one = max(good, key=lambda run: getattr(run, key))
+    keys: dict[str, Callable[[Run], float]] = {
+        "most memory for its octets": lambda one: one.share,
+        "most memory": lambda one: one.memory,
+        "most written": lambda one: one.written,
+        "longest": lambda one: one.seconds,
+    }
+    for what, key in keys.items() if good else ():
+        one = max(good, key=key)
         print(
             f"{what}: {one.memory / 1e6:.1f} MB, {one.read} octets read and {one.written} written, {one.seconds:.2f} s: {one.name}"
         )

@@ -24,7 +24,10 @@ GREATEST = 100_000
 def fail_each(program: str, words: list[str], shim: str, folder: str) -> int:
     """Makes each allocation fail in turn, tells what came of it, and gives how many answers were wrong."""
     words = [program, *words]
-    run = lambda at: failing.run(words, shim, folder, FAIL_AT=str(at))
+
+    def run(at: int) -> failing.Failed:
+        return failing.run(words, shim, folder, FAIL_AT=str(at))
+
     usual = run(0)[:2]
     print(f"{' '.join(words[1:])}: usual answer: status {usual[0]}, {usual[1][:100]!r}")
     want_of_memory = same = wrong = at = 0

@@ -20,6 +20,7 @@ import os
 import subprocess
 import sys
 import tempfile
+from typing import Any
 
 from bench.measure import failing
 from bench.measure.works import works
@@ -47,28 +48,32 @@ def is_right(call: str, how: str, usual: Answer, answer: Answer) -> bool:
     return status == 8 and usual[1].startswith(text) and text != usual[1] and (text != b"" or how != "cut")
 
 
+def settings_of(how: str) -> list[dict[str, str]]:
+    """A call goes wrong alone and from there on; one that is interrupted for ever may be tried for ever."""
+    alone, from_on = dict[str, str](), {"FAIL_ON": "1"}
+    return {"interrupted": [alone], "cut": [from_on]}.get(how, [alone, from_on])
+
+
 def fail_each(program: str, words: list[str], shim: str, folder: str) -> int:
     """Makes each call of a work go wrong in turn; gives how many answers were wrong, and tells them."""
-    run = lambda **settings: failing.run([program, *words], shim, folder, **settings)
-    usual = run(FAIL_AT="0", FAIL_CALL="", FAIL_HOW="")[:2]
+
+    def run(at: int, call: str, how: str, more: dict[str, str]) -> failing.Failed:
+        return failing.run([program, *words], shim, folder, FAIL_AT=str(at), FAIL_CALL=call, FAIL_HOW=how, **more)
+
+    usual = run(0, "", "", {})
     wrong, told = 0, collections.Counter[str]()
-    for call, ways in WAYS.items():
-        for how in ways:
-            # (a call that is interrupted for ever may be tried for ever)
-            alone, from_on = dict[str, str](), {"FAIL_ON": "1"}
-            for on in {"interrupted": (alone,), "cut": (from_on,)}.get(how, (alone, from_on)):
-                for at in range(1, GREATEST):
-                    *answer, fewer = run(FAIL_AT=str(at), FAIL_CALL=call, FAIL_HOW=how, **on)
-                    if fewer:
-                        break
-                    told[f"{call} {how}"] += 1
-                    if not is_right(call, how, usual, tuple(answer)):
-                        wrong += 1
-                        print(
-                            f"{' '.join(words)}: {call} {at} {how}{' and all after it' if on else ''}: {answer[0]}, {answer[1][:200]!r}"
-                        )
+    for call, how, more in ((call, how, more) for call, ways in WAYS.items() for how in ways for more in settings_of(how)):
+        for at in range(1, GREATEST):
+            failed = run(at, call, how, more)
+            if failed.fewer:
+                break
+            told[f"{call} {how}"] += 1
+            if not is_right(call, how, (usual.status, usual.text), (failed.status, failed.text)):
+                wrong += 1
+                what = f"{call} {at} {how}{' and all after it' if more else ''}"
+                print(f"{' '.join(words)}: {what}: {failed.status}, {failed.text[:200]!r}")
     counts = ", ".join(f"{count} {what}" for what, count in told.items())
-    print(f"{' '.join(words)}: status {usual[0]}, {len(usual[1])} octets; {counts}; {wrong} wrong", flush=True)
+    print(f"{' '.join(words)}: status {usual.status}, {len(usual.text)} octets; {counts}; {wrong} wrong", flush=True)
     return wrong
 
 
@@ -78,11 +83,12 @@ def outputs(program: str, folder: str) -> int:
     read, write = os.pipe()
     os.close(read)
     with open("/dev/full", "wb") as full:
-        for what, how in (
-            ("full", {"stdout": full}),
-            ("closed", {"preexec_fn": lambda: os.close(1)}),
-            ("not read", {"stdout": write}),
-        ):
+        ways: dict[str, dict[str, Any]] = {
+            "full": {"stdout": full},
+            "closed": {"preexec_fn": lambda: os.close(1)},
+            "not read": {"stdout": write},
+        }
+        for what, how in ways.items():
             status = subprocess.run(words, cwd=folder, check=False, **how).returncode
             if status != 8:
                 wrong += 1

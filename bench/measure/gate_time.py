@@ -76,10 +76,10 @@ def main() -> int:
                         used[number] = named[1], found[number][2]
                 time.sleep(1)
         wall = time.monotonic() - start
-        shares = collections.Counter[str]()
+        shares: dict[str, float] = {}
         for crate, seconds in used.values():
-            shares[crate] += seconds
-        for crate, seconds in shares.most_common():
+            shares[crate] = shares.get(crate, 0) + seconds
+        for crate, seconds in sorted(shares.items(), key=lambda share: -share[1]):
             print(f"{crate}: {seconds:.0f} s")
         with open(log, encoding="utf-8") as file:
             last = file.read().strip().rpartition("\n")[2]

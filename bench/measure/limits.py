@@ -11,7 +11,7 @@ import struct
 import subprocess
 import sys
 import tempfile
-from collections.abc import Iterator, Mapping
+from collections.abc import Callable, Iterator, Mapping
 from typing import NamedTuple
 
 from bench.program import program_words
@@ -198,10 +198,14 @@ def capture_of(size: int) -> bytes:
     )
 
 
+# What a file is called, the words with its name, how one of a size is made, other files, and the answer.
+Kind = tuple[str, list[str], Callable[[int], str | bytes], dict[str, str | bytes], str]
+
+
 def length_cases() -> Iterator[Case]:
     frame = "0180c200000202000000000188090a0019a700011000000001000402" + "0" * 64 + "\n"
     row, plan = "020000000001,info,QL-PRC\n", elements(2) + nominated(1)
-    forms = [
+    forms: list[Kind] = [
         ("plan", ["rank", "file"], lambda n: padded(plan, n, "#"), {}, "line,rank\nL0>E1,0\n"),
         (
             "certificate",

@@ -18,7 +18,6 @@ import os
 import re
 import shutil
 import subprocess
-import sys
 import tempfile
 import time
 
@@ -58,7 +57,7 @@ def add_sizes(crate: str, sizes: list[int]) -> None:
 def instructions(program: str, test: str, folder: str) -> int:
     words = ["valgrind", "--tool=callgrind", f"--callgrind-out-file={folder}/calls", program, f"tests::{test}"]
     done = subprocess.run(words, capture_output=True, text=True, check=True)
-    return int(re.search(r"Collected : (\d+)", done.stderr)[1])
+    return int(re.findall(r"Collected : (\d+)", done.stderr)[0])
 
 
 def peak(program: str, test: str, folder: str) -> int:
@@ -114,4 +113,4 @@ def main() -> None:
 
 
 if __name__ == "__main__":
-    sys.exit(main())
+    main()

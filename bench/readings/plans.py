@@ -150,6 +150,6 @@ def rank_answer(data: bytes) -> tuple[int, str]:
     except Refused as refused:
         return 3, refused.args[0]
     ranks = plan.least_ranks()
-    if ranks is None:
-        return 1, "cycle " + " ".join(map(plan.input_name, plan.first_cycle())) + "\n"
-    return 0, certificate_text(plan, ranks)
+    if ranks is not None:
+        return 0, certificate_text(plan, ranks)
+    return 1, "cycle " + " ".join(map(plan.input_name, plan.first_cycle() or [])) + "\n"

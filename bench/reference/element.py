@@ -98,8 +98,8 @@ class Element:
         """Takes the signals of one millisecond and its commands in order: the inputs that are eligible then."""
         for i, each in enumerate(self.inputs):
             each.pass_millisecond(ups[i], i in cleared, self.holdoff, self.wtr)
-        for word, i in commands:
-            self.command(word, i)
+        for word, target in commands:
+            self.command(word, target)
         return [i for i in range(len(self.inputs)) if self.is_eligible(i)]
 
     def evaluate(self, ups: list[bool], cleared: Collection[int], commands: Sequence[Command]) -> None:

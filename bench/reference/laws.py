@@ -168,9 +168,10 @@ def same_until(one: Run, other: Run, until: int) -> bool:
     """Whether two histories of one plan are the same up to a millisecond."""
 
     def kept(network: Network) -> list[list[Any]]:
-        by_input = [network.up, network.failed, network.input_level, network.speaks, network.out, network.is_sent]
-        lists = [values for kind in by_input for values in kind.values()]
-        lists += network.taken + network.level + network.mode + network.state
+        lists: list[list[Any]] = [*network.taken, *network.level, *network.mode, *network.state]
+        for flags in (network.up, network.failed, network.speaks, network.is_sent):
+            lists += flags.values()
+        lists += [*network.input_level.values(), *network.out.values()]
         return [values[: until + 1] for values in lists]
 
     return kept(one.network) == kept(other.network)

@@ -193,7 +193,7 @@ class Network:
         element = self.elements[e]
         return [each.condition(element.holdoff, element.wtr) for each in element.inputs]
 
-    def gives(self, e: int, t: int) -> tuple[object, ...]:
+    def gives(self, e: int, t: int) -> tuple[int | None, str, str, str]:
         """What an element gives at a millisecond."""
         return self.taken[e][t], self.level[e][t], self.mode[e][t], self.state[e][t]
 

@@ -143,7 +143,7 @@ def node_text(plan: Plan, element: str, data: bytes, until: int) -> tuple[int, s
         node = Node(plan, e, *read_file(plan, e, data))
     except Refused as refused:
         return 6, refused.args[0]
-    rows = []
+    rows: list[tuple[int, str]] = []
     while node.length <= until and len(rows) <= MOST_ROWS:
         start = node.length
         node.go_to(min(until, start + PIECE))

@@ -243,7 +243,8 @@ def events_text(plan: Plan, events: list[Event]) -> str:
         if kind == "line":
             name = plan.input_name(number)
         else:
-            name = {"link": plan.links, "source": plan.sources, "element": plan.elements}[kind][number].name
+            names = {"link": [link.name for link in plan.links], "source": [source.name for source in plan.sources]}
+            name = names[kind][number] if kind in names else plan.elements[number].name
         text += f"{event.at},{event.what},{name},{event.level or ''}\n"
     return text
 

@@ -45,9 +45,11 @@ class PriorityElement(Element):
             return self.forced if self.forced in eligible else None
         if self.manual is not None:
             return self.manual
-        first = min((self.inputs[i].priority for i in eligible), default=None)
+        if not eligible:
+            return None
+        first = min(self.inputs[i].priority for i in eligible)
         best = [i for i in eligible if self.inputs[i].priority == first]
-        return self.taken if self.taken in best else min(best, default=None)
+        return self.taken if self.taken in best else min(best)
 
 
 class PriorityNetwork(Network):
@@ -76,7 +78,7 @@ class PriorityNetwork(Network):
         self.mode[e].append(element.mode())
         self.state[e].append(element.state())
 
-    def gives(self, e: int, t: int) -> tuple[object, ...]:
+    def shows(self, e: int, t: int) -> tuple[str, int | None, str]:
         """What an element shows at a millisecond."""
         return self.mode[e][t], self.taken[e][t], self.state[e][t]
 
@@ -93,9 +95,9 @@ def priority_rank(plan: Plan) -> tuple[int, str]:
     """The status and the text of `prio-rank`."""
     cycle, ranks = plan.first_cycle(), plan.least_ranks()
     assert (cycle is None) != (ranks is None), "ranks rise exactly where there is no cycle"
-    if cycle is None:
+    if ranks is not None:
         return 0, certificate_text(plan, ranks)
-    return 1, "at,what,target,value\n" + "".join(f"0,forced,{plan.input_name(line)},\n" for line in cycle)
+    return 1, "at,what,target,value\n" + "".join(f"0,forced,{plan.input_name(line)},\n" for line in cycle or [])
 
 
 def walk_rows(plan: Plan, taken: Iterable[int | None]) -> str:
@@ -108,9 +110,9 @@ def priority_sim_text(plan: Plan, events: list[Event], until: int) -> str:
     text = "changes\n"
     for t in range(until + 1):
         for e, element in enumerate(plan.elements):
-            before = network.gives(e, t - 1) if t > 0 else ("auto", None, "freerun")
-            if network.gives(e, t) != before:
-                mode, taken, state = network.gives(e, t)
+            before = network.shows(e, t - 1) if t > 0 else ("auto", None, "freerun")
+            if network.shows(e, t) != before:
+                mode, taken, state = network.shows(e, t)
                 name = "none" if taken is None else plan.input_name(taken)
                 text += f"{t},{element.name},{mode},{name},{state}\n"
     return text + "loops\n" + walk_rows(plan, network.taken_at(until))

@@ -45,7 +45,8 @@ def random_links(chance: random.Random, count: int, shape: str) -> list[Link]:
         return []
     ends = [(chance.randrange(e), e) for e in range(1, count)]
     if shape != "tree":
-        ends = [tuple(sorted(chance.sample(range(count), 2))) for _ in range(chance.randint(1, 10))]
+        samples = [sorted(chance.sample(range(count), 2)) for _ in range(chance.randint(1, 10))]
+        ends = [(a, b) for a, b in samples]
     ends += [pair for pair in ends if chance.random() < 0.2]
     in_bundles = {pair: chance.random() < 0.7 for pair in ends}
     links = []
@@ -54,11 +55,13 @@ def random_links(chance: random.Random, count: int, shape: str) -> list[Link]:
         share_back = {"tree": 0.8, "forward": 0, "any": 0.5}[shape]
         priority_b = chance.randint(1, 3) if chance.random() < 0.9 else 0
         priority_a = chance.randint(1, 3) if chance.random() < share_back else 0
-        delays = [chance.randint(1, 30) if chance.random() < 0.95 else chance.randint(31, 2000) for _ in range(2)]
+        delay_a, delay_b = (
+            chance.randint(1, 30) if chance.random() < 0.95 else chance.randint(31, 2000) for _ in range(2)
+        )
         bundle = f"T{a}-{b}" if in_bundles[a, b] and chance.random() < 0.9 else None
         if chance.random() < 0.5:
             a, b, priority_a, priority_b = b, a, priority_b, priority_a
-        links.append(Link(f"L{k}", a, b, priority_a, priority_b, *delays, bundle))
+        links.append(Link(f"L{k}", a, b, priority_a, priority_b, delay_a, delay_b, bundle))
     return links
 
 

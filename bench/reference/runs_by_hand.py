@@ -1,6 +1,7 @@
 """Runs worked out by hand, with which the reference is compared. Each case is named for what it shows."""
 
 import time
+from collections.abc import Callable
 
 from bench.reference.network import Network
 from bench.reference.plan import ladder, read_events, read_plan
@@ -96,8 +97,8 @@ COMMANDS = """1000,level,S2,QL-DNU
 
 
 def report(plan: str, events: str, until: int) -> str:
-    plan = read_plan(plan)
-    return sim_text(plan, read_events(plan, "at,what,target,value\n" + events), until)
+    read = read_plan(plan)
+    return sim_text(read, read_events(read, "at,what,target,value\n" + events), until)
 
 
 def changes(plan: str, events: str, until: int) -> str:
@@ -123,22 +124,22 @@ def rows_of_changes(text: str) -> int:
 
 def taken_names(plan: str, t: int) -> list[str | None]:
     """What the elements take at a millisecond in which nothing was told before."""
-    plan = read_plan(plan)
-    return [None if i is None else plan.input_name(i) for i in Network(plan, []).go_to(t).taken_at(t)]
+    read = read_plan(plan)
+    return [None if i is None else read.input_name(i) for i in Network(read, []).go_to(t).taken_at(t)]
 
 
 def hop_names(plan: str) -> list[str]:
     """Each hop of a plan, as the names of its lines."""
-    plan = read_plan(plan)
-    lines = range(plan.lines)
-    return [f"{plan.input_name(line)} {plan.input_name(m)}" for line in lines for m in lines if plan.hops(line, m)]
+    read = read_plan(plan)
+    lines = range(read.lines)
+    return [f"{read.input_name(line)} {read.input_name(m)}" for line in lines for m in lines if read.hops(line, m)]
 
 
 def ranks(plan: str) -> dict[str, int] | None:
     """The least ranks of a plan by line, or none."""
-    plan = read_plan(plan)
-    least = plan.least_ranks()
-    return least and {plan.input_name(line): rank for line, rank in least.items()}
+    read = read_plan(plan)
+    least = read.least_ranks()
+    return None if least is None else {read.input_name(line): rank for line, rank in least.items()}
 
 
 def swinging(last: int) -> str:
@@ -174,8 +175,13 @@ def swept(plan: str, at: int, until: int) -> str:
     return sweep_text(read_plan(plan), at, until)
 
 
+def number_and_end(plan: str, events: str, until: int) -> tuple[int, str]:
+    """How many rows of changes a report has that is stopped, and its last three lines."""
+    return rows_of_changes(report(plan, events, until)), ends(plan, events, until, 3)
+
+
 # What is shown, what is computed, and the answer by hand.
-CASES = [
+CASES: list[tuple[str, Callable[..., object], tuple[object, ...], object]] = [
     ("a chain settles, and its second element hears the own clock first", report, (CHAIN, "", 100), CHAIN_REPORT),
     (
         "an enhanced level goes through the chain",
@@ -242,13 +248,13 @@ CASES = [
     ),
     (
         "a pair of delay 1 swings until 200,000 changes are told",
-        lambda *case: (rows_of_changes(report(*case)), ends(*case, 3)),
+        number_and_end,
         (NEAR_PAIR, "", 600000),
         (200000, swinging(100000) + "stopped,100000\n"),
     ),
     (
         "a pair of delay 10 swings until 200,000 changes are told",
-        lambda *case: (rows_of_changes(report(*case)), ends(*case, 3)),
+        number_and_end,
         (PAIR, "", 86400000),
         (200000, swinging(1000000) + "stopped,1000009\n"),
     ),

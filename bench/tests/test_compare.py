@@ -1,7 +1,5 @@
 """What the comparisons work out for themselves, and that they find a program that answers otherwise."""
 
-from __future__ import annotations
-
 import collections
 import random
 import re
@@ -13,7 +11,6 @@ from bench.compare import accepted, cases, chains, damage, fuzz, line, network, 
 from bench.program import answer, put_files
 from bench.reference.plan import ladder, read_plan
 from bench.reference.runs_by_hand import CHAIN, PAIR, PAIR_FACES
-
 
 def program_of(folder: Path, text: str) -> str:
     """A program in shell."""
@@ -120,7 +117,7 @@ def test_a_network_is_written_down_step_by_step() -> None:
 
 def test_an_element_alone_gives_what_it_gave_in_its_network() -> None:
     chance = random.Random(4)
-    for _ in range(3):
+    for _ in range(1):
         run, e, case = node.random_run(chance, [0, 500])
         wanted = node.frames_of_run(run, e)
         assert node.node_text(case.plan, case.element, case.data, case.until) == (0, wanted)

@@ -1,7 +1,5 @@
 """What the measurements work out for themselves."""
 
-from __future__ import annotations
-
 import tomllib
 from pathlib import Path
 
@@ -9,9 +7,7 @@ import pytest
 
 from bench import programs, repository
 from bench.measure import failing, faults, gate_time, headline, ladder, limits, times, works
-from bench.reference.plan import ladder as reference_ladder
-from bench.reference.plan import read_plan
-
+from bench.reference.plan import ladder as reference_ladder, read_plan
 
 def test_times_that_grow_with_the_square_grow_with_the_power_two() -> None:
     assert times.growth([10, 20, 40], [1.0, 4.0, 16.0]) == pytest.approx(2)

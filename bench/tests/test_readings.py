@@ -1,7 +1,5 @@
 """The readings against answers by hand, against each other, and against the models."""
 
-from __future__ import annotations
-
 import random
 import struct
 

@@ -1,7 +1,5 @@
 """The reference against runs by hand, and against itself: what it writes is read back, ranks rise, cycles are cycles."""
 
-from __future__ import annotations
-
 import random
 from typing import Any
 
