@@ -18,6 +18,7 @@ from bench.compare.sim import SimCase, random_case
 from bench.program import answer, program_words, put_files
 from bench.reference.plan import Plan, events_text, plan_text, read_plan
 
+
 def senders_of(plan: Plan) -> dict[str, dict[str, str]]:
     """For each element its lines by name: the element at the other end."""
     senders: dict[str, dict[str, str]] = {element.name: {} for element in plan.elements}

@@ -8,6 +8,7 @@ from typing import NamedTuple
 
 from bench.program import octets, parser, path, put_files
 
+
 class Case(NamedTuple):
     """The words, with {} for the name of the file; the file; and the status and the octets that are expected."""
 

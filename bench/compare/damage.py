@@ -23,7 +23,6 @@ class Whole(NamedTuple):
     text: bytes | None = None
 
 
-
 # ---- damage
 
 NUMBERS = [

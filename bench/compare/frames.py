@@ -19,6 +19,7 @@ from bench.compare import cases
 from bench.levels import CODES, LEVELS, NOT_ENHANCED
 from bench.readings.frames import FIXED, expected, lines_of
 
+
 def mixed(chance: random.Random, text: str) -> str:
     """The digits in one case or in both."""
     how = chance.randrange(4)

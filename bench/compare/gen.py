@@ -12,6 +12,7 @@ from typing import Any
 from bench.measure.ladder import certificate_text, links_of
 from bench.program import answer, program_words, put_files
 
+
 def expected_ladder(count: int) -> dict[str, Any]:
     """The plan as a document, with every key."""
     return {

@@ -12,6 +12,7 @@ from bench.reference.plan import Link, Plan, PlanElement, Source
 from bench.reference.random_plans import random_plan
 from bench.reference.report import MOST_ROWS
 
+
 class Case(NamedTuple):
     """A plan, the name of an element or of none, the octets of a file (none where it isn't there), and UNTIL."""
 

@@ -21,6 +21,7 @@ from bench.reference.plan import Plan, certificate_text, events_text, plan_text,
 from bench.reference.priority import PriorityPlan, priority_check, priority_rank, priority_sim_text
 from bench.reference.random_plans import random_events, random_plan
 
+
 def random_ranks(chance: random.Random, plan: Plan) -> dict[int, int]:
     """Ranks of all nominated lines: any, or the least ones with some of them lowered."""
     least = plan.least_ranks()

@@ -51,7 +51,9 @@ def main() -> None:
                 print(f"{form:6}  {row(program, runs[program])}")
             if len(programs) == 2:
                 ratio = least(runs[programs[0]]) / least(runs[programs[1]])
-                print(f"{form:6}  ratio of least times {ratio:.2f}, texts {'equal' if texts[0] == texts[1] else 'DIFFER'}")
+                print(
+                    f"{form:6}  ratio of least times {ratio:.2f}, texts {'equal' if texts[0] == texts[1] else 'DIFFER'}"
+                )
 
 
 if __name__ == "__main__":

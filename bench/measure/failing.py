@@ -6,6 +6,7 @@ from typing import NamedTuple
 
 from bench.programs import FOLDER
 
+
 class Failed(NamedTuple):
     """Status and octets of a run, and whether it made fewer calls than the one that was to fail."""
 

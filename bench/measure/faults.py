@@ -62,7 +62,9 @@ def fail_each(program: str, words: list[str], shim: str, folder: str) -> int:
 
     usual = run(0, "", "", {})
     wrong, told = 0, collections.Counter[str]()
-    for call, how, more in ((call, how, more) for call, ways in WAYS.items() for how in ways for more in settings_of(how)):
+    for call, how, more in (
+        (call, how, more) for call, ways in WAYS.items() for how in ways for more in settings_of(how)
+    ):
         for at in range(1, GREATEST):
             failed = run(at, call, how, more)
             if failed.fewer:

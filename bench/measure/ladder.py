@@ -19,6 +19,7 @@ import tempfile
 from bench.measure.times import HEAD, growth, least, measure, row, run
 from bench.program import path, program_words, put_files
 
+
 def links_of(count: int) -> list[tuple[str, int, int, int]]:
     """The links of the ladder: name, end a, end b, priority of the line into b."""
     links = []

@@ -56,5 +56,7 @@ def row(program: str, runs: list[Run]) -> str:
 
 def growth(sizes: list[int], times: list[float]) -> float:
     """The power of the size with which times grow: the slope of the line that fits best on logarithmic paper."""
-    slope, _ = statistics.linear_regression([math.log(size) for size in sizes], [math.log(max(it, 1e-3)) for it in times])
+    slope, _ = statistics.linear_regression(
+        [math.log(size) for size in sizes], [math.log(max(it, 1e-3)) for it in times]
+    )
     return slope

@@ -5,6 +5,7 @@ import struct
 from bench.readings.frames import Wrong, expected, frame_of, lines_of, row_of
 from bench.readings.records import number_of
 
+
 def rows_answer(form: str, option: str, data: bytes) -> tuple[int, bytes]:
     """The status and the text of `decode` or `encode`."""
     status, text = expected(form, option, data)

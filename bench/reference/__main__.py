@@ -23,6 +23,7 @@ from bench.reference import laws, runs_by_hand
 from bench.reference.plan import read_events, read_plan
 from bench.reference.report import sim_text, sweep_text
 
+
 def read(path: str) -> str:
     with open(path, encoding="utf-8-sig", newline="") as file:
         return file.read()

@@ -41,7 +41,13 @@ class Element:
     """An element over time. `millisecond` or `evaluate` is called once for each millisecond from 0 on."""
 
     def __init__(
-        self, option: str, own: str, floor: str | None, holdoff: int, wtr: int, inputs: Sequence[tuple[int, str | None, object]],
+        self,
+        option: str,
+        own: str,
+        floor: str | None,
+        holdoff: int,
+        wtr: int,
+        inputs: Sequence[tuple[int, str | None, object]],
     ) -> None:
         self.places = {name: place for place, name in enumerate(LEVELS[option])}
         self.worst = LEVELS[option][-1]

@@ -7,6 +7,7 @@ from bench.reference.element import Command, Element
 from bench.reference.network import Network, closed_walks, last_said
 from bench.reference.plan import Event, Plan, certificate_text
 
+
 class PriorityPlan(Plan):
     """A plan whose elements have no quality levels: nothing keeps timing from going back over its own link."""
 

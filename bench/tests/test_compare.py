@@ -9,8 +9,10 @@ import pytest
 
 from bench.compare import accepted, cases, chains, damage, fuzz, line, network, node, node_pieces, nominate
 from bench.program import answer, put_files
+from bench.reference.node import node_text
 from bench.reference.plan import ladder, read_plan
 from bench.reference.runs_by_hand import CHAIN, PAIR, PAIR_FACES
+
 
 def program_of(folder: Path, text: str) -> str:
     """A program in shell."""
@@ -21,7 +23,7 @@ def program_of(folder: Path, text: str) -> str:
 
 
 def test_an_answer_has_the_status_and_each_octet(tmp_path: Path) -> None:
-    program = program_of(tmp_path, "printf '\\377%s' \"$(cat \"$1\")\"; exit 3")
+    program = program_of(tmp_path, 'printf \'\\377%s\' "$(cat "$1")"; exit 3')
     put_files(str(tmp_path), {"file": "ä"})
     assert answer(program, "file", folder=str(tmp_path)) == (3, "\xff\xc3\xa4")
 
@@ -120,7 +122,7 @@ def test_an_element_alone_gives_what_it_gave_in_its_network() -> None:
     for _ in range(1):
         run, e, case = node.random_run(chance, [0, 500])
         wanted = node.frames_of_run(run, e)
-        assert node.node_text(case.plan, case.element, case.data, case.until) == (0, wanted)
+        assert node_text(case.plan, case.element, case.data, case.until) == (0, wanted)
 
 
 @pytest.mark.parametrize("sizes, after", [([1], 7), ([3], 9), ([100], 10)])

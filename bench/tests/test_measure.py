@@ -9,6 +9,7 @@ from bench import programs, repository
 from bench.measure import failing, faults, gate_time, headline, ladder, limits, times, works
 from bench.reference.plan import ladder as reference_ladder, read_plan
 
+
 def test_times_that_grow_with_the_square_grow_with_the_power_two() -> None:
     assert times.growth([10, 20, 40], [1.0, 4.0, 16.0]) == pytest.approx(2)
     assert times.growth([10, 20], [0.0, 0.0]) == 0

@@ -1,5 +1,6 @@
 """The reference against runs by hand, and against itself: what it writes is read back, ranks rise, cycles are cycles."""
 
+import collections
 import random
 from typing import Any
 
@@ -90,6 +91,6 @@ def test_a_report_of_a_small_ladder() -> None:
 
 def test_a_law_is_contradicted_where_do_not_use_never_goes_back() -> None:
     plan, events, until = laws.plans_by_hand()[2]
-    counted = laws.collections.Counter[str]()
+    counted = collections.Counter[str]()
     assert not list(laws.loop_freedom(laws.Run(plan, events, until), counted))
     assert list(laws.loop_freedom(laws.Run(plan, events, until, laws.NeverSentBack), counted))
