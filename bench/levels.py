@@ -1,4 +1,5 @@
-"""The quality levels of both options, best first, each with its four-bit code and its enhanced code, after the standards.
+"""The quality levels of both options, best first, each with its four-bit code and its enhanced code, after the
+standards.
 
 0xFF is no enhanced code. The program's own tables aren't looked at.
 """

@@ -10,11 +10,18 @@ TOP = pathlib.Path(__file__).resolve().parent.parent  # of the repository
 WORKBENCH = TOP / "workbench" / "murdjohe"  # the command around the program
 
 
+def parts_of(doc: str) -> tuple[str, str]:
+    """The usage of a script's head, and the head without it."""
+    first, _, rest = doc.partition("usage: ")
+    usage, _, body = rest.partition("\n\n")
+    return usage.rstrip(), first + body
+
+
 def parser(doc: str | None) -> argparse.ArgumentParser:
     """A reader of a script's words, whose help is the script's head."""
-    return argparse.ArgumentParser(
-        description=doc, usage=argparse.SUPPRESS, formatter_class=argparse.RawDescriptionHelpFormatter
-    )
+    usage, head = parts_of(doc or "")
+    form = argparse.RawDescriptionHelpFormatter
+    return argparse.ArgumentParser(usage=usage.replace("%", "%%"), description=head, formatter_class=form)
 
 
 def path(name: str) -> str:

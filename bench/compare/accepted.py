@@ -2,10 +2,10 @@
 
 usage: python3 -m bench.compare.accepted PROGRAM [--plans N] [--seed N]
 
-A plan with events is run to its end. From the rows of its changes the selections of every millisecond are known, and from them,
-in a few lines here, the rings of elements that take timing from one another: none may have more than two elements. Then it is run
-again to each millisecond in which something changed: the part `loops` has to name just these rings, and none where the network is
-settled. It needs Python 3.11.
+A plan with events is run to its end. From the rows of its changes the selections of every millisecond are known,
+and from them, in a few lines here, the rings of elements that take timing from one another: none may have more than
+two elements. Then it is run again to each millisecond in which something changed: the part `loops` has to name just
+these rings, and none where the network is settled. It needs Python 3.11.
 """
 
 import collections
@@ -80,7 +80,7 @@ def tried(program: str, case: SimCase, folder: str, counted: Counter[str]) -> tu
     for at, taken in selections_of(text).items():
         rings = rings_of(senders, taken)
         named, settled = reported(answer(program, "sim", "plan", "events", at, folder=folder)[1])
-        counted.update({"moments": 1, "pairs": len(rings), "settled": settled})
+        counted.update({"moments": 1, "pairs": len(rings), "settled": int(settled)})
         if any(len(ring) > 2 for ring in rings) or named != rings or (settled and rings):
             return f"at {at}: rings {in_order(rings)}, named {in_order(named)}, settled {settled}", True
     return None, True
@@ -95,12 +95,12 @@ def main() -> int:
     while counted["accepted"] < given.plans:
         with tempfile.TemporaryDirectory() as folder:
             wrong, accepted = tried(given.program, random_case(chance, False), folder, counted)
-        counted.update({"accepted": accepted, "cyclic": not accepted, "wrong": wrong is not None})
+        counted.update({"accepted": int(accepted), "cyclic": int(not accepted), "wrong": int(wrong is not None)})
         if wrong:
             print(f"accepted plan {counted['accepted']}: {wrong}")
     print(
-        f"{counted['accepted']} accepted plans ({counted['cyclic']} others passed over), {counted['moments']} milliseconds with "
-        f"changes, of which {counted['settled']} settled; {counted['pairs']} facing pairs; {counted['wrong']} wrong"
+        f"{counted['accepted']} accepted plans ({counted['cyclic']} others passed over), {counted['moments']} milliseconds"
+        f" with changes, of which {counted['settled']} settled; {counted['pairs']} facing pairs; {counted['wrong']} wrong"
     )
     return 1 if counted["wrong"] else 0
 

@@ -2,13 +2,13 @@
 
 usage: python3 -m bench.compare.captures_by_tshark PROGRAM
 
-The captures are those of workbench/tests/captures_made.py, those that editcap, text2pcap and mergecap make of the plain one
-among them, and those that scapy writes, with the tags and cooked headers that it puts on. Time (to the nanosecond), source,
-event flag, both codes, clock and counts of each frame have to be the same. The codes of a level are those of the table below,
-and not the program's. Ends with status 1 where anything differs.
+The captures are those of workbench/tests/captures_made.py, those that editcap, text2pcap and mergecap make of the
+plain one among them, and those that scapy writes, with the tags and cooked headers that it puts on. Time (to the
+nanosecond), source, event flag, both codes, clock and counts of each frame have to be the same. The codes of a
+level are those of the table below, and not the program's. Ends with status 1 where anything differs.
 
-Wants tshark, editcap, text2pcap and mergecap, of Wireshark 4 (Debian: tshark), python3-scapy, python3-dpkt, python3-pytest
-and python3-hypothesis.
+Wants tshark, editcap, text2pcap and mergecap, of Wireshark 4 (Debian: tshark), python3-scapy, python3-dpkt,
+python3-pytest and python3-hypothesis.
 """
 
 import os

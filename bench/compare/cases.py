@@ -1,4 +1,5 @@
-"""What the scripts share that compare the program with cases of one file: their words, cases in a folder, the comparison."""
+"""What the scripts share that compare the program with cases of one file: their words, cases in a folder, the
+comparison."""
 
 import argparse
 import os

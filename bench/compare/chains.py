@@ -2,10 +2,10 @@
 
 usage: python3 -m bench.compare.chains PROGRAM [--plans N] [--runs N] [--seed N] [--keep FOLDER]
 
-All chains of a plan are tried one by one, so the plans are small: up to 8 elements, with bundles and both options. Of a
-plan with a cycle of hops the answer has to be that of `rank`. Of each other plan `sim` runs N lists of random events, 3
-without a number, each to a random millisecond: no trace that ends at a source or an own clock may have more lines than its
-element's row says, and how many elements came to as many is told. It needs Python 3.11.
+All chains of a plan are tried one by one, so the plans are small: up to 8 elements, with bundles and both options.
+Of a plan with a cycle of hops the answer has to be that of `rank`. Of each other plan `sim` runs N lists of random
+events, 3 without a number, each to a random millisecond: no trace that ends at a source or an own clock may have
+more lines than its element's row says, and how many elements came to as many is told. It needs Python 3.11.
 """
 
 import collections

@@ -15,7 +15,9 @@ EXAMPLES = TOP / "examples"
 
 
 class Whole(NamedTuple):
-    """A file to damage: the words with {} for its name, its octets, and the plan that it is read against with its text."""
+    """A file to damage: the words with {} for its name, its octets, and the plan that it is read against with its
+    text.
+    """
 
     words: list[str]
     data: bytes

@@ -2,11 +2,12 @@
 
 usage: python3 -m bench.compare.element [--histories N] [--seed N] [--keep FOLDER]
 
-For each of N random histories (300 where it isn't given) the reference says what an element gives at each of its steps:
-the input that is taken, the level, the mode, the state, when it is due, what is sent back on each input and each input's
-condition. A small program over the crate (bench/programs/element_histories.rt.txt), which is made in a temporary
-repository beside copies of the crates, steps an element at 0, where something is told and where it is due; it is run on
-the same histories by `rt try --cases`, which compares its texts with these. It wants the toolchain and Python 3.11.
+For each of N random histories (300 where it isn't given) the reference says what an element gives at each of its
+steps: the input that is taken, the level, the mode, the state, when it is due, what is sent back on each input and
+each input's condition. A small program over the crate (bench/programs/element_histories.rt.txt), which is made in a
+temporary repository beside copies of the crates, steps an element at 0, where something is told and where it is
+due; it is run on the same histories by `rt try --cases`, which compares its texts with these. It wants the
+toolchain and Python 3.11.
 """
 
 import os

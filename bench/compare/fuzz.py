@@ -2,13 +2,14 @@
 
 usage: python3 -m bench.compare.fuzz PROGRAM [--cases N] [--seed N] [--reader NAME ..] [--processes N] [--keep FOLDER]
 
-For each reader (plan, certificate, events, frames, rows, capture, timed-rows) N files, 5000 where it isn't given, are made of whole
-ones: bits are flipped, octets put in, left out and doubled, the file is cut, lines are swapped, doubled and left out, words of a file
-stand in place of others, and numbers at and past the limits in place of numbers. The program has to end by itself, with at most a
-second of processor time, write nothing to standard error, and answer what bench/readings gives for the file: a damaged plan is asked for
-its ranks, and one in twenty accepted event lists is run by the reference's rules too. Where Python's TOML reader refuses a document
-that a newer version of TOML may accept, only the form of the answer is looked at, as with event lists that aren't run.
-The same seed makes the same files, with any number of processes. Files that are answered otherwise are written to a folder with
+For each reader (plan, certificate, events, frames, rows, capture, timed-rows) N files, 5000 where it isn't given,
+are made of whole ones: bits are flipped, octets put in, left out and doubled, the file is cut, lines are swapped,
+doubled and left out, words of a file stand in place of others, and numbers at and past the limits in place of
+numbers. The program has to end by itself, with at most a second of processor time, write nothing to standard error,
+and answer what bench/readings gives for the file: a damaged plan is asked for its ranks, and one in twenty accepted
+event lists is run by the reference's rules too. Where Python's TOML reader refuses a document that a newer version
+of TOML may accept, only the form of the answer is looked at, as with event lists that aren't run. The same seed
+makes the same files, with any number of processes. Files that are answered otherwise are written to a folder with
 --keep. It needs Python 3.11 alone.
 """
 
@@ -162,6 +163,12 @@ def keep(top: str, name: str, whole: Whole, data: bytes, wanted: tuple[int, byte
     put_files(kept, texts | ({"plan": whole.text} if whole.text else {}))
 
 
+def shown(answer: Answer) -> str:
+    """An answer, in short."""
+    status, text, complaint, seconds = answer
+    return f"{(status, text[:200], complaint[:200], seconds)}"
+
+
 def work(
     program: str, seed: int, reader: str, block: int, count: int, top: str | None
 ) -> tuple[Counter[str], list[str]]:
@@ -183,9 +190,7 @@ def work(
             counted["form alone"] += wanted is None
             for fault in faults_of(whole.words, wanted, answer):
                 name = f"{reader}-{block * BLOCK + number}-{fault}"
-                faults.append(
-                    f"{name}: {' '.join(whole.words)}: {wanted} is expected, {(answer[0], answer[1][:200], answer[2][:200], answer[3])}"
-                )
+                faults.append(f"{name}: {' '.join(whole.words)}: {wanted} is expected, {shown(answer)}")
                 if top:
                     keep(top, name, whole, data, wanted, answer)
     return counted, faults

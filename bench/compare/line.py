@@ -2,13 +2,13 @@
 
 usage: python3 -m bench.compare.line [--histories N] [--dues N] [--seed N] [--keep FOLDER]
 
-For each of N random histories (1,000 where it isn't given) a small program over the crate (bench/programs/line_histories.rt.txt), made in a temporary
-repository beside copies of the crates and run by `rt try`, tells a line what happens, leaves out each millisecond in
-which nothing is told and nothing is due, and prints what the line gives. What is heard is compared in every
-millisecond, the gaps included, and at each call what arrives and which words are on their way, with the rules of
-bench/reference/network.py, which keeps every millisecond and looks back. In the first of them (100, or as many as `--dues`
-says) what is due is compared too: the reference goes on, with nothing told, until something happens. It wants the
-toolchain and Python 3.11.
+For each of N random histories (1,000 where it isn't given) a small program over the crate
+(bench/programs/line_histories.rt.txt), made in a temporary repository beside copies of the crates and run by `rt
+try`, tells a line what happens, leaves out each millisecond in which nothing is told and nothing is due, and prints
+what the line gives. What is heard is compared in every millisecond, the gaps included, and at each call what
+arrives and which words are on their way, with the rules of bench/reference/network.py, which keeps every
+millisecond and looks back. In the first of them (100, or as many as `--dues` says) what is due is compared too: the
+reference goes on, with nothing told, until something happens. It wants the toolchain and Python 3.11.
 """
 
 import collections

@@ -3,13 +3,14 @@
 usage: python3 -m bench.compare.network [--plans N] [--seed N] [--processes N] [--keep FOLDER]
 
 For each of N random plans (1,000 where it isn't given) the reference goes through every millisecond up to 20,000 at
-most, and now and then a minute more where a wait-to-restore time is a minute, and says what a network over it gives:
-at each step, which elements were evaluated, and what each of them gives, with the conditions of its inputs and its
-number of later steps; and from which millisecond on which level is heard on each nominated line. That nothing else
-changes between steps it sees by itself. A small program over the crate (bench/programs/network_steps.rt.txt), which is made in a
-temporary repository beside copies of the crates, steps a network through the same events, where one stands and where it is due, and now
-and then also where nothing happens; it asks for the level that is heard in every millisecond, and prints in the same
-form. `rt try --cases` runs it on each plan and compares. It wants the toolchain and Python 3.11.
+most, and now and then a minute more where a wait-to-restore time is a minute, and says what a network over it
+gives: at each step, which elements were evaluated, and what each of them gives, with the conditions of its inputs
+and its number of later steps; and from which millisecond on which level is heard on each nominated line. That
+nothing else changes between steps it sees by itself. A small program over the crate
+(bench/programs/network_steps.rt.txt), which is made in a temporary repository beside copies of the crates, steps a
+network through the same events, where one stands and where it is due, and now and then also where nothing happens;
+it asks for the level that is heard in every millisecond, and prints in the same form. `rt try --cases` runs it on
+each plan and compares. It wants the toolchain and Python 3.11.
 """
 
 import collections

@@ -4,22 +4,24 @@ usage: python3 -m bench.compare.node PROGRAM [--network] [--count N] [--seed N] 
        python3 -m bench.compare.node --pieces [--count N] [--seed N] [--keep FOLDER]
        python3 -m bench.compare.node --network [--count N] [--seed N]
 
-It compares a program that has the form `node`. Each of N cases (300 where it isn't given) is a plan of random_plans.py,
-an element of it, and a file of up to some sixty lines of every word: frames of every level and of none, every fault and
-command, some of them after UNTIL, and in every second file one line or two with something else in them, mostly wrong. A few
-name no element, some have a line of about the greatest length, and in one of fifty some 200,000 frames are sent. Status and
-text have to be the same. UNTIL goes up to 20000, and in one case of twenty up to 90000.
+It compares a program that has the form `node`. Each of N cases (300 where it isn't given) is a plan of
+random_plans.py, an element of it, and a file of up to some sixty lines of every word: frames of every level and of
+none, every fault and command, some of them after UNTIL, and in every second file one line or two with something
+else in them, mostly wrong. A few name no element, some have a line of about the greatest length, and in one of
+fifty some 200,000 frames are sent. Status and text have to be the same. UNTIL goes up to 20000, and in one case of
+twenty up to 90000.
 
-With --network each of N cases (20 where it isn't given) is a network's run: of a random plan and events the reference runs
-the network, and what reached one of its elements is made a file, frames for messages, in any order within a millisecond. The
-program has to write just the frames that the element's lines send in the network, nominated or not. Without PROGRAM the rules
-are compared with themselves: alone with the file the element has to send these frames too, and to take the same inputs in
-every millisecond, with the same levels, modes and states.
+With --network each of N cases (20 where it isn't given) is a network's run: of a random plan and events the
+reference runs the network, and what reached one of its elements is made a file, frames for messages, in any order
+within a millisecond. The program has to write just the frames that the element's lines send in the network,
+nominated or not. Without PROGRAM the rules are compared with themselves: alone with the file the element has to
+send these frames too, and to take the same inputs in every millisecond, with the same levels, modes and states.
 
-With --pieces a small program over the crate node_replay (bench/programs/node_pieces.rt.txt), which is made in a temporary repository beside copies of the crates,
-feeds each of N random files (60 where it isn't given) to a `Node` three times: a byte at a time or a few, in pieces of 1 to
-5,000 bytes, and whole. `rt try --cases` runs it, and compares the text each time, or the refusal and after how many bytes it
-came, with the rules. Texts of more than 300,000 octets are left out. It wants the toolchain.
+With --pieces a small program over the crate node_replay (bench/programs/node_pieces.rt.txt), which is made in a
+temporary repository beside copies of the crates, feeds each of N random files (60 where it isn't given) to a `Node`
+three times: a byte at a time or a few, in pieces of 1 to 5,000 bytes, and whole. `rt try --cases` runs it, and
+compares the text each time, or the refusal and after how many bytes it came, with the rules. Texts of more than
+300,000 octets are left out. It wants the toolchain.
 
 It needs Python 3.11.
 """
@@ -105,7 +107,9 @@ def compare(program: str, given: argparse.Namespace, cases: Iterator[tuple[Case,
 
 
 def names_told(plan: Plan, e: int, event: Event) -> list[str]:
-    """The targets of the lines that tell an element of an event: itself, its lines and sources; none where it isn't told."""
+    """The targets of the lines that tell an element of an event: itself, its lines and sources; none where it isn't
+    told.
+    """
     named = plan.named(event.target)
     out_of = [i for i in named if plan.is_line(i) and plan.sender_of[i] == e]
     if not plan.touches(event, e) and not (event.what in LINE_WORDS and out_of):

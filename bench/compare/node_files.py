@@ -1,4 +1,5 @@
-"""Random plans with an element and a file for it: lines of every word, right and wrong, and now and then very many frames."""
+"""Random plans with an element and a file for it: lines of every word, right and wrong, and now and then very many
+frames."""
 
 import random
 from typing import NamedTuple
@@ -48,7 +49,9 @@ def element_of(chance: random.Random, plan: Plan) -> int:
 
 
 def random_times(chance: random.Random, until: int) -> list[int]:
-    """Times of a file in order: many together, where a time just ends, or where levels are repeated; and some after UNTIL."""
+    """Times of a file in order: many together, where a time just ends, or where levels are repeated; and some after
+    UNTIL.
+    """
     times = [chance.randint(0, until) for _ in range(chance.choice([0, 1, 2, 5, 10, 20]))]
     offsets = [0, 0, 0, 1, 2, 299, 300, 301, 600, 999, 1000, 4998, 4999, 5000, 5001]
     for _ in range(2):
@@ -145,7 +148,9 @@ def random_case(chance: random.Random) -> Case:
 
 
 def many_frames(chance: random.Random) -> Case:
-    """An element with many lines out of it, whose source changes its level in every millisecond: about the most rows there may be."""
+    """An element with many lines out of it, whose source changes its level in every millisecond: about the most
+    rows there may be.
+    """
     count = chance.randint(100, 200)
     elements = [PlanElement(name, "QL-SEC", None, 300, 0) for name in ("E0", "E1")]
     links = [Link(f"L{k}", *chance.choice([(0, 1), (1, 0)]), 0, 0, 1, 1, None) for k in range(count)]

@@ -42,6 +42,8 @@ CHAIN = THREE + link("L1", "A", "B") + link("L2", "B", "C")
 CHAINED = "line,rank\nL1>B,0\nL2>C,1\n"
 ONE = "line,rank\nL1>B,0\n"
 LONG = "x" * 32
+FIRST = bundled("L1", "A", "B", "T")
+OTHER_ENDS = "bad plan 25 39 link 2"
 
 
 def heads() -> Iterator[tuple[str, str]]:
@@ -78,6 +80,10 @@ def heads() -> Iterator[tuple[str, str]]:
         yield f"option = {option}\n" + CHAIN, "bad plan 24 head 0"
     for option in ('"I"', '"II"', "'II'", '"""I"""', "'''\nII'''", '"\\u0049"', '"\\x49"', '"I\\u0049"'):
         yield f"option = {option}\n" + CHAIN, CHAINED
+
+
+def sections() -> Iterator[tuple[str, str]]:
+    """Plans whose sections are no lists of rows."""
     for key in ("element", "link", "source"):
         yield f"{key} = []\n", EMPTY
         for value in ("{}", "1", '"A"', "true", "1.5"):
@@ -94,8 +100,8 @@ def heads() -> Iterator[tuple[str, str]]:
     yield 'element = [{name = "A"}, {nam = "B"}, 3]\n', "bad plan 23 element 2"
 
 
-def bundles() -> Iterator[tuple[str, str]]:
-    """Plans with bundles."""
+def bundle_names() -> Iterator[tuple[str, str]]:
+    """Plans with bundles of every name and kind."""
     t = 'bundle = "T"\n'
     for head in ("", "version = 1\n"):
         yield head + TWO + bundled("L1", "A", "B", "T"), "bad plan 23 link 1"
@@ -115,11 +121,14 @@ def bundles() -> Iterator[tuple[str, str]]:
     for name in (LONG, "_", "-", "0", "L1", "A", "a-B_9", "\\u0054", "\\x54"):
         yield V2 + TWO + bundled("L1", "A", "B", name), ONE
     yield V2 + TWO + link("L1", "A", "B", "bundle = '''\nT'''\npriority_b = 1"), ONE
+
+
+def bundle_ends() -> Iterator[tuple[str, str]]:
+    """Bundles whose links join other elements."""
     # What is joined, in either direction; the letters' case tells names apart.
-    other = "bad plan 25 39 link 2"
     for a, b in (("A", "C"), ("C", "A"), ("B", "C"), ("C", "B")):
-        yield V2 + THREE + bundled("L1", "A", "B", "T") + bundled("L2", a, b, "T"), other
-        yield V2 + THREE + bundled("L1", "A", "B", "T", "") + bundled("L2", a, b, "T", ""), other
+        yield V2 + THREE + bundled("L1", "A", "B", "T") + bundled("L2", a, b, "T"), OTHER_ENDS
+        yield V2 + THREE + bundled("L1", "A", "B", "T", "") + bundled("L2", a, b, "T", ""), OTHER_ENDS
         yield V2 + THREE + bundled("L1", "A", "B", "T") + bundled("L2", a, b, "t", ""), ONE
         yield V2 + THREE + bundled("L1", "A", "B", "T") + link("L2", a, b, "") + bundled("L3", a, b, "T"), (
             "bad plan 25 39 link 3"
@@ -128,26 +137,33 @@ def bundles() -> Iterator[tuple[str, str]]:
             "bad plan 25 39 link 3"
         )
     yield V2 + THREE + bundled("L1", "A", "B", "T") + bundled("L2", "B", "A", "T"), "line,rank\nL1>B,0\nL2>A,0\n"
+
+
+def bundle_order() -> Iterator[tuple[str, str]]:
+    """Bundles in plans with other faults."""
     # The order of rules in one row: 16, 17, 18, 19, 20, 39, 15.
-    first = bundled("L1", "A", "B", "T")
-    yield V2 + THREE + first + bundled("L>", "A", "C", "T", "priority_a = 256"), "bad plan 25 16 link 2"
-    yield V2 + THREE + first + bundled("L1", "A", "C", "T", "priority_a = 256"), "bad plan 25 17 link 2"
-    yield V2 + THREE + first + bundled("L2", "A", "X", "T", "priority_a = 256"), "bad plan 25 18 link 2"
-    yield V2 + THREE + first + bundled("L2", "X", "A", "T>", "priority_a = 256"), "bad plan 25 18 link 2"
-    yield V2 + THREE + first + bundled("L2", "C", "C", "T", "priority_a = 256"), "bad plan 25 19 link 2"
+    yield V2 + THREE + FIRST + bundled("L>", "A", "C", "T", "priority_a = 256"), "bad plan 25 16 link 2"
+    yield V2 + THREE + FIRST + bundled("L1", "A", "C", "T", "priority_a = 256"), "bad plan 25 17 link 2"
+    yield V2 + THREE + FIRST + bundled("L2", "A", "X", "T", "priority_a = 256"), "bad plan 25 18 link 2"
+    yield V2 + THREE + FIRST + bundled("L2", "X", "A", "T>", "priority_a = 256"), "bad plan 25 18 link 2"
+    yield V2 + THREE + FIRST + bundled("L2", "C", "C", "T", "priority_a = 256"), "bad plan 25 19 link 2"
     for more in ("priority_a = 256", "priority_b = -1", "delay_a = 0", "delay_b = 2001"):
-        yield V2 + THREE + first + bundled("L2", "A", "C", "T", more), "bad plan 25 20 link 2"
+        yield V2 + THREE + FIRST + bundled("L2", "A", "C", "T", more), "bad plan 25 20 link 2"
         yield V2 + THREE + bundled("L1", "A", "B", "", more), "bad plan 25 20 link 1"
     # An earlier row comes first, whatever its rule; and after all keys and kinds.
-    yield V2 + THREE + first + bundled("L2", "A", "C", "T") + link("L1", "A", "B"), other
-    yield V2 + THREE + first + bundled("L2", "A", "C", "T") + link("L>", "A", "B"), other
-    yield V2 + THREE + first + link("L1", "A", "B") + bundled("L3", "A", "C", "T"), "bad plan 25 17 link 2"
-    yield V2 + THREE + first + bundled("L2", "A", "C", "T") + source("L1", "A"), other
+    yield V2 + THREE + FIRST + bundled("L2", "A", "C", "T") + link("L1", "A", "B"), OTHER_ENDS
+    yield V2 + THREE + FIRST + bundled("L2", "A", "C", "T") + link("L>", "A", "B"), OTHER_ENDS
+    yield V2 + THREE + FIRST + link("L1", "A", "B") + bundled("L3", "A", "C", "T"), "bad plan 25 17 link 2"
+    yield V2 + THREE + FIRST + bundled("L2", "A", "C", "T") + source("L1", "A"), OTHER_ENDS
     yield V2 + element("A", "holdoff = 299") + element("B") + bundled("L1", "A", "B", ""), "bad plan 25 20 element 1"
     yield V2 + TWO + bundled("L1", "A", "B", "") + link("L2", "A", "B", "bundle = 7"), "bad plan 24 link 2"
     yield V2 + TWO + bundled("L1", "A", "B", "") + source("S", "A", "priority = 1"), "bad plan 23 source 1"
     # A row that is refused counts as an earlier link for none after it.
     yield V2 + THREE + bundled("L1", "A", "X", "T") + bundled("L2", "A", "C", "T"), "bad plan 25 18 link 1"
+
+
+def bundle_hops() -> Iterator[tuple[str, str]]:
+    """Plans in which lines of bundles hop, or don't."""
     # Which lines hop.
     twin = [link(f"L{k}", "A", "B", BOTH) for k in (1, 2)]
     yield TWO + twin[0] + twin[1], "cycle L1>B L2>A"
@@ -163,11 +179,11 @@ def bundles() -> Iterator[tuple[str, str]]:
     yield V2 + TWO + names[0] + link("L2", "B", "A", "") + bundled("L3", "B", "A", "T"), (
         "line,rank\nL1>B,0\nL1>A,0\nL3>A,0\n"
     )
-    yield V2 + THREE + first + link("L2", "B", "C") + bundled("L3", "B", "A", "T"), (
+    yield V2 + THREE + FIRST + link("L2", "B", "C") + bundled("L3", "B", "A", "T"), (
         "line,rank\nL1>B,0\nL2>C,1\nL3>A,0\n"
     )
-    yield V2 + THREE + first + bundled("L2", "B", "C", "U") + bundled("L3", "C", "A", "V"), "cycle L1>B L2>C L3>A"
-    yield V2 + THREE + first + bundled("L2", "C", "B", "U", BOTH) + bundled("L3", "A", "B", "T", BOTH), (
+    yield V2 + THREE + FIRST + bundled("L2", "B", "C", "U") + bundled("L3", "C", "A", "V"), "cycle L1>B L2>C L3>A"
+    yield V2 + THREE + FIRST + bundled("L2", "C", "B", "U", BOTH) + bundled("L3", "A", "B", "T", BOTH), (
         "line,rank\nL1>B,0\nL2>B,0\nL2>C,1\nL3>B,0\nL3>A,1\n"
     )
 
@@ -214,7 +230,7 @@ def limits() -> Iterator[tuple[str, str]]:
 
 
 def rows() -> Iterator[tuple[str, str]]:
-    """Rows of elements, links and sources, and the order of the rules."""
+    """Names and numbers of elements."""
     for name in ("", "x" * 33, "A>", "A B", "A.B", "ä", " A", "A,B", "A\\u0000", "\\u202E"):
         yield element(name), "bad plan 25 16 element 1"
         yield TWO + link(name, "A", "B"), "bad plan 25 16 link 1"
@@ -233,6 +249,10 @@ def rows() -> Iterator[tuple[str, str]]:
     yield element("A", "wtr = -0"), EMPTY
     for value in ("0300", "3__00", "300_", "1e", "0b2", "0o8", "0xg", "9223372036854775808", "-9223372036854775809"):
         yield element("A", f"holdoff = {value}"), "bad plan 22"
+
+
+def levels() -> Iterator[tuple[str, str]]:
+    """Rows with levels of both options."""
     own = {
         "I": "ePRTC PRTC ePRC PRC SSU-A SSU-B eEEC SEC".split(),
         "II": "ePRTC PRTC ePRC PRS STU ST2 TNC ST3E eEEC ST3 SMC PROV".split(),
@@ -256,6 +276,10 @@ def rows() -> Iterator[tuple[str, str]]:
     for key in ("own", "floor"):
         for value in ("7", "true", "[]", '["QL-PRC"]'):
             yield element("A", f"{key} = {value}"), "bad plan 24 element 1"
+
+
+def line_numbers() -> Iterator[tuple[str, str]]:
+    """Links and sources with numbers at their limits and past them."""
     for key, low, high in (("priority", 0, 255), ("delay", 1, 2000)):
         for end in "ab":
             for number in (low, high):
@@ -266,6 +290,10 @@ def rows() -> Iterator[tuple[str, str]]:
             yield TWO + link("L1", "A", "B", f"{key}_{end} = 1.0"), "bad plan 24 link 1"
     for number in (-1, 256):
         yield TWO + source("S", "A", f'level = "QL-PRC"\npriority = {number}'), "bad plan 25 20 source 1"
+
+
+def row_order() -> Iterator[tuple[str, str]]:
+    """Rows with several faults: the order of the rules."""
     # One row: the order of its rules.
     bad = 'holdoff = 1\nown = "QL-X"'
     yield element("A") + element("A", bad), "bad plan 25 17 element 2"
@@ -318,6 +346,11 @@ def documents() -> Iterator[tuple[bytes, str]]:
     yield chain + b"# \xed\xa0\x80\n", "bad plan 22"
     yield chain + b"# \xc0\x80\n", "bad plan 22"
     yield chain + b"# \x7f\n", "bad plan 22"
+
+
+def headers_and_texts() -> Iterator[tuple[bytes, str]]:
+    """Headers, keys and texts in every spelling."""
+    chain = CHAIN.encode("ascii")
     yield chain + b"[[elem", "bad plan 22"
     yield chain + b"[[element]]", "bad plan 23 element 4"
     yield chain + b"[element]\n", "bad plan 22"
@@ -346,6 +379,11 @@ def documents() -> Iterator[tuple[bytes, str]]:
     yield chain + b'[[element]]\nname = "\\u41"\n', "bad plan 22"
     yield chain + b"[[element]]\n'na\\u006De' = 'D'\n", "bad plan 23 element 4"
     yield chain + b"[[element]]\n\"na\\u006De\" = 'D'\n", CHAINED
+
+
+def tables() -> Iterator[tuple[bytes, str]]:
+    """Dotted keys, tables in tables, and inline tables."""
+    chain = CHAIN.encode("ascii")
     # Dotted keys and tables in tables are values of another kind, or unknown keys.
     yield chain + b"[[element]]\nname.x = 'D'\n", "bad plan 24 element 4"
     yield chain + b"[[element]]\nname = 'D'\nname.x = 'D'\n", "bad plan 22"
@@ -371,6 +409,10 @@ def documents() -> Iterator[tuple[bytes, str]]:
     yield inline + links + b"\nversion = 2", CHAINED
     yield inline + links + b"\nversion = 3", "bad plan 24 head 0"
     yield inline.replace(b"\n", b" ") + links, "bad plan 22"
+
+
+def no_documents() -> Iterator[tuple[bytes, str]]:
+    """What is no document, or a deep one."""
     yield b"{element = []}", "bad plan 22"
     yield b"= 1", "bad plan 22"
     yield b"version", "bad plan 22"
@@ -384,8 +426,8 @@ def documents() -> Iterator[tuple[bytes, str]]:
     yield b"element = [] # [\nsource = [ # ]\n]\n", EMPTY
 
 
-def certificates() -> Iterator[tuple[str, str | bytes | None, str]]:
-    """Plans, certificates, and what `check` has to answer."""
+def bundle_certificates() -> Iterator[tuple[str, str | bytes | None, str]]:
+    """Plans with bundles, certificates, and what `check` has to answer."""
     twin = TWO + link("L1", "A", "B", BOTH) + link("L2", "A", "B", BOTH)
     same = V2 + TWO + "".join(bundled(f"L{k}", "A", "B", "T", BOTH) for k in (1, 2))
     zeros = "line,rank\nL1>B,0\nL1>A,0\nL2>B,0\nL2>A,0\n"
@@ -415,6 +457,10 @@ def certificates() -> Iterator[tuple[str, str | bytes | None, str]]:
     yield V2 + CHAIN, "line,rank\nL1>,0\n", "bad certificate 36 1"
     yield V2 + CHAIN, "line,rank\nL1>B>B,0\n", "bad certificate 36 1"
     yield V2 + CHAIN, "line,rank\nL1,0\n", "bad certificate 36 1"
+
+
+def records() -> Iterator[tuple[str, str | bytes | None, str]]:
+    """Certificates in every spelling of records."""
     # How records are read.
     for text in (
         "line,rank\rL1>B,0\rL2>C,1\r",
@@ -441,6 +487,10 @@ def certificates() -> Iterator[tuple[str, str | bytes | None, str]]:
     yield CHAIN, b"line,rank\nL1>B,0\nL2>\xff,1\n", "bad certificate 36 2"
     yield CHAIN, '"line\n",rank\n', "bad certificate 34"
     yield CHAIN, 'line,rank\n"L1>B\n",0\nL2>C,1\n', "bad certificate 36 1"
+
+
+def certificate_order() -> Iterator[tuple[str, str | bytes | None, str]]:
+    """Certificates with several faults, missing ones, and long files."""
     # Rows in their order; in a row its fields, its line and an earlier row; a line without a row last.
     yield CHAIN, "line,rank\nL9>B,0\nL1>B,x\n", "bad certificate 36 1"
     yield CHAIN, "line,rank\nL1>B,0\nL9>B,0\nL1>B,0\n", "bad certificate 36 2"
@@ -455,12 +505,26 @@ def certificates() -> Iterator[tuple[str, str | bytes | None, str]]:
     yield V2 + CHAIN, "x" * 8_388_609, "too long"
 
 
+TEXTS = (
+    *(heads, sections, bundle_names, bundle_ends, bundle_order, bundle_hops),
+    *(limits, rows, levels, line_numbers, row_order),
+)
+OCTETS = (documents, headers_and_texts, tables, no_documents)
+
+
+def certificates() -> Iterator[tuple[str, str | bytes | None, str]]:
+    """Plans, certificates, and what `check` has to answer."""
+    for group in (bundle_certificates, records, certificate_order):
+        yield from group()
+
+
 def plans() -> Iterator[tuple[bytes, str]]:
-    for group in (heads, bundles, limits, rows):
-        for text, answer in group():
+    for texts in TEXTS:
+        for text, answer in texts():
             yield text.encode("utf-8"), answer.rstrip("\n") + "\n"
-    for data, answer in documents():
-        yield data, answer.rstrip("\n") + "\n"
+    for octets in OCTETS:
+        for data, answer in octets():
+            yield data, answer.rstrip("\n") + "\n"
 
 
 def status_of(text: str) -> int:

@@ -2,12 +2,12 @@
 
 usage: python3 -m bench.compare.priority PROGRAM [--plans N] [--seed N] [--keep FOLDER]
 
-Of each plan: what `prio-rank` prints, least ranks or the forced switches of the first loop; what `prio-check` says of
-random ranks, and of those that `prio-rank` prints; the whole report of `prio-sim` under up to 40 random events of
-every word. Where `prio-rank` prints events, `prio-sim` is run under them until 0, and its report has to have the
-loop; where it prints ranks, no report may have one. The plans are those of bench/reference/random_plans.py: up to 8 elements,
-bundles, both options, floors, delays. How many of them have no loop for elements with quality levels is counted as
-well. It needs Python 3.11.
+Of each plan: what `prio-rank` prints, least ranks or the forced switches of the first loop; what `prio-check` says
+of random ranks, and of those that `prio-rank` prints; the whole report of `prio-sim` under up to 40 random events
+of every word. Where `prio-rank` prints events, `prio-sim` is run under them until 0, and its report has to have the
+loop; where it prints ranks, no report may have one. The plans are those of bench/reference/random_plans.py: up to 8
+elements, bundles, both options, floors, delays. How many of them have no loop for elements with quality levels is
+counted as well. It needs Python 3.11.
 """
 
 import collections

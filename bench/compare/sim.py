@@ -3,8 +3,8 @@
 usage: python3 -m bench.compare.sim PROGRAM [--plans N] [--seed N] [--sweep] [--long] [--keep FOLDER]
 
 The plans have up to 8 elements, with bundles, both options and enhanced levels, and up to 40 events of every word.
-With --sweep the tables of `sweep` are compared. With --long wait-to-restore times are up to ten minutes and runs go up to
-700000, for which the reference takes a minute each. It needs Python 3.11.
+With --sweep the tables of `sweep` are compared. With --long wait-to-restore times are up to ten minutes and runs go
+up to 700000, for which the reference takes a minute each. It needs Python 3.11.
 """
 
 import collections
@@ -66,7 +66,7 @@ def main() -> int:
             expected, words_given = expected_and_words(given.form, case, folder)
             answered = answer(given.program, *words_given, folder=folder)
             stopped = "stopped," in expected
-            counted.update({"lines": expected.count("\n"), "stopped": stopped})
+            counted.update({"lines": expected.count("\n"), "stopped": int(stopped)})
             if answered != (11 if stopped else 0, expected):
                 counted["differ"] += 1
                 print(f"plan {number}, {words_given}: status {answered[0]}")

@@ -2,8 +2,9 @@
 
 usage: python3 -m bench.measure.endurance PROGRAM [--minutes N] [--seed N]
 
-The peak of memory has to stay within 8 MB and 60 octets for each octet that is read or written; each run has to end with status 0, or
-11 where it is stopped, within a minute. It tells the runs that come nearest. It needs Python 3.11 and GNU time (Debian: time).
+The peak of memory has to stay within 8 MB and 60 octets for each octet that is read or written; each run has to end
+with status 0, or 11 where it is stopped, within a minute. It tells the runs that come nearest. It needs Python 3.11
+and GNU time (Debian: time).
 """
 
 import os
@@ -94,9 +95,8 @@ def run(program: str, chance: random.Random, number: int, folder: str) -> Run | 
     read, written = sum(map(len, files.values())), len(text)
     share = max(0, memory - BASE) / (read + written)
     if child.returncode not in (0, 11) or complaint or share > SHARE:
-        print(
-            f"run {number}: status {child.returncode}, {memory} octets of memory for {read} and {written}, {complaint[:200]!r}"
-        )
+        told_of = f"status {child.returncode}, {memory} octets of memory for {read} and {written}"
+        print(f"run {number}: {told_of}, {complaint[:200]!r}")
         return None
     return Run(
         share,
@@ -127,9 +127,8 @@ def main() -> int:
     }
     for what, key in keys.items() if good else ():
         one = max(good, key=key)
-        print(
-            f"{what}: {one.memory / 1e6:.1f} MB, {one.read} octets read and {one.written} written, {one.seconds:.2f} s: {one.name}"
-        )
+        octets = f"{one.read} octets read and {one.written} written"
+        print(f"{what}: {one.memory / 1e6:.1f} MB, {octets}, {one.seconds:.2f} s: {one.name}")
     print(f"{number} runs, {number - len(good)} wrong")
     return 1 if len(good) < number else 0
 

@@ -1,4 +1,5 @@
-"""What the scripts share that make calls of the program fail: a library that is loaded before the C library, and runs over it."""
+"""What the scripts share that make calls of the program fail: a library that is loaded before the C library, and runs
+over it."""
 
 import os
 import subprocess
@@ -8,10 +9,11 @@ from bench.programs import FOLDER
 
 
 class Failed(NamedTuple):
-    """Status and octets of a run, and whether it made fewer calls than the one that was to fail."""
+    """Status, octets and complaint of a run, and whether it made fewer calls than the one that was to fail."""
 
     status: int
     text: bytes
+    complaint: bytes
     fewer: bool
 
 
@@ -30,4 +32,4 @@ def run(words: list[str], shim: str, folder: str | None, **settings: str) -> Fai
     os.close(write)
     fewer = os.read(read, 8) == b"end"
     os.close(read)
-    return Failed(done.returncode, done.stdout or done.stderr, fewer)
+    return Failed(done.returncode, done.stdout, done.stderr, fewer)

@@ -2,10 +2,11 @@
 
 usage: python3 -m bench.measure.failing_allocations PROGRAM [WORD..]
 
-PROGRAM is run with the words, or, where none are given, with those of each work of bench/measure/works.py, once for N = 1, 2, .. until a run makes
-fewer than N allocations; in run N the N-th call of malloc, calloc, realloc or aligned_alloc gives no memory, and every later one
-does. Each run has to end with status 10 and nothing written, or with the status and the text of a run in which none fails. After
-100,000 runs it gives up with an error. Needs a C compiler.
+PROGRAM is run with the words, or, where none are given, with those of each work of bench/measure/works.py, once for
+N = 1, 2, .. until a run makes fewer than N allocations; in run N the N-th call of malloc, calloc, realloc or
+aligned_alloc gives no memory, and every later one does. Each run has to end with status 10 and nothing written, or
+with the status and the text of a run in which none fails. After 100,000 runs it gives up with an error. Needs a C
+compiler.
 """
 
 import argparse
@@ -35,7 +36,7 @@ def fail_each(program: str, words: list[str], shim: str, folder: str) -> int:
         at += 1
         if at > GREATEST:
             sys.exit(f"more than {GREATEST} allocations")
-        status, text, fewer = run(at)
+        status, text, _, fewer = run(at)
         if fewer:
             break
         if (status, text) == (10, b""):

@@ -1,18 +1,22 @@
-"""Makes each open, read and write of a run fail in turn, or do less than was asked, and looks at what the program answers.
+"""Makes each open, read and write of a run fail in turn, or do less than was asked, and looks at what the program
+answers.
 
 usage: python3 -m bench.measure.faults PROGRAM
 
-Each work of bench/measure/works.py is run once for each call that it makes and each way in which that may go wrong, alone and from there on:
+Each work of bench/measure/works.py is run once for each call that it makes and each way in which that may go wrong,
+alone and from there on:
 
-  a file that can't be opened, a read that fails, one that is interrupted   `read fault` with status 7, or, interrupted, the usual answer
-  a read that gives one octet, and then fails                               the same, or, at the end of a file, the usual answer
-  a read that gives one octet                                               the usual answer
-  a write that fails, takes nothing, or is interrupted                      status 8 and a front of the text, or, interrupted, the usual answer
-  a write that takes half, and then fails                                   the same
-  a write that takes one octet, or half                                     the usual answer
+- a file that can't be opened, a read that fails, one that is interrupted: `read fault` with status 7, or, interrupted,
+  the usual answer
+- a read that gives one octet, and then fails: the same, or, at the end of a file, the usual answer
+- a read that gives one octet: the usual answer
+- a write that fails, takes nothing, or is interrupted: status 8 and a front of the text, or, interrupted, the usual
+  answer
+- a write that takes half, and then fails: the same
+- a write that takes one octet, or half: the usual answer
 
-Nothing else may be answered, and the front is what the writes before had taken. Then the output is full, closed, and a pipe that
-nobody reads. Needs a C compiler and Linux.
+Nothing else may be answered, and the front is what the writes before had taken. Then the output is full, closed,
+and a pipe that nobody reads. Needs a C compiler and Linux.
 """
 
 import collections

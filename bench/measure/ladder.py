@@ -1,6 +1,7 @@
 """Times `check` on the ladder plan and its certificate, and compares it with another program.
 
-usage: python3 -m bench.measure.ladder PROGRAM [OTHER] [--repeats N] [--elements N[,N..]] [--all-keys] [--form check|rank|gen]
+usage: python3 -m bench.measure.ladder PROGRAM [OTHER] [--repeats N] [--elements N[,N..]] [--all-keys]
+           [--form check|rank|gen]
 
 The ladder of N elements has a link from each element to the next and to the one after that, 2N - 3 links
 in all; the certificate ranks each nominated line by the longest chain of hops that ends in it. With --all-keys

@@ -2,8 +2,9 @@
 
 usage: python3 -m bench.measure.limits PROGRAM [--only WORD]
 
-Each case has its answer, or how that begins and ends, worked out by hand. A line of a Markdown table is printed for each: processor
-time and peak memory, by GNU time (Debian: time). --only takes the cases in whose names the word stands. It needs Python 3.11.
+Each case has its answer, or how that begins and ends, worked out by hand. A line of a Markdown table is printed for
+each: processor time and peak memory, by GNU time (Debian: time). --only takes the cases in whose names the word
+stands. It needs Python 3.11.
 """
 
 import os
@@ -58,122 +59,77 @@ def padded(text: str, size: int, piece: str = "\n") -> str:
     return text + piece * (size - len(text))
 
 
-def plan_cases() -> Iterator[Case]:
-    none = "line,rank\n"
-    for section, most, make in (
-        ("element", 2000, elements),
-        ("link", 4000, lambda n: elements(2) + links(n)),
-        ("source", 2000, lambda n: elements(1) + sources(n, "priority = 0\n")),
-    ):
-        yield Case(f"{most} {section}s", ["rank", "plan"], {"plan": make(most)}, 0, none)
-        yield Case(
-            f"{most + 1} {section}s",
-            ["rank", "plan"],
-            {"plan": make(most + 1)},
-            3,
-            f"bad plan 25 15 {section} {most + 1}\n",
-        )
-    yield Case(
-        "64 lines into an element", ["rank", "plan"], {"plan": elements(2) + nominated(64)}, 0, none, "L63>E1,0\n"
-    )
-    yield Case(
-        "65 lines into an element",
-        ["rank", "plan"],
-        {"plan": elements(2) + nominated(65)},
-        3,
-        "bad plan 25 15 link 65\n",
-    )
-    yield Case(
-        "65 sources at an element",
-        ["rank", "plan"],
-        {"plan": elements(1) + sources(65)},
-        3,
-        "bad plan 25 15 source 65\n",
-    )
-    for length, status, text in ((32, 0, none), (33, 3, "bad plan 25 16 element 1\n")):
-        yield Case(
-            f"a name of {length}", ["rank", "plan"], {"plan": f'[[element]]\nname = "{"x" * length}"\n'}, status, text
-        )
-    chain = elements(2000) + "".join(
-        f'[[link]]\nname = "{kind}{n}"\na = "E{n - 1}"\nb = "E{n}"\npriority_b = {priority}\n'
-        for n in range(1, 2000)
-        for kind, priority in (("L", 1), ("M", 2))
-    )
-    full = (
-        chain
-        + links(2).replace('"L', '"N')
-        + rows("source", 2000, 'name = "S{}"\nat = "E{}"\nlevel = "QL-PRC"\npriority = 3\n')
-    )
-    yield Case(
-        "2000 elements in a chain, 4000 links, 2000 sources",
-        ["rank", "plan"],
-        {"plan": full},
-        0,
-        none,
-        "M1999>E1999,1998\n",
-    )
-    yield Case(
-        "the same, run for a day",
-        ["sim", "plan", "events", str(DAY)],
-        {"plan": full, "events": EVENTS},
-        0,
-        "changes\n0,E0,auto,S0,",
-        "settled yes\n",
-    )
-
-
 EVENTS = "at,what,target,value\n"
 ONE = '[[element]]\nname = "A"\n'
 CHAIN = elements(3) + '[[link]]\nname = "L"\na = "E0"\nb = "E1"\npriority_b = 1\n' + sources(1)
 
 
+def rank_case(name: str, plan: str, status: int = 0, begins: str = "line,rank\n", ends: str = "") -> Case:
+    """A plan that `rank` reads."""
+    return Case(name, ["rank", "plan"], {"plan": plan}, status, begins, ends)
+
+
+def sim_case(name: str, plan: str, events: str, until: int, begins: str, ends: str = "", status: int = 0) -> Case:
+    """A plan and events that `sim` runs."""
+    return Case(name, ["sim", "plan", "events", str(until)], {"plan": plan, "events": events}, status, begins, ends)
+
+
+def section_cases() -> Iterator[Case]:
+    """As many rows of each section as there may be, and one more."""
+    for section, most, make in (
+        ("element", 2000, elements),
+        ("link", 4000, lambda n: elements(2) + links(n)),
+        ("source", 2000, lambda n: elements(1) + sources(n, "priority = 0\n")),
+    ):
+        yield rank_case(f"{most} {section}s", make(most))
+        yield rank_case(f"{most + 1} {section}s", make(most + 1), 3, f"bad plan 25 15 {section} {most + 1}\n")
+
+
+def input_cases() -> Iterator[Case]:
+    """As many inputs of an element as there may be, and one more; and names of the greatest length."""
+    yield rank_case("64 lines into an element", elements(2) + nominated(64), ends="L63>E1,0\n")
+    yield rank_case("65 lines into an element", elements(2) + nominated(65), 3, "bad plan 25 15 link 65\n")
+    yield rank_case("65 sources at an element", elements(1) + sources(65), 3, "bad plan 25 15 source 65\n")
+    for length, status, text in ((32, 0, "line,rank\n"), (33, 3, "bad plan 25 16 element 1\n")):
+        yield rank_case(f"a name of {length}", f'[[element]]\nname = "{"x" * length}"\n', status, text)
+
+
+def full_plan() -> str:
+    """A plan at all limits: elements in a chain."""
+    chain = "".join(
+        f'[[link]]\nname = "{kind}{n}"\na = "E{n - 1}"\nb = "E{n}"\npriority_b = {priority}\n'
+        for n in range(1, 2000)
+        for kind, priority in (("L", 1), ("M", 2))
+    )
+    others = links(2).replace('"L', '"N')
+    keys = 'name = "S{}"\nat = "E{}"\nlevel = "QL-PRC"\npriority = 3\n'
+    return elements(2000) + chain + others + rows("source", 2000, keys)
+
+
+def plan_cases() -> Iterator[Case]:
+    """Plans at their limits."""
+    yield from section_cases()
+    yield from input_cases()
+    full = full_plan()
+    yield rank_case("2000 elements in a chain, 4000 links, 2000 sources", full, ends="M1999>E1999,1998\n")
+    yield sim_case("the same, run for a day", full, EVENTS, DAY, "changes\n0,E0,auto,S0,", "settled yes\n")
+
+
 def event_cases() -> Iterator[Case]:
+    """As many events and changes as there may be, and the last millisecond."""
     most = EVENTS + "0,clear,E0,\n" * 100_000
-    yield Case(
-        "100,000 events",
-        ["sim", "plan", "events", "0"],
-        {"plan": CHAIN, "events": most},
-        0,
-        "changes\n",
-        "settled no\n",
-    )
-    yield Case(
-        "100,001 events",
-        ["sim", "plan", "events", "0"],
-        {"plan": CHAIN, "events": most + "0,clear,E0,\n"},
-        5,
-        "bad events 33\n",
-    )
+    yield sim_case("100,000 events", CHAIN, most, 0, "changes\n", "settled no\n")
+    yield sim_case("100,001 events", CHAIN, most + "0,clear,E0,\n", 0, "bad events 33\n", status=5)
     # The last event of them is up, at 79,999,200; 300,000 after it the line is good again.
     busy = EVENTS + "".join(f"{n * 800},{'down' if n % 2 == 0 else 'up'},L>E1,\n" for n in range(100_000))
-    yield Case(
-        "100,000 faults in a day",
-        ["sim", "plan", "events", str(DAY)],
-        {"plan": CHAIN, "events": busy},
-        0,
-        "changes\n0,E0,auto,S0,QL-PRC,locked\n80299200,E1,auto,L>E1,",
-        "settled yes\n",
-    )
+    changes = "changes\n0,E0,auto,S0,QL-PRC,locked\n80299200,E1,auto,L>E1,"
+    yield sim_case("100,000 faults in a day", CHAIN, busy, DAY, changes, "settled yes\n")
     pair = elements(2) + '[[link]]\nname = "L"\na = "E0"\nb = "E1"\npriority_a = 1\npriority_b = 1\n'
-    yield Case(
-        "200,000 changes of two elements that swing",
-        ["sim", "plan", "events", str(DAY)],
-        {"plan": pair, "events": EVENTS},
-        11,
-        "changes\n1,E0,auto,L>E0,",
-        "stopped,100000\n",
-    )
+    changes, name = "changes\n1,E0,auto,L>E0,", "200,000 changes of two elements that swing"
+    yield sim_case(name, pair, EVENTS, DAY, changes, "stopped,100000\n", status=11)
     for at, status, text in ((DAY, 0, "changes\n"), (DAY + 1, 5, "bad events 28 1\n")):
-        yield Case(
-            f"an event at {at}",
-            ["sim", "plan", "events", "0"],
-            {"plan": CHAIN, "events": EVENTS + f"{at},down,L,\n"},
-            status,
-            text,
-        )
-    yield Case(
-        f"a run to {DAY + 1}", ["sim", "plan", "events", str(DAY + 1)], {"plan": CHAIN, "events": EVENTS}, 2, "usage\n"
-    )
+        yield sim_case(f"an event at {at}", CHAIN, EVENTS + f"{at},down,L,\n", 0, text, status=status)
+    yield sim_case(f"a run to {DAY + 1}", CHAIN, EVENTS, DAY + 1, "usage\n", status=2)
 
 
 def certificate_cases() -> Iterator[Case]:

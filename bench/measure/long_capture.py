@@ -2,8 +2,9 @@
 
 usage: python3 -m bench.measure.long_capture PROGRAM [--frames N]
 
-The capture is a pcapng of N frames (1,000,000) of ten ports with a VLAN tag, one each second on each port, whose level changes
-each 50,000 frames. The report has to count them all. Memory is the greatest that one process held, the command or the program.
+The capture is a pcapng of N frames (1,000,000) of ten ports with a VLAN tag, one each second on each port, whose
+level changes each 50,000 frames. The report has to count them all. Memory is the greatest that one process held,
+the command or the program.
 
 Wants python3-dpkt, python3-pytest and python3-hypothesis.
 """

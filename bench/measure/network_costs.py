@@ -25,7 +25,8 @@ from bench import programs
 from bench.measure import failing
 from bench.program import TOP, parser
 
-# The name of a run, until when it goes, and from when on a level changes in it: a ladder of 2,000 has settled by 21,000.
+# The name of a run, until when it goes, and from when on a level changes in it: a ladder of 2,000 has settled by
+# 21,000.
 RUNS = {"made": (0, 0), "quiet": (22_000, 100_000), "busy": (22_000, 21_000)}
 
 BUSY_STEPS = 1_000
@@ -80,7 +81,7 @@ def fail_each(program: str, test: str, folder: str) -> tuple[int, dict[str, int]
     """The number of allocations, and how many of them that fail give which answer."""
     shim, answers, at = failing.build(folder, "failing_allocations"), collections.Counter[str](), 1
     while not (failed := failing.run([program, f"tests::{test}"], shim, None, FAIL_AT=str(at))).fewer:
-        answers[failed.text.decode().strip().splitlines()[0]] += 1
+        answers[(failed.text + failed.complaint).decode().strip().splitlines()[0]] += 1
         at += 1
     return at - 1, answers
 

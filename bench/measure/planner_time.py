@@ -2,9 +2,9 @@
 
 usage: python3 -m bench.measure.planner_time PROGRAM [--elements N]
 
-The plan is the ladder of N elements, 2 to 2,000; `repair` has it with each link nominated at both ends, which makes one knot
-of all its lines. For each command it prints the seconds that it took, those in the program, and the rest. It wants Debian's
-Python 3.11 with what the workbench needs, and a quiet machine.
+The plan is the ladder of N elements, 2 to 2,000; `repair` has it with each link nominated at both ends, which makes
+one knot of all its lines. For each command it prints the seconds that it took, those in the program, and the rest.
+It wants Debian's Python 3.11 with what the workbench needs, and a quiet machine.
 """
 
 import os
@@ -58,9 +58,8 @@ def main() -> None:
             )
             taken = time.perf_counter() - before
             its = sum(map(int, times.read_text().split())) / 1e9
-            print(
-                f"{' '.join(command):<60} status {run.returncode}  {taken:6.2f} s, {its:6.2f} s in the program, {taken - its:5.2f} s else"
-            )
+            times_taken = f"{taken:6.2f} s, {its:6.2f} s in the program, {taken - its:5.2f} s else"
+            print(f"{' '.join(command):<60} status {run.returncode}  {times_taken}")
 
 
 if __name__ == "__main__":

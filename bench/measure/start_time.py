@@ -2,8 +2,8 @@
 
 usage: python3 -m bench.measure.start_time PROGRAM [--runs N]
 
-A `check` of examples/metro-ring, by the program and by the command, in turn; the least of each is printed, and how much more
-the command takes. It wants nothing but Python 3.11 and a quiet machine.
+A `check` of examples/metro-ring, by the program and by the command, in turn; the least of each is printed, and how
+much more the command takes. It wants nothing but Python 3.11 and a quiet machine.
 """
 
 import os

@@ -1,4 +1,5 @@
-"""Small works of the program, for scripts that make calls fail: what each is called, its words, and the files that they name."""
+"""Small works of the program, for scripts that make calls fail: what each is called, its words, and the files that
+they name."""
 
 import random
 
@@ -30,8 +31,8 @@ CHAIN = (
 )
 # Two elements that may take their timing from each other.
 PAIR = (
-    '[[element]]\nname = "A"\n[[element]]\nname = "B"\n[[link]]\nname = "L1"\na = "A"\nb = "B"\npriority_a = 1\npriority_b = 1\n'
-    + DELAYS
+    '[[element]]\nname = "A"\n[[element]]\nname = "B"\n'
+    '[[link]]\nname = "L1"\na = "A"\nb = "B"\npriority_a = 1\npriority_b = 1\n' + DELAYS
 )
 CERTIFICATE = "line,rank\nL1>B,0\nL2>C,1\n"
 NO_EVENTS = "at,what,target,value\n"

@@ -1,4 +1,5 @@
-"""Plan files, whole or damaged, read as docs/formats.md says, and the answer of `rank`; ranks are those of the reference."""
+"""Plan files, whole or damaged, read as docs/formats.md says, and the answer of `rank`; ranks are those of the
+reference."""
 
 import collections
 import re
@@ -104,13 +105,16 @@ def read_rows(option: str, sections: list[list[Row]]) -> None:
         check(15, place, inputs[row["at"]] > 64)
 
 
-# What TOML 1.1 takes and Python's reader doesn't: two escapes, times without seconds, inline tables over several lines or with a
+# What TOML 1.1 takes and Python's reader doesn't: two escapes, times without seconds, inline tables over several
+# lines or with a
 # comma at the end.
 NEWER = re.compile(rb"\\[ex]|\d:\d|\{")
 
 
 def plain(value: Any) -> Any:
-    """A value of Python's TOML reader as the tables have it: what is neither text, integer, list nor table is another."""
+    """A value of Python's TOML reader as the tables have it: what is neither text, integer, list nor table is
+    another.
+    """
     if isinstance(value, dict):
         return {key: plain(item) for key, item in value.items()}
     if isinstance(value, list):

@@ -7,13 +7,13 @@ usage: python3 -m bench.reference --rows
 
 Written from the rules alone, and no code of the program is called. It goes through every millisecond and counts.
 element.py has the condition of an input, operator commands, the choice of an input and one element; plan.py plans,
-events, hops and ranks; network.py the network over time, settled milliseconds, closed walks and traces; report.py the
-texts of a simulation and of a sweep; priority.py elements that choose by priority alone; node.py one element on captured
-frames. It grows with the program.
+events, hops and ranks; network.py the network over time, settled milliseconds, closed walks and traces; report.py
+the texts of a simulation and of a sweep; priority.py elements that choose by priority alone; node.py one element on
+captured frames. It grows with the program.
 
---rows compares the reference with runs worked out by hand (runs_by_hand.py). --theorems tries the promises on a running
-network on N random plans and on some by hand, and wrong texts of them (laws.py). --sim and --sweep print what the program
-is to print of accepted files. It needs Python 3.11 alone.
+--rows compares the reference with runs worked out by hand (runs_by_hand.py). --theorems tries the promises on a
+running network on N random plans and on some by hand, and wrong texts of them (laws.py). --sim and --sweep print
+what the program is to print of accepted files. It needs Python 3.11 alone.
 """
 
 import sys

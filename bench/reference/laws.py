@@ -14,7 +14,8 @@ from bench.reference.network import Network, closed_walks, is_facing_pair, trace
 from bench.reference.plan import Event, Link, Plan, PlanElement, Source, ladder
 from bench.reference.random_plans import LINE_WORDS, random_events, random_plan
 
-# A plan, events, and how long it runs; the contradictions to laws by name; and how often each was found, by kind of plan.
+# A plan, events, and how long it runs; the contradictions to laws by name; and how often each was found, by kind of
+# plan.
 Case = tuple[Plan, list[Event], int]
 Laws = dict[str, Iterator[str]]
 Found = dict[str, Counter[str]]

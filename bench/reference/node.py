@@ -2,11 +2,11 @@
 
 usage: python3 -m bench.reference.node PLAN ELEMENT FILE UNTIL
 
-`node_text` gives the status and the text of `node PLAN ELEMENT FILE UNTIL`; the script prints the text and ends with the
-status. A refused plan is told as the program tells it. The element is a network of its own, in which its inputs and all
-lines out of it are nominated and nothing else is, under the signals and commands of the file; each line into it hears
-the frames of the file in place of messages. Every millisecond is looked at, not only those of events and deadlines, and
-all are kept, so UNTIL had better stay below a few hundred thousand. It needs Python 3.11.
+`node_text` gives the status and the text of `node PLAN ELEMENT FILE UNTIL`; the script prints the text and ends
+with the status. A refused plan is told as the program tells it. The element is a network of its own, in which its
+inputs and all lines out of it are nominated and nothing else is, under the signals and commands of the file; each
+line into it hears the frames of the file in place of messages. Every millisecond is looked at, not only those of
+events and deadlines, and all are kept, so UNTIL had better stay below a few hundred thousand. It needs Python 3.11.
 """
 
 import bisect
@@ -48,7 +48,9 @@ def targets_of(plan: Plan, e: int) -> dict[str, dict[str, Target]]:
 
 
 def read_file(plan: Plan, e: int, data: bytes) -> tuple[list[Event], Frames]:
-    """The events of a file, and for each line the frames that come on it as (at, level); or its first wrong line is refused."""
+    """The events of a file, and for each line the frames that come on it as (at, level); or its first wrong line is
+    refused.
+    """
     targets, last = targets_of(plan, e), 0
     events: list[Event] = []
     frames: Frames = {}
@@ -110,7 +112,9 @@ class Node(Network):
         self.e, self.frames = e, frames
 
     def heard(self, line: int, t: int) -> str | None:
-        """The level of the last frame that came while the line was up at the end of its millisecond, as long as it counts."""
+        """The level of the last frame that came while the line was up at the end of its millisecond, as long as it
+        counts.
+        """
         frames = self.frames.get(line, [])
         first, last = (bisect.bisect_right(frames, at, key=lambda frame: frame[0]) for at in (t - HEARD_FOR, t))
         counting = [level for at, level in frames[first:last] if self.up[line][at]]
@@ -127,7 +131,9 @@ class Node(Network):
 
 
 def frame_text(option: str, source: str, level: str, is_event: bool) -> str:
-    """The frame of a level as digits, with an extended TLV, all zeros but its code, where the level has an enhanced code."""
+    """The frame of a level as digits, with an extended TLV, all zeros but its code, where the level has an enhanced
+    code.
+    """
     row = f"{source},{'event' if is_event else 'info'},{level}"
     enhanced = CODES[option][level][1]
     return frame_of(option, (row if enhanced == NOT_ENHANCED else f"{row},{'0' * 16},00,0,0").encode("ascii"))

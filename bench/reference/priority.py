@@ -41,7 +41,9 @@ class PriorityElement(Element):
         self.was_locked = self.was_locked or self.taken is not None
 
     def chosen(self, eligible: list[int]) -> int | None:
-        """The forced input or none; else the manual one; else the least number, where the current one stays on a tie."""
+        """The forced input or none; else the manual one; else the least number, where the current one stays on a
+        tie.
+        """
         if self.forced is not None:
             return self.forced if self.forced in eligible else None
         if self.manual is not None:

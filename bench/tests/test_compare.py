@@ -8,7 +8,7 @@ from pathlib import Path
 import pytest
 
 from bench.compare import accepted, cases, chains, damage, fuzz, line, network, node, node_pieces, nominate
-from bench.program import answer, put_files
+from bench.program import answer, parts_of, put_files
 from bench.reference.node import node_text
 from bench.reference.plan import ladder, read_plan
 from bench.reference.runs_by_hand import CHAIN, PAIR, PAIR_FACES
@@ -26,6 +26,12 @@ def test_an_answer_has_the_status_and_each_octet(tmp_path: Path) -> None:
     program = program_of(tmp_path, 'printf \'\\377%s\' "$(cat "$1")"; exit 3')
     put_files(str(tmp_path), {"file": "ä"})
     assert answer(program, "file", folder=str(tmp_path)) == (3, "\xff\xc3\xa4")
+
+
+def test_the_usage_of_a_script_stands_in_its_head() -> None:
+    usage, head = parts_of(line.__doc__ or "")
+    assert usage == "python3 -m bench.compare.line [--histories N] [--dues N] [--seed N] [--keep FOLDER]"
+    assert "usage" not in head and head.startswith("Random histories of one line") and "It wants the" in head
 
 
 def test_cases_that_are_answered_otherwise_are_told(tmp_path: Path) -> None:

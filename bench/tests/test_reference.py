@@ -1,4 +1,6 @@
-"""The reference against runs by hand, and against itself: what it writes is read back, ranks rise, cycles are cycles."""
+"""The reference against runs by hand, and against itself: what it writes is read back, ranks rise, cycles are
+cycles.
+"""
 
 import collections
 import random
