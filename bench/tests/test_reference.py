@@ -96,3 +96,14 @@ def test_a_law_is_contradicted_where_do_not_use_never_goes_back() -> None:
     counted = collections.Counter[str]()
     assert not list(laws.loop_freedom(laws.Run(plan, events, until), counted))
     assert list(laws.loop_freedom(laws.Run(plan, events, until, laws.NeverSentBack), counted))
+
+
+def test_the_promises_hold_on_the_shorter_plans_by_hand() -> None:
+    short = [case for case in laws.plans_by_hand() if case[2] <= 1000]
+    assert len(short) == 2
+    for plan, events, until in short:
+        run = laws.Run(plan, events, until)
+        contradicted = {
+            name: next(said, None) for name, said in laws.right_laws(run, collections.Counter[str](), 1).items()
+        }
+        assert set(contradicted.values()) == {None}, contradicted
