@@ -98,10 +98,9 @@ def main() -> int:
         counted.update({"accepted": int(accepted), "cyclic": int(not accepted), "wrong": int(wrong is not None)})
         if wrong:
             print(f"accepted plan {counted['accepted']}: {wrong}")
-    print(
-        f"{counted['accepted']} accepted plans ({counted['cyclic']} others passed over), {counted['moments']} milliseconds"
-        f" with changes, of which {counted['settled']} settled; {counted['pairs']} facing pairs; {counted['wrong']} wrong"
-    )
+    plans = f"{counted['accepted']} accepted plans ({counted['cyclic']} others passed over)"
+    moments = f"{counted['moments']} milliseconds with changes, of which {counted['settled']} settled"
+    print(f"{plans}, {moments}; {counted['pairs']} facing pairs; {counted['wrong']} wrong")
     return 1 if counted["wrong"] else 0
 
 

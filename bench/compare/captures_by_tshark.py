@@ -36,6 +36,7 @@ FIELDS = (
 
 
 def output(*words: str) -> str:
+    """What a command prints, where it succeeds."""
     run = subprocess.run(words, capture_output=True, text=True, check=False)
     if run.returncode:
         sys.exit(f"{' '.join(words)}: {run.stderr}")
@@ -43,10 +44,12 @@ def output(*words: str) -> str:
 
 
 def number(text: str) -> int | None:
+    """The number that tshark writes, none where there is none."""
     return int(text, 0) if text else None
 
 
 def by_tshark(path: str) -> list[Row]:
+    """The frames of a capture, read by tshark."""
     words = [word for field in FIELDS for word in ("-e", field)]
     rows: list[Row] = []
     for line in output(
@@ -62,6 +65,7 @@ def by_tshark(path: str) -> list[Row]:
 
 
 def by_us(path: str) -> list[Row]:
+    """The frames of a capture, read by the workbench."""
     rows: list[Row] = []
     for line in output(str(WORKBENCH), "capture", "read", "-q", "--frames", path).splitlines()[1:]:
         time, _, _, source, kind, level, clock, _, eeecs, eecs = line.split(",")

@@ -49,6 +49,7 @@ def rows_of(plan: Plan) -> list[Row] | None:
 
 
 def chains_text(plan: Plan, rows: list[Row]) -> str:
+    """What `chains` has to print."""
     text = "element,links,since,clocks\n"
     return text + "".join(f"{element.name},{','.join(map(str, row))}\n" for element, row in zip(plan.elements, rows))
 

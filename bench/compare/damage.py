@@ -115,6 +115,7 @@ def between(chance: random.Random, data: bytes) -> tuple[int, int]:
 
 
 def with_line(chance: random.Random, data: bytes, what: str) -> bytes:
+    """The data with lines swapped, doubled or left out."""
     lines = data.split(b"\n")
     at, other = chance.randrange(len(lines)), chance.randrange(len(lines))
     if what == "swap":
@@ -152,6 +153,7 @@ def with_word(chance: random.Random, data: bytes, put: bytes | None) -> bytes:
 
 
 def damaged_once(chance: random.Random, data: bytes) -> bytes:
+    """The data with one thing wrong, at random."""
     how, (start, end) = chance.randrange(20), between(chance, data)
     if how == 0 and data:
         at = chance.randrange(len(data))
@@ -207,6 +209,7 @@ def damaged(chance: random.Random, reader: str, data: bytes) -> bytes:
 
 
 def read(*path: str) -> bytes:
+    """The octets of an example's file."""
     return EXAMPLES.joinpath(*path).read_bytes()
 
 
@@ -220,6 +223,7 @@ def whole_plan(chance: random.Random) -> tuple[Plan, bytes]:
 
 
 def whole_certificate(chance: random.Random) -> Whole:
+    """A certificate with the plan that it is of."""
     plan, text = whole_plan(chance)
     ranks = plan.least_ranks() or {line: chance.randrange(5) for line in plan.nominated_lines}
     lines = chance.sample(plan.nominated_lines, len(plan.nominated_lines))
@@ -228,6 +232,7 @@ def whole_certificate(chance: random.Random) -> Whole:
 
 
 def whole_events(chance: random.Random) -> Whole:
+    """An event list with the plan that it is of."""
     plan, text = whole_plan(chance)
     until = chance.choice([1, 40, 400])
     return Whole(
@@ -256,6 +261,7 @@ def whole_text(chance: random.Random, form: str) -> Whole:
 
 
 def whole_capture(chance: random.Random) -> Whole:
+    """A capture of either order of octets."""
     option, order = chance.choice(["I", "II"]), chance.choice("<>")
     data = struct.pack(order + "IHHIIII", 0xA1B2C3D4, 2, 4, 0, 0, 65535, 1)
     for _ in range(chance.randint(0, 4)):
@@ -268,6 +274,7 @@ def whole_capture(chance: random.Random) -> Whole:
 
 
 def whole_plan_alone(chance: random.Random) -> Whole:
+    """A plan that is asked for its ranks."""
     return Whole(["rank", "{}"], whole_plan(chance)[1])
 
 

@@ -59,6 +59,7 @@ def steps_of(case: Case) -> str:
 
 
 def random_case(chance: random.Random) -> Case:
+    """An element of up to five inputs, and up to some fifty things that it is told."""
     option = chance.choice(["I", "II"])
     names = LEVELS[option]
     own = chance.choice(names[:-1])
@@ -84,6 +85,7 @@ def random_case(chance: random.Random) -> Case:
 
 
 def case_text(case: Case) -> str:
+    """What the small program reads of a case."""
     option, own, floor, holdoff, wtr, inputs = case.element
     words = [option, own, floor or "-", holdoff, wtr, len(inputs)]
     for priority, first, bundle in inputs:
@@ -95,6 +97,7 @@ def case_text(case: Case) -> str:
 
 
 def write_cases(folder: str, cases: list[Case]) -> None:
+    """Writes cases for `rt try --cases`."""
     for number, case in enumerate(cases):
         path = os.path.join(folder, f"history{number:04}")
         with open(path, "w", encoding="ascii") as out:

@@ -27,6 +27,7 @@ def mixed(chance: random.Random, text: str) -> str:
 
 
 def random_frame(chance: random.Random) -> bytearray:
+    """A frame that is right, of any codes and any length."""
     length = chance.choice([60, 60, 60, 61, 64, 128, 1513, 1514, chance.randint(60, 1514)])
     frame = bytearray(chance.randbytes(length) if chance.random() < 0.7 else bytes(length))
     for at, octets, _ in FIXED:
@@ -122,6 +123,7 @@ def row_line(chance: random.Random, option: str, right: bool) -> bytes:
 
 
 def random_case(chance: random.Random) -> tuple[str, str, bytes]:
+    """A form, an option and a file of frames or rows."""
     form, option = chance.choice(["decode", "encode"]), chance.choice(["I", "II"])
     count = chance.choice([3000, 9000]) if chance.random() < 0.002 else chance.randint(0, 8)
     share = 1 if count > 8 else chance.choice([0, 0.6, 0.9, 1])

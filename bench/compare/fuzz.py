@@ -96,6 +96,7 @@ def expected(chance: random.Random, whole: Whole, data: bytes) -> tuple[int, byt
 
 
 def expected_run(chance: random.Random, plan: Plan, until: int, data: bytes) -> tuple[int, bytes] | None:
+    """The answer of `sim` to an event list, none where it isn't run."""
     refusal = events_refusal(plan, data)
     if refusal:
         return 5, refusal.encode("ascii")
@@ -152,6 +153,7 @@ def faults_of(words: list[str], wanted: tuple[int, bytes] | None, answer: Answer
 
 
 def keep(top: str, name: str, whole: Whole, data: bytes, wanted: tuple[int, bytes] | None, answer: Answer) -> None:
+    """Leaves the files of a case in a folder of its own."""
     kept = os.path.join(top, name)
     os.makedirs(kept, exist_ok=True)
     texts = {

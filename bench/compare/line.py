@@ -60,6 +60,7 @@ class OneLine(Network):
         self.hears.append(self.heard(0, t))
 
     def copied(self) -> Self:
+        """A line with the same past."""
         copy = type(self)(self.plan.delay_of[0])
         for name in ("up", "speaks", "out", "is_sent", "sent_times"):
             setattr(copy, name, {0: list(getattr(self, name)[0])})
@@ -67,9 +68,11 @@ class OneLine(Network):
         return copy
 
     def news_arrives(self, t: int) -> bool:
+        """A message arrives that was news when it was sent."""
         return self.arrives(0, t) and self.is_news(0, t - self.plan.delay_of[0])
 
     def news_on_way(self, t: int) -> list[tuple[int, str]]:
+        """The messages on their way that were news, each with when it was sent."""
         return [(s, self.out[0][s]) for s in self.on_way(0, t) if self.is_news(0, s)]
 
     def due(self, state: State) -> int | None:
@@ -95,6 +98,7 @@ def random_history(chance: random.Random) -> History:
 
 
 def history_text(delay: int, calls: list[Call], end: int) -> str:
+    """What the small program reads of a history: a row for each call."""
     rows = [f"0 0 {delay}\n"]
     for (t, *told), following in zip(calls, [call[0] for call in calls[1:]] + [end]):
         rows.append(" ".join(str(n) for n in (t, following, *told)) + "\n")

@@ -68,10 +68,12 @@ class Spoken(Network):
         self.hears: dict[int, str | None] = {line: None for line in plan.nominated_lines}
 
     def put(self, row: str) -> None:
+        """Prints a row."""
         self.text.append(row + "\n")
         self.size += len(row) + 1
 
     def pass_millisecond(self, t: int) -> None:
+        """One millisecond of the network, and what is printed of it."""
         if self.size > MOST_TEXT:
             raise TooLong
         super().pass_millisecond(t)

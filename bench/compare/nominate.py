@@ -27,6 +27,7 @@ Tables = tuple[list[str], list[Row], list[Row]]
 
 
 def random_plan(numbers: random.Random) -> Tables:
+    """Up to 14 elements, with several parts, and now and then very many sources."""
     count = numbers.randrange(1, 15)
     elements = [f"E{i}" for i in range(count)]
     links: list[Row] = []
@@ -49,6 +50,7 @@ def random_plan(numbers: random.Random) -> Tables:
 
 
 def plan_text(elements: list[str], links: list[Row], sources: list[Row]) -> str:
+    """The plan file of the tables."""
     bundled = any(link["bundle"] for link in links)
     parts = ["version = 2\n" if bundled else "", 'option = "I"\n']
     for name in elements:
@@ -66,6 +68,7 @@ def plan_text(elements: list[str], links: list[Row], sources: list[Row]) -> str:
 
 
 def counts_of(elements: list[str], links: list[Row], sources: list[Row]) -> dict[str, int]:
+    """How far each element is from one with a nominated source."""
     graph = networkx.Graph()
     graph.add_nodes_from(elements)
     graph.add_edges_from((link["a"], link["b"]) for link in links)
@@ -83,6 +86,7 @@ def lines_of(links: list[Row]) -> Iterator[tuple[str, str, str]]:
 
 
 def hops_text(elements: list[str], links: list[Row], sources: list[Row], counts: dict[str, int]) -> str:
+    """What `hops` has to print."""
     rows = ["element,hops,from\n"]
     for element in elements:
         count = counts.get(element)
@@ -96,6 +100,7 @@ def hops_text(elements: list[str], links: list[Row], sources: list[Row], counts:
 
 
 def priorities_of(elements: list[str], links: list[Row], sources: list[Row], counts: dict[str, int]) -> list[int]:
+    """The priorities that `nominate` has to give, by line."""
     numbers = {element: i for i, element in enumerate(elements)}
     lines = list(lines_of(links))
     given = [0] * len(lines)
@@ -114,6 +119,7 @@ def priorities_of(elements: list[str], links: list[Row], sources: list[Row], cou
 
 
 def differences(program: str, folder: str, plan: Tables) -> Iterator[str]:
+    """What is wrong with the answers on a plan, in a word each."""
     elements, links, sources = plan
     counts = counts_of(*plan)
     put_files(folder, {"plan": plan_text(*plan)})

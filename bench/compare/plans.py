@@ -30,6 +30,7 @@ OTHERS = ["1.0", "true", "[]", "{}", "1979-05-27", "07:32:00", "nan", "[1]", "{x
 
 
 def expected(head: dict[str, Any]) -> tuple[int, str]:
+    """The status and the text of `rank` on the tables of a plan."""
     try:
         option, sections = read_tables(head)
         read_rows(option, sections)
@@ -131,12 +132,14 @@ def put_fault(chance: random.Random, head: dict[str, Any]) -> None:
 
 
 def spell_key(chance: random.Random, key: str) -> str:
+    """A key, now and then in quotes."""
     if key and chance.random() < 0.9:
         return key
     return chance.choice(["'%s'", '"%s"']) % key
 
 
 def spell_text(chance: random.Random, text: str) -> str:
+    """A text in one of five spellings."""
     how = chance.randrange(5)
     if how == 0 and "'" not in text and text.isprintable():
         return f"'{text}'"
@@ -148,6 +151,7 @@ def spell_text(chance: random.Random, text: str) -> str:
 
 
 def spell(chance: random.Random, value: Any, wide: bool) -> str:
+    """A value in some spelling."""
     if isinstance(value, Other):
         return str(value)
     if isinstance(value, str):
@@ -166,6 +170,7 @@ def spell(chance: random.Random, value: Any, wide: bool) -> str:
 
 
 def plan_text(chance: random.Random, head: dict[str, Any]) -> str:
+    """The tables in random spellings of TOML."""
     lines, tables = list[str](), list[list[tuple[str, Row]]]()
     for key, value in chance.sample(list(head.items()), len(head)):
         if isinstance(value, list) and all(isinstance(row, dict) for row in value) and chance.random() < 0.8:
@@ -190,6 +195,7 @@ def plan_text(chance: random.Random, head: dict[str, Any]) -> str:
 
 
 def random_plan(chance: random.Random) -> tuple[bytes, tuple[int, str]]:
+    """A plan with up to three faults, and what `rank` has to answer."""
     head = random_tables(chance)
     for _ in range(chance.choice([0, 1, 1, 1, 2, 3])):
         put_fault(chance, head)

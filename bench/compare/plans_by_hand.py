@@ -20,18 +20,22 @@ EMPTY = "line,rank\n"
 
 
 def element(name: str, more: str = "") -> str:
+    """An element's row."""
     return f'[[element]]\nname = "{name}"\n{more}\n'
 
 
 def link(name: str, a: str, b: str, more: str = "priority_b = 1") -> str:
+    """A link's row."""
     return f'[[link]]\nname = "{name}"\na = "{a}"\nb = "{b}"\n{more}\n'
 
 
 def source(name: str, at: str, more: str = 'level = "QL-PRC"') -> str:
+    """A source's row."""
     return f'[[source]]\nname = "{name}"\nat = "{at}"\n{more}\n'
 
 
 def bundled(name: str, a: str, b: str, bundle: str, more: str = "priority_b = 1") -> str:
+    """The row of a link in a bundle."""
     return link(name, a, b, f'bundle = "{bundle}"\n{more}')
 
 
@@ -519,6 +523,7 @@ def certificates() -> Iterator[tuple[str, str | bytes | None, str]]:
 
 
 def plans() -> Iterator[tuple[bytes, str]]:
+    """Plans, and what `rank` has to answer."""
     for texts in TEXTS:
         for text, answer in texts():
             yield text.encode("utf-8"), answer.rstrip("\n") + "\n"
@@ -528,14 +533,17 @@ def plans() -> Iterator[tuple[bytes, str]]:
 
 
 def status_of(text: str) -> int:
+    """The status of an answer, by how it begins."""
     return next((status for front, status in STATUS.items() if text.startswith(front)), 0)
 
 
 def wanted_plans() -> list[cases.Case]:
+    """The plans as cases for `rank`."""
     return [cases.Case(("rank", "{}"), plan, status_of(text), text.encode("ascii")) for plan, text in plans()]
 
 
 def compare(program: str) -> int:
+    """How many plans and certificates the program answers in another way."""
     plan_cases = wanted_plans()
     wrong = cases.compare(program, plan_cases)
     count = len(plan_cases)

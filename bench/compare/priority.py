@@ -57,6 +57,7 @@ class Compared:
         return answered[1]
 
     def plan(self, chance: random.Random, case: SimCase) -> None:
+        """All that is asked of one plan."""
         plan, events, until = case
         levels = read_plan(plan_text(plan))
         read = PriorityPlan(levels.option, levels.elements, levels.links, levels.sources)

@@ -74,6 +74,7 @@ def with_bundles(chance: random.Random, plan: RandomPlan) -> RandomPlan:
 
 
 def plan_text(plan: RandomPlan) -> str:
+    """The plan file of a random plan."""
     version, count, links, sources = plan
     rows = [f"version = {version}\n"] if version else []
     rows += [f'[[element]]\nname = "E{e}"\n' for e in range(count)]
@@ -110,6 +111,7 @@ def hops_of(links: list[Link]) -> tuple[Ends, Any]:
 
 
 def first_cycle(graph: Any) -> list[int]:
+    """The ring that is found by going back from the lowest line that a ring leads to."""
     on_ring = {line for part in networkx.strongly_connected_components(graph) if len(part) > 1 for line in part}
     residue = set(on_ring)
     for line in on_ring:
@@ -126,10 +128,12 @@ def first_cycle(graph: Any) -> list[int]:
 
 
 def name_of(line: int, ends: Ends) -> str:
+    """The name of a line."""
     return f"L{line // 2}>E{ends[line][1]}"
 
 
 def certificate(ranks: dict[int, int], ends: Ends) -> str:
+    """A certificate of ranks by line."""
     return "line,rank\n" + "".join(f"{name_of(line, ends)},{ranks[line]}\n" for line in sorted(ranks))
 
 
@@ -162,6 +166,7 @@ def random_certificate(chance: random.Random, plan: RandomPlan) -> tuple[str, tu
 
 
 def compare(program: str, plans: list[RandomPlan], chance: random.Random) -> int:
+    """How many answers of the program are others than those of networkx."""
     wrong = fallen = 0
     with tempfile.TemporaryDirectory() as folder:
         for number, plan in enumerate(plans):

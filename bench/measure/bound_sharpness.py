@@ -26,6 +26,7 @@ KINDS = {
 
 
 def plan_text(numbers: random.Random, longest: int, waits: tuple[int, ...]) -> tuple[str, int]:
+    """A random topology, and how many links it has."""
     count = numbers.randrange(3, 13)
     parts = ['option = "I"\n']
     for i in range(count):

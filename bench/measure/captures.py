@@ -19,6 +19,7 @@ ANY = PLAIN + ["QL-ePRTC", "QL-PRTC", "QL-ePRC", "QL-eEEC"]
 
 
 def rows_text(count: int, share: int) -> str:
+    """So many random rows, of which a share has seven fields."""
     numbers = random.Random(4)
     rows = []
     for _ in range(count):

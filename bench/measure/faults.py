@@ -42,6 +42,7 @@ GREATEST = 10_000
 
 
 def is_right(call: str, how: str, usual: Answer, answer: Answer) -> bool:
+    """The answer to a run in which a call went wrong is one that may be given."""
     status, text = answer
     if how in ("one", "half"):
         return answer == usual

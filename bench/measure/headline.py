@@ -41,6 +41,7 @@ class File:
                 self.definitions.setdefault(name, []).append(line)
 
     def take_use(self, use: re.Match[str]) -> None:
+        """What a line of imports brings."""
         crate, module, names, alias = use.groups()
         if alias:
             self.modules[alias] = (crate, module)

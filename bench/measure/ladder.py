@@ -61,6 +61,7 @@ def dense_plan_text(count: int, inputs: int) -> str:
 
 
 def plan_text(count: int) -> str:
+    """The ladder as `check` and `rank` are timed on it."""
     rows = [f'[[element]]\nname = "E{j}"\n' for j in range(count)]
     rows += [
         f'[[link]]\nname = "{name}"\na = "E{a}"\nb = "E{b}"\npriority_a = 0\npriority_b = {priority}\n'

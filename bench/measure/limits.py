@@ -38,6 +38,7 @@ def rows(section: str, count: int, keys: str) -> str:
 
 
 def elements(count: int) -> str:
+    """So many elements."""
     return rows("element", count, 'name = "E{}"\n')
 
 
@@ -47,10 +48,12 @@ def links(count: int) -> str:
 
 
 def nominated(count: int) -> str:
+    """Links between E0 and E1, nominated at E1."""
     return links(count).replace('b = "E1"\n', 'b = "E1"\npriority_b = 1\n')
 
 
 def sources(count: int, keys: str = "") -> str:
+    """So many sources at E0."""
     return rows("source", count, 'name = "S{}"\nat = "E0"\nlevel = "QL-PRC"\n' + keys)
 
 
@@ -133,6 +136,7 @@ def event_cases() -> Iterator[Case]:
 
 
 def certificate_cases() -> Iterator[Case]:
+    """The greatest rank, and one more."""
     plan = elements(2) + nominated(1)
     for rank, status, text in ((2**64 - 1, 0, "accepted\n"), (2**64, 4, "bad certificate 35 1\n")):
         yield Case(
@@ -159,6 +163,7 @@ Kind = tuple[str, list[str], Callable[[int], str | bytes], dict[str, str | bytes
 
 
 def length_cases() -> Iterator[Case]:
+    """Files of the greatest length, and one octet more."""
     frame = "0180c200000202000000000188090a0019a700011000000001000402" + "0" * 64 + "\n"
     row, plan = "020000000001,info,QL-PRC\n", elements(2) + nominated(1)
     forms: list[Kind] = [
@@ -188,6 +193,7 @@ def length_cases() -> Iterator[Case]:
 
 
 def other_cases() -> Iterator[Case]:
+    """The least and the greatest ladder, and those past them."""
     for n, status, text in (
         (1, 2, "usage\n"),
         (2, 0, 'option = "I"\n'),

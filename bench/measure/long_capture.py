@@ -24,6 +24,7 @@ BEGIN = 1_764_288_000_000_000  # microseconds
 
 
 def write(path: str, count: int) -> None:
+    """Writes the capture."""
     frames = [made.tagged(made.FRAMES[at], (0x8100, 100)) for at in (0, 4)]
     with open(path, "wb") as file:
         file.write(made.section() + b"".join(made.interface(name=b"port %d" % port) for port in range(PORTS)))

@@ -56,12 +56,14 @@ def add_sizes(crate: str, sizes: list[int]) -> None:
 
 
 def instructions(program: str, test: str, folder: str) -> int:
+    """The instructions of a test, by callgrind."""
     words = ["valgrind", "--tool=callgrind", f"--callgrind-out-file={folder}/calls", program, f"tests::{test}"]
     done = subprocess.run(words, capture_output=True, text=True, check=True)
     return int(re.findall(r"Collected : (\d+)", done.stderr)[0])
 
 
 def peak(program: str, test: str, folder: str) -> int:
+    """The greatest heap of a test in octets, by massif."""
     words = ["valgrind", "--tool=massif", f"--massif-out-file={folder}/heap", program, f"tests::{test}"]
     subprocess.run(words, capture_output=True, check=True)
     with open(f"{folder}/heap", encoding="utf-8") as file:
@@ -69,6 +71,7 @@ def peak(program: str, test: str, folder: str) -> int:
 
 
 def seconds(program: str, test: str) -> float:
+    """The least time of twenty runs of a test."""
     times = []
     for _ in range(20):
         start = time.perf_counter()

@@ -34,6 +34,7 @@ def run(program: str, words: list[str]) -> Run:
 
 
 def measure(programs: list[str], words: list[str], repeats: int) -> dict[str, list[Run]]:
+    """The runs of each program, in turn."""
     runs: dict[str, list[Run]] = {program: [] for program in programs}
     for _ in range(repeats):
         for program in programs:

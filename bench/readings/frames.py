@@ -31,6 +31,7 @@ def lines_of(file: bytes) -> Iterator[tuple[int, bytes]]:
 
 
 def level_name(option: str, code: int, enhanced: int) -> str:
+    """The level of a four-bit code and an enhanced one, or the code where none has it."""
     for wanted in (enhanced, 0xFF):
         for name, codes in CODES[option].items():
             if codes == (code, wanted):
@@ -39,6 +40,7 @@ def level_name(option: str, code: int, enhanced: int) -> str:
 
 
 def first_wrong(frame: bytes) -> int | None:
+    """The number of the first thing that is wrong with a frame; none where it is right."""
     if not 60 <= len(frame) <= 1514:
         return 4
     broken = [error for at, octets, error in FIXED if frame[at : at + len(octets) // 2] != bytes.fromhex(octets)]
@@ -48,6 +50,7 @@ def first_wrong(frame: bytes) -> int | None:
 
 
 def row_of(option: str, line: bytes) -> str:
+    """The row of a frame, or what is wrong with it."""
     if len(line) % 2 or any(byte not in DIGITS for byte in line):
         raise Wrong(12, "")
     frame = bytes(int(line[at : at + 2], 16) for at in range(0, len(line), 2))
@@ -63,6 +66,7 @@ def row_of(option: str, line: bytes) -> str:
 
 
 def hexadecimal(field: bytes, count: int) -> bytes:
+    """So many octets of digits."""
     if len(field) != 2 * count or any(byte not in DIGITS for byte in field):
         raise Wrong(14, "")
     return bytes.fromhex(field.decode("ascii"))
@@ -77,6 +81,7 @@ def count_of(field: bytes, greatest: int) -> int:
 
 
 def codes_of(option: str, field: bytes) -> tuple[int, int]:
+    """Both codes of a level, or of a code that no level has."""
     for name, codes in CODES[option].items():
         if field == name.encode("ascii"):
             return codes
@@ -89,6 +94,7 @@ def codes_of(option: str, field: bytes) -> tuple[int, int]:
 
 
 def frame_of(option: str, line: bytes) -> str:
+    """The frame of a row as digits, or what is wrong with it."""
     fields = line.split(b",")
     if len(fields) not in (3, 7) or fields[1] not in (b"info", b"event"):
         raise Wrong(14, "")

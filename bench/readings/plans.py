@@ -28,19 +28,23 @@ class Other(str):
 
 
 def is_kind(value: object, kind: type) -> bool:
+    """A value is of a kind that plans have."""
     return isinstance(value, kind) and not isinstance(value, Other)
 
 
 def is_name(text: str) -> bool:
+    """A text is a name."""
     return re.fullmatch(r"[A-Za-z0-9_-]{1,32}", text) is not None
 
 
 def refuse(broken: object, text: str) -> None:
+    """Refuses a plan where something is broken."""
     if broken:
         raise Refused(f"bad plan {text}\n")
 
 
 def read_tables(head: dict[str, Any]) -> tuple[str, list[list[Row]]]:
+    """The option and the rows of each section, by the rules for keys and kinds."""
     known = {"version", "option", *SECTIONS}
     refuse(set(head) - known, "23 head 0")
     version, option = head.get("version", 1), head.get("option", "I")
@@ -58,6 +62,7 @@ def read_tables(head: dict[str, Any]) -> tuple[str, list[list[Row]]]:
 
 
 def out_of_range(row: Row) -> bool:
+    """Some number of a row is out of its range."""
     for key, value in row.items():
         low, high = RANGES.get(key.removesuffix("_a").removesuffix("_b"), (value, value))
         if isinstance(value, int) and not low <= value <= high:
@@ -66,6 +71,7 @@ def out_of_range(row: Row) -> bool:
 
 
 def read_rows(option: str, sections: list[list[Row]]) -> None:
+    """The rules for names, ends, numbers, levels and bundles, row by row."""
     elements, links, sources = sections
     inputs = collections.Counter[str]()
 

@@ -25,6 +25,7 @@ from bench.reference.report import sim_text, sweep_text
 
 
 def read(path: str) -> str:
+    """The text of a file without its byte order mark."""
     with open(path, encoding="utf-8-sig", newline="") as file:
         return file.read()
 

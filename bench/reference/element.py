@@ -67,6 +67,7 @@ class Element:
         return self.floor is None or self.places[each.level] <= self.places[self.floor]
 
     def place(self, i: int) -> int:
+        """The place of an input's level in the option's table."""
         return self.places[self.inputs[i].level or self.worst]
 
     def command(self, word: str, i: int | None) -> None:
@@ -141,6 +142,7 @@ class Element:
         return self.level()
 
     def mode(self) -> str:
+        """Forced before manual before automatic."""
         return "forced" if self.forced is not None else "manual" if self.manual is not None else "auto"
 
     def state(self) -> str:

@@ -254,6 +254,7 @@ CROSSED = [Link("L0", 0, 1, 1, 2, 10, 10, None), Link("L1", 0, 1, 2, 1, 10, 10, 
 
 
 def forced_and_cleared(at: int) -> list[Event]:
+    """A switch that ends in the millisecond in which it is set."""
     return [Event(at, "forced", ("source", 1)), Event(at, "clear", ("element", 0))]
 
 
@@ -373,6 +374,7 @@ def count_found(found: Found, laws: Laws, kind: str) -> dict[str, str]:
 
 
 def show(title: str, found: Mapping[str, Counter[str]]) -> None:
+    """Prints how often each was found."""
     for name, counts in found.items():
         print(f"{title}  {name}: {counts['random']} and {counts['by hand']} by hand")
 

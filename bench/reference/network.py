@@ -182,6 +182,7 @@ class Network:
         }
 
     def is_settled(self, t: int) -> bool:
+        """All parts of being settled hold."""
         return all(self.settled_parts(t).values())
 
     def taken_at(self, t: int) -> tuple[int | None, ...]:

@@ -162,6 +162,7 @@ def node_text(plan: Plan, element: str, data: bytes, until: int) -> tuple[int, s
 
 
 def octets(path: str) -> bytes:
+    """The octets of a file."""
     with open(path, "rb") as file:
         return file.read()
 

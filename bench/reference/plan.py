@@ -68,6 +68,7 @@ class Plan:
         self.bundle_of = [bundle_number(links, line // 2) for line in range(self.lines)]
 
     def is_line(self, i: int) -> bool:
+        """An input number is a line's."""
         return i < self.lines
 
     def source(self, i: int) -> Source:
@@ -231,6 +232,7 @@ def plan_text(plan: Plan) -> str:
 
 
 def section_text(section: str, row: dict[str, Any]) -> str:
+    """A row of a plan file."""
     values = {key: f'"{value}"' if isinstance(value, str) else value for key, value in row.items()}
     return f"[[{section}]]\n" + "".join(f"{key} = {value}\n" for key, value in values.items())
 

@@ -30,6 +30,7 @@ class PriorityElement(Element):
         super().__init__("I", "QL-SEC", None, holdoff, wtr, [(priority, None, None) for priority in priorities])
 
     def is_eligible(self, i: int) -> bool:
+        """Neither locked out nor failed."""
         return i not in self.locked and not self.inputs[i].failed
 
     def evaluate(self, ups: list[bool], cleared: Collection[int], commands: Sequence[Command]) -> None:
@@ -59,6 +60,7 @@ class PriorityNetwork(Network):
     """A plan under a list of events, where elements are told signals and commands alone."""
 
     def new_element(self, e: int) -> Element:
+        """The element before 0: every input is up."""
         row, plan = self.plan.elements[e], self.plan
         return PriorityElement(row.holdoff, row.wtr, [plan.priority_of[i] for i in plan.inputs_of[e]])
 
@@ -104,6 +106,7 @@ def priority_rank(plan: Plan) -> tuple[int, str]:
 
 
 def walk_rows(plan: Plan, taken: Iterable[int | None]) -> str:
+    """The closed walks of a report."""
     return "".join(" ".join(map(plan.input_name, walk)) + "\n" for walk in closed_walks(plan, taken))
 
 

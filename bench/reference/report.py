@@ -11,6 +11,7 @@ PIECE = 20_000  # how many milliseconds are gone through before rows are counted
 
 
 def name_or_none(plan: Plan, i: int | None) -> str:
+    """The name of an input."""
     return "none" if i is None else plan.input_name(i)
 
 

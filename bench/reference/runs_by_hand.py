@@ -11,14 +11,17 @@ from bench.reference.report import sim_text, sweep_text
 
 
 def elements(*rows: str) -> str:
+    """The rows of elements."""
     return "".join(f"[[element]]\n{row}\n" for row in rows)
 
 
 def links(*rows: str) -> str:
+    """The rows of links."""
     return "".join(f"[[link]]\n{row}\n" for row in rows)
 
 
 def source(name: str, at: str, level: str, priority: int = 1) -> str:
+    """A source's row."""
     return f'[[source]]\nname = "{name}"\nat = "{at}"\nlevel = "{level}"\npriority = {priority}\n'
 
 
@@ -97,6 +100,7 @@ COMMANDS = """1000,level,S2,QL-DNU
 
 
 def report(plan: str, events: str, until: int) -> str:
+    """The report of a plan's run under events."""
     read = read_plan(plan)
     return sim_text(read, read_events(read, "at,what,target,value\n" + events), until)
 
@@ -148,10 +152,12 @@ def swinging(last: int) -> str:
 
 
 def bound_of_ladder_of_200() -> int | None:
+    """The settling bound of the ladder of 200 after an event at 20000."""
     return ladder(200).settling_bound(20000)
 
 
 def small_ladder_with_a_rail_down() -> str:
+    """The last change on the ladder of 20 after a rail fails, and whether it is settled."""
     plan = ladder(20)
     text = sim_text(plan, read_events(plan, "at,what,target,value\n3000,down,R10,\n"), 9000)
     return text.partition("inputs\n")[0].splitlines()[-1] + " " + text.splitlines()[-1]
@@ -172,6 +178,7 @@ def small_ladder_swept() -> tuple[list[str], set[str]]:
 
 
 def swept(plan: str, at: int, until: int) -> str:
+    """The table of a sweep."""
     return sweep_text(read_plan(plan), at, until)
 
 
