@@ -7,11 +7,12 @@ from pathlib import Path
 
 import pytest
 
-from bench.compare import accepted, cases, chains, damage, fuzz, line, network, node, node_pieces, nominate
-from bench.program import answer, parts_of, put_files
+from bench.compare import accepted, cases, chains, damage, fuzz, line, network, node, node_pieces, nominate, protected
+from bench.levels import LEVELS
+from bench.program import TOP, answer, parts_of, put_files
 from bench.reference.node import node_text
 from bench.reference.plan import ladder, read_plan
-from bench.reference.runs_by_hand import CHAIN, PAIR, PAIR_FACES
+from bench.reference.runs_by_hand import CHAIN, CHAIN_REPORT, PAIR, PAIR_FACES, TWO_SOURCES
 
 
 def program_of(folder: Path, text: str) -> str:
@@ -59,6 +60,51 @@ def test_rings_of_a_report_are_those_of_its_selections() -> None:
 def test_chains_are_counted_one_by_one() -> None:
     assert chains.rows_of(read_plan(CHAIN)) == [(0, 0, 0), (1, 1, 0), (2, 2, 0)]
     assert chains.rows_of(ladder(4)) == [(0, 0, 0), (1, 1, 0), (2, 2, 0), (3, 3, 0)]
+
+
+def test_who_is_cut_off_is_told_as_by_hand() -> None:
+    folder = TOP / "cases" / "protected"
+    rows = [
+        row.split(" | ")
+        for row in (folder / "table").read_text().splitlines()
+        if re.match(r"protected \S+ \| [01]", row)
+    ]
+    assert len(rows) == 11
+    for words, status, text in rows:
+        plan = read_plan((folder / words.split()[1]).read_text())
+        assert protected.expected(plan) == (int(status), text.replace(" / ", "\n") + "\n"), words
+
+
+def test_a_failure_goes_down_in_the_events() -> None:
+    failures = {failure.kind: failure for failure in protected.failures_of(read_plan(CHAIN))}
+    head = "at,what,target,value\n"
+    assert protected.events_of(read_plan(CHAIN), failures["none"]) == head
+    last = protected.events_of(read_plan(CHAIN), failures["element"]._replace(links={1, 0}, sources={0}))
+    assert last == head + "20000,down,L1,\n20000,down,L2,\n20000,down,S,\n"
+
+
+def test_the_worst_source_that_is_left_bounds_what_a_failure_may_do() -> None:
+    two = read_plan(TWO_SOURCES.replace('"S2"\nat = "A"\nlevel = "QL-PRC"', '"S2"\nat = "A"\nlevel = "QL-SSU-B"'))
+    levels = LEVELS["I"]
+    assert protected.worst_of(two, set()) == levels.index("QL-SSU-B")
+    assert protected.worst_of(two, {1}) == levels.index("QL-PRC")
+    assert protected.worst_of(two, {0, 1}) is None
+    floored = read_plan(CHAIN.replace('name = "B"', 'name = "B"\nfloor = "QL-PRTC"'))
+    assert protected.worst_of(floored, set()) is None
+    useless = read_plan(CHAIN.replace('level = "QL-PRC"', 'level = "QL-DNU"'))
+    assert protected.worst_of(useless, set()) is None
+
+
+def test_an_element_in_reach_that_is_worse_off_is_told() -> None:
+    plan = read_plan(CHAIN)
+    none, first, *_ = protected.failures_of(plan)
+    levels = protected.levels_at_end(plan, CHAIN_REPORT)
+    assert levels == {"A": "QL-PRC", "B": "QL-PRC", "C": "QL-PRC"}
+    worst = LEVELS["I"].index("QL-PRC")
+    assert not list(protected.worse_off(plan, none, worst, levels))
+    later = levels | {"C": "QL-SSU-A"}
+    assert list(protected.worse_off(plan, none, worst, later)) == ["none : C has QL-SSU-A"]
+    assert not list(protected.worse_off(plan, first, worst, later))
 
 
 def test_nomination_goes_by_hops() -> None:
