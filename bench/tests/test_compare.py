@@ -7,11 +7,24 @@ from pathlib import Path
 
 import pytest
 
-from bench.compare import accepted, cases, chains, damage, fuzz, line, network, node, node_pieces, nominate, protected
+from bench.compare import (
+    accepted,
+    agree,
+    cases,
+    chains,
+    damage,
+    fuzz,
+    line,
+    network,
+    node,
+    node_pieces,
+    nominate,
+    protected,
+)
 from bench.levels import LEVELS
 from bench.program import TOP, answer, parts_of, put_files
 from bench.reference.node import node_text
-from bench.reference.plan import ladder, read_plan
+from bench.reference.plan import Event, Plan, ladder, read_plan
 from bench.reference.runs_by_hand import CHAIN, CHAIN_REPORT, PAIR, PAIR_FACES, TWO_SOURCES
 
 
@@ -62,17 +75,44 @@ def test_chains_are_counted_one_by_one() -> None:
     assert chains.rows_of(ladder(4)) == [(0, 0, 0), (1, 1, 0), (2, 2, 0), (3, 3, 0)]
 
 
-def test_who_is_cut_off_is_told_as_by_hand() -> None:
-    folder = TOP / "cases" / "protected"
+def rows_by_hand(form: str) -> list[tuple[Plan, tuple[int, str]]]:
+    """The plans of a form's table by hand, each with the answer that is wanted."""
+    folder = TOP / "cases" / form
     rows = [
-        row.split(" | ")
-        for row in (folder / "table").read_text().splitlines()
-        if re.match(r"protected \S+ \| [01]", row)
+        row.split(" | ") for row in (folder / "table").read_text().splitlines() if re.match(rf"{form} \S+ \| [01]", row)
     ]
+    return [
+        (read_plan((folder / words.split()[1]).read_text()), (int(status), text.replace(" / ", "\n") + "\n"))
+        for words, status, text in rows
+    ]
+
+
+def test_who_is_cut_off_is_told_as_by_hand() -> None:
+    rows = rows_by_hand("protected")
     assert len(rows) == 11
-    for words, status, text in rows:
-        plan = read_plan((folder / words.split()[1]).read_text())
-        assert protected.expected(plan) == (int(status), text.replace(" / ", "\n") + "\n"), words
+    for plan, wanted in rows:
+        assert protected.expected(plan) == wanted
+
+
+def test_what_agrees_is_told_as_by_hand() -> None:
+    rows = rows_by_hand("agree")
+    assert len(rows) == 12
+    for plan, wanted in rows:
+        assert agree.expected(plan) == wanted
+
+
+def test_a_level_reaches_where_nothing_keeps_it_out() -> None:
+    plan = read_plan(CHAIN)
+    down, up, off = (
+        Event(1, "down", ("link", 1)),
+        Event(2, "up", ("line", 2)),
+        Event(3, "esmc-off", ("line", 2)),
+    )
+    assert agree.Standing(plan, []).reached() == {0, 1, 2}
+    assert agree.Standing(plan, [down]).reached() == {0, 1}
+    assert agree.Standing(plan, [down, up]).reached() == {0, 1, 2}
+    assert agree.Standing(plan, [off, Event(4, "lockout", ("line", 0))]).reached() == {0}
+    assert agree.Standing(plan, [Event(1, "level", ("source", 0), "QL-SEC")]).reached() == set()
 
 
 def test_a_failure_goes_down_in_the_events() -> None:
