@@ -4,10 +4,10 @@ usage: python3 -m bench.compare.agree PROGRAM [--plans N] [--runs N] [--seed N] 
 
 The graph has a node for each nominated line and an edge to each that it bears on; where it has no circle, the bound is
 worked out from the longest path, else the first circle is found as in `bench.compare.ranks`. The plans are those of
-`bench.compare.protected`. The first N that agree, 100 without a number, run with random events, at the end of which
-each element's switches are cleared; from the bound after the last event on, no element that a level reaches which is
-better than every own clock may change, and where one reaches every element the network has to be settled. It needs
-Python 3.11 and networkx.
+`bench.compare.protected`, three of four with own clocks that are worse than what most sources give. The first N that
+agree, 100 without a number, run with random events, at the end of which each element's switches are cleared; from the
+bound after the last event on, no element that a level reaches which is better than every own clock may change, and
+where one reaches every element the network has to be settled. It needs Python 3.11 and networkx.
 """
 
 import collections
@@ -28,6 +28,14 @@ from bench.reference.random_plans import random_events, random_plan
 EVENTS_UNTIL = 30_000  # milliseconds in which random events fall
 LONGER = 60_000  # and so long a run goes on after its bound
 HEARING = 5_000
+
+
+def with_worse_clocks(chance: random.Random, plan: Plan) -> Plan:
+    """The plan, in three of four cases with own clocks that are worse than what most sources give, and no floor."""
+    if chance.random() < 0.75:
+        for element in plan.elements:
+            element.own, element.floor = LEVELS[plan.option][-2], None
+    return plan
 
 
 def is_last_resort(plan: Plan, line: int) -> bool:
@@ -179,7 +187,7 @@ def main() -> int:
     with tempfile.TemporaryDirectory() as passing:
         folder = given.keep or passing
         for number in range(given.plans):
-            text = plan_text(random_plan(chance, [0, 60_000]))
+            text = plan_text(with_worse_clocks(chance, random_plan(chance, [0, 60_000])))
             put_files(folder, {"plan": text})
             plan = read_plan(text)
             events = run_events(chance, plan) if counted["runs"] < given.runs else None
