@@ -82,6 +82,8 @@ def test_tables() -> None:
     assert (gaps.status, len(gaps.result.rows)) == (1, 7)
     assert gaps.result.rows[0] == reports.Gap("link", "N1", 2, "hub-north")
     assert murdjohe.protected(MESH.parent / "bundle" / "plan.toml").result == reports.Gaps(())
+    assert murdjohe.agree(MESH.parent / "ring" / "plan.toml").result.clash == ("L1>B", "L2>C", "L3>A")
+    assert murdjohe.agree(MESH / "plan.toml").result.clash is None
     cuts = murdjohe.sweep(MESH / "redundant.toml", 60_000, "400s").result.rows
     assert [cut.link for cut in cuts] == ["C", "N1", "S2", "H", "A1", "A2", "A3", "A4"]
     assert all(cut.is_settled and cut.locked == 7 and cut.bound is None for cut in cuts)

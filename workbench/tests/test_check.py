@@ -12,7 +12,8 @@ def checked(folder: Path, core: str, packages: str, user: int, installs: str = "
     for name, script in (("id", f"echo {user}"), ("apt-get", installs)):
         (folder / name).write_text(f"#!/bin/sh\n{script}\n")
         (folder / name).chmod(0o755)
-    (folder / "check").write_bytes((WORKBENCH / "check").read_bytes())
+    for name in ("check", "checking.sh"):
+        (folder / name).write_bytes((WORKBENCH / name).read_bytes())
     (folder / "packages").write_text(packages)
     return started(["sh", str(folder / "check"), core], folder, b"", PATH=f"{folder}:/usr/bin:/bin")
 

@@ -1,6 +1,6 @@
 """Damaged files through every command that reads them: a status, at most one complaint, and never a trace.
 
-The damage, and the whole files, are those of bench/fuzz.py. Commands run within this process, pictures are worked out but
+The damage, and the whole files, are those of bench/compare/damage.py. Commands run within this process, pictures are worked out but
 not drawn.
 """
 
@@ -20,8 +20,8 @@ from murdjohe.forms import FORMS
 from murdjohe.streams import Output
 from murdjohe.wrong import Wrong
 
-sys.path.append(str(TOP / "bench"))
-fuzz: Any = pytest.importorskip("fuzz")
+sys.path.append(str(TOP))
+damage: Any = pytest.importorskip("bench.compare.damage")
 INVENTORY = EXAMPLES / "inventory"
 
 
@@ -32,8 +32,8 @@ def chances(what: str) -> list[random.Random]:
 @pytest.mark.parametrize("reader", ["plan", "certificate", "events", "frames", "rows", "capture", "timed-rows"])
 def test_each_refusal_has_one_sentence_with_the_files_name(folder: Path, reader: str) -> None:
     for chance in chances(reader):
-        whole = fuzz.READERS[reader](chance)
-        (folder / "file").write_bytes(fuzz.damaged(chance, reader, whole.data))
+        whole = damage.READERS[reader](chance)
+        (folder / "file").write_bytes(damage.damaged(chance, reader, whole.data))
         if whole.text:
             (folder / "plan").write_bytes(whole.text)
         form, *given = [{"{}": "file"}.get(word, word) for word in whole.words]
@@ -58,7 +58,7 @@ def test_damaged_tables_are_written_or_refused(folder: Path) -> None:
     for chance in chances("tables"):
         paths = {kind: str(INVENTORY / name) for kind, name in zip(tables.TABLES, names)}
         kind = chance.choice(list(paths))
-        (folder / "table").write_bytes(fuzz.damaged(chance, "rows", Path(paths[kind]).read_bytes()))
+        (folder / "table").write_bytes(damage.damaged(chance, "rows", Path(paths[kind]).read_bytes()))
         paths[kind] = "table"
         try:
             assert tables.made_of(paths, tables.Settings()).plan.startswith(('option = "I"\n', "version = 2\n"))
@@ -73,13 +73,13 @@ def test_damaged_tables_are_written_or_refused(folder: Path) -> None:
 def test_what_is_drawn_beside_a_plan_is_taken_or_refused(folder: Path, word: str, file: str) -> None:
     for chance in chances(word):
         at = EXAMPLES / chance.choice(["ring", "option-two", "bundle"])
-        (folder / "damaged").write_bytes(fuzz.damaged(chance, "rows", (at / file).read_bytes()))
+        (folder / "damaged").write_bytes(damage.damaged(chance, "rows", (at / file).read_bytes()))
         assert called(["draw", str(at / "plan.toml"), word, "damaged", "-o", "plan.dot"], Output(False)) in (0, 2)
 
 
 def test_damaged_plans_are_drawn_or_refused(folder: Path) -> None:
     for chance in chances("draw"):
-        (folder / "damaged").write_bytes(fuzz.damaged(chance, "plan", fuzz.whole_plan(chance)[1]))
+        (folder / "damaged").write_bytes(damage.damaged(chance, "plan", damage.whole_plan(chance)[1]))
         try:
             plan = drawing.read_plan("damaged")
             assert drawing.picture_of(plan, drawing.Shown()).startswith("digraph plan {")
@@ -90,7 +90,7 @@ def test_damaged_plans_are_drawn_or_refused(folder: Path) -> None:
 def test_damaged_reports_have_bands_or_are_refused(folder: Path) -> None:
     for chance in chances("timeline"):
         at = EXAMPLES / chance.choice(["ring", "option-two", "bundle"])
-        (folder / "damaged").write_bytes(fuzz.damaged(chance, "rows", (at / "report").read_bytes()))
+        (folder / "damaged").write_bytes(damage.damaged(chance, "rows", (at / "report").read_bytes()))
         try:
             rows, order = bands.changes_of("damaged")
         except Wrong as wrong:
@@ -107,13 +107,13 @@ def test_damaged_answers_are_explained_or_passed_on(folder: Path) -> None:
     from murdjohe.inputs import Words
 
     for chance in chances("answers"):
-        reader = chance.choice(list(fuzz.READERS))
-        whole = fuzz.READERS[reader](chance)
-        (folder / "file").write_bytes(fuzz.damaged(chance, reader, whole.data))
+        reader = chance.choice(list(damage.READERS))
+        whole = damage.READERS[reader](chance)
+        (folder / "file").write_bytes(damage.damaged(chance, reader, whole.data))
         (folder / "plan").write_bytes(whole.text or b"")
         form, *given = [{"{}": "file"}.get(word, word) for word in whole.words]
         words, answer = run_form.answered(FORMS[form], given)
-        text = fuzz.damaged(chance, "rows", answer.text[:200])
+        text = damage.damaged(chance, "rows", answer.text[:200])
         assert isinstance(words, Words)
         try:
             said = explain.said_of(words, Answer(explain.status_of(form, text), text))

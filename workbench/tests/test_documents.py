@@ -156,3 +156,20 @@ def test_what_documents_name_and_is_nowhere_is_told(tmp_path: Path) -> None:
     told = [line.rpartition(":2: ")[2].removesuffix(" isn't there") for line in ran.out.decode().splitlines()]
     assert ran.status == 1
     assert told == [*wrong, "12 names, 7 not there"]
+
+
+def test_commands_that_documents_name_and_that_are_nowhere_are_told(tmp_path: Path) -> None:
+    document = tmp_path / "notes.md"
+    right = ["murdjohe repair PLAN", "murdjohe check PLAN CERT", "murdjohe help plan", "murdjohe capture read FILE"]
+    right += [
+        "python3 -m bench.compare.sim PROGRAM",
+        "python3 -m bench.reference --rows",
+        "python3 -m json.tool",
+        "bench/check PROGRAM",
+    ]
+    wrong = {"murdjohe mend PLAN": "murdjohe mend", "bench/nothing PROGRAM": "bench/nothing"}
+    wrong["python3 -m bench.compare.nothing PROGRAM"] = "bench.compare.nothing"
+    document.write_text(", ".join(f"`{code}`" for code in (*right, *wrong)) + "\n", encoding="utf-8")
+    ran = started([str(TOP / "docs" / "check_names"), str(document)])
+    told = [line.rpartition(":1: ")[2].removesuffix(" isn't there") for line in ran.out.decode().splitlines()]
+    assert (ran.status, told) == (1, [*wrong.values(), "11 names, 3 not there"])

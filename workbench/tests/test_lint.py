@@ -14,8 +14,9 @@ from random_plans import random_plan
 
 from murdjohe import findings
 from murdjohe.documents import Document
-from murdjohe.findings import KINDS
+from murdjohe.findings import KINDS, Finding, Said
 from murdjohe.plans import Plan
+from murdjohe.reports import Chain, Gap
 
 # Two clocks at A and B, and C with a reserve: nothing to be found.
 GOOD = """version = 2
@@ -59,18 +60,18 @@ SOURCES = GOOD[GOOD.index("[[source]]") :]
 def test_nothing_is_found_in_a_good_plan() -> None:
     ran = murdjohe("lint", "-", stdin=GOOD.encode())
     assert (ran.status, ran.out) == (0, b"")
-    assert ran.err == "murdjohe: 0 errors, 0 warnings, 0 notes; checked: accepted\n"
+    assert ran.err == "murdjohe: 0 errors, 0 warnings, 0 notes; checked: accepted, protected\n"
 
 
 @pytest.mark.parametrize(
     ("old", "new", "said"),
     [
         (SOURCES, "", [(1, "error", "there is no source"), (2, "error", 'element "A" has inputs, and none'), (5, "error", ""), (8, "error", "")]),
-        ("priority = 1\n", "priority = 0\n", [(5, "warning", 'element "B" has one way in, L1>B'), (34, "warning", 'source "prtc-2" isn\'t nominated')]),
+        ("priority = 1\n", "priority = 0\n", [(5, "warning", 'element "B" has one way in, L1>B'), (10, "warning", 'a failure of link "L1" cuts off B though'), (34, "warning", 'source "prtc-2" isn\'t nominated')]),
         ('level = "QL-PRC"', 'level = "QL-DNU"', [(29, "warning", 'source "prc-1" has QL-DNU, so nobody'), (29, "note", "by its name it would give QL-PRC")]),
         ('level = "QL-PRC"', 'level = "QL-SSU-A"', [(29, "note", 'source "prc-1" has QL-SSU-A, and by its name')]),
-        ('b = "C"\npriority_b = 1\n', 'b = "C"\n', [(8, "warning", 'element "C" has one way in, L3>C')]),
-        ("priority_b = 1\n[[link]]", "[[link]]", [(8, "warning", 'element "C" has one way in')]),
+        ('b = "C"\npriority_b = 1\n', 'b = "C"\n', [(5, "warning", 'a failure of element "B" cuts off C though'), (8, "warning", 'element "C" has one way in, L3>C'), (20, "warning", 'of link "L3" cuts off C')]),
+        ("priority_b = 1\n[[link]]", "[[link]]", [(5, "warning", "cuts off C"), (8, "warning", 'element "C" has one way in'), (20, "warning", "cuts off C")]),
         ('b = "C"\npriority_b = 2', 'b = "C"\npriority_b = 1', [(25, "warning", 'element "C" gives L2>C and L3>C the same priority, 1')]),
         ("priority = 1\n", "priority = 2\n", [(15, "warning", 'element "B" gives prtc-2 and L1>B the same priority, 2')]),
         ('name = "A"\nfloor = "QL-SSU-B"\n', 'name = "A"\n', [(13, "warning", 'link "L1" is nominated at both ends, and A would follow')]),
@@ -106,6 +107,61 @@ def test_a_ring_is_an_error_by_the_word_of_the_program(folder: Path) -> None:
     assert "; checked: cycle " in ran.err and ": error: " in line
 
 
+def told_of(said: Said, plan: str = GOOD) -> list[Finding]:
+    """What is found where the program says this of a plan in which nothing else is found."""
+    return findings.findings_of(Plan(Document("plan.toml", plan.encode())), said)
+
+
+def test_a_gap_stands_where_what_fails_stands() -> None:
+    plan = GOOD.replace('b = "C"', 'b = "C"\nbundle = "G"', 1)
+    gaps = (
+        Gap("link", "L3", 1, "C"),
+        Gap("bundle", "G", 2, "B"),
+        Gap("source", "prtc-2", 1, "B"),
+        Gap("element", "A", 3, "B"),
+    )
+    found = told_of(Said(gaps=gaps), plan)
+    assert [(one.line, one.kind, one.what.split(" though")[0]) for one in found] == [
+        (2, "warning", 'a failure of element "A" cuts off 3 elements, B first,'),
+        (20, "warning", 'a failure of bundle "G" cuts off 2 elements, B first,'),
+        (22, "warning", 'a failure of link "L3" cuts off C'),
+        (31, "warning", 'a failure of source "prtc-2" cuts off B'),
+    ]
+
+
+def test_who_is_cut_off_without_a_failure_is_told_once() -> None:
+    gaps = (
+        Gap("none", None, 2, "B"),
+        Gap("link", "L1", 2, "B"),
+        Gap("link", "L2", 3, "B"),
+        Gap("element", "A", 1, "C"),
+    )
+    assert [one.line for one in told_of(Said(gaps=gaps))] == [16]
+
+
+def test_a_chain_that_is_too_long_is_told_at_the_longest() -> None:
+    assert told_of(Said(chains=(Chain("A", 60, 20, 10), Chain("B", 60, 20, 10)))) == []
+    chains = (Chain("A", 61, 20, 10), Chain("B", 75, 20, 10), Chain("C", 60, 21, 11))
+    found = told_of(Said(chains=chains))
+    assert [(one.line, one.kind, one.what) for one in found] == [
+        (
+            5,
+            "warning",
+            'element "B" may come to a chain of 75 lines, where G.803 has 60, and 1 other element to more than 60',
+        ),
+        (8, "warning", 'element "C" may come to a chain of 21 lines since a filter, where G.803 has 20'),
+        (8, "warning", 'element "C" may come to a chain of 11 filters, where G.803 has 10'),
+    ]
+
+
+def test_chains_are_the_programs() -> None:
+    found = json.loads(murdjohe("lint", "-", "--json", stdin=murdjohe("gen", "70").out).out)
+    assert [one["what"] for one in found if "chain" in one["what"]] == [
+        'element "E69" may come to a chain of 69 lines, where G.803 has 60, and 8 other elements to more than 60',
+        'element "E69" may come to a chain of 69 lines since a filter, where G.803 has 20, and 48 other elements to more than 20',
+    ]
+
+
 def test_an_empty_plan_is_an_error() -> None:
     ran = murdjohe("lint", "-", stdin=b"")
     assert ran.status == 1 and "error: there is no element in the plan" in ran.out.decode()
@@ -127,7 +183,7 @@ def test_each_example_is_looked_at(path: Path) -> None:
 @given(st.integers(0, 2**32))
 def test_findings_stand_in_the_order_of_the_file(seed: int) -> None:
     text, _ = random_plan(random.Random(seed)).text()
-    found = findings.findings_of(Plan(Document("plan.toml", text.encode())), None)
+    found = findings.findings_of(Plan(Document("plan.toml", text.encode())), Said())
     assert [one.line for one in found] == sorted(one.line for one in found)
     assert len(set(found)) == len(found)
 

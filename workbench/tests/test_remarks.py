@@ -86,6 +86,28 @@ def test_a_protected_plan_is_told() -> None:
     ]
 
 
+PAIR = (
+    'element = [{ name = "A" }, { name = "B" }]\n'
+    'link = [{ name = "L", a = "A", b = "B", priority_a = 3, priority_b = 3, delay_a = 10, delay_b = 10 }]\n'
+    'source = [{ name = "S", at = "A", level = "QL-PRC", priority = 2 }, { name = "T", at = "B", level = "QL-PRC", priority = 2 }]\n'
+)
+
+
+def test_a_plan_that_agrees_is_told() -> None:
+    assert said("agree", "-", stdin=PAIR) == [
+        "at rest 300.090 seconds after the last event, wherever a level reaches that is better than every own clock",
+        "2 elements, 2 nominated lines",
+    ]
+
+
+def test_a_clash_is_told() -> None:
+    first, *rest = said("agree", "-", stdin=PAIR.replace("= 3", "= 1"), status=1)
+    assert first.startswith(
+        "elements may swing for ever over L>B -> L>A -> L>B: make one of these lines its element's last resort"
+    )
+    assert len(rest) == 2
+
+
 def test_a_plan_without_a_clock_is_told() -> None:
     assert said("rank", "-", stdin=CHAIN)[1:] == ["no source is nominated, so nothing ever has a clock"]
     assert said("rank", "-", stdin=CHAIN + SOURCE + "priority = 0\n")[1:] == [
@@ -93,7 +115,7 @@ def test_a_plan_without_a_clock_is_told() -> None:
     ]
 
 
-@pytest.mark.parametrize("form", ["rank", "chains", "protected", "hops", "nominate", "prio-rank"])
+@pytest.mark.parametrize("form", ["rank", "chains", "protected", "agree", "hops", "nominate", "prio-rank"])
 def test_an_empty_plan_is_told(form: str) -> None:
     assert any("the plan is empty" in line or "0 elements" in line for line in said(form, "-"))
 

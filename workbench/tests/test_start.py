@@ -1,4 +1,4 @@
-"""What a start of the command reads: little. How long it takes is measured by bench/start_time.py."""
+"""What a start of the command reads: little. How long it takes is measured by bench/measure/start_time.py."""
 
 from __future__ import annotations
 

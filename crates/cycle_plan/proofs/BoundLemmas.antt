@@ -6,16 +6,15 @@ use Rattle.std.proofs.lemmas.Option.{same_Some, none-some, slice_get_within}
 use Rattle.sync_topo.specs.declared.link.Link.{Link}
 use Rattle.sync_topo.specs.declared.element.Element.{Element}
 use Rattle.sync_topo.specs.Topology.{Topology}
-use Rattle.sync_topo.specs.Lines.{line_count, ends_at_b, sender_of, receiver_of, is_nominated}
+use Rattle.sync_topo.specs.Lines.{line_count, ends_at_b, sender_of, receiver_of, is_nominated, IsNominated}
 use Rattle.sync_topo.specs.Bundles.{line_bundle, bundle_of, bundle_name, is_same_bundle, are_of_one_bundle, join_same}
-use Rattle.sync_topo.specs.Hops.{hops, goes_back}
-use Rattle.sync_topo.specs.Ranks.{AreLeastRanks, IsFirstCycle}
+use Rattle.sync_topo.specs.Hops.{goes_back}
+use Rattle.sync_topo.specs.Ranks.{HopTest, AreLeastRanks, IsFirstCycle, IsLeastRank}
 use Rattle.sync_topo.specs.WellFormed.{IsWellFormed}
 use Rattle.sync_topo.proofs.LineLaws.{IsNominated-within}
 use Rattle.sync_topo.proofs.LineNames.{link_there}
-use Rattle.net_rules.specs.Settling.{IsRank, IsWait, IsGreatest, IsSettlingBound}
+use Rattle.net_rules.specs.Settling.{IsRankOver, IsWait, IsGreatest}
 use Rattle.rank_cert.specs.Ranks.{Ranks, rank_at}
-use Rattle.net_rules.proofs.Backs.{hop-nominates}
 use Rattle.cycle_plan.proofs.Walks.{one_least, residue_nominated}
 use Rattle.cycle_plan.specs.BoundParts.{IsRankBelow, IsWaitBelow}
 
@@ -54,13 +53,12 @@ rank-more plan ranks n greatest before = of (rank_at ranks n) refl
         greater (inr more) = let e : max greatest rank ≡ greatest = omega (arith, more) in rw e before.reached
 
 -- over all lines: the greatest least rank
-pub rank-all : (plan : Topology) (ranks : Ranks) (greatest : ℕ) → length ranks ≡ line_count plan
-    → AreLeastRanks (hops plan) (is_nominated plan) (rank_at ranks)
-    → IsRankBelow plan ranks (line_count plan) greatest → IsGreatest (IsRank plan) greatest
-rank-all plan ranks greatest counted least all = record {
+pub rank-all : (hop : HopTest) (plan : Topology) (ranks : Ranks) (greatest : ℕ) → AreLeastRanks hop (is_nominated plan) (rank_at ranks)
+    → IsRankBelow plan ranks (line_count plan) greatest → IsGreatest (IsRankOver hop plan) greatest
+rank-all hop plan ranks greatest least all = record {
   most = λ n is.
       let mine = least.least is.line is.nominated in
-      let same = one_least (hops plan) is.line mine.0 n mine.2 is.is in
+      let same = one_least hop is.line mine.0 n mine.2 is.is in
       let m = all.most is.line mine.0 (IsNominated-within plan is.line is.nominated) mine.1 in
       omega (arith, m, same);
   reached = elim all.reached [
@@ -69,7 +67,7 @@ rank-all plan ranks greatest counted least all = record {
   ];
 }
   where
-    ranked : (line : ℕ) → rank_at ranks line ≡ Some greatest → IsRank plan greatest
+    ranked : (line : ℕ) → rank_at ranks line ≡ Some greatest → IsRankOver hop plan greatest
     ranked line has = elim (cases_Bool (is_nominated plan line)) [
       | inl nominated ↦
           let mine = least.least line nominated in
@@ -77,6 +75,11 @@ rank-all plan ranks greatest counted least all = record {
           record { line = line; nominated = nominated; is = rw (← same) mine.2 }
       | inr not ↦ absurd (none-some greatest (sym (least.none line not) ∙ has))
     ]
+
+-- and each nominated line has its least rank
+pub ranked-all : (hop : HopTest) (plan : Topology) (ranks : Ranks) → AreLeastRanks hop (is_nominated plan) (rank_at ranks)
+    → (line : ℕ) → IsNominated plan line → (rank : ℕ) × IsLeastRank hop line rank
+ranked-all hop plan ranks least line nominated = let mine = least.least line nominated in (mine.0, mine.2)
 
 -- the ends of a line, by the direction that it runs in
 meet : (to_b back_to_b : Bool) (link back : Link) → join_same link back ≡ true
@@ -131,12 +134,13 @@ opposed plan line back well within back_within one same differ =
     rw (eq-eqb _ _ met) (eq-eqb _ _ same)
 
 -- with a cycle a line has no least rank
-pub cyclic-none : (plan : Topology) (lines : List ℕ) (last bound : ℕ) → IsFirstCycle (hops plan) lines → IsSettlingBound plan last bound → ⊥
-cyclic-none plan [] last bound first is = first
-cyclic-none plan (line ∷ rest) last bound first is =
+pub cyclic-none : (hop : HopTest) (plan : Topology) (lines : List ℕ) → ((from next : ℕ) → IsTrue (hop from next) → IsNominated plan next)
+    → IsFirstCycle hop lines → ((line : ℕ) → IsNominated plan line → (rank : ℕ) × IsLeastRank hop line rank) → ⊥
+cyclic-none hop plan [] nominates first ranked = first
+cyclic-none hop plan (line ∷ rest) nominates first ranked =
     let start = first.met.0 in
     let residue = first.met.2.residue in
-    let least = is.ranked start (residue_nominated (hops plan) (is_nominated plan) (λ from next hop. hop-nominates plan from next hop) start residue) in
+    let least = ranked start (residue_nominated hop (is_nominated plan) nominates start residue) in
     let more = least.1.longest (suc least.0) (residue (suc least.0)) in
     omega (arith, more)
 

@@ -1,9 +1,10 @@
 -- Inputs and hops.
 use Rattle.std.proofs.Common.{◌≡◌, ℕ, ◌/◌, ◌<◌, zero, suc, Bool, true, false, not, ◌&&◌, nat_eq, List, [], ◌∷◌, ◌++◌, length, map, Some, None, refl, sym, ap, ◌∙◌, inl, inr, arith, zero-add}
-use Rattle.std.specs.Prelude.{◌≢◌, ◌==◌, slice_get, if◌then◌else◌}
+use Rattle.std.specs.Prelude.{◌≢◌, ◌+◌, ◌==◌, slice_get, if◌then◌else◌}
 use Rattle.std.specs.Cmp.Derive.{both_true}
 use Rattle.std.specs.Option.{option_and_then}
-use Rattle.std.proofs.lemmas.Bool.{and_parts, cases_lt, eqb-true, eqb-false, eq-eqb, ne_eqb, not-true, not_from_false}
+use Rattle.std.proofs.Math.Bool.{and-false}
+use Rattle.std.proofs.lemmas.Bool.{and_parts, cases_lt, eqb-true, eqb-false, eq-eqb, ne_eqb, not-true, not_from_false, true≢false}
 use Rattle.std.proofs.lemmas.Option.{none-some, slice_get_cases, slice_get_past}
 use Rattle.sync_topo.specs.Topology.{Topology}
 use Rattle.sync_topo.specs.declared.link.Link.{Link}
@@ -13,9 +14,9 @@ use Rattle.sync_topo.proofs.LineLaws.{IsNominated-within}
 use Rattle.sync_topo.specs.declared.input.InputId.{InputId}
 use Rattle.sync_topo.specs.declared.input.InputId.TheVariants.{Source}
 use Rattle.sync_topo.specs.declared.returns.Returns.{Returns}
-use Rattle.sync_topo.specs.declared.returns.Returns.TheVariants.{Barred, Allowed}
+use Rattle.sync_topo.specs.declared.returns.Returns.TheVariants.{Barred, Allowed, BarredFromLast}
 use Rattle.sync_topo.specs.Bundles.{line_bundle, are_bundled}
-use Rattle.sync_topo.specs.Hops.{hops_any, HopsBy}
+use Rattle.sync_topo.specs.Hops.{hops_any, is_last_resort, HopsBy}
 use Rattle.sync_topo.proofs.HopLaws.{hop-meets, hop-any-from}
 use Rattle.sync_topo.proofs.KeptNumbers.{kept_in_range, kept_passes, kept_rises}
 use Rattle.cycle_plan.specs.Numbers.{number_in, number_out}
@@ -75,6 +76,17 @@ line_at_within inputs place line here = elim (cases_lt place (length inputs)) [
       absurd (none-some line (sym none ∙ here))
 ]
 
+-- where returns are barred from a last resort alone
+last_apart : (last : Bool) (one other : ℕ) → not (one == other && last) ≡ true → (if last then one + 1 else 0) ≢ other + 1
+last_apart true one other over same =
+    let one_is : (one == other) ≡ true = eq-eqb one other (omega (arith, same)) in
+    absurd (true≢false (sym (both_true {s = one == other} {t = true} one_is refl) ∙ not-true (one == other && true) over))
+last_apart false one other over same = absurd (omega (arith, same))
+
+last_by : (last : Bool) (one other : ℕ) → (if last then one + 1 else 0) ≢ other + 1 → not (one == other && last) ≡ true
+last_by true one other differ = rw (ne_eqb one other (λ same. differ (ap (λ n. n + 1) same))) refl
+last_by false one other differ = not_from_false (one == other && false) (and-false (one == other))
+
 -- what a hop says
 pub hop_parts : (returns : Returns) (plan : Topology) (line next : ℕ) → HopsBy returns plan line next
     → IsNominated plan line × IsNominated plan next × (receiver_of plan line ≡ sender_of plan next) × (number_in returns plan line ≢ number_out returns plan next)
@@ -86,6 +98,9 @@ hop_parts returns plan line next hop =
         let ends = and_parts (is_nominated plan line && is_nominated plan next && nat_eq (receiver_of plan line) (sender_of plan next)) (not (are_bundled plan line next)) over in
         eqb-false _ _ (not-true (line_bundle plan line == line_bundle plan next) ends.1)
     apart Allowed over = λ same. absurd (omega (arith, same))
+    apart BarredFromLast over =
+        last_apart (is_last_resort plan line) (line_bundle plan line) (line_bundle plan next)
+        (and_parts (hops_any plan line next) (not (are_bundled plan line next && is_last_resort plan line)) over).1
 
 pub hop_from : (returns : Returns) (plan : Topology) (line next : ℕ) → IsNominated plan line → IsNominated plan next → receiver_of plan line ≡ sender_of plan next
     → number_in returns plan line ≢ number_out returns plan next → HopsBy returns plan line next
@@ -99,6 +114,9 @@ hop_from returns plan line next nominated next_nominated meets apart = by return
         both_true {s = hops_any plan line next} {t = not (are_bundled plan line next)}
         meet (not_from_false (line_bundle plan line == line_bundle plan next) (ne_eqb _ _ differ))
     by Allowed differ = meet
+    by BarredFromLast differ =
+        both_true {s = hops_any plan line next} {t = not (are_bundled plan line next && is_last_resort plan line)}
+        meet (last_by (is_last_resort plan line) (line_bundle plan line) (line_bundle plan next) differ)
 
 -- a line doesn't begin where it ends
 pub ends_apart : (plan : Topology) (line : ℕ) → IsWellFormed plan → line < line_count plan → sender_of plan line ≢ receiver_of plan line

@@ -13,4 +13,5 @@ pub mod Rounds
 pub mod CycleLaws
 pub mod OneCycle
 pub mod WatchLemmas
-mod BoundLemmas
+pub mod BoundLemmas
+pub mod AgreedLemmas

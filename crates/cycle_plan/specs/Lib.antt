@@ -8,3 +8,4 @@ pub mod Mosts
 pub mod Chained
 pub mod Rings
 pub mod BoundParts
+pub mod Agreed

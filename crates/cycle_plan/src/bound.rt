@@ -1,12 +1,10 @@
 // From when on a network of a plan is settled after its last event.
 
 ghost use Rattle.std.specs.Prelude.{◌≡◌, ◌≢◌, ◌≤◌, ◌<◌, ◌+◌, ◌*◌, ℕ, max, false, IsTrue, IfOk, Some, MatchOption, length};
-ghost use Rattle.sync_topo.specs.Lines.{line_count, is_nominated};
-ghost use Rattle.sync_topo.specs.Hops.{hops};
-ghost use Rattle.sync_topo.specs.Ranks.{AreLeastRanks};
-ghost use Rattle.net_rules.specs.Settling.{IsOneWay, IsDelay, IsRank, IsWait, IsGreatest, IsSettlingBound};
+ghost use Rattle.sync_topo.specs.Lines.{line_count};
+ghost use Rattle.net_rules.specs.Settling.{IsOneWay, IsDelay, IsWait, IsGreatest, IsSettlingBound};
 ghost use Rattle.rank_cert.specs.Ranks.{rank_at};
-ghost use Rattle.cycle_plan.specs.BoundParts.{AreDirections, receiver_in};
+ghost use Rattle.cycle_plan.specs.BoundParts.{AreDirections, IsRankBelow, receiver_in};
 
 use crate::ranked::{Ranked, rank_plan};
 use rank_cert::Cert;
@@ -43,7 +41,7 @@ pub fn settling_bound(alloc: Global, plan: &Plan, last: u64) -> Result<Option<u6
 }
 
 /// The delay once for each rank from 0 to the greatest.
-fn time_of_ranks(rank: u64, delay: u64) -> u64
+pub(crate) fn time_of_ranks(rank: u64, delay: u64) -> u64
     requires rank { rank ≤ 8000 }
     requires delay { delay ≤ GREATEST_DELAY }
     ensures time { result ≡ (rank + 1) * delay }
@@ -92,7 +90,7 @@ fn keeps_direction(plan: &Plan, line: LineId, receivers: &mut [Option<u32>]) -> 
 }
 
 /// The greatest delay of a nominated line, in milliseconds, or 0 where there is none.
-fn greatest_delay(plan: &Plan) -> u32
+pub(crate) fn greatest_delay(plan: &Plan) -> u32
     ensures greatest { IsGreatest (IsDelay plan.now) result }
     ensures at_most { result ≤ GREATEST_DELAY }
 {
@@ -107,11 +105,10 @@ fn greatest_delay(plan: &Plan) -> u32
 }
 
 /// The greatest rank of a line, or 0 where none has one.
-fn greatest_rank(plan: &Plan, cert: &Cert) -> u64
+pub(crate) fn greatest_rank(plan: &Plan, cert: &Cert) -> u64
     requires counted { length cert.now ≡ line_count plan.now }
-    requires least { AreLeastRanks (hops plan.now) (is_nominated plan.now) (rank_at cert.now) }
     requires few { (line rank : ℕ) → rank_at cert.now line ≡ Some rank → rank < line_count plan.now }
-    ensures greatest { IsGreatest (IsRank plan.now) result }
+    ensures greatest { IsRankBelow plan.now cert.now (line_count plan.now) result }
     ensures few { result ≤ 8000 }
 {
     let mut greatest = 0;
@@ -130,7 +127,7 @@ fn greater(one: u64, other: u64) -> u64
 
 /// The longest wait, in milliseconds: of all hold-off and wait-to-restore times and of the time for
 /// which a level is heard with the greatest delay.
-fn longest_wait(plan: &Plan, delay: u64) -> u64
+pub(crate) fn longest_wait(plan: &Plan, delay: u64) -> u64
     requires delay { delay ≤ GREATEST_DELAY }
     ensures longest { IsGreatest (IsWait plan.now delay) result }
     ensures at_most { result ≤ GREATEST_WTR }

@@ -3,7 +3,8 @@
 //!
 //! [`rank_plan`] is the planner, and [`rank_with`] the same where returns may be allowed
 //! ([`Returns`](sync_topo::Returns)); [`settling_bound`] says from when on a network of the plan
-//! is settled. What a least rank and the first cycle are stands in sync_topo, `AreLeastRanks` and
+//! is settled, and [`agree`] for how long it may change where links are nominated at both ends, or
+//! which lines clash. What a least rank and the first cycle are stands in sync_topo, `AreLeastRanks` and
 //! `IsFirstCycle`; [`first_cycle_law`] and [`least_rank_law`] say that there is one first cycle,
 //! which lines it has, and why the ranks are the least.
 //!
@@ -18,6 +19,7 @@
 //! The tests are worked plans.
 #![tactic(auto)]
 
+mod agreement;
 mod bound;
 mod chain_rows;
 mod chaining;
@@ -32,6 +34,7 @@ mod reach;
 mod ring;
 mod top;
 
+pub use agreement::{Agreement, agree};
 pub use bound::settling_bound;
 pub use chain_rows::Chains;
 pub use chaining::{Chained, chain_plan, chains};

@@ -1,4 +1,4 @@
-// Numbers of lines by which the hops of either rule of returns are told.
+// Numbers of lines by which the hops of each rule of returns are told.
 
 ghost use Rattle.std.specs.Prelude.{◌≡◌, ◌<◌};
 ghost use Rattle.sync_topo.specs.Lines.{line_count};
@@ -14,6 +14,8 @@ pub(crate) fn number_in(returns: Returns, plan: &Plan, line: LineId) -> u32
     match returns {
         Returns::Barred => plan.bundle(line.0 / 2),
         Returns::Allowed => 0,
+        Returns::BarredFromLast if plan.last_resort(line) => number_out(returns, plan, line),
+        Returns::BarredFromLast => 0,
     }
 }
 
@@ -23,8 +25,11 @@ pub(crate) fn number_out(returns: Returns, plan: &Plan, line: LineId) -> u32
     requires { line.0 < line_count plan.now }
     ensures { result ≡ number_out returns plan.now line.0 }
 {
+    // A plan has at most 4,000 links, so the sum fits.
+    let _links = plan.links();
     match returns {
-        Returns::Barred => number_in(returns, plan, line),
+        Returns::Barred => plan.bundle(line.0 / 2),
         Returns::Allowed => 1,
+        Returns::BarredFromLast => plan.bundle(line.0 / 2) + 1,
     }
 }

@@ -13,7 +13,7 @@ use Rattle.sync_ql.specs.Moment.{Moment, Settings, signals_of, level_now, candid
 use Rattle.sync_ql.specs.Output.{goes_back, clock_level_at, sent_back_at, mode_of, mode_at, was_locked, state_of, state_at}
 use Rattle.sync_ql.specs.Quiet.{IsSameOutput}
 use Rattle.sync_ql.specs.Taken.{MayBeTaken, AreAlike, AllAlike}
-use Rattle.sync_ql.proofs.Choices.{standing_manual-again, choice-again}
+use Rattle.sync_ql.proofs.Choices.{choice-again}
 use Rattle.sync_ql.proofs.SameChoice.{standing_alike, choice_alike}
 use Rattle.sync_ql.proofs.TakenInputs.{taken_may_be_taken}
 use Rattle.sync_ql.proofs.QuietMoments.{seen, seen_at, commanded, candidates_at-same, switches_at-cons, selection_at-cons, at_end-again, or-again}

@@ -1,7 +1,7 @@
 -- The timed laws by a list of events, for the levels that the rules send.
 use Rattle.std.proofs.Common.{◌≡◌, ◌≤◌, ◌<◌, ◌+◌, ℕ, suc, false, List, ◌++◌, length, arith, ◌⊎◌, Bool, Option, None, Some, refl}
 use Rattle.std.specs.List.{All}
-use Rattle.sync_ql.specs.Messages.{hearing_time, LineMoment}
+use Rattle.sync_ql.specs.Messages.{hearing_time}
 use Rattle.sync_topo.specs.declared.event.Event.{Event}
 use Rattle.sync_topo.specs.Topology.{Topology}
 use Rattle.sync_ql.specs.Quiet.{IsSameOutput}
@@ -21,7 +21,6 @@ use Rattle.net_rules.specs.Staying.{IsSameAt}
 use Rattle.net_rules.specs.Settling.{NoneAfter, IsUnswitched, AreUnswitchedBefore, IsSettlingBound}
 use Rattle.std.specs.Prelude.{IfSome, IsTrue}
 use Rattle.sync_ql.proofs.SameMoments.{line_moment}
-use Rattle.sync_ql.specs.declared.levels.Level.{Level}
 use Rattle.sync_ql.specs.Condition.{Signal}
 use Rattle.sync_topo.specs.declared.input.InputId.{InputId}
 use Rattle.net_rules.specs.Inputs.{IsInputOf}

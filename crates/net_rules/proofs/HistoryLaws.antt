@@ -1,12 +1,9 @@
 -- There is one history that obeys the rules, and it looks back alone.
-use Rattle.std.proofs.Common.{◌≡◌, ◌≤◌, ◌<◌, ℕ, zero, suc, Bool, List, ◌∷◌, length, Option, Some, refl, ap, sym, ◌∙◌, arith}
+use Rattle.std.proofs.Common.{◌≡◌, ◌≤◌, ◌<◌, ℕ, zero, suc, ◌∷◌, length, Some, refl, ap, sym, ◌∙◌, arith}
 use Rattle.sync_text.proofs.Each.{Each-map}
 use Rattle.sync_ql.proofs.SameMoments.{line_moment, input_moment, moment}
-use Rattle.sync_ql.specs.declared.levels.Level.{Level}
 use Rattle.sync_ql.specs.Pasts.{past_of}
-use Rattle.sync_ql.specs.Messages.{LineMoment, heard_at}
-use Rattle.sync_ql.specs.declared.rules.Cmd.{Cmd}
-use Rattle.sync_ql.specs.Moment.{InputMoment, Moment}
+use Rattle.sync_ql.specs.Messages.{heard_at}
 use Rattle.sync_ql.proofs.Delivered.{heard_at-head}
 use Rattle.sync_topo.specs.declared.input.InputId.{InputId}
 use Rattle.sync_topo.specs.declared.input.InputId.TheVariants.{Line, Source}

@@ -13,6 +13,7 @@ pub mod Arrivals
 pub mod PairLaws
 pub mod SettledLaws
 pub mod QuietLaws
+pub mod WaitLaws
 pub mod SettlingLaws
 pub mod BoundLaws
 pub mod EventLaws

@@ -1,6 +1,6 @@
 -- In which milliseconds something happens in a network, and where: what a simulator has to look at.
 -- This project's own.
-use Rattle.std.specs.Prelude.{◌≡◌, ℕ, zero, suc, ◌+◌, ◌*◌, ◌<◌, Bool, true, false, not, ◌&&◌, ◌||◌, nat_eq, nat_lt, List, length, filter, drop, is_some}
+use Rattle.std.specs.Prelude.{◌≡◌, ℕ, zero, suc, ◌+◌, ◌*◌, ◌<◌, Bool, false, not, ◌&&◌, ◌||◌, nat_eq, nat_lt, List, length, filter, drop, is_some}
 use Rattle.std.specs.List.{list_any, range_with_len}
 use Rattle.sync_text.specs.Tests.{is_other}
 use Rattle.sync_ql.specs.Pasts.{past_of}

@@ -9,7 +9,7 @@ use Rattle.sync_topo.specs.declared.event.Event.{Event}
 use Rattle.sync_topo.specs.Topology.{Topology}
 use Rattle.sync_topo.specs.Lines.{line_input, delay_of, IsNominated}
 use Rattle.sync_topo.specs.Hops.{hops, goes_back}
-use Rattle.sync_topo.specs.Ranks.{IsLeastRank}
+use Rattle.sync_topo.specs.Ranks.{HopTest, IsLeastRank}
 use Rattle.net_rules.specs.Signals.{says_up, says_esmc}
 
 -- no event stands after a millisecond
@@ -40,16 +40,19 @@ pub record IsGreatest (IsOne : ℕ → Type 0) (greatest : ℕ) : Type 0 where
   pub most : (n : ℕ) → IsOne n → n ≤ greatest
   pub reached : (greatest ≡ 0) ⊎ IsOne greatest
 
--- a nominated line has this delay, and this least rank
+-- a nominated line has this delay, and this least rank over a test of hops
 pub record IsDelay (plan : Topology) (delay : ℕ) : Type 0 where
   pub line : ℕ
   pub nominated : IsNominated plan line
   pub is : delay ≡ delay_of plan line
 
-pub record IsRank (plan : Topology) (rank : ℕ) : Type 0 where
+pub record IsRankOver (hop : HopTest) (plan : Topology) (rank : ℕ) : Type 0 where
   pub line : ℕ
   pub nominated : IsNominated plan line
-  pub is : IsLeastRank (hops plan) line rank
+  pub is : IsLeastRank hop line rank
+
+abbrev pub IsRank : Topology → ℕ → Type 0
+IsRank plan rank = IsRankOver (hops plan) plan rank
 
 -- a hold-off or wait-to-restore time of an element of the plan
 pub record IsElementTime (plan : Topology) (time : ℕ) : Type 0 where

@@ -13,7 +13,8 @@ use Rattle.sync_topo.specs.Topology.{Topology}
 use Rattle.sync_topo.specs.Lines.{line_count, sender_of, receiver_of}
 use Rattle.sync_topo.specs.WellFormed.{IsWellFormed}
 use Rattle.nominate.specs.HopCount.{Counts, count_at, IsRoot}
-use Rattle.nominate.specs.Outputs.{kept, AreOutputs}
+use Rattle.sync_topo.specs.Held.{held}
+use Rattle.sync_topo.specs.Outputs.{AreOutputs}
 use Rattle.nominate.specs.Searching.{left_over, work, IsSearching, IsClose, IsLed, AreKept, AreKeptBut, IsMore}
 use Rattle.std.specs.declared.alloc.Global.{Global}
 use Rattle.std.specs.Prelude.{Vec}
@@ -163,7 +164,7 @@ close-grows plan before after hops element more close = (close.0, more.grows ele
 
 -- all lines of an element lead to what is close
 pub led-by_outputs : (plan : Topology) (outputs : List (Vec LineId Global)) (own : List LineId) (counts : Counts) (element hops : ℕ)
-    → AreOutputs plan (line_count plan) outputs → own ≡ kept outputs element → All (λ line. IsClose counts hops (receiver_of plan line.0)) own → IsLed plan counts element hops
+    → AreOutputs plan (line_count plan) outputs → own ≡ held outputs element → All (λ line. IsClose counts hops (receiver_of plan line.0)) own → IsLed plan counts element hops
 led-by_outputs plan outputs own counts element hops are is close line within sent =
     let among = are.each (record { 0 = line }) within in
     All-contains (λ (l : LineId). IsClose counts hops (receiver_of plan l.0)) own (record { 0 = line }) close

@@ -3,7 +3,6 @@ pub mod LocalFacts
 pub mod Nomination
 pub mod Examples
 pub mod Marks
-pub mod Outputs
 pub mod Searching
 pub mod Numbering
 pub mod Placing

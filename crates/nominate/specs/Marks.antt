@@ -1,5 +1,5 @@
 -- Elements that a line from one with one less leads to are marked: what only private clauses cite.
-use Rattle.std.specs.Prelude.{◌≡◌, ℕ, ◌+◌, ◌<◌, ◌↔◌, Bool, true, false, ◌==◌, nat_lt, List, Option, Some, None, slice_index_or}
+use Rattle.std.specs.Prelude.{◌≡◌, ℕ, ◌<◌, ◌↔◌, Bool, true, false, nat_lt, List, Option, Some, None, slice_index_or}
 use Rattle.sync_topo.specs.Topology.{Topology}
 use Rattle.sync_topo.specs.Lines.{sender_of, receiver_of}
 use Rattle.nominate.specs.HopCount.{Counts, count_at, is_one_less}

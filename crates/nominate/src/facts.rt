@@ -18,6 +18,7 @@ pub fn hops_ok(plan: &Plan, hops: &Hops) -> bool
     ensures local { IsTrue result ↔ AreLocallyRight plan.now hops.now }
     ensures exact { IsTrue result ↔ AreHopCounts plan.now hops.now }
 {
+    // Every plan keeps the rules.
     let _elements = plan.elements();
     facts_ok(plan, hops)
 }

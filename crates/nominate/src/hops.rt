@@ -1,12 +1,11 @@
 ghost use Rattle.std.specs.Prelude.{◌≡◌, ◌<◌, length, IfOk};
 ghost use Rattle.nominate.specs.HopCount.{Counts, count_at, AreHopCounts, AreBounded};
 
-use crate::outputs::outputs;
 use crate::search::Search;
 use std::alloc::Global;
 use std::marker::Model;
 use sync_text::NoMemory;
-use sync_topo::Plan;
+use sync_topo::{Plan, all_lines_out};
 
 /// How many hops each element of a plan is from a clock.
 ///
@@ -52,7 +51,7 @@ pub fn least_hops(alloc: Global, plan: &Plan) -> Result<Hops, NoMemory>
     // No count is above the number of elements.
     ensures bounded { IfOk result (AreBounded plan.now) }
 {
-    let outputs = outputs(alloc, plan)?;
+    let outputs = all_lines_out(alloc, plan)?;
     let mut search = Search::new(alloc, plan)?;
     search.run(plan, outputs.as_slice())?;
     Ok(Hops {

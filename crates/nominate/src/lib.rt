@@ -17,7 +17,6 @@ mod facts;
 mod hops;
 mod nominated;
 mod numbering;
-mod outputs;
 mod placing;
 mod rows;
 mod search;

@@ -3,7 +3,7 @@ ghost use Rattle.std.specs.List.{All};
 ghost use Rattle.sync_topo.specs.Lines.{line_count, sender_of, receiver_of};
 ghost use Rattle.sync_topo.specs.WellFormed.{IsWellFormed};
 ghost use Rattle.nominate.specs.HopCount.{count_at, IsRoot};
-ghost use Rattle.nominate.specs.Outputs.{AreOutputs, IsOutput};
+ghost use Rattle.sync_topo.specs.Outputs.{AreOutputs, IsOutput};
 ghost use Rattle.nominate.specs.Searching.{IsSearching, AreKept, AreLed, IsMore, IsClose, IsTakenOut, is_source};
 
 use std::alloc::Global;
@@ -70,6 +70,7 @@ impl Search {
         ensures none { IsNone result → AreKept plan.now self.old
             → AreLed plan.now self.new.counts.items }
     {
+        // Every plan keeps the rules.
         let _elements = plan.elements();
         if let Some(element) = self.current.pop() {
             return Some(element);
@@ -105,6 +106,7 @@ impl Search {
         ensures close { OnOk result (IsClose self.new.counts.items self.old.depth
             (receiver_of plan.now line.0)) }
     {
+        // Every plan keeps the rules.
         let _elements = plan.elements();
         let receiver = plan.to(line);
         if self.counts[receiver as usize].is_some() {

@@ -1,8 +1,8 @@
-// Plans worked by hand: how long the chains into each element are.
+// Plans worked by hand: how long the chains into each element are, and whether priorities agree.
 
 ghost use Rattle.std.specs.Prelude.{◌≡◌, ◌<◌, length};
 
-use cycle_plan::{Chained, Chains, chain_plan, chains};
+use cycle_plan::{Agreement, Chained, Chains, agree, chain_plan, chains};
 use plan_file::read_plan;
 use std::alloc::Global;
 use std::process::Abort;
@@ -143,5 +143,31 @@ fn chains_round_a_ring_have_no_end(rt: HostRuntime) -> Result<(), Fail> {
     let plan = read_plan(rt.alloc(), CYCLIC)?;
     assert!(rt; is_cyclic(rt.alloc(), &plan)?);
     assert!(rt; rows_of(rt.alloc(), &plan)?.is_none());
+    Ok(())
+}
+
+/// Two elements with a source each, and a link between them that each takes after its own source.
+const LAST_RESORTS: &[u8] = b"element = [{ name = 'A' }, { name = 'B' }]\n\
+link = [{ name = 'L', a = 'A', b = 'B', priority_a = 3, priority_b = 3, delay_a = 10, delay_b = 10 }]\n\
+source = [{ name = 'S', at = 'A', level = 'QL-PRC', priority = 2 }, { name = 'T', at = 'B', level = 'QL-PRC', priority = 2 }]\n";
+
+fn bound_of(alloc: Global, plan: &Plan) -> Result<Option<u64>, NoMemory> {
+    match agree(alloc, plan)? {
+        Agreement::Bound(bound) => Ok(Some(bound)),
+        Agreement::Clash(_) => Ok(None),
+    }
+}
+
+#[test]
+fn last_resorts_agree(rt: HostRuntime) -> Result<(), Fail> {
+    let plan = read_plan(rt.alloc(), LAST_RESORTS)?;
+    assert!(rt; bound_of(rt.alloc(), &plan)? == Some(300_090));
+    Ok(())
+}
+
+#[test]
+fn lines_round_a_ring_clash(rt: HostRuntime) -> Result<(), Fail> {
+    let plan = read_plan(rt.alloc(), CYCLIC)?;
+    assert!(rt; bound_of(rt.alloc(), &plan)? == None);
     Ok(())
 }

@@ -5,3 +5,5 @@
 mod cycle_plan_tests;
 #[cfg(test)]
 mod nominate_tests;
+#[cfg(test)]
+mod protection_tests;

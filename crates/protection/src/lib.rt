@@ -15,7 +15,6 @@ mod closed;
 mod gap;
 mod gone;
 mod marks;
-mod outputs;
 mod protecting;
 mod tally;
 mod ways;

@@ -20,7 +20,7 @@ use Rattle.sync_ql.proofs.Eligible.{nobody, eligible_within}
 use Rattle.sync_ql.proofs.QuietMoments.{seen, seen_at, commanded, candidates_at-same, switches_at-cons, selection_at-cons, selection_at-within}
 
 -- one place and priority number comes before another
-abbrev ahead : ℕ → ℕ → ℕ → ℕ → Bool
+abbrev pub ahead : ℕ → ℕ → ℕ → ℕ → Bool
 ahead x p y q = nat_lt x y || nat_eq x y && nat_lt p q
 
 not_ahead-trans : (x y z p q r : ℕ) → ahead x p y q ≡ false → ahead y q z r ≡ false → ahead x p z r ≡ false
@@ -44,7 +44,7 @@ eligible-level c eligible = by c.level refl (and_parts c.usable (is_above_do_not
     by None is above = cc
     by (Some level) is above = record { level = level; is = is }
 
-beats-by : (a b : Candidate) (x y : Level) → a.level ≡ Some x → b.level ≡ Some y → beats a b ≡ ahead (place_of x) a.priority (place_of y) b.priority
+pub beats-by : (a b : Candidate) (x y : Level) → a.level ≡ Some x → b.level ≡ Some y → beats a b ≡ ahead (place_of x) a.priority (place_of y) b.priority
 beats-by a b x y left right = rw (left, right) refl
 
 beats-trans : (a b c : Candidate) → HasLevel a → HasLevel b → HasLevel c → beats a b ≡ false → beats b c ≡ false → beats a c ≡ false
@@ -128,7 +128,7 @@ best-of inputs (suc n) = by (is_eligible (candidate inputs n)) refl (best-of inp
     )
 
 -- no eligible candidate passes a test
-none_passes-true : (test : Candidate → Bool) (inputs : List Candidate)
+pub none_passes-true : (test : Candidate → Bool) (inputs : List Candidate)
     → ((k : ℕ) → k < length inputs → is_eligible (candidate inputs k) ≡ true → test (candidate inputs k) ≡ false)
     → list_all (λ other. not (is_eligible other && test other)) inputs ≡ true
 none_passes-true test inputs fails =
@@ -139,7 +139,7 @@ none_passes-true test inputs fails =
     at k within true eligible = rw (eligible, fails k within eligible) refl
     at k within false not_eligible = rw not_eligible refl
 
-passes-false : (test : Candidate → Bool) (inputs : List Candidate) (k : ℕ) → list_all (λ other. not (is_eligible other && test other)) inputs ≡ true
+pub passes-false : (test : Candidate → Bool) (inputs : List Candidate) (k : ℕ) → list_all (λ other. not (is_eligible other && test other)) inputs ≡ true
     → is_eligible (candidate inputs k) ≡ true → test (candidate inputs k) ≡ false
 passes-false test inputs k none eligible = by (test (candidate inputs k)) refl
   where
@@ -200,7 +200,7 @@ module _ (inputs : List Candidate) (i : ℕ) (level : Level) (eligible : is_elig
   by-first : (chosen : Option ℕ) → chosen ≡ position (is_best inputs) inputs → IsChosen inputs level chosen
   by-first chosen is = by-best found.0 chosen (is ∙ found.1) (position-Some (is_best inputs) inputs found.0 nobody found.1).1
 
-  by-current : (current : Option ℕ) → IsChosen inputs level (best_choice inputs current)
+  pub by-current : (current : Option ℕ) → IsChosen inputs level (best_choice inputs current)
   by-current None = by-first (best_choice inputs None) refl
   by-current (Some k) = by (is_best inputs (candidate inputs k)) refl
     where

@@ -2,3 +2,9 @@ pub mod ChainLaws
 pub mod BestChoice
 pub mod ReachLaws
 pub mod ProtectionLaws
+pub mod KeptChoice
+pub mod AutoLaws
+pub mod KeptInputs
+pub mod KeptLines
+pub mod AgreeLaws
+pub mod AgreedLaws

@@ -50,7 +50,7 @@ input-within plan element (Source source) well of = elim (slice_get_cases plan.s
     at s is = rw is refl
 
 -- the level of an element is better than do-not-use
-own-above : (plan : Topology) (element : ℕ) → IsWellFormed plan → element < length plan.elements
+pub own-above : (plan : Topology) (element : ℕ) → IsWellFormed plan → element < length plan.elements
     → IsBetter (settings_of plan element).own (do_not_use_of (settings_of plan element).own.option)
 unfolding settings_of
 own-above plan element well within = elim (slice_get_cases plan.elements element).1 [
@@ -60,7 +60,7 @@ own-above plan element well within = elim (slice_get_cases plan.elements element
   | inr past ↦ absurd (omega (arith, within, past.0))
 ]
 
-own-is : (plan : Topology) (element : ℕ) → (settings_of plan element).own ≡ own_level plan element
+pub own-is : (plan : Topology) (element : ℕ) → (settings_of plan element).own ≡ own_level plan element
 unfolding settings_of
 own-is plan element = refl
 
@@ -74,7 +74,7 @@ level-above plan signals out element t well within = by (taken_at plan signals o
     by (Some input) is = (taken-is plan signals out element t input is).above_do_not_use
 
 -- the input at the place that is selected is taken, so its level is the element's
-taken-there : (plan : Topology) (signals : Signals) (out : Levels) (element t place : ℕ) (input : InputId)
+pub taken-there : (plan : Topology) (signals : Signals) (out : Levels) (element t place : ℕ) (input : InputId)
     → selection_at (settings_of plan element) (element_past plan signals out element (suc t)) ≡ Some place
     → slice_get (inputs_of plan element) place ≡ Some input → taken_at plan signals out element t ≡ Some input
 unfolding taken_at
@@ -92,7 +92,7 @@ level-there plan signals out element t place level within selected has = elim (s
 
 -- an input that says something and isn't failed, with a level that may come in, is taken, or one that is no worse
 module _ (plan : Topology) (signals : Signals) (out : Levels) (level : Level) (t element : ℕ) (input : InputId) where
-  no-worse-in : (heard_level : Level) → MayComeIn plan signals out level t element input → IsNoWorse heard_level level
+  pub no-worse-in : (heard_level : Level) → MayComeIn plan signals out level t element input → IsNoWorse heard_level level
       → failed_by plan signals input t ≡ false → input_level signals (heard plan signals out) input t ≡ Some heard_level
       → IsBetter heard_level (do_not_use_of heard_level.option)
       → IsNoWorse (level_at plan signals out element t) level
@@ -313,7 +313,7 @@ trace-clock plan signals out t clock well passed (line ∷ before) element withi
     trace-clock plan signals out t clock well (element ∷ passed) before (sender_of plan line)
     (sender-within plan well line (taken-is plan signals out element t (line_input line) trace.1).of.has) trace.2
 
-reached-within : (plan : Topology) (signals : Signals) (out : Levels) (level : Level) (t source : ℕ) (lines : List ℕ) (element : ℕ) → IsWellFormed plan
+pub reached-within : (plan : Topology) (signals : Signals) (out : Levels) (level : Level) (t source : ℕ) (lines : List ℕ) (element : ℕ) → IsWellFormed plan
     → IsReached plan (MayComeIn plan signals out level t) source lines element → element < length plan.elements
 reached-within plan signals out level t source [] element well way = input-within plan element (Source source) well way.of
 reached-within plan signals out level t source (line ∷ before) element well way = input-within plan element (line_input line) well way.0.of

@@ -4,3 +4,4 @@ pub mod Reaching
 pub mod Protection
 pub mod Examples
 pub mod ProtectionExamples
+pub mod Agreement

@@ -1,5 +1,5 @@
-//! How far timing goes in a network: how long chains of timing become, how far levels reach, and
-//! whom a failure cuts off.
+//! How far timing goes in a network: how long chains of timing become, how far levels reach, whom
+//! a failure cuts off, and when it comes to rest.
 //!
 //! A chain is a list of nominated lines, each of which hops to the next: `Chains` says which
 //! chains lead into an element, which elements are filters, and what is counted of a chain. The
@@ -16,19 +16,26 @@
 //! [`protection_law`] says what those who are served have, and how one line tells that somebody is
 //! cut off who needn't be.
 //!
+//! Where links are nominated at both ends a network may swing for ever. `Agreement` says when
+//! priorities agree with the ways of timing, so that it can't, and [`agree_law`] from when on it is
+//! at rest.
+//!
 //! The laws are the contracts of functions that do nothing. They hold no simulator and no planner:
 //! the crates that make rows, and the program that prints them, cite them.
 //!
 //! Filters and the numbers to hold chains against are after ITU-T G.803, the synchronization
-//! reference chain; which chains count, ways and failures are this project's own.
+//! reference chain; which chains count, ways, failures and
+//! agreement are this project's own.
 #![tactic(auto)]
 
+mod agreeing;
 mod chain;
 mod chains;
 mod failure;
 mod protecting;
 mod reaching;
 
+pub use agreeing::agree_law;
 pub use chain::Chain;
 pub use chains::chain_law;
 pub use failure::Failure;

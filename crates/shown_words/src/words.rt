@@ -59,8 +59,10 @@ pub fn put_choice(
     put_taken(alloc, text, plan, taken)
 }
 
-// Puts the name of the input that is taken, or that none is.
-fn put_taken(
+/// Puts the name of an input of a plan, as one that is taken, or that there is none.
+///
+/// `NoMemory` comes for want of memory alone; the text isn't used again then. This project's own.
+pub fn put_taken(
     alloc: Global,
     text: &mut Text,
     plan: &Plan,

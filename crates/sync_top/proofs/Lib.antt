@@ -4,6 +4,7 @@ pub mod Verdicts
 pub mod PriorityAnswers
 pub mod ChainAnswers
 pub mod ProtectionAnswers
+pub mod AgreeAnswers
 pub mod OneAnswer
 pub mod Accepted
 pub mod LoopFree

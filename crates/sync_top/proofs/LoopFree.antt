@@ -19,7 +19,7 @@ use Rattle.rank_cert.specs.Ranks.{Ranks, rank_of}
 use Rattle.rank_cert.specs.CertificateText.{certificate_of}
 use Rattle.sync_top.specs.declared.status.Status.{Status}
 use Rattle.sync_top.specs.declared.status.Status.TheVariants.{Done}
-use Rattle.sync_top.specs.declared.form.PlanForm.TheVariants.{Rank, Chains, Protected, Hops, Nominate, PrioRank, Sweep}
+use Rattle.sync_top.specs.declared.form.PlanForm.TheVariants.{Rank, Chains, Protected, Agree, Hops, Nominate, PrioRank, Sweep}
 use Rattle.sync_top.specs.declared.form.RanksForm.TheVariants.{Check, PrioCheck}
 use Rattle.sync_top.specs.declared.form.LadderForm.TheVariants.{Gen, Trial}
 use Rattle.sync_top.specs.Form.{Form, form_of, on_plan, on_ranks, on_events, on_frames, on_ladder, node}
@@ -35,6 +35,9 @@ use Rattle.sync_top.proofs.Cuts.{outside}
 use Rattle.sync_top.proofs.Endings.{done-from}
 use Rattle.sync_top.specs.ChainBounds.{IsBoundedByChains}
 use Rattle.sync_top.specs.Protection.{IsHoldingOut}
+use Rattle.sync_top.specs.Agreement.{IsComingToRest}
+use Rattle.sync_top.specs.Forms.Agree.{IsAgreedText}
+use Rattle.reach_rules.proofs.AgreedLaws.{comes-to-rest}
 use Rattle.sync_top.specs.Forms.Protected.{IsProtectedText}
 use Rattle.reach_rules.proofs.ProtectionLaws.{protected-holds}
 use Rattle.sync_top.specs.Forms.Chains.{IsChained}
@@ -150,6 +153,7 @@ form-bounds None files text answer = tt
 form-bounds (Some (on_plan Chains plan)) files text answer = chains-bound plan text files answer
 form-bounds (Some (on_plan Rank plan)) files text answer = tt
 form-bounds (Some (on_plan Protected plan)) files text answer = tt
+form-bounds (Some (on_plan Agree plan)) files text answer = tt
 form-bounds (Some (on_plan Hops plan)) files text answer = tt
 form-bounds (Some (on_plan Nominate plan)) files text answer = tt
 form-bounds (Some (on_plan PrioRank plan)) files text answer = tt
@@ -172,6 +176,7 @@ form-holds_out None files text answer = tt
 form-holds_out (Some (on_plan Protected plan)) files text answer = protected-holds_out plan text files answer
 form-holds_out (Some (on_plan Rank plan)) files text answer = tt
 form-holds_out (Some (on_plan Chains plan)) files text answer = tt
+form-holds_out (Some (on_plan Agree plan)) files text answer = tt
 form-holds_out (Some (on_plan Hops plan)) files text answer = tt
 form-holds_out (Some (on_plan Nominate plan)) files text answer = tt
 form-holds_out (Some (on_plan PrioRank plan)) files text answer = tt
@@ -181,6 +186,30 @@ form-holds_out (Some (on_events what plan events until)) files text answer = tt
 form-holds_out (Some (on_frames what option name)) files text answer = tt
 form-holds_out (Some (on_ladder what n)) files text answer = tt
 form-holds_out (Some (node plan element name until)) files text answer = tt
+
+-- where `agree` is done, a plan was read, and it comes to rest by its bound
+agreed-rests : (name text : List ℕ) (files : Contents) → Answered IsAgreedText (plan_in name files) Done text
+    → IsComingToRest (Some (on_plan Agree name)) files
+agreed-rests name text files answer =
+    let found = done-read IsAgreedText (plan_in name files) text (never_done name files) answer in
+    let bound = found.2 in
+    (found.0, found.1, (bound.0, bound.1, comes-to-rest found.0 bound.0 (file-well name files found.0 found.1) bound.1))
+
+form-rests : (form : Option Form) (files : Contents) (text : List ℕ) → FormAnswer form files Done text → IsComingToRest form files
+form-rests None files text answer = tt
+form-rests (Some (on_plan Agree plan)) files text answer = agreed-rests plan text files answer
+form-rests (Some (on_plan Rank plan)) files text answer = tt
+form-rests (Some (on_plan Chains plan)) files text answer = tt
+form-rests (Some (on_plan Protected plan)) files text answer = tt
+form-rests (Some (on_plan Hops plan)) files text answer = tt
+form-rests (Some (on_plan Nominate plan)) files text answer = tt
+form-rests (Some (on_plan PrioRank plan)) files text answer = tt
+form-rests (Some (on_plan (Sweep at until) plan)) files text answer = tt
+form-rests (Some (on_ranks what plan name)) files text answer = tt
+form-rests (Some (on_events what plan events until)) files text answer = tt
+form-rests (Some (on_frames what option name)) files text answer = tt
+form-rests (Some (on_ladder what n)) files text answer = tt
+form-rests (Some (node plan element name until)) files text answer = tt
 
 -- so they are where the work ended in this status
 pub loop_free-from : (words : List (List ℕ)) (told : Option Contents) (steady : Bool) (before now : ℕ) (status : Status) (text : List ℕ)
@@ -206,3 +235,9 @@ pub holds_out-from : (words : List (List ℕ)) (told : Option Contents) (steady 
     → IfSome told (IsHoldingOut (form_of words))
 holds_out-from words told steady before now status text =
     done-from (IsHoldingOut (form_of words)) words told steady before now status text (λ files. form-holds_out (form_of words) files text)
+
+pub rests-from : (words : List (List ℕ)) (told : Option Contents) (steady : Bool) (before now : ℕ) (status : Status) (text : List ℕ)
+    → EndsIn (IsAnswer words) (MissesFile words) (outside told steady before now) status text → status ≡ Done
+    → IfSome told (IsComingToRest (form_of words))
+rests-from words told steady before now status text =
+    done-from (IsComingToRest (form_of words)) words told steady before now status text (λ files. form-rests (form_of words) files text)

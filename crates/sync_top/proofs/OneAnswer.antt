@@ -23,7 +23,7 @@ use Rattle.sync_ql.specs.declared.levels.NetOption.{NetOption}
 use Rattle.sync_top.specs.declared.status.Status.{Status}
 use Rattle.sync_top.specs.declared.status.Status.TheVariants.{Done, Refuted, Usage, BadPlan, BadCert, BadEvents, BadFrames, ReadFault, WriteFault, TooLong, NoMemory, Stopped}
 use Rattle.sync_top.specs.declared.form.PlanForm.{PlanForm}
-use Rattle.sync_top.specs.declared.form.PlanForm.TheVariants.{Rank, Chains, Protected, Hops, Nominate, PrioRank, Sweep}
+use Rattle.sync_top.specs.declared.form.PlanForm.TheVariants.{Rank, Chains, Protected, Agree, Hops, Nominate, PrioRank, Sweep}
 use Rattle.sync_top.specs.declared.form.RanksForm.{RanksForm}
 use Rattle.sync_top.specs.declared.form.RanksForm.TheVariants.{Check, PrioCheck}
 use Rattle.sync_top.specs.declared.form.EventsForm.{EventsForm}
@@ -49,6 +49,7 @@ use Rattle.sync_top.specs.Answer.{PlanAnswer, RanksAnswer, EventsAnswer, FramesA
 use Rattle.sync_top.proofs.OneText.{same_text}
 use Rattle.sync_top.proofs.ChainAnswers.{one_chained}
 use Rattle.sync_top.proofs.ProtectionAnswers.{one_protected}
+use Rattle.sync_top.proofs.AgreeAnswers.{one_agreed}
 use Rattle.sync_top.proofs.PriorityAnswers.{one_priority_planned, one_priority_run}
 use Rattle.sync_top.specs.Forms.Node.{accepted_rows, AreFramesSent, IsNodeReply}
 use Rattle.sync_top.proofs.NodeAnswers.{one_sent}
@@ -178,6 +179,7 @@ module _ (one_whole : (plan : Topology) (events : List Event) (until : ℕ) (tex
   one_plan Rank plan = one_planned plan
   one_plan Chains plan = one_chained plan
   one_plan Protected plan = one_protected plan
+  one_plan Agree plan = one_agreed plan
   one_plan Hops plan = one_hop_rows plan
   one_plan Nominate plan = one_nominated plan
   one_plan PrioRank plan = one_priority_planned plan

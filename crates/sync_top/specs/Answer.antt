@@ -14,7 +14,7 @@ use Rattle.rank_cert.specs.Ranks.{Ranks}
 use Rattle.capture_text.specs.Capture.{decoded_text, encoded_text}
 use Rattle.pcap_file.specs.Timed.{decoded_pcap, encoded_pcap}
 use Rattle.sync_top.specs.declared.form.PlanForm.{PlanForm}
-use Rattle.sync_top.specs.declared.form.PlanForm.TheVariants.{Rank, Chains, Protected, Hops, Nominate, PrioRank, Sweep}
+use Rattle.sync_top.specs.declared.form.PlanForm.TheVariants.{Rank, Chains, Protected, Agree, Hops, Nominate, PrioRank, Sweep}
 use Rattle.sync_top.specs.declared.form.RanksForm.{RanksForm}
 use Rattle.sync_top.specs.declared.form.RanksForm.TheVariants.{Check, PrioCheck}
 use Rattle.sync_top.specs.declared.form.EventsForm.{EventsForm}
@@ -29,6 +29,7 @@ use Rattle.sync_top.specs.Forms.Check.{documents, IsVerdict}
 use Rattle.sync_top.specs.Forms.Rank.{IsPlanned}
 use Rattle.sync_top.specs.Forms.Chains.{IsChained}
 use Rattle.sync_top.specs.Forms.Protected.{IsProtectedText}
+use Rattle.sync_top.specs.Forms.Agree.{IsAgreedText}
 use Rattle.sync_top.specs.Forms.Hops.{AreHopRows}
 use Rattle.sync_top.specs.Forms.Nominate.{IsNominatedText}
 use Rattle.sync_top.specs.Forms.Captures.{IsCaptured, IsCapture}
@@ -44,6 +45,7 @@ abbrev pub PlanAnswer : PlanForm → Topology → Status → List ℕ → Type 0
 PlanAnswer Rank plan status text = IsPlanned plan status text
 PlanAnswer Chains plan status text = IsChained plan status text
 PlanAnswer Protected plan status text = IsProtectedText plan status text
+PlanAnswer Agree plan status text = IsAgreedText plan status text
 PlanAnswer Hops plan status text = AreHopRows plan status text
 PlanAnswer Nominate plan status text = IsNominatedText plan status text
 PlanAnswer PrioRank plan status text = IsPriorityPlanned plan status text

@@ -10,4 +10,5 @@ pub mod FormSeen
 pub mod LoopFree
 pub mod ChainBounds
 pub mod Protection
+pub mod Agreement
 pub mod HopRows

@@ -8,6 +8,7 @@ ghost use Rattle.sync_top.specs.FormSeen.{IsTimed};
 ghost use Rattle.sync_top.specs.Answer.{PlanAnswer, RanksAnswer, EventsAnswer, FramesAnswer, LadderAnswer};
 ghost use Rattle.sync_top.specs.Work.{ends_in};
 
+use crate::agreeing::agreed;
 use crate::captures::{captured, captured_packets};
 use crate::chains::chained;
 use crate::check::judged;
@@ -49,6 +50,7 @@ pub(crate) fn plan_found<R: Threads + Sync, G: Gate + Sync>(
         PlanForm::Rank => planned(alloc, plan),
         PlanForm::Chains => chained(alloc, plan),
         PlanForm::Protected => gaps_found(alloc, plan),
+        PlanForm::Agree => agreed(alloc, plan),
         PlanForm::Hops => counted(alloc, plan),
         PlanForm::Nominate => nominated(alloc, plan),
         PlanForm::PrioRank => priority_planned(alloc, plan),

@@ -19,6 +19,8 @@ pub(crate) enum PlanForm {
     Chains,
     /// Whom each single failure cuts off that needn't be.
     Protected,
+    /// Whether priorities agree with the ways of timing, and the bound, or the first clash.
+    Agree,
     /// The hop counts.
     Hops,
     /// The plan with priorities by fewest hops.
@@ -142,6 +144,7 @@ fn plan_word(word: &str) -> Option<PlanForm>
         "rank" => Some(PlanForm::Rank),
         "chains" => Some(PlanForm::Chains),
         "protected" => Some(PlanForm::Protected),
+        "agree" => Some(PlanForm::Agree),
         "hops" => Some(PlanForm::Hops),
         "nominate" => Some(PlanForm::Nominate),
         "prio-rank" => Some(PlanForm::PrioRank),

@@ -12,7 +12,8 @@ use sync_text::{NoMemory, Text};
 pub(crate) enum Finding {
     /// All was done.
     Done,
-    /// Ranks don't rise, or none do; or a plan isn't protected.
+    /// Ranks don't rise, or none do; or a plan isn't protected or
+    /// doesn't agree.
     Refuted,
     /// A report ends before what doesn't fit any more.
     Stopped,

@@ -8,6 +8,7 @@
 //! shows it.
 #![tactic(auto)]
 
+mod agreeing;
 mod answers;
 mod captures;
 mod chains;

@@ -1,7 +1,7 @@
 ghost use Rattle.std.specs.Prelude.{◌≡◌, ◌++◌, ◌<◌, IfOk, OnOk, codes, map};
 ghost use Rattle.std.specs.List.{All};
 ghost use Rattle.sync_topo.specs.Lines.{line_count, line_name};
-ghost use Rattle.sync_top.specs.Forms.Rank.{cycle_text, IsPlanned};
+ghost use Rattle.sync_top.specs.Forms.Rank.{lines_text, cycle_text, IsPlanned};
 ghost use Rattle.sync_top.specs.Work.{ends_in};
 
 use crate::found::{Finding, Found, done};
@@ -25,8 +25,22 @@ pub(crate) fn cycle_text(alloc: Global, plan: &Plan, lines: &[LineId]) -> Result
     requires { All (λ line. line < line_count plan.now) (map (λ line. line.0) lines.now) }
     ensures { IfOk result (λ text. text ≡ cycle_text plan.now (map (λ line. line.0) lines.now)) }
 {
+    lines_text(alloc, b"cycle", plan, lines)
+}
+
+/// The line on some lines: what they are, and their names.
+pub(crate) fn lines_text(
+    alloc: Global,
+    word: &[u8],
+    plan: &Plan,
+    lines: &[LineId],
+) -> Result<Text, NoMemory>
+    requires { All (λ line. line < line_count plan.now) (map (λ line. line.0) lines.now) }
+    ensures { IfOk result (λ text. text ≡ lines_text word.now plan.now
+        (map (λ line. line.0) lines.now)) }
+{
     let mut text = Text::new(alloc);
-    text.put(b"cycle")?;
+    text.put(word)?;
     for line in lines {
         put_line(alloc, &mut text, plan, *line)?;
     }

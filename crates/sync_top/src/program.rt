@@ -9,6 +9,7 @@ ghost use Rattle.sync_top.specs.Answer.{across, file_count, reads_file, IsAnswer
 ghost use Rattle.sync_top.specs.LoopFree.{IsCheckedLoopFree};
 ghost use Rattle.sync_top.specs.ChainBounds.{IsBoundedByChains};
 ghost use Rattle.sync_top.specs.Protection.{IsHoldingOut};
+ghost use Rattle.sync_top.specs.Agreement.{IsComingToRest};
 ghost use Rattle.sync_top.specs.Forms.Priority.{IsCheckedForPriority};
 ghost use Rattle.sync_top.specs.Work.{EndsIn, Works};
 
@@ -91,8 +92,10 @@ fn reply_to<R: Threads + Sync, F: Folder, G: Gate + Sync>(
 /// The words are those after the program's name. `check PLAN CERT` tests the ranks of a certificate
 /// on a plan, and `rank PLAN` gives the least ranks as a certificate, or the first cycle. `chains
 /// PLAN` gives the longest chains of timing into each element, or the first cycle. `protected PLAN`
-/// tells whom each single failure cuts off that needn't be. `hops PLAN` gives the hop counts, and `nominate PLAN` the plan with priorities by fewest hops. `decode
-/// OPTION FILE` gives the rows of captured frames, and `encode OPTION FILE` the frames of rows.
+/// tells whom each single failure cuts off that needn't be. `agree PLAN` tells whether priorities
+/// agree with the ways of timing, and for how long after the last event a network may then change, or
+/// the first circle of lines that clash. `hops PLAN` gives the hop counts, and `nominate PLAN` the
+/// plan with priorities by fewest hops. `decode OPTION FILE` gives the rows of captured frames, and `encode OPTION FILE` the frames of rows.
 /// `pcap-decode OPTION FILE` and `pcap-encode OPTION FILE` do the same for a classic pcap capture
 /// and rows with times. `sim PLAN EVENTS UNTIL` runs the plan's network from 0 to UNTIL with the
 /// faults and commands of an event list, and writes the report; UNTIL is a millisecond up to
@@ -142,6 +145,14 @@ pub fn run<R: Threads + Sync, F: Folder, K: Sink, G: Gate + Sync>(
     // that is in reach of a clock has a worse level than the worst of the sources that are left.
     ensures protected_holds_out { result ≡ Status.Done → IfSome (F.contents folder.old)
         (IsHoldingOut (form_of (map string_bytes words.now))) }
+
+    // Where `agree` is done, a plan was read, it has an agreed bound, and its network comes to rest by
+    // it: after the last event of any list by which no element is then under a forced or a manual
+    // switch, each element that a level reaches which is better than every own clock takes the same
+    // from the bound on, at the same level; and where that holds of every element, each millisecond is
+    // settled, and each element has exactly the best of the levels that reach it.
+    ensures agreed_comes_to_rest { result ≡ Status.Done → IfSome (F.contents folder.old)
+        (IsComingToRest (form_of (map string_bytes words.now))) }
 
     // Which words are a form doesn't depend on any file. Other words, `gen` and `trial` call the
     // folder not at all.

@@ -3,11 +3,11 @@ use Rattle.std.proofs.Common.{◌≡◌, ◌<◌, ℕ, true, ◌&&◌, ◌==◌,
 use Rattle.std.specs.Cmp.Derive.{both_true}
 use Rattle.std.proofs.lemmas.Bool.{and_parts, eqb-true, eq-eqb}
 use Rattle.sync_topo.specs.declared.returns.Returns.{Returns}
-use Rattle.sync_topo.specs.declared.returns.Returns.TheVariants.{Barred, Allowed}
+use Rattle.sync_topo.specs.declared.returns.Returns.TheVariants.{Barred, Allowed, BarredFromLast}
 use Rattle.sync_topo.specs.Topology.{Topology}
 use Rattle.sync_topo.specs.Lines.{line_count, sender_of, receiver_of, is_nominated}
 use Rattle.sync_topo.specs.Bundles.{are_bundled}
-use Rattle.sync_topo.specs.Hops.{hops_any, HopsBy}
+use Rattle.sync_topo.specs.Hops.{hops_any, is_last_resort, HopsBy}
 use Rattle.sync_topo.proofs.LineLaws.{IsNominated-within}
 
 -- a hop by either rule is one where returns are allowed
@@ -15,6 +15,7 @@ pub hop-any : (returns : Returns) (plan : Topology) (line next : ℕ) → HopsBy
 hop-any Barred plan line next hop =
     (and_parts (is_nominated plan line && is_nominated plan next && receiver_of plan line == sender_of plan next) (not (are_bundled plan line next)) hop).0
 hop-any Allowed plan line next hop = hop
+hop-any BarredFromLast plan line next bears = (and_parts (hops_any plan line next) (not (are_bundled plan line next && is_last_resort plan line)) bears).0
 
 -- both of its lines are nominated, and the second begins where the first ends
 pub record Meets (plan : Topology) (line next : ℕ) : Type 0 where

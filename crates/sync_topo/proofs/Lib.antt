@@ -21,3 +21,4 @@ pub mod BundleLemmas
 pub mod BundleRules
 pub mod Accepted
 pub mod BundleLaws
+pub mod OutputLemmas

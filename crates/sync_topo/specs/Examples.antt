@@ -17,7 +17,7 @@ use Rattle.sync_topo.specs.declared.rows.PlanRows.{PlanRows}
 use Rattle.sync_topo.specs.Topology.{Topology}
 use Rattle.sync_topo.specs.Lines.{priority_of, delay_of, line_name, line_of_name, line_input, input_number, input_of_name, inputs_of}
 use Rattle.sync_topo.specs.Bundles.{lowest_of_bundle, bundle_of}
-use Rattle.sync_topo.specs.Hops.{hops}
+use Rattle.sync_topo.specs.Hops.{hops, is_last_resort, bears_on}
 use Rattle.sync_topo.specs.RowValues.{default_own, element_from}
 use Rattle.sync_topo.specs.PlanRows.{plan_of_rows}
 
@@ -204,3 +204,34 @@ pub source_may_have_an_elements_name_and_do_not_use
     })
 unfolding plan_of_rows dec_lt
 source_may_have_an_elements_name_and_do_not_use = refl
+
+-- a link that is nominated at both ends, at each after the source there
+abbrev pub backed : ℕ → Topology
+backed number = record twin {
+  links = record (link (codes "L")) { priority_a = number; priority_b = number } ∷ [];
+  sources =
+      record { name = codes "S"; at = 0; level = do_not_use_of I; priority = 2 }
+      ∷ record { name = codes "T"; at = 1; level = do_not_use_of I; priority = 2 }
+      ∷ [];
+}
+
+pub line_after_the_source_is_a_last_resort : is_last_resort (backed 3) 0 ≡ true
+unfolding lowest_of_bundle
+line_after_the_source_is_a_last_resort = refl
+
+pub line_with_the_number_of_the_source_is_none : is_last_resort (backed 2) 0 ≡ false
+unfolding lowest_of_bundle
+line_with_the_number_of_the_source_is_none = refl
+
+pub way_back_from_a_last_resort_bears_on_nothing : bears_on (backed 3) 0 1 ≡ false
+unfolding lowest_of_bundle
+way_back_from_a_last_resort_bears_on_nothing = refl
+
+pub way_back_before_the_source_bears : bears_on (backed 1) 0 1 ≡ true
+unfolding lowest_of_bundle
+way_back_before_the_source_bears = refl
+
+-- lines of one bundle come from one element: none of them is another way
+pub lines_of_one_bundle_are_one_last_resort : is_last_resort bundled 0 ≡ false
+unfolding lowest_of_bundle
+lines_of_one_bundle_are_one_last_resort = refl

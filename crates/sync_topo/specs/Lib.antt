@@ -16,6 +16,7 @@ pub mod Gives
 pub mod Examples
 pub mod RanksExamples
 pub mod Held
+pub mod Outputs
 pub mod Wired
 pub mod Kept
 pub mod Naming

@@ -2,7 +2,7 @@ ghost use Rattle.std.specs.Prelude.{◌≡◌, ℕ, ◌+◌, ◌*◌, ◌<◌, �
 ghost use Rattle.std.specs.List.{All};
 ghost use Rattle.sync_topo.specs.Lines.{line_count, sender_of, receiver_of, reverse_of, delay_of, priority_of, is_nominated, inputs_of, lines_out, element_of, place_at, input_number, input_priority, is_nominated_input, IsInput};
 ghost use Rattle.sync_topo.specs.Bundles.{bundle_of};
-ghost use Rattle.sync_topo.specs.Hops.{hops, hops_any, goes_back, Hops, HopsBy};
+ghost use Rattle.sync_topo.specs.Hops.{goes_back};
 ghost use Rattle.sync_topo.specs.Gives.{Gives};
 ghost use Rattle.sync_topo.specs.Limits.{input_limit, least_delay, greatest_delay};
 ghost use Rattle.sync_topo.specs.RowValues.{plan_from};
@@ -14,6 +14,7 @@ ghost use Rattle.sync_topo.specs.declared.error.PlanErr.{PlanErr};
 ghost use Rattle.sync_topo.specs.declared.rows.PlanRows.{PlanRows};
 
 mod fitting;
+mod hops;
 mod naming;
 
 use crate::element::Element;
@@ -21,7 +22,6 @@ use crate::error::PlanErr;
 use crate::input::{InputId, LineId};
 use crate::link::Link;
 use crate::parts::Parts;
-use crate::returns::Returns;
 use crate::rows::PlanRows;
 use crate::source::Source;
 use std::alloc::Global;
@@ -226,7 +226,7 @@ impl Plan {
     }
 
     /// The priority that its receiver gives a line; 0 is not nominated.
-    fn line_priority(&self, l: LineId) -> u8
+    pub(crate) fn line_priority(&self, l: LineId) -> u8
         requires { l.0 < line_count self.now }
         ensures well_formed { IsWellFormed self.now }
         ensures priority { result ≡ priority_of self.now l.0 }
@@ -325,43 +325,5 @@ impl Plan {
             InputId::Source(j) => self.parts.wiring.source_places[j as usize],
         };
         Some(u32::from(place))
-    }
-
-    /// What line `l` brings to an element may go on over line `m`: both are nominated, `m` begins
-    /// where `l` ends, and their links are not of one bundle. After G.781, do-not-use towards the
-    /// selected reference.
-    pub fn hop(&self, l: LineId, m: LineId) -> bool
-        requires from { l.0 < line_count self.now }
-        requires to { m.0 < line_count self.now }
-        ensures well_formed { IsWellFormed self.now }
-        ensures hops { IsTrue result ↔ Hops self.now l.0 m.0 }
-    {
-        self.meet(l, m) && self.bundle(l.0 / 2) != self.bundle(m.0 / 2)
-    }
-
-    /// What line `l` brings to an element may go on over line `m` by a rule of returns: where they are
-    /// barred it is a [`hop`](Plan::hop), and where they are allowed both are nominated, and `m`
-    /// begins where `l` ends, over `l`'s own link or bundle too. This project's own.
-    pub fn hop_by(&self, returns: Returns, l: LineId, m: LineId) -> bool
-        requires from { l.0 < line_count self.now }
-        requires to { m.0 < line_count self.now }
-        ensures well_formed { IsWellFormed self.now }
-        ensures hops { IsTrue result ↔ HopsBy returns self.now l.0 m.0 }
-    {
-        match returns {
-            Returns::Barred => self.hop(l, m),
-            Returns::Allowed => self.meet(l, m),
-        }
-    }
-
-    /// Both lines are nominated, and the second begins where the first ends.
-    pub(crate) fn meet(&self, l: LineId, m: LineId) -> bool
-        requires from { l.0 < line_count self.now }
-        requires to { m.0 < line_count self.now }
-        ensures well_formed { IsWellFormed self.now }
-        ensures meet { result ≡ hops_any self.now l.0 m.0 }
-    {
-        let both = self.line_priority(l) > 0 && self.line_priority(m) > 0;
-        both && self.to(l) == self.from(m)
     }
 }

@@ -7,4 +7,7 @@ pub enum Returns {
     Barred,
     /// It may, since nothing tells: in networks without quality levels.
     Allowed,
+    /// It may not from a last resort, and may from every other line: whether a way back is preferred
+    /// to what an element has depends on its priorities. This project's own.
+    BarredFromLast,
 }

@@ -33,8 +33,12 @@ left_of (HoldOff left) = left
 left_of Failed = 0
 left_of (Restoring left) = left
 
--- an input: element,input,condition,left
-abbrev pub input_row : Topology → ℕ → InputId → Cond → List ℕ
-input_row plan element input condition =
+-- an input in a condition: element,input,condition,left
+abbrev pub condition_text : Topology → ℕ → InputId → Cond → List ℕ
+condition_text plan element input condition =
     element_name plan element ++ codes "," ++ input_name plan input ++ codes "," ++ condition_word condition ++ codes ","
-    ++ decimal (left_of condition) ++ codes "\n"
+    ++ decimal (left_of condition)
+
+-- the row of an input is that alone
+abbrev pub input_row : Topology → ℕ → InputId → Cond → List ℕ
+input_row plan element input condition = condition_text plan element input condition ++ codes "\n"

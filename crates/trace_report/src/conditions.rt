@@ -48,8 +48,10 @@ fn least_left(element: &Element, inputs: u32) -> Option<u32>
     least
 }
 
-// How many milliseconds a condition that ends has been running on since the last step, up to a
-// millisecond and with it; where none ends, no condition tells.
+/// How many milliseconds a condition that ends has been running on since the last step of an element
+/// with so many inputs, up to a millisecond and with it; where none ends, no condition tells.
+///
+/// After G.781, hold-off and wait-to-restore; the exact millisecond is this project's own.
 pub fn passed_until(element: &Element, inputs: u32, until: u64) -> u64
     requires inputs { inputs ≡ inputs_of element.now }
     ensures passed { (past : List Moment) (i : ℕ) → StandsFor element.now past →
@@ -64,7 +66,9 @@ pub fn passed_until(element: &Element, inputs: u32, until: u64) -> u64
     }
 }
 
-// A condition that has been running on for some milliseconds.
+/// A condition that has been running on for some milliseconds: that much less is left of its time.
+///
+/// After G.781, hold-off and wait-to-restore.
 pub fn later(condition: Cond, passed: u64) -> Cond
     ensures { result ≡ later_by passed condition }
 {

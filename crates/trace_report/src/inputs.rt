@@ -6,7 +6,7 @@ ghost use Rattle.sync_topo.specs.Lines.{IsInput};
 ghost use Rattle.net_rules.specs.Signals.{signals_by};
 ghost use Rattle.net_rules.specs.History.{settings_of, out_at};
 ghost use Rattle.sync_net.specs.Standing.{ElementStands, StandsFor};
-ghost use Rattle.trace_report.specs.Words.{input_row};
+ghost use Rattle.trace_report.specs.Words.{condition_text, input_row};
 ghost use Rattle.trace_report.specs.Report.{element_rows, inputs_part, conditions_at};
 
 use crate::conditions::{later, passed_until};
@@ -56,7 +56,7 @@ fn put_element(
     Ok(())
 }
 
-// Puts one input.
+// Puts the row of one input.
 fn put_row(
     alloc: Global,
     text: &mut Text,
@@ -69,12 +69,32 @@ fn put_row(
     requires input { IsInput plan.now input }
     ensures put { OnOk result (text.new ≡ text.old ++ input_row plan.now e input condition) }
 {
+    put_condition(alloc, text, plan, e, input, condition)?;
+    text.put(b"\n")
+}
+
+/// Puts an input of an element in a condition: the names of both, the condition as a word, and how
+/// many milliseconds are left of it, 0 where it doesn't end by itself.
+///
+/// `NoMemory` comes for want of memory alone; a part may then stand at the end, so the text isn't
+/// used again. This project's own.
+pub fn put_condition(
+    alloc: Global,
+    text: &mut Text,
+    plan: &Plan,
+    e: u32,
+    input: InputId,
+    condition: Cond,
+) -> Result<(), NoMemory>
+    requires within { e < length plan.now.elements }
+    requires input { IsInput plan.now input }
+    ensures put { OnOk result (text.new ≡ text.old ++ condition_text plan.now e input condition) }
+{
     text.put(plan.element(e).name.bytes())?;
     text.put(b",")?;
     plan.put_input_name(alloc, text, input)?;
     text.put(b",")?;
     text.put(condition_word(condition))?;
     text.put(b",")?;
-    text.put_number(left_of(condition))?;
-    text.put(b"\n")
+    text.put_number(left_of(condition))
 }

@@ -16,6 +16,7 @@ if TYPE_CHECKING:
     from murdjohe.api import (
         Answered,
         Refused,
+        agree,
         chains,
         check,
         decode,
@@ -39,6 +40,7 @@ if TYPE_CHECKING:
 __all__ = [
     "Answered",
     "Refused",
+    "agree",
     "chains",
     "check",
     "decode",

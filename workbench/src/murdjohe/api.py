@@ -115,6 +115,11 @@ def protected(plan: Source) -> Answered[reports.Gaps]:
     return answered("protected", reports.gaps, plan)
 
 
+def agree(plan: Source) -> Answered[reports.Agreement]:
+    """Whether a network of the plan comes to rest, and by when; or the lines that clash."""
+    return answered("agree", reports.agreement, plan)
+
+
 def hops(plan: Source) -> Answered[reports.Hops]:
     """How many links each element is from a clock."""
     return answered("hops", reports.hops, plan)

@@ -38,6 +38,8 @@ BEGINNINGS = (
     (b"falls ", "an answer of `check`"),
     (b"accepted\n", "an answer of `check`"),
     (b"protected\n", "an answer of `protected`"),
+    (b"agreed\n", "an answer of `agree`"),
+    (b"clash ", "an answer of `agree`"),
 )
 WIDE_MARKS = (b"\xff\xfe", b"\xfe\xff")
 REFUSALS = (b"bad ", b"usage\n", b"read fault\n", b"too long\n")

@@ -1,7 +1,6 @@
 """What a planner should look at in a plan that the program took, each with its line and a remedy.
 
-Whether timing can go round the program says; the rest is counted here. Gaps in single failures and chains that are too long
-are no findings yet: no form of the program tells them.
+Whether timing can go round, whom single failures cut off and how long chains may become the program says; the rest is counted here.
 """
 
 from __future__ import annotations
@@ -14,6 +13,8 @@ from murdjohe import knots, levels, network
 from murdjohe.knots import Line
 from murdjohe.orders import NONE, Order, orders_of
 from murdjohe.plans import Plan
+from murdjohe.remarks import LONGEST, plural
+from murdjohe.reports import Chain, Gap
 
 ERROR, WARNING, NOTE = "error", "warning", "note"
 KINDS = (ERROR, WARNING, NOTE)
@@ -30,6 +31,15 @@ class Finding:
 
     def told(self, name: str) -> str:
         return f"{name}:{self.line}: {self.kind}: {self.what}; {self.remedy}"
+
+
+@dataclass(frozen=True)
+class Said:
+    """What the program says of a plan: the ring that it found, if one, the failures that cut somebody off, and the chains."""
+
+    ring: tuple[str, ...] | None = None
+    gaps: tuple[Gap, ...] = ()
+    chains: tuple[Chain, ...] = ()
 
 
 class Looked:
@@ -151,12 +161,45 @@ def on_rings(looked: Looked, ring: tuple[str, ...] | None) -> Iterator[Finding]:
         yield Finding(line, ERROR, what, "`murdjohe repair` finds what to take away")
 
 
-def findings_of(plan: Plan, ring: tuple[str, ...] | None) -> list[Finding]:
-    """All findings in the order of the file; `ring` is what the program's `rank` found, where it found one."""
+def place_of(looked: Looked, gap: Gap) -> int:
+    """Where what fails stands: of a bundle its first link."""
+    if gap.kind == "bundle":
+        bundles = [row.get("bundle") for row in looked.plan.rows("link")]
+        return looked.line("link", 1 + bundles.index(gap.failure), "bundle")
+    return looked.line(gap.kind, 1 + looked.plan.names(gap.kind).index(gap.failure or ""))
+
+
+def on_gaps(looked: Looked, gaps: tuple[Gap, ...]) -> Iterator[Finding]:
+    """Failures that cut off elements which needn't be; of those that are cut off without one `on_ways` tells, so just more count."""
+    without = sum(gap.elements for gap in gaps if gap.kind == "none")
+    for gap in gaps:
+        if gap.elements > without:
+            few = f"{gap.first}" if gap.elements == 1 else f"{plural(gap.elements, 'element')}, {gap.first} first,"
+            what = f'a failure of {gap.kind} "{gap.failure}" cuts off {few} though other links lead there'
+            yield Finding(place_of(looked, gap), WARNING, what, "nominate such a link as a reserve")
+
+
+def on_chains(looked: Looked, chains: tuple[Chain, ...]) -> Iterator[Finding]:
+    """The longest chain of each kind that may become longer than G.803 has it."""
+    for column, most, what in LONGEST:
+        counts = {chain.element: (chain.links, chain.since, chain.clocks)[column - 1] for chain in chains}
+        over = [name for name, count in counts.items() if count > most]
+        if over:
+            longest = max(over, key=lambda name: counts[name])
+            more = f", and {plural(len(over) - 1, 'other element')} to more than {most}" if len(over) > 1 else ""
+            said = (
+                f'element "{longest}" may come to a chain of {counts[longest]:,} {what}, where G.803 has {most}{more}'
+            )
+            remedy = "bring a clock nearer, or put a filtering one between"
+            yield Finding(looked.line("element", looked.rows[longest]), WARNING, said, remedy)
+
+
+def findings_of(plan: Plan, said: Said) -> list[Finding]:
+    """All findings in the order of the file."""
     looked = Looked(plan)
     if not looked.rows:
         return [Finding(1, ERROR, "there is no element in the plan", "is it the file that was meant?")]
-    found = list(on_rings(looked, ring))
+    found = [*on_rings(looked, said.ring), *on_gaps(looked, said.gaps), *on_chains(looked, said.chains)]
     for look in (on_sources, on_ways, on_pairs, on_places, on_levels):
         found += look(looked)
     return sorted(found, key=lambda finding: (finding.line, KINDS.index(finding.kind)))

@@ -135,6 +135,14 @@ _ALL = (
         (_MAKE, "murdjohe nominate plan.toml > nominated.toml", "murdjohe protected nominated.toml || echo has gaps"),
     ),
     Form(
+        "agree",
+        (_PLAN,),
+        PLANNING,
+        "says whether a network of it comes to rest, and by when",
+        (0, 1, 3, 7, 9),
+        (_MAKE, "murdjohe nominate plan.toml > nominated.toml", "murdjohe agree nominated.toml"),
+    ),
+    Form(
         "hops",
         (_PLAN,),
         PLANNING,

@@ -19,11 +19,11 @@ class Choice:
         self.kept: set[str] = set()
         self.removed: set[str] = set(knot)
 
-    def weight(self, name: str) -> tuple[bool, bool, int, str]:
-        """What a line is worth: the last input of its element, then a first choice, then how high its priority is."""
+    def weight(self, name: str) -> tuple[int, bool, int, str]:
+        """What a line is worth: the last input of its element, then the last but one, a first choice, and how high its priority is."""
         others = self.inputs.of[self.inputs.lines[name].receiver]
-        is_last = all(other in self.removed for other in others if other != name)
-        return is_last, self.inputs.is_first(name), self.inputs.height(name), name
+        kept = sum(other not in self.removed for other in others if other != name)
+        return max(0, 2 - kept), self.inputs.is_first(name), self.inputs.height(name), name
 
     def keep(self) -> None:
         """Keeps each line that closes no ring, the worthiest first."""
@@ -52,15 +52,15 @@ class Choice:
         while is_bettered:
             is_bettered = False
             for name in sorted(self.removed, key=self.weight, reverse=True):
-                if time.monotonic() > end:
+                if time.process_time() > end:
                     return
                 is_bettered = self.exchange(name) or is_bettered
             self.keep()
 
 
 def greedy_set(knot: nx.DiGraph, inputs: Inputs, seconds: float) -> frozenset[str]:
-    """Lines of a knot without which no ring is left; the search for better ones ends after these seconds."""
+    """Lines of a knot without which no ring is left; the search for better ones ends after these seconds of processor time."""
     choice = Choice(knot, inputs)
     choice.keep()
-    choice.better(time.monotonic() + seconds)
+    choice.better(time.process_time() + seconds)
     return frozenset(choice.removed)

@@ -13,6 +13,8 @@ from typing import Any
 
 import networkx as nx
 
+from murdjohe.gaps import Ways
+
 LOWEST = 255  # the lowest priority
 LARGE = 400  # lines of a knot up to which least sets are sought
 RINGS = {True: 1_000, False: 100}  # rings that are counted in a knot that isn't larger than that, and in a larger one
@@ -38,10 +40,9 @@ class Line:
         return f"priority_{self.end}"
 
 
-# What a set of lines costs: elements that lose their last input, first choices, and how high the priorities are, summed up:
-# 255 for priority 1, 1 for priority 255. The less the better, in this order. (Which elements lose what keeps them with a
-# clock in each single failure is no part of it yet: no form of the program says that.)
-Cost = tuple[int, int, int]
+# What a set of lines costs: elements that lose their last input, failures that cut off more than before, first choices, and how
+# high the priorities are, summed up: 255 for priority 1, 1 for priority 255. The less the better, in this order.
+Cost = tuple[int, int, int, int]
 
 
 def lines_of(tables: dict[str, Any]) -> list[Line]:
@@ -85,10 +86,11 @@ def rings_in(knot: nx.DiGraph) -> tuple[int, bool]:
 
 @dataclass
 class Inputs:
-    """The nominated inputs of each element with their priorities, sources too; the lines by their names."""
+    """The nominated inputs of each element with their priorities, sources too; the lines by their names; the ways over them."""
 
     lines: dict[str, Line]
     of: dict[str, dict[str, int]]
+    ways: Ways
 
     def is_first(self, name: str) -> bool:
         """Whether no input of the line's element has a higher priority."""
@@ -104,7 +106,7 @@ class Inputs:
         gone = set(removed)
         receivers = {self.lines[name].receiver for name in gone}
         lost = sum(1 for element in receivers if gone.issuperset(self.of[element]))
-        return lost, sum(map(self.is_first, gone)), sum(map(self.height, gone))
+        return lost, len(self.ways.arising(gone)), sum(map(self.is_first, gone)), sum(map(self.height, gone))
 
 
 def inputs_of(tables: dict[str, Any], lines: list[Line]) -> Inputs:
@@ -115,4 +117,4 @@ def inputs_of(tables: dict[str, Any], lines: list[Line]) -> Inputs:
     for source in tables.get("source", []):
         if priority := source.get("priority", 1):
             of.setdefault(source["at"], {})[source["name"]] = priority
-    return Inputs({line.name: line for line in lines}, of)
+    return Inputs({line.name: line for line in lines}, of, Ways(tables))

@@ -1,13 +1,14 @@
 """The sets of lines that break all rings of a knot at the least cost, by HiGHS.
 
 Each ring that is known has to lose a line. The set that costs least for these is sought; rings that it leaves are added, until
-none is left: then it is least for all rings. The three parts of the cost are made least one after the other.
+none is left: then it is least for all rings. In the same way failures are added that cut off more than the solution says. The
+parts of the cost are made least one after the other.
 """
 
 from __future__ import annotations
 
 import time
-from collections.abc import Collection
+from collections.abc import Callable, Collection
 from typing import Any
 
 import networkx as nx
@@ -15,11 +16,14 @@ import numpy
 from scipy.optimize import Bounds, LinearConstraint, milp
 from scipy.sparse import csr_matrix
 
+from murdjohe.gaps import Failure
 from murdjohe.knots import Inputs
 from murdjohe.rings import ring_through, rings_left
 
 Terms = dict[int, float]  # coefficients by the number of their variable
+Row = tuple[Terms, float, float]  # a sum that has to stand between two numbers
 OPTIMAL = 0  # the status of a solution that is proved to be least
+MISSED, LEARNT = 200, 20  # failures that are looked at in one solution, and sets of lines that are learnt of them
 
 
 class Unsolved(Exception):
@@ -27,23 +31,27 @@ class Unsolved(Exception):
 
 
 class Search:
-    """The variables, a line each and then an element each, and what is known of them so far."""
+    """The variables, a line each, then an element each, then a failure each, and what is known of them so far."""
 
     def __init__(self, knot: nx.DiGraph, inputs: Inputs, seconds: float) -> None:
         self.knot = knot
         self.inputs = inputs
-        self.end = time.monotonic() + seconds
+        self.end = time.process_time() + seconds
         self.lines = sorted(knot)
         self.at = {name: number for number, name in enumerate(self.lines)}
         receivers = sorted({inputs.lines[name].receiver for name in self.lines})
         # (elements all of whose inputs are in the knot)
         self.elements = [element for element in receivers if all(name in self.at for name in inputs.of[element])]
-        self.rows: list[tuple[Terms, float, float]] = []
+        self.rows: list[Row] = []
+        self.failures: dict[Failure, int] = {}
+        self.met: list[frozenset[str]] = []  # sets that leave no ring
         for number, element in enumerate(self.elements, start=len(self.lines)):
             own = {self.at[name]: -1.0 for name in inputs.of[element]}
             self.rows.append(({**own, number: 1.0}, 1.0 - len(own), numpy.inf))
         self.known: set[frozenset[str]] = set()
         self.add([ring_through(knot, knot, name) for name in self.lines])
+        for element in receivers:
+            self.leave_one(element)
 
     def add(self, rings: list[list[str]]) -> None:
         """That each of these rings loses a line."""
@@ -57,18 +65,47 @@ class Search:
         on_rings = {name for ring in rings_left(self.knot, removed) for name in ring}
         return [ring_through(self.knot, kept, name) for name in sorted(on_rings)]
 
-    def stages(self) -> list[Terms]:
-        """What is made least, one after the other."""
-        count = len(self.lines)
-        return [
-            {number: 1.0 for number in range(count, count + len(self.elements))},
-            {number: 1.0 for number, name in enumerate(self.lines) if self.inputs.is_first(name)},
-            {number: float(self.inputs.height(name)) for number, name in enumerate(self.lines)},
-        ]
+    def failure(self, failure: Failure) -> int:
+        """The variable of a failure, 1 where it has to cut off more than before."""
+        return self.failures.setdefault(failure, len(self.lines) + len(self.elements) + len(self.failures))
 
-    def solution(self, rows: list[tuple[Terms, float, float]], terms: Terms) -> Any:
+    def cuts_off(self, lines: Collection[str], failures: Collection[Failure]) -> None:
+        """That without all these lines these failures cut off more than before."""
+        size = float(len(failures))
+        row = {self.failure(failure): 1.0 for failure in failures} | {self.at[name]: -size for name in lines}
+        self.rows.append((row, size * (1 - len(lines)), numpy.inf))
+
+    def leave_one(self, element: str) -> None:
+        """That an element with one way in is cut off by what takes that away."""
+        ways = self.inputs.ways.ways_in(element)
+        for kept, failures in ways.items():
+            others = [name for name in ways if name != kept]
+            if others and all(name in self.at for name in others):
+                for failure in sorted(failures):
+                    self.cuts_off(others, [failure])
+
+    def learn(self, removed: Collection[str], values: Any) -> bool:
+        """Learns why failures cut off more without these lines than the values say; whether there was any."""
+        told = {failure for failure, number in self.failures.items() if number < len(values) and values[number] > 0.5}
+        arising = self.inputs.ways.arising(removed)
+        missed = [failure for failure in sorted(arising) if failure not in told]
+        sets = {self.inputs.ways.smallest(removed, failure, arising[failure]) for failure in missed[:MISSED]}
+        for lines in sorted(sets, key=lambda lines: (len(lines), sorted(lines)))[:LEARNT]:
+            self.cuts_off(lines, sorted(self.inputs.ways.arising(lines)))
+        return bool(sets)
+
+    def stages(self) -> list[Callable[[], Terms]]:
+        """What is made least, one after the other; what is known of failures grows meanwhile."""
+        count = len(self.lines)
+        lost = {number: 1.0 for number in range(count, count + len(self.elements))}
+        first = {number: 1.0 for number, name in enumerate(self.lines) if self.inputs.is_first(name)}
+        height = {number: float(self.inputs.height(name)) for number, name in enumerate(self.lines)}
+        return [lambda: lost, lambda: dict.fromkeys(self.failures.values(), 1.0), lambda: first, lambda: height]
+
+    def solution(self, rows: list[Row], terms: Terms) -> Any:
         """The variables with the least sum of the terms; None where none keep the rows. Raises Unsolved."""
-        count = len(self.lines) + len(self.elements)
+        whole = len(self.lines) + len(self.elements)
+        count = whole + len(self.failures)
         costs = numpy.zeros(count)
         costs[list(terms)] = list(terms.values())
         data = [value for row, _, _ in rows for value in row.values()]
@@ -76,57 +113,72 @@ class Search:
         starts = numpy.cumsum([0, *(len(row) for row, _, _ in rows)])
         matrix = csr_matrix((data, places, starts), shape=(len(rows), count))
         bounds = LinearConstraint(matrix, [low for _, low, _ in rows], [high for _, _, high in rows])
-        left = self.end - time.monotonic()
+        left = self.end - time.process_time()
         if left <= 0:
             raise Unsolved
         options = {"mip_rel_gap": 0.0, "time_limit": left}
-        found = milp(costs, integrality=numpy.ones(count), bounds=Bounds(0, 1), constraints=bounds, options=options)
+        kinds = (numpy.arange(count) < whole).astype(int)  # (those of failures are whole where those of lines are)
+        found = milp(costs, integrality=kinds, bounds=Bounds(0, 1), constraints=bounds, options=options)
         if found.x is None and found.status == 2:
             return None
         if found.x is None or found.status != OPTIMAL:
             raise Unsolved
         return found.x
 
-    def least(self, cuts: list[tuple[Terms, float, float]]) -> frozenset[str] | None:
+    def least(self, cuts: list[Row]) -> frozenset[str] | None:
         """The lines that cost least under these cuts; None where there are none. Raises Unsolved."""
-        fixed: list[tuple[Terms, float, float]] = []
+        fixed: list[tuple[Callable[[], Terms], float]] = []
         removed: frozenset[str] = frozenset()
         for terms in self.stages():
             while True:
-                values = self.solution(self.rows + cuts + fixed, terms)
+                known: list[Row] = [(made(), -numpy.inf, most) for made, most in fixed]
+                values = self.solution(self.rows + cuts + known, terms())
                 if values is None:
                     return None
                 removed = frozenset(name for name, value in zip(self.lines, values) if value > 0.5)
                 left = self.left(removed)
-                if not left:
+                if left:
+                    self.add(left)
+                    continue
+                self.met.append(removed)
+                if not fixed or not self.learn(removed, values):
                     break
-                self.add(left)
-            sum_of = round(sum(value * values[number] for number, value in terms.items()))
-            fixed.append((terms, -numpy.inf, float(sum_of)))
+            sum_of = round(sum(value * values[number] for number, value in terms().items()))
+            fixed.append((terms, float(sum_of)))
         return removed
 
-    def without(self, removed: Collection[str]) -> tuple[Terms, float, float]:
+    def without(self, removed: Collection[str]) -> Row:
         """That not all these lines are taken away together."""
         return {self.at[name]: 1.0 for name in removed}, -numpy.inf, float(len(removed) - 1)
 
 
-def least_sets(knot: nx.DiGraph, inputs: Inputs, count: int, seconds: float) -> list[frozenset[str]]:
-    """Up to `count` sets that break all rings of a knot, the least first; none holds an earlier one.
+def without_needless(search: Search, removed: frozenset[str]) -> frozenset[str]:
+    """The set without the lines that close no ring, the first choices and the highest priorities being kept first."""
+    inputs = search.inputs
+    for name in sorted(removed, key=lambda name: (inputs.is_first(name), inputs.height(name), name), reverse=True):
+        if not rings_left(search.knot, removed - {name}):
+            removed -= {name}
+    return removed
 
-    Raises Unsolved where the first isn't found in these seconds.
+
+def least_sets(knot: nx.DiGraph, inputs: Inputs, count: int, seconds: float) -> tuple[list[frozenset[str]], bool]:
+    """Up to `count` sets that break all rings of a knot, the least first, and whether it is known to be; none holds an earlier one.
+
+    Where the least isn't found in these seconds of processor time, the best that was met is given, if any was.
     """
     search = Search(knot, inputs, seconds)
     found: list[frozenset[str]] = []
-    cuts: list[tuple[Terms, float, float]] = []
+    cuts: list[Row] = []
     while len(found) < count:
         try:
             removed = search.least(cuts)
         except Unsolved:
-            if not found:
-                raise
-            break
+            if found:
+                break
+            best = sorted(set(search.met), key=lambda lines: (inputs.cost(lines), sorted(lines)))[:1]
+            return [without_needless(search, one) for one in best], False
         if removed is None:
             break
         found.append(removed)
         cuts.append(search.without(removed))
-    return found
+    return found, True

@@ -11,9 +11,11 @@ from murdjohe import api, core, documents, forms, inputs, refusals, reports
 from murdjohe.inputs import STDIN
 from murdjohe.mistakes import SHOWN
 from murdjohe.plans import Plan
+from murdjohe.remarks import plural
 from murdjohe.wrong import Wrong, reason
 
 ACCEPTED = "accepted"  # what `check` says of ranks that rise
+PROTECTED = "protected"  # what `protected` says of a plan without gaps
 
 
 class PlanFile:
@@ -38,6 +40,19 @@ class PlanFile:
             return f"cycle {' '.join(self.ranking.ring)}"
         answer = api.check(self.data, self.certificate)
         return answer.text.decode().strip()
+
+    def gaps(self) -> tuple[reports.Gap, ...]:
+        """The failures that cut somebody off who needn't be, as the program says."""
+        return api.protected(self.data).result.rows
+
+    def chains(self) -> tuple[reports.Chain, ...]:
+        """How long chains into each element may become, as the program says; none where timing may go round."""
+        return api.chains(self.data).result.rows or ()
+
+
+def judged(verdict: str, gaps: tuple[reports.Gap, ...]) -> str:
+    """What the program says of a plan: of its ranks, and whether it is protected or how many failures cut somebody off."""
+    return f"{verdict}, {plural(len(gaps), 'gap') if gaps else PROTECTED}"
 
 
 def others_of(document: documents.Document, refused: api.Refused) -> list[str]:

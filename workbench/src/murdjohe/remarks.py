@@ -149,10 +149,25 @@ def on_gaps(text: str) -> list[str]:
     ]
 
 
+def on_clash(words: Words, lines: list[str]) -> list[str]:
+    """The lines that bear on one another in a circle, and where each of them is nominated."""
+    if not lines:
+        raise ValueError("a circle has lines")
+    circle = " -> ".join([*lines, *lines[:1]])
+    first = (
+        f"elements may swing for ever over {circle}: make one of these lines its element's last resort, with a greater number "
+        "than each other input there, or take its priority away"
+    )
+    more = len(lines) - RING
+    return [first, *nominations(words, lines[:RING]), *([f"and {more:,} lines more"] if more > 0 else [])]
+
+
 def on_refuted(words: Words, text: str) -> list[str]:
-    """Why ranks fall, or no ranks rise, or a plan isn't protected."""
+    """Why ranks fall, or no ranks rise, or a plan isn't protected or doesn't agree."""
     if words.form.name == "protected":
         return on_gaps(text)
+    if words.form.name == "agree":
+        return on_clash(words, text.split()[1:])
     said = text.split()
     if said and said[0] == "falls":
         return [on_fall(words, said[1], said[2])]
@@ -282,6 +297,13 @@ def on_stopped(words: Words, text: str) -> list[str]:
     ]
 
 
+def on_agreed(words: Words, text: str) -> list[str]:
+    """By when a network of the plan is at rest, and what the plan has."""
+    seconds = int(text.split()[2]) / 1000
+    at_rest = f"at rest {seconds:,.3f} seconds after the last event, wherever a level reaches that is better than every own clock"
+    return [at_rest, *on_plan(words, None)]
+
+
 def on_done(words: Words, text: str) -> list[str]:
     """What an answer with the status 0 leaves to be said."""
     name = words.form.name
@@ -304,6 +326,8 @@ def on_done(words: Words, text: str) -> list[str]:
     if name == "protected":
         first, *rest = on_plan(words, None) or ["no single failure cuts anybody off who needn't be"]
         return [f"protected: {first}", *rest]
+    if name == "agree":
+        return on_agreed(words, text)
     if name == "hops":
         return on_hops(text)
     if name == "nominate":

@@ -6,7 +6,6 @@ import os
 import re
 import time
 from dataclasses import asdict, dataclass
-from itertools import product
 from typing import Any
 
 import networkx as nx
@@ -15,9 +14,11 @@ from murdjohe import edits, greedy_sets, knots, least_sets
 from murdjohe.edits import Wanted
 from murdjohe.knots import LARGE, Cost, Inputs, Line
 from murdjohe.plans import Plan
+from murdjohe.reports import Gap
 
 SETS = 3  # sets that are told
-SECONDS = 20.0  # for all least sets together; as long again for bettering those that aren't known to be least
+# of processor time (so that a busy machine finds the same) for all least sets together; as long again for one that isn't known to be
+SECONDS = 20.0
 CONTEXT = 3  # lines around a change in a patch
 LINES = re.compile(rb"[^\n]*\n|[^\n]+")
 
@@ -39,28 +40,11 @@ class Repair:
     is_least: bool
 
 
-def groups_of(parts: list[nx.DiGraph], inputs: Inputs) -> list[nx.DiGraph]:
-    """The knots, those put together whose lines lead into the same elements: what an element loses depends on both."""
-    joined = nx.Graph()
-    for number, part in enumerate(parts):
-        joined.add_edges_from((number, ("element", inputs.lines[name].receiver)) for name in part)
-    found = []
-    for group in nx.connected_components(joined):
-        found.append(nx.compose_all([parts[number] for number in sorted(one for one in group if isinstance(one, int))]))
-    return found
-
-
-def sets_of(group: nx.DiGraph, inputs: Inputs, end: float, later: float) -> tuple[list[frozenset[str]], bool]:
-    """The best sets of a group, and whether they are known to be least.
-
-    Least sets are sought up to the time `end`, others are bettered up to `later`, both of the monotonic clock.
-    """
-    if len(group) <= LARGE:
-        try:
-            return least_sets.least_sets(group, inputs, SETS, end - time.monotonic()), True
-        except least_sets.Unsolved:
-            pass
-    return [greedy_sets.greedy_set(group, inputs, later - time.monotonic())], False
+def greedy_of(parts: list[nx.DiGraph], inputs: Inputs, seconds: float) -> frozenset[str]:
+    """A set for these knots, sought one after the other; it is bettered while there is time."""
+    end = time.process_time() + seconds
+    found = [greedy_sets.greedy_set(part, inputs, end - time.process_time()) for part in parts]
+    return frozenset().union(*found)
 
 
 def repair_of(tables: dict[str, Any], seconds: float = SECONDS) -> Repair:
@@ -68,13 +52,14 @@ def repair_of(tables: dict[str, Any], seconds: float = SECONDS) -> Repair:
     lines = knots.lines_of(tables)
     inputs = knots.inputs_of(tables, lines)
     parts = knots.knots_of(knots.graph_of(lines))
-    best: list[frozenset[str]] = [frozenset()] if parts else []
-    is_least, start = True, time.monotonic()
-    for group in groups_of(parts, inputs):
-        found, is_known = sets_of(group, inputs, start + seconds, start + 2 * seconds)
-        is_least = is_least and is_known
-        both = [one | other for one, other in product(best, found)]
-        best = sorted(both, key=lambda removed: (inputs.cost(removed), sorted(removed)))[:SETS]
+    if not parts:
+        return Repair([], [], True)
+    # (all knots together, since a failure may cut off more only where lines of several go)
+    best: list[frozenset[str]] = []
+    is_least = False
+    if all(len(part) <= LARGE for part in parts):
+        best, is_least = least_sets.least_sets(nx.compose_all(parts), inputs, SETS, seconds)
+    best = best or [greedy_of(parts, inputs, seconds)]
     sets = [Found(tuple(line for line in lines if line.name in removed), inputs.cost(removed)) for removed in best]
     return Repair([(len(part), *knots.rings_in(part)) for part in parts], sets, is_least)
 
@@ -106,18 +91,20 @@ def edits_of(plan: Plan, found: Found) -> list[Edit]:
     ]
 
 
-def as_data(plan: Plan, repair: Repair, verdict: str) -> dict[str, Any]:
+def as_data(plan: Plan, repair: Repair, verdict: str, gaps: tuple[Gap, ...]) -> dict[str, Any]:
     """A repair and what the program says of the plan without its first set, as JSON has it."""
     knots_told = [{"lines": lines, "rings": rings, "all_rings": are_all} for lines, rings, are_all in repair.knots]
     sets = [
         {
             "last_inputs": found.cost[0],
-            "first_choices": found.cost[1],
+            "gaps": found.cost[1],
+            "first_choices": found.cost[2],
             "edits": [asdict(edit) for edit in edits_of(plan, found)],
         }
         for found in repair.sets
     ]
-    return {"knots": knots_told, "least": repair.is_least, "checked": verdict, "sets": sets}
+    left = [asdict(gap) for gap in gaps]
+    return {"knots": knots_told, "least": repair.is_least, "checked": verdict, "gaps": left, "sets": sets}
 
 
 def hunks(changed: list[int], count: int) -> list[tuple[int, int]]:

@@ -72,6 +72,14 @@ class Gaps:
 
 
 @dataclass(frozen=True)
+class Agreement:
+    """What `agree` says: for how many milliseconds after the last event a network may change, or the lines that clash."""
+
+    bound: int | None
+    clash: Loop | None
+
+
+@dataclass(frozen=True)
 class Hop:
     """How many links an element is from a clock, and the source or line from there; both None where there is no way."""
 
@@ -236,6 +244,11 @@ def gaps(answer: Answer) -> Gaps:
     return Gaps(tuple(Gap(kind, failure or None, int(elements), first) for kind, failure, elements, first in rows))
 
 
+def agreement(answer: Answer) -> Agreement:
+    words = answer.said.split()
+    return Agreement(int(words[2]), None) if answer.status == core.DONE else Agreement(None, tuple(words[1:]))
+
+
 def hops(answer: Answer) -> Hops:
     rows = fields_of(answer.said.splitlines()[1:])
     none = ("none", "none")
@@ -334,6 +347,7 @@ READERS: dict[str, Callable[[Answer], Any]] = {
     "prio-rank": ranking,
     "chains": chains,
     "protected": gaps,
+    "agree": agreement,
     "hops": hops,
     "nominate": written,
     "gen": written,

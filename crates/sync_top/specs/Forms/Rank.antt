@@ -11,9 +11,13 @@ use Rattle.rank_cert.specs.Ranks.{Ranks, rank_at, rank_of}
 use Rattle.rank_cert.specs.CertificateText.{certificate_of, certificate_text}
 use Rattle.sync_top.specs.Reading.{text_line, file_limit}
 
--- the line on a cycle: its lines by their names
+-- the line on some lines: what they are, and their names
+abbrev pub lines_text : List ℕ → Topology → List ℕ → List ℕ
+lines_text word plan lines = text_line (word ++ concat (map (λ line. codes " " ++ line_name plan line) lines))
+
+-- the line on a cycle
 abbrev pub cycle_text : Topology → List ℕ → List ℕ
-cycle_text plan lines = text_line (codes "cycle" ++ concat (map (λ line. codes " " ++ line_name plan line) lines))
+cycle_text plan lines = lines_text (codes "cycle") plan lines
 
 -- the certificate of the least ranks, which is read back as these ranks, and they rise, and which is not too long for a
 -- file; or the first cycle

@@ -25,9 +25,13 @@ def on_knots(repair: Repair) -> list[str]:
 
 def on_cost(found: Found) -> str:
     """What a set costs."""
-    lost, first, _ = found.cost
-    verb = "loses" if lost == 1 else "lose"
-    return f"{plural(lost, 'element')} {verb} the last input, {plural(first, 'first choice')} {'goes' if first == 1 else 'go'}"
+    lost, gaps, first, _ = found.cost
+    parts = (
+        f"{plural(lost, 'element')} {'loses' if lost == 1 else 'lose'} the last input",
+        f"{plural(gaps, 'gap')} {'arises' if gaps == 1 else 'arise'}",
+        f"{plural(first, 'first choice')} {'goes' if first == 1 else 'go'}",
+    )
+    return ", ".join(parts)
 
 
 def report(taken: PlanFile, repair: Repair, verdict: str) -> list[str]:
@@ -66,9 +70,10 @@ def repair_plan(context: click.Context, plan: str, patch: bool, as_json: bool, o
     """Finds the cheapest nominations to take away where `rank` says `cycle`.
 
     All knots of lines are looked at, and how many rings they have. A set costs first the elements that lose their last input,
-    then the first choices that it takes, then how high its priorities are. It is told as least where that is known: up to 400
-    lines in a knot, and within 20 seconds; else as found, perhaps not least. Up to three sets are told. The plan without the
-    first is put before the program. The status is 0 where the program accepts it, and where no ring was there.
+    then the gaps that arise: single failures that cut off more than before. Then come the first choices that it takes, and how
+    high its priorities are. It is told as least where that is known: up to 400 lines in a knot, and within 20 seconds of
+    processor time; else as found, perhaps not least. Up to three sets are told. The plan without the first is put before the
+    program, which says too whether it is protected. The status is 0 where the program accepts it, and where no ring was there.
 
     \b
       $ printf '[[element]]\\nname = "A"\\n[[element]]\\nname = "B"\\n[[element]]\\nname = "C"\\n' > plan.toml
@@ -84,12 +89,13 @@ def repair_plan(context: click.Context, plan: str, patch: bool, as_json: bool, o
     with progress.watched("repair"):
         repair = repairs.repair_of(taken.tables)
     data = repairs.mended(taken.plan, repair.sets[0]) if repair.sets else taken.data
-    verdict = (plan_file.taken("the repaired plan", data) if repair.sets else taken).verdict()
-    said = report(taken, repair, verdict)
+    result = plan_file.taken("the repaired plan", data) if repair.sets else taken
+    verdict, gaps = result.verdict(), result.gaps()
+    said = report(taken, repair, plan_file.judged(verdict, gaps))
     if output and repair.sets:
         files.written(output, data)
     if form == JSON:
-        context.obj.put(plain_json.text(repairs.as_data(taken.plan, repair, verdict)))
+        context.obj.put(plain_json.text(repairs.as_data(taken.plan, repair, verdict, gaps)))
     elif form == PATCH and repair.sets:
         context.obj.put(repairs.patch(plan, taken.data, data))
     elif repair.sets:

@@ -1,6 +1,6 @@
 use Rattle.std.proofs.Common.{◌≡◌, arith}
 use Rattle.sync_topo.specs.Lines.{line_count}
-use Rattle.cycle_plan.proofs.BoundLemmas.{rank-more, rank-all}
+use Rattle.cycle_plan.proofs.BoundLemmas.{rank-more}
 use Rattle.cycle_plan.proofs.bound.greatest_rank.Goals as goal
 
 pub loop-number-preserved : goal.loop-number-preserved
@@ -11,5 +11,4 @@ loop-number-preserved c =
 pub returns-clause-greatest : goal.returns-clause-greatest
 returns-clause-greatest c =
     let all : c.loop-number.number ≡ line_count c.args.plan.now = omega (arith, c.loop-number-test.false, c.loop-number.auto.number-end, c.lines-number-end.ensures.count) in
-    rank-all c.args.plan.now c.args.cert.now c.loop-number.greatest c.requires.counted c.requires.least
-    (rw (← all) c.loop-number.invariant)
+    rw (← all) c.loop-number.invariant

@@ -1,7 +1,7 @@
 use Rattle.std.proofs.Common.{map}
 use Rattle.std.specs.String.{string_bytes}
 use Rattle.sync_top.proofs.Cuts.{cut-from}
-use Rattle.sync_top.proofs.LoopFree.{loop_free-from, never_loops-from, bounds-from, holds_out-from}
+use Rattle.sync_top.proofs.LoopFree.{loop_free-from, never_loops-from, bounds-from, holds_out-from, rests-from}
 use Rattle.sync_top.proofs.program.run.Goals as goal
 
 pub returns-clause-cut : goal.returns-clause-cut
@@ -33,4 +33,10 @@ pub returns-in-Ok-write_all-clause-protected_holds_out : goal.returns-in-Ok-writ
 returns-in-Ok-write_all-clause-protected_holds_out g c =
     let F = g.F.Folder in
     holds_out-from (map string_bytes c.args.words.now) (F.contents c.args.folder.now) (F.steady c.args.folder.now) (F.faults c.args.folder.now) (F.faults c.reply_to.new.folder)
+    c.in-Ok.reply.status c.in-Ok.reply.text c.in-Ok.ensures.ends
+
+pub returns-in-Ok-write_all-clause-agreed_comes_to_rest : goal.returns-in-Ok-write_all-clause-agreed_comes_to_rest
+returns-in-Ok-write_all-clause-agreed_comes_to_rest g c =
+    let F = g.F.Folder in
+    rests-from (map string_bytes c.args.words.now) (F.contents c.args.folder.now) (F.steady c.args.folder.now) (F.faults c.args.folder.now) (F.faults c.reply_to.new.folder)
     c.in-Ok.reply.status c.in-Ok.reply.text c.in-Ok.ensures.ends

@@ -1,8 +1,8 @@
 use Rattle.std.proofs.Common.{◌<◌, length, sym, ap, subst, ◌∙◌}
 use Rattle.std.specs.List.{All}
-use Rattle.nominate.specs.Outputs.{IsOutput}
+use Rattle.sync_topo.specs.Outputs.{IsOutput}
 use Rattle.nominate.proofs.CountLemmas.{count-within}
-use Rattle.nominate.proofs.OutputLemmas.{kept-within}
+use Rattle.sync_topo.proofs.OutputLemmas.{held-within}
 use Rattle.nominate.proofs.SearchLemmas.{AreKept-visited, led-by_outputs}
 use Rattle.nominate.proofs.search.Search.run.Goals as goal
 
@@ -11,7 +11,7 @@ visit-requires-clause-outputs c =
     let taken = c.in-Some.ensures.taken in
     let inside : c.in-Some.element < length c.args.outputs.now = rw (c.requires.outputs.counted, ← taken.searching.counted) (count-within c.take.new.self.counts.items c.in-Some.element c.take.new.self.depth taken.of_depth) in
     subst (λ lines. All (IsOutput c.args.plan.now c.in-Some.element) lines)
-    (kept-within c.args.outputs.now c.in-Some.element c.index-outputs-element.result inside
+    (held-within c.args.outputs.now c.in-Some.element c.index-outputs-element.result inside
     ∙ ap (λ own. own.items) (sym c.index-outputs-element.is) ∙ sym c.as_slice.ensures.value)
     (c.requires.outputs.only c.in-Some.element)
 
@@ -24,6 +24,6 @@ loop-element-preserved c =
       kept =
           AreKept-visited c.args.plan.now c.take.new.self c.visit.new.self c.in-Some.element (taken.kept c.loop-element.invariant.kept) taken.of_depth c.in_ok-visit.ensures.more
           (led-by_outputs c.args.plan.now c.args.outputs.now c.as_slice.result.now c.visit.new.self.counts.items c.in-Some.element c.take.new.self.depth c.requires.outputs
-          (c.as_slice.ensures.value ∙ ap (λ own. own.items) c.index-outputs-element.is ∙ sym (kept-within c.args.outputs.now c.in-Some.element c.index-outputs-element.result inside))
+          (c.as_slice.ensures.value ∙ ap (λ own. own.items) c.index-outputs-element.is ∙ sym (held-within c.args.outputs.now c.in-Some.element c.index-outputs-element.result inside))
           c.in_ok-visit.ensures.close);
     }

@@ -1,0 +1,1 @@
+"""What compares the program with independent models, and what measures it; README.md says what to run."""

@@ -1,0 +1,1 @@
+"""What times the program and the commands around it, counts what they take, or makes their calls fail."""

@@ -1,0 +1,1 @@
+"""What the program is to answer to a file, and what it answered, read by what docs/formats.md says alone."""

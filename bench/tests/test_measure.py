@@ -1,0 +1,96 @@
+"""What the measurements work out for themselves."""
+
+import tomllib
+from pathlib import Path
+
+import pytest
+
+from bench import programs, repository
+from bench.measure import failing, faults, gate_time, headline, ladder, limits, times, works
+from bench.reference.plan import ladder as reference_ladder, read_plan
+
+
+def test_times_that_grow_with_the_square_grow_with_the_power_two() -> None:
+    assert times.growth([10, 20, 40], [1.0, 4.0, 16.0]) == pytest.approx(2)
+    assert times.growth([10, 20], [0.0, 0.0]) == 0
+
+
+def test_a_row_has_the_least_and_the_median() -> None:
+    runs = [times.Run(wall, wall / 2, 3.0, 0) for wall in (5.0, 1.0, 2.0)]
+    assert times.least(runs) == 1.0
+    assert times.row("/a/program", runs).split() == ["program", "1.00", "2.00", "0.50", "3.0", "0"]
+
+
+@pytest.mark.parametrize("count", [2, 3, 9])
+def test_the_ladder_is_that_of_the_reference(count: int) -> None:
+    plan, by_rules = read_plan(ladder.plan_text(count)), reference_ladder(count)
+    assert plan.priority_of[: plan.lines] == by_rules.priority_of[: plan.lines]
+    ranks = by_rules.least_ranks() or {}
+    rows = [f"{by_rules.input_name(line)},{rank}" for line, rank in sorted(ranks.items())]
+    assert sorted(ladder.certificate_text(count).splitlines()[1:]) == sorted(rows)
+
+
+def test_a_dense_plan_has_no_element_of_more_inputs() -> None:
+    plan = read_plan(ladder.dense_plan_text(30, 12))
+    assert max(map(len, plan.inputs_of)) == 12
+    assert len(tomllib.loads(ladder.full_plan_text(5))["source"]) == 5
+
+
+def test_a_call_that_fails_is_answered_by_a_fault_or_as_usual() -> None:
+    usual = (0, b"accepted\n")
+    assert faults.is_right("read", "one", usual, usual)
+    assert faults.is_right("open", "failed", usual, faults.READ_FAULT)
+    assert not faults.is_right("open", "failed", usual, usual)
+    assert faults.is_right("write", "half", usual, usual) and not faults.is_right("write", "half", usual, (8, b"acc"))
+    assert faults.is_right("write", "failed", usual, (8, b"acc"))
+    assert not faults.is_right("write", "failed", usual, (8, b"accepted\n"))
+
+
+def test_each_allocation_fails_once(tmp_path: Path) -> None:
+    shim = failing.build(str(tmp_path), "failing_allocations")
+    runs = [failing.run(["/bin/cat", "/dev/null"], shim, None, FAIL_AT=str(at)) for at in (0, 100_000)]
+    assert [(run.status, run.fewer) for run in runs] == [(0, False), (0, True)]
+
+
+def test_each_read_fails_once(tmp_path: Path) -> None:
+    (tmp_path / "file").write_text("text")
+    shim = failing.build(str(tmp_path), "failing_calls")
+    settings = {"FAIL_CALL": "read", "FAIL_HOW": "failed"}
+    failed = failing.run(["/bin/cat", "file"], shim, str(tmp_path), FAIL_AT="1", **settings)
+    late = failing.run(["/bin/cat", "file"], shim, str(tmp_path), FAIL_AT="100", **settings)
+    assert failed.status != 0 and not failed.fewer
+    assert (late.status, late.text, late.fewer) == (0, b"text", True)
+
+
+def test_processes_below_one_are_found() -> None:
+    found = {number: (parent, "", 0.0) for number, parent in ((2, 1), (3, 2), (4, 3), (5, 1))}
+    assert sorted(gate_time.below(found, 2)) == [3, 4]
+
+
+def test_a_crate_brings_those_on_which_it_stands() -> None:
+    crates = repository.dependencies("a: b c\nb: d toml\nc:\nd:\n# e: a\n")
+    assert crates == {"a": ["b", "c"], "b": ["d", "toml"], "c": [], "d": []}
+    assert sorted(repository.below(crates, "b")) == ["b", "d"]
+
+
+def test_a_file_of_definitions_has_them_with_their_lines(tmp_path: Path) -> None:
+    path = tmp_path / "Words.antt"
+    path.write_text("use Rattle.other.specs.Words.{one as first}\n\n-- what it is\npub two : ℕ\ntwo = first\n")
+    file = headline.File("crate", path)
+    assert file.definitions == {"two": ["pub two : ℕ", "two = first"]}
+    assert file.names == {"first": ("other", "Words", "one")}
+
+
+def test_files_at_the_limit_have_just_its_length() -> None:
+    assert limits.padded("ab", 5, "#") == "ab###"
+    assert len(limits.capture_of(1000)) == 1000
+    assert sum(text.count("[[element]]") for text in (limits.elements(7), limits.links(3))) == 7
+
+
+def test_works_name_their_files() -> None:
+    assert all(set(files) <= set(words) for words, files in works.works().values())
+
+
+def test_each_program_is_there() -> None:
+    names = ["element_histories", "line_histories", "network_steps", "network_sizes", "node_pieces"]
+    assert all("fn " in programs.text(f"{name}.rt.txt") for name in names)

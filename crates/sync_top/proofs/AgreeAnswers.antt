@@ -1,0 +1,87 @@
+-- That `agree` has one answer.
+use Rattle.std.proofs.Common.{◌≡◌, ◌<◌, ◌≤◌, ℕ, List, length, refl, sym, subst, ◌∙◌, ap, inl, inr, arith}
+use Rattle.std.specs.Prelude.{◌⊎◌, codes}
+use Rattle.std.proofs.lemmas.Bool.{cases_lt}
+use Rattle.sync_topo.specs.Topology.{Topology}
+use Rattle.sync_topo.specs.Hops.{bears_on}
+use Rattle.sync_topo.specs.Ranks.{IsFirstCycle}
+use Rattle.net_rules.specs.Settling.{IsGreatest, IsDelay, IsRankOver, IsWait}
+use Rattle.reach_rules.specs.Agreement.{IsHighCount, IsAgreedBound, agreed_in}
+use Rattle.cycle_plan.proofs.AgreedLemmas.{bears-nominates}
+use Rattle.cycle_plan.proofs.BoundLemmas.{cyclic-none}
+use Rattle.cycle_plan.proofs.OneCycle.{one_cycle}
+use Rattle.sync_sweep.proofs.OneSweep.{one-greatest}
+use Rattle.sync_top.specs.declared.status.Status.{Status}
+use Rattle.sync_top.specs.declared.status.Status.TheVariants.{Done, Refuted, Usage, BadPlan, BadCert, BadEvents, BadFrames, ReadFault, WriteFault, TooLong, NoMemory, Stopped}
+use Rattle.sync_top.specs.Forms.Rank.{lines_text}
+use Rattle.sync_top.specs.Forms.Agree.{agreed_text, IsAgreedText}
+use Rattle.sync_top.proofs.Verdicts.{IsOne}
+
+-- so many levels are high
+not-more : (plan : Topology) (one other : ℕ) → IsHighCount plan one → IsHighCount plan other → one ≤ other
+not-more plan one other first second = elim (cases_lt other one) [
+  | inr fits ↦ fits
+  | inl less ↦
+      let within = first.within in
+      let again = second.all other (omega (arith, less, within)) (first.high other less) in
+      absurd (omega (arith, again))
+]
+
+-- a plan has one agreed bound
+one-bound : (plan : Topology) (one other : ℕ) → IsAgreedBound plan one → IsAgreedBound plan other → one ≡ other
+one-bound plan one other first second =
+    let delay = one-greatest (IsDelay plan) first.delay second.delay first.greatest_delay second.greatest_delay in
+    let rank = one-greatest (IsRankOver (bears_on plan) plan) first.rank second.rank first.greatest_rank second.greatest_rank in
+    let longest = subst (λ d. IsGreatest (IsWait plan d) first.wait) delay first.greatest_wait in
+    let wait = one-greatest (IsWait plan second.delay) first.wait second.wait longest second.greatest_wait in
+    let high : first.high ≡ second.high =
+    omega (arith, not-more plan first.high second.high first.are_high second.are_high, not-more plan second.high first.high second.are_high first.are_high) in
+    first.is
+    ∙ ap (λ w. agreed_in w first.high first.rank first.delay) wait
+    ∙ ap (λ h. agreed_in second.wait h first.rank first.delay) high
+    ∙ ap (λ r. agreed_in second.wait second.high r first.delay) rank
+    ∙ ap (λ d. agreed_in second.wait second.high second.rank d) delay
+    ∙ sym second.is
+
+-- what may be found
+abbrev Agrees : Topology → Status → List ℕ → Type 0
+Agrees plan status text = (status ≡ Done) × ((bound : ℕ) × IsAgreedBound plan bound × (text ≡ agreed_text bound))
+
+abbrev Clashes : Topology → Status → List ℕ → Type 0
+Clashes plan status text =
+    (status ≡ Refuted) × ((lines : List ℕ) × IsFirstCycle (bears_on plan) lines × (text ≡ lines_text (codes "clash") plan lines))
+
+either_found : (plan : Topology) (status : Status) (text : List ℕ) → IsAgreedText plan status text → Agrees plan status text ⊎ Clashes plan status text
+either_found plan Done text found = inl (refl, found)
+either_found plan Refuted text found = inr (refl, found)
+either_found plan Usage text found = absurd found
+either_found plan BadPlan text found = absurd found
+either_found plan BadCert text found = absurd found
+either_found plan BadEvents text found = absurd found
+either_found plan BadFrames text found = absurd found
+either_found plan ReadFault text found = absurd found
+either_found plan WriteFault text found = absurd found
+either_found plan TooLong text found = absurd found
+either_found plan NoMemory text found = absurd found
+either_found plan Stopped text found = absurd found
+
+not-both : (plan : Topology) (bound : ℕ) (lines : List ℕ) → IsAgreedBound plan bound → IsFirstCycle (bears_on plan) lines → ⊥
+not-both plan bound lines agreed first = cyclic-none (bears_on plan) plan lines (bears-nominates plan) first agreed.ranked
+
+-- one thing is found
+pub one_agreed : (plan : Topology) → IsOne (IsAgreedText plan)
+one_agreed plan status other text another first second =
+    elim (either_found plan status text first) [
+      | inl agrees ↦ elim (either_found plan other another second) [
+        | inl also ↦
+            (agrees.0 ∙ sym also.0, agrees.1.2 ∙ ap agreed_text (one-bound plan agrees.1.0 also.1.0 agrees.1.1 also.1.1) ∙ sym also.1.2)
+        | inr clashes ↦ absurd (not-both plan agrees.1.0 clashes.1.0 agrees.1.1 clashes.1.1)
+      ]
+      | inr clashes ↦ elim (either_found plan other another second) [
+        | inl agrees ↦ absurd (not-both plan agrees.1.0 clashes.1.0 agrees.1.1 clashes.1.1)
+        | inr also ↦ (
+          clashes.0 ∙ sym also.0,
+          clashes.1.2 ∙ ap (lines_text (codes "clash") plan) (one_cycle (bears_on plan) clashes.1.0 also.1.0 clashes.1.1 also.1.1) ∙ sym also.1.2,
+        )
+      ]
+    ]

@@ -1,0 +1,96 @@
+// Which line bears on which, by each rule of returns.
+
+ghost use Rattle.std.specs.Prelude.{◌≡◌, ◌<◌, ◌↔◌, IsTrue};
+ghost use Rattle.sync_topo.specs.Lines.{line_count, IsInput};
+ghost use Rattle.sync_topo.specs.Hops.{hops_any, comes_first, is_last_resort, bears_on, Hops, HopsBy};
+ghost use Rattle.sync_topo.specs.WellFormed.{IsWellFormed};
+
+use crate::input::{InputId, LineId};
+use crate::plan::Plan;
+use crate::returns::Returns;
+
+impl Plan {
+    /// What line `l` brings to an element may go on over line `m`: both are nominated, `m` begins
+    /// where `l` ends, and their links are not of one bundle. After G.781, do-not-use towards the
+    /// selected reference.
+    pub fn hop(&self, l: LineId, m: LineId) -> bool
+        requires from { l.0 < line_count self.now }
+        requires to { m.0 < line_count self.now }
+        ensures well_formed { IsWellFormed self.now }
+        ensures hops { IsTrue result ↔ Hops self.now l.0 m.0 }
+    {
+        self.meet(l, m) && self.bundle(l.0 / 2) != self.bundle(m.0 / 2)
+    }
+
+    /// What line `l` brings to an element may go on over line `m` by a rule of returns: where they are
+    /// barred it is a [`hop`](Plan::hop), and where they are allowed both are nominated, and `m`
+    /// begins where `l` ends, over `l`'s own link or bundle too. Where they are barred from a last
+    /// resort, that is so but for the ways back over the link or bundle of a
+    /// [`last_resort`](Plan::last_resort). This project's own.
+    pub fn hop_by(&self, returns: Returns, l: LineId, m: LineId) -> bool
+        requires from { l.0 < line_count self.now }
+        requires to { m.0 < line_count self.now }
+        ensures well_formed { IsWellFormed self.now }
+        ensures hops { IsTrue result ↔ HopsBy returns self.now l.0 m.0 }
+    {
+        match returns {
+            Returns::Barred => self.hop(l, m),
+            Returns::Allowed => self.meet(l, m),
+            Returns::BarredFromLast => self.bears_on(l, m),
+        }
+    }
+
+    /// Both lines are nominated, the second begins where the first ends, and it isn't the way back
+    /// over the link or bundle of a last resort.
+    fn bears_on(&self, l: LineId, m: LineId) -> bool
+        requires from { l.0 < line_count self.now }
+        requires to { m.0 < line_count self.now }
+        ensures well_formed { IsWellFormed self.now }
+        ensures bears { result ≡ bears_on self.now l.0 m.0 }
+    {
+        let returns = self.bundle(l.0 / 2) == self.bundle(m.0 / 2);
+        self.meet(l, m) && !(returns && self.last_resort(l))
+    }
+
+    /// A line is the last resort of the element in which it ends: each of the element's inputs that is
+    /// no line of its link or bundle has a smaller number, so that all of them are preferred to it.
+    /// This project's own.
+    pub fn last_resort(&self, l: LineId) -> bool
+        requires { l.0 < line_count self.now }
+        ensures well_formed { IsWellFormed self.now }
+        ensures last { result ≡ is_last_resort self.now l.0 }
+    {
+        let inputs = self.inputs(self.to(l));
+        for input in inputs {
+            if !self.comes_first(l, *input) {
+                return false;
+            }
+        }
+        true
+    }
+
+    /// An input has a smaller number than the line, or it is a line of the line's bundle.
+    fn comes_first(&self, l: LineId, input: InputId) -> bool
+        requires line { l.0 < line_count self.now }
+        requires input { IsInput self.now input }
+        ensures well_formed { IsWellFormed self.now }
+        ensures first { result ≡ comes_first self.now l.0 input }
+    {
+        let bundled = match input {
+            InputId::Line(m) => self.bundle(m.0 / 2) == self.bundle(l.0 / 2),
+            InputId::Source(_) => false,
+        };
+        bundled || self.priority(input) < self.line_priority(l)
+    }
+
+    /// Both lines are nominated, and the second begins where the first ends.
+    pub(crate) fn meet(&self, l: LineId, m: LineId) -> bool
+        requires from { l.0 < line_count self.now }
+        requires to { m.0 < line_count self.now }
+        ensures well_formed { IsWellFormed self.now }
+        ensures meet { result ≡ hops_any self.now l.0 m.0 }
+    {
+        let both = self.line_priority(l) > 0 && self.line_priority(m) > 0;
+        both && self.to(l) == self.from(m)
+    }
+}
