@@ -1,9 +1,9 @@
 """Compares the reports of `sim` on random plans and events with those of the reference.
 
-usage: python3 -m bench.compare.sim PROGRAM [--plans N] [--seed N] [--sweep] [--long] [--keep FOLDER]
+usage: python3 -m bench.compare.sim PROGRAM [--plans N] [--seed N] [--sweep | --inspect] [--long] [--keep FOLDER]
 
 The plans have up to 8 elements, with bundles, both options and enhanced levels, and up to 40 events of every word.
-With --sweep the tables of `sweep` are compared. With --long wait-to-restore times are up to ten minutes and runs go
+With --sweep the tables of `sweep` are compared, with --inspect what `inspect` says. With --long wait-to-restore times are up to ten minutes and runs go
 up to 700000, for which the reference takes a minute each. It needs Python 3.11.
 """
 
@@ -15,6 +15,7 @@ import sys
 import tempfile
 
 from bench.program import answer, program_words, put_files
+from bench.reference.inspection import inspection_text
 from bench.reference.plan import Event, Plan, events_text, plan_text, read_events, read_plan
 from bench.reference.random_plans import random_events, random_plan
 from bench.reference.report import sim_text, sweep_text
@@ -46,15 +47,17 @@ def expected_and_words(form: str, case: SimCase, folder: str) -> tuple[str, list
     read = read_plan(texts["plan"])
     if form == "sweep":
         return sweep_text(read, until // 3, until), ["sweep", "plan", until // 3, until]
-    expected = sim_text(read, read_events(read, texts["events"]), until)
-    return expected, ["sim", "plan", "events", until]
+    text = {"sim": sim_text, "inspect": inspection_text}[form]
+    return text(read, read_events(read, texts["events"]), until), [form, "plan", "events", until]
 
 
 def main() -> int:
     words = program_words(__doc__)
     words.add_argument("--plans", type=int, default=300)
     words.add_argument("--seed", type=int, default=1)
-    words.add_argument("--sweep", action="store_const", const="sweep", default="sim", dest="form")
+    forms = words.add_mutually_exclusive_group()
+    forms.add_argument("--sweep", action="store_const", const="sweep", default="sim", dest="form")
+    forms.add_argument("--inspect", action="store_const", const="inspect", dest="form")
     words.add_argument("--long", action="store_true")
     words.add_argument("--keep", help="write files and expected texts of cases that differ into this folder")
     given = words.parse_args()
