@@ -1,10 +1,12 @@
 """Compares the reports of `sim` on random plans and events with those of the reference.
 
-usage: python3 -m bench.compare.sim PROGRAM [--plans N] [--seed N] [--sweep | --inspect] [--long] [--keep FOLDER]
+usage: python3 -m bench.compare.sim PROGRAM [--plans N] [--seed N] [--sweep | --inspect] [--long | --short]
+       [--keep FOLDER]
 
 The plans have up to 8 elements, with bundles, both options and enhanced levels, and up to 40 events of every word.
 With --sweep the tables of `sweep` are compared, with --inspect what `inspect` says. With --long wait-to-restore times are up to ten minutes and runs go
-up to 700000, for which the reference takes a minute each. It needs Python 3.11.
+up to 700000, for which the reference takes a minute each; with --short there are none, and runs go up to 4000. It
+needs Python 3.11.
 """
 
 import collections
@@ -24,9 +26,12 @@ from bench.reference.report import sim_text, sweep_text
 SimCase = tuple[Plan, list[Event], int]
 
 
-def random_case(chance: random.Random, is_long: bool) -> SimCase:
+def random_case(chance: random.Random, length: str) -> SimCase:
     """A plan, events and how long it runs; with a wait-to-restore of a minute long enough for it to end, mostly."""
-    if is_long:
+    if length == "short":
+        plan = random_plan(chance, [0])
+        return plan, random_events(chance, plan, chance.choice([300, 3000])), chance.randint(0, 4000)
+    if length == "long":
         plan = random_plan(chance, range(0, 660_000, 60_000))
         return (
             plan,
@@ -58,13 +63,15 @@ def main() -> int:
     forms = words.add_mutually_exclusive_group()
     forms.add_argument("--sweep", action="store_const", const="sweep", default="sim", dest="form")
     forms.add_argument("--inspect", action="store_const", const="inspect", dest="form")
-    words.add_argument("--long", action="store_true")
+    lengths = words.add_mutually_exclusive_group()
+    lengths.add_argument("--long", action="store_const", const="long", default="usual", dest="length")
+    lengths.add_argument("--short", action="store_const", const="short", dest="length")
     words.add_argument("--keep", help="write files and expected texts of cases that differ into this folder")
     given = words.parse_args()
     chance = random.Random(given.seed)
     counted = collections.Counter[str]()
     for number in range(given.plans):
-        case = random_case(chance, given.long)
+        case = random_case(chance, given.length)
         with tempfile.TemporaryDirectory() as folder:
             expected, words_given = expected_and_words(given.form, case, folder)
             answered = answer(given.program, *words_given, folder=folder)
