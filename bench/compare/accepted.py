@@ -94,7 +94,7 @@ def main() -> int:
     chance, counted = random.Random(given.seed), collections.Counter[str]()
     while counted["accepted"] < given.plans:
         with tempfile.TemporaryDirectory() as folder:
-            wrong, accepted = tried(given.program, random_case(chance, False), folder, counted)
+            wrong, accepted = tried(given.program, random_case(chance, "usual"), folder, counted)
         counted.update({"accepted": int(accepted), "cyclic": int(not accepted), "wrong": int(wrong is not None)})
         if wrong:
             print(f"accepted plan {counted['accepted']}: {wrong}")

@@ -13,16 +13,16 @@ where one reaches every element the network has to be settled. It needs Python 3
 import collections
 import random
 import sys
-import tempfile
 from collections import Counter
 from collections.abc import Iterator
 
 import networkx
 
 from bench.compare.ranks import first_cycle
+from bench.compare.runs import compare, run_words
 from bench.levels import LEVELS
-from bench.program import answer, program_words, put_files
-from bench.reference.plan import Event, Plan, events_text, plan_text, read_plan
+from bench.program import answer, put_files
+from bench.reference.plan import Event, Plan, events_text
 from bench.reference.random_plans import random_events, random_plan
 
 EVENTS_UNTIL = 30_000  # milliseconds in which random events fall
@@ -177,30 +177,19 @@ def differences(
 
 
 def main() -> int:
-    words = program_words(__doc__)
-    words.add_argument("--plans", type=int, default=1000)
-    words.add_argument("--runs", type=int, default=100)
-    words.add_argument("--seed", type=int, default=1)
-    words.add_argument("--keep", help="stop at a plan with a difference, and leave its files in this folder")
-    given = words.parse_args()
+    given = run_words(__doc__, 1000, 100).parse_args()
     chance, counted = random.Random(given.seed), collections.Counter[str]()
-    with tempfile.TemporaryDirectory() as passing:
-        folder = given.keep or passing
-        for number in range(given.plans):
-            text = plan_text(with_worse_clocks(chance, random_plan(chance, [0, 60_000])))
-            put_files(folder, {"plan": text})
-            plan = read_plan(text)
-            events = run_events(chance, plan) if counted["runs"] < given.runs else None
-            for difference in differences(given.program, folder, plan, events, counted):
-                counted["differ"] += 1
-                print(f"plan {number}: {difference}")
-            if given.keep and counted["differ"]:
-                return 1
+
+    def differences_of(folder: str, plan: Plan) -> Iterator[str]:
+        events = run_events(chance, plan) if counted["runs"] < given.runs else None
+        return differences(given.program, folder, plan, events, counted)
+
+    differ = compare(given, lambda: with_worse_clocks(chance, random_plan(chance, [0, 60_000])), differences_of)
     print(
         f"{given.plans} plans, {counted['agree']} agree; {counted['runs']} runs until after the bound, {counted['reached']}"
-        f" elements reached, all of {counted['whole']} networks; {counted['differ']} differ"
+        f" elements reached, all of {counted['whole']} networks; {differ} differ"
     )
-    return 1 if counted["differ"] else 0
+    return 1 if differ else 0
 
 
 if __name__ == "__main__":

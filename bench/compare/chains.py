@@ -11,13 +11,13 @@ more lines than its element's row says, and how many elements came to as many is
 import collections
 import random
 import sys
-import tempfile
 from collections import Counter
 from collections.abc import Iterator
 
+from bench.compare.runs import compare, run_words
 from bench.levels import LEVELS
-from bench.program import answer, program_words, put_files
-from bench.reference.plan import Plan, events_text, plan_text, read_plan
+from bench.program import answer, put_files
+from bench.reference.plan import Plan, events_text
 from bench.reference.random_plans import random_events, random_plan
 
 # The greatest lines, lines since the last filter, and filters of a chain.
@@ -88,28 +88,18 @@ def differences(
 
 
 def main() -> int:
-    words = program_words(__doc__)
-    words.add_argument("--plans", type=int, default=300)
-    words.add_argument("--runs", type=int, default=3)
-    words.add_argument("--seed", type=int, default=1)
-    words.add_argument("--keep", help="stop at a plan with a difference, and leave its files in this folder")
-    given = words.parse_args()
-    program, chance, counted = given.program, random.Random(given.seed), collections.Counter[str]()
-    with tempfile.TemporaryDirectory() as passing:
-        folder = given.keep or passing
-        for number in range(given.plans):
-            text = plan_text(random_plan(chance, [0]))
-            put_files(folder, {"plan": text})
-            for difference in differences(program, read_plan(text), folder, chance, given.runs, counted):
-                counted["differ"] += 1
-                print(f"plan {number}: {difference}")
-            if given.keep and counted["differ"]:
-                return 1
+    given = run_words(__doc__, 300, 3).parse_args()
+    chance, counted = random.Random(given.seed), collections.Counter[str]()
+
+    def differences_of(folder: str, plan: Plan) -> Iterator[str]:
+        return differences(given.program, plan, folder, chance, given.runs, counted)
+
+    differ = compare(given, lambda: random_plan(chance, [0]), differences_of)
     print(
         f"{given.plans} plans, {counted['cyclic']} with a cycle; of {counted['elements']} elements of the others"
-        f" {counted['reached']} came to as many lines as their row says; {counted['differ']} differ"
+        f" {counted['reached']} came to as many lines as their row says; {differ} differ"
     )
-    return 1 if counted["differ"] else 0
+    return 1 if differ else 0
 
 
 if __name__ == "__main__":

@@ -5,9 +5,9 @@ usage: python3 -m bench.compare.nominate PROGRAM [--plans N] [--seed N] [--keep 
 Of each plan: the counts of `hops` are the distances from the nearest element with a nominated source that networkx
 finds, and each `from` is the lowest-numbered source or line that may stand there; what `nominate` writes has the
 priorities that the rules give, and all else as before; `check` accepts it with the certificate by the order of
-elements; and `rank` gives it ranks. The plans have up to 14 elements, several parts, parallel links, bundles, sources
-that aren't nominated, and priorities up to 255; some have elements with 60 sources and more. It needs Python 3.11 and
-networkx.
+elements; `rank` gives it ranks; and `agree` says that it agrees, with the bound of `bench.compare.agree`. The plans
+have up to 14 elements, several parts, parallel links, bundles, sources that aren't nominated, and priorities up to 255;
+some have elements with 60 sources and more. It needs Python 3.11 and networkx.
 """
 
 import random
@@ -19,7 +19,9 @@ from typing import Any
 
 import networkx
 
+from bench.compare import agree
 from bench.program import answer, program_words, put_files
+from bench.reference import plan as reference
 
 Row = dict[str, Any]
 # Elements by name, links and sources.
@@ -145,6 +147,9 @@ def differences(program: str, folder: str, plan: Tables) -> Iterator[str]:
         yield "check"
     if answer(program, "rank", "nominated", folder=folder)[0]:
         yield "rank"
+    agreed = answer(program, "agree", "nominated", folder=folder)
+    if agreed[0] or agreed != agree.expected(reference.read_plan(text)):
+        yield "agree"
 
 
 def main() -> int:

@@ -1,10 +1,12 @@
 """Compares the reports of `sim` on random plans and events with those of the reference.
 
-usage: python3 -m bench.compare.sim PROGRAM [--plans N] [--seed N] [--sweep] [--long] [--keep FOLDER]
+usage: python3 -m bench.compare.sim PROGRAM [--plans N] [--seed N] [--sweep | --inspect] [--long | --short]
+       [--keep FOLDER]
 
 The plans have up to 8 elements, with bundles, both options and enhanced levels, and up to 40 events of every word.
-With --sweep the tables of `sweep` are compared. With --long wait-to-restore times are up to ten minutes and runs go
-up to 700000, for which the reference takes a minute each. It needs Python 3.11.
+With --sweep the tables of `sweep` are compared, with --inspect what `inspect` says. With --long wait-to-restore times are up to ten minutes and runs go
+up to 700000, for which the reference takes a minute each; with --short there are none, and runs go up to 4000. It
+needs Python 3.11.
 """
 
 import collections
@@ -15,6 +17,7 @@ import sys
 import tempfile
 
 from bench.program import answer, program_words, put_files
+from bench.reference.inspection import inspection_text
 from bench.reference.plan import Event, Plan, events_text, plan_text, read_events, read_plan
 from bench.reference.random_plans import random_events, random_plan
 from bench.reference.report import sim_text, sweep_text
@@ -23,9 +26,12 @@ from bench.reference.report import sim_text, sweep_text
 SimCase = tuple[Plan, list[Event], int]
 
 
-def random_case(chance: random.Random, is_long: bool) -> SimCase:
+def random_case(chance: random.Random, length: str) -> SimCase:
     """A plan, events and how long it runs; with a wait-to-restore of a minute long enough for it to end, mostly."""
-    if is_long:
+    if length == "short":
+        plan = random_plan(chance, [0])
+        return plan, random_events(chance, plan, chance.choice([300, 3000])), chance.randint(0, 4000)
+    if length == "long":
         plan = random_plan(chance, range(0, 660_000, 60_000))
         return (
             plan,
@@ -46,22 +52,26 @@ def expected_and_words(form: str, case: SimCase, folder: str) -> tuple[str, list
     read = read_plan(texts["plan"])
     if form == "sweep":
         return sweep_text(read, until // 3, until), ["sweep", "plan", until // 3, until]
-    expected = sim_text(read, read_events(read, texts["events"]), until)
-    return expected, ["sim", "plan", "events", until]
+    text = {"sim": sim_text, "inspect": inspection_text}[form]
+    return text(read, read_events(read, texts["events"]), until), [form, "plan", "events", until]
 
 
 def main() -> int:
     words = program_words(__doc__)
     words.add_argument("--plans", type=int, default=300)
     words.add_argument("--seed", type=int, default=1)
-    words.add_argument("--sweep", action="store_const", const="sweep", default="sim", dest="form")
-    words.add_argument("--long", action="store_true")
+    forms = words.add_mutually_exclusive_group()
+    forms.add_argument("--sweep", action="store_const", const="sweep", default="sim", dest="form")
+    forms.add_argument("--inspect", action="store_const", const="inspect", dest="form")
+    lengths = words.add_mutually_exclusive_group()
+    lengths.add_argument("--long", action="store_const", const="long", default="usual", dest="length")
+    lengths.add_argument("--short", action="store_const", const="short", dest="length")
     words.add_argument("--keep", help="write files and expected texts of cases that differ into this folder")
     given = words.parse_args()
     chance = random.Random(given.seed)
     counted = collections.Counter[str]()
     for number in range(given.plans):
-        case = random_case(chance, given.long)
+        case = random_case(chance, given.length)
         with tempfile.TemporaryDirectory() as folder:
             expected, words_given = expected_and_words(given.form, case, folder)
             answered = answer(given.program, *words_given, folder=folder)

@@ -4,22 +4,24 @@ usage: python3 -m bench.reference --rows
        python3 -m bench.reference --theorems N [--seed N]
        python3 -m bench.reference --sim PLAN EVENTS UNTIL
        python3 -m bench.reference --sweep PLAN AT UNTIL
+       python3 -m bench.reference --inspect PLAN EVENTS AT
 
 Written from the rules alone, and no code of the program is called. It goes through every millisecond and counts.
 element.py has the condition of an input, operator commands, the choice of an input and one element; plan.py plans,
 events, hops and ranks; network.py the network over time, settled milliseconds, closed walks and traces; report.py
-the texts of a simulation and of a sweep; priority.py elements that choose by priority alone; node.py one element on
+the texts of a simulation and of a sweep; inspection.py that of an inspection; priority.py elements that choose by priority alone; node.py one element on
 captured frames. It grows with the program.
 
 --rows compares the reference with runs worked out by hand (runs_by_hand.py). --theorems tries the promises on a
-running network on N random plans and on some by hand, and wrong texts of them (laws.py). --sim and --sweep print
-what the program is to print of accepted files. It needs Python 3.11 alone.
+running network on N random plans and on some by hand, and wrong texts of them (laws.py). --sim, --sweep and
+--inspect print what the program is to print of accepted files. It needs Python 3.11 alone.
 """
 
 import sys
 
 from bench.program import parser
 from bench.reference import laws, runs_by_hand
+from bench.reference.inspection import inspection_text
 from bench.reference.plan import read_events, read_plan
 from bench.reference.report import sim_text, sweep_text
 
@@ -37,18 +39,22 @@ def main() -> int:
     words.add_argument("--seed", type=int, default=1)
     words.add_argument("--sim", nargs=3, metavar=("PLAN", "EVENTS", "UNTIL"))
     words.add_argument("--sweep", nargs=3, metavar=("PLAN", "AT", "UNTIL"))
+    words.add_argument("--inspect", nargs=3, metavar=("PLAN", "EVENTS", "AT"))
     given = words.parse_args()
     if given.sim:
         plan = read_plan(read(given.sim[0]))
         print(sim_text(plan, read_events(plan, read(given.sim[1])), int(given.sim[2])), end="")
     elif given.sweep:
         print(sweep_text(read_plan(read(given.sweep[0])), int(given.sweep[1]), int(given.sweep[2])), end="")
+    elif given.inspect:
+        plan = read_plan(read(given.inspect[0]))
+        print(inspection_text(plan, read_events(plan, read(given.inspect[1])), int(given.inspect[2])), end="")
     elif given.rows:
         return 1 if runs_by_hand.compare() else 0
     elif given.theorems is not None:
         return 1 if laws.try_laws(given.theorems, given.seed) else 0
     else:
-        words.error("--rows, --theorems, --sim or --sweep has to be given")
+        words.error("--rows, --theorems, --sim, --sweep or --inspect has to be given")
     return 0
 
 

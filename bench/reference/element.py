@@ -49,7 +49,7 @@ class Element:
         wtr: int,
         inputs: Sequence[tuple[int, str | None, object]],
     ) -> None:
-        self.places = {name: place for place, name in enumerate(LEVELS[option])}
+        self.option, self.places = option, {name: place for place, name in enumerate(LEVELS[option])}
         self.worst = LEVELS[option][-1]
         self.own, self.floor, self.holdoff, self.wtr = own, floor, holdoff, wtr
         self.inputs = [Input(*each) for each in inputs]
@@ -58,6 +58,7 @@ class Element:
         self.manual: int | None = None
         self.taken: int | None = None
         self.was_locked = False
+        self.answers: list[bool] = []  # of the commands of the last millisecond, whether each was taken
 
     def is_eligible(self, i: int) -> bool:
         """Not locked out, not failed, and of a level better than do-not-use, than which the floor is not better."""
@@ -70,8 +71,11 @@ class Element:
         """The place of an input's level in the option's table."""
         return self.places[self.inputs[i].level or self.worst]
 
-    def command(self, word: str, i: int | None) -> None:
-        """A forced or manual switch to an input that is locked out, or a manual one beside a forced one, is nothing."""
+    def command(self, word: str, i: int | None) -> bool:
+        """A forced or manual switch to an input that is locked out, or a manual one beside a forced one, is rejected.
+
+        What is rejected is nothing. Gives whether the command was taken.
+        """
         if word == "clear" or i is None:
             self.forced, self.manual = None, None
         elif word == "lockout":
@@ -84,6 +88,9 @@ class Element:
             self.forced, self.manual = i, None
         elif word == "manual" and i not in self.locked and self.forced is None:
             self.manual = i
+        else:
+            return False
+        return True
 
     def millisecond(self, told: list[Told]) -> None:
         """One millisecond with what is told in it, a list of (word, input, level); what isn't told stays."""
@@ -105,8 +112,7 @@ class Element:
         """Takes the signals of one millisecond and its commands in order: the inputs that are eligible then."""
         for i, each in enumerate(self.inputs):
             each.pass_millisecond(ups[i], i in cleared, self.holdoff, self.wtr)
-        for word, target in commands:
-            self.command(word, target)
+        self.answers = [self.command(word, target) for word, target in commands]
         return [i for i in range(len(self.inputs)) if self.is_eligible(i)]
 
     def evaluate(self, ups: list[bool], cleared: Collection[int], commands: Sequence[Command]) -> None:

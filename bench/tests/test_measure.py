@@ -6,8 +6,10 @@ from pathlib import Path
 import pytest
 
 from bench import programs, repository
-from bench.measure import failing, faults, gate_time, headline, ladder, limits, times, works
+from bench.measure import failing, faults, gate_time, headline, ladder, limits, swinging, times, works
+from bench.program import TOP
 from bench.reference.plan import ladder as reference_ladder, read_plan
+from bench.reference.runs_by_hand import CHAIN
 
 
 def test_times_that_grow_with_the_square_grow_with_the_power_two() -> None:
@@ -60,6 +62,36 @@ def test_each_read_fails_once(tmp_path: Path) -> None:
     late = failing.run(["/bin/cat", "file"], shim, str(tmp_path), FAIL_AT="100", **settings)
     assert failed.status != 0 and not failed.fewer
     assert (late.status, late.text, late.fewer) == (0, b"text", True)
+
+
+def report_of(rows: list[str], end: str) -> str:
+    """The changes of a report, and how it ends."""
+    return "changes\n" + "".join(f"{row}\n" for row in rows) + end
+
+
+def test_who_changes_in_the_last_minute_swings() -> None:
+    rows = ["0,A,auto,S,QL-PRC,locked", "1940000,B,auto,none,QL-SEC,holdover", "1940001,C,auto,L2>C,QL-PRC,locked"]
+    text = report_of(rows, "inputs\ntraces\nloops\nsettled no\n")
+    assert (swinging.end_of(text), swinging.changing(text)) == (2_000_000, {"C"})
+    stopped = report_of(rows, "stopped,1990000\n")
+    assert (swinging.end_of(stopped), swinging.changing(stopped)) == (1_990_000, {"B", "C"})
+
+
+def test_what_a_run_shows_is_counted_once() -> None:
+    plan = read_plan(CHAIN)
+    quiet = report_of(["0,A,auto,S,QL-PRC,locked"], "inputs\ntraces\nloops\nsettled yes\n")
+    assert swinging.counts_of(plan, [], quiet) == {"plans": 1, "settled": 1}
+    restless = report_of(["1999999,C,auto,none,QL-SEC,holdover"], "stopped,1999999\n")
+    assert swinging.counts_of(plan, [], restless) == {"plans": 1, "swing": 1, "stopped": 1, "reached": 1}
+    short = report_of(["100000,C,auto,none,QL-SEC,holdover"], "stopped,100000\n")
+    assert swinging.counts_of(plan, [], short) == {"plans": 1, "too short": 1}
+
+
+def test_the_example_clashes_and_its_mended_plan_agrees() -> None:
+    folder = TOP / "examples" / "swinging"
+    kinds = [swinging.kind_of(read_plan((folder / name).read_text())) for name in ("plan.toml", "mended.toml")]
+    assert kinds == ["clash", "agreed"]
+    assert swinging.kind_of(read_plan((TOP / "examples" / "ring" / "plan.toml").read_text())) is None
 
 
 def test_processes_below_one_are_found() -> None:

@@ -9,7 +9,7 @@ import pytest
 from conftest import EXAMPLES
 
 import murdjohe
-from murdjohe import reports
+from murdjohe import inspections, reports
 
 MESH = EXAMPLES / "mesh"
 PLAN = b'[[element]]\nname = "A"\n[[element]]\nname = "B"\n[[link]]\nname = "L1"\na = "A"\nb = "B"\npriority_b = 1\n'
@@ -90,6 +90,22 @@ def test_tables() -> None:
     trial = murdjohe.trial(10).result
     assert (trial.elements, trial.links, trial.top, trial.changes, trial.is_settled) == (10, 17, 8, 23, True)
     assert trial.last == reports.Change(300_310, "E3", "auto", "S3>E3", "QL-PRC", "locked")
+
+
+def test_an_inspection() -> None:
+    at = EXAMPLES / "metro-ring"
+    answer = murdjohe.inspect(at / "plan.toml", at / "works.csv", "5m")
+    assert answer.text == (at / "inspection").read_bytes()
+    said = answer.result
+    assert said.commands == (
+        inspections.Command(60_000, "north-1", "lockout", "N1>north-1", True),
+        inspections.Command(180_000, "north-1", "forced", "N1>north-1", False),
+    )
+    assert said.elements[1] == inspections.Inspected("north-1", "auto", None, None, "QL-SEC", "holdover")
+    assert said.inputs[1] == inspections.Reason("north-1", "N1>north-1", "good", 0, "QL-PRC", "locked-out")
+    assert [row.verdict for row in said.inputs].count("below-floor") == 4
+    clear = murdjohe.inspect(PLAN, b"at,what,target,value\n5,clear,A,\n", 5).result
+    assert (clear.commands, clear.inputs[0].level) == ((inspections.Command(5, "A", "clear", None, True),), "QL-SEC")
 
 
 def test_plans_are_written() -> None:

@@ -11,8 +11,10 @@ from conftest import CASES, EXAMPLES, murdjohe
 from hypothesis import given, settings
 from hypothesis import strategies as st
 from random_plans import random_plan
+from test_repair import random_network
 
-from murdjohe import findings
+import murdjohe as forms
+from murdjohe import edits, findings
 from murdjohe.documents import Document
 from murdjohe.findings import KINDS, Finding, Said
 from murdjohe.plans import Plan
@@ -105,6 +107,52 @@ def test_a_ring_is_an_error_by_the_word_of_the_program(folder: Path) -> None:
     ring = murdjohe("rank", str(path)).out.decode().split()[1:]
     assert ran.status == 1 and f"over {' -> '.join([*ring, ring[0]])}; `murdjohe repair`" in line
     assert "; checked: cycle " in ran.err and ": error: " in line
+
+
+# The link between A and B has the first place at both ends, before their sources.
+CLASH = GOOD.replace("priority_a = 2\npriority_b = 2", "priority_a = 1\npriority_b = 1").replace(
+    'level = "QL-PRC"', 'level = "QL-PRC"\npriority = 2'
+)
+
+
+def test_a_clash_is_told_with_what_to_change(folder: Path) -> None:
+    plan = CLASH.replace('level = "QL-PRTC"\npriority = 1', 'level = "QL-PRTC"\npriority = 3')
+    ran = murdjohe("lint", "-", stdin=plan.encode())
+    assert ran.status == 0
+    assert ran.out.decode() == (
+        "standard input:14: warning: elements may swing for ever over L1>B -> L1>A -> L1>B; "
+        "make L1>A the last resort of A: priority_a = 3 or more of link L1\n"
+    )
+    assert murdjohe("agree", "-", stdin=plan.encode()).out == b"clash L1>B L1>A\n"
+    mended = plan.replace("priority_a = 1", "priority_a = 3")
+    assert murdjohe("agree", "-", stdin=mended.encode()).out.startswith(b"agreed\n")
+    assert murdjohe("lint", "-", stdin=mended.encode()).out == b""
+
+
+def test_a_line_without_room_below_the_others_is_not_told_to_be_the_last() -> None:
+    plan = CLASH.replace("priority = 2", "priority = 255").replace('QL-PRTC"\npriority = 1', 'QL-PRTC"\npriority = 255')
+    (found,) = [one for one in told_of(Said(clash=("L1>B", "L1>A")), plan) if "swing" in one.what]
+    assert found.remedy == "take the priority of L1>B or L1>A away"
+
+
+def test_a_clash_is_told_only_where_no_ring_is() -> None:
+    path = EXAMPLES / "mesh" / "looping.toml"
+    assert murdjohe("agree", str(path)).out.startswith(b"clash ")
+    assert "swing" not in murdjohe("lint", str(path)).out.decode()
+
+
+@settings(max_examples=max(15, CASES))
+@given(st.integers(0, 2**32))
+def test_a_last_resort_that_is_told_ends_its_clash(seed: int) -> None:
+    text = random_network(seed)
+    plan = Plan(Document("plan.toml", text.encode()))
+    clash, ring = forms.agree(text.encode()).result.clash, forms.rank(text.encode()).result.ring
+    if clash is None or ring is not None:
+        return
+    last = findings.last_resort(findings.Looked(plan), clash)
+    assert last is not None and last.line.name in clash
+    changed = edits.changed(plan, {("link", last.line.number, last.line.key): last.priority})
+    assert forms.agree(changed).result.clash != clash
 
 
 def told_of(said: Said, plan: str = GOOD) -> list[Finding]:

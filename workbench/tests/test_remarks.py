@@ -108,6 +108,16 @@ def test_a_clash_is_told() -> None:
     assert len(rest) == 2
 
 
+def test_an_inspection_is_told() -> None:
+    assert said("inspect", "metro-ring/plan.toml", "metro-ring/works.csv", "5m") == [
+        "1 command was rejected: forced N1>north-1 at 180000",
+        "1 input of elements that take nothing is locked out: N1>north-1",
+    ]
+    assert said("inspect", "metro-ring/plan.toml", "metro-ring/works.csv", "30s") == [
+        "3 of 3 events are after 30000, and had no effect"
+    ]
+
+
 def test_a_plan_without_a_clock_is_told() -> None:
     assert said("rank", "-", stdin=CHAIN)[1:] == ["no source is nominated, so nothing ever has a clock"]
     assert said("rank", "-", stdin=CHAIN + SOURCE + "priority = 0\n")[1:] == [

@@ -12,13 +12,14 @@ from pathlib import Path
 from typing import Any
 
 import networkx as nx
+import numpy
 import pytest
 from conftest import CASES, EXAMPLES, murdjohe
 from hypothesis import given, settings
 from hypothesis import strategies as st
 
 import murdjohe as forms
-from murdjohe import edits, greedy_sets, knots, least_sets, repairs, rings
+from murdjohe import edits, greedy_sets, knots, least_sets, repairs, rings, weighed
 from murdjohe.documents import Document
 from murdjohe.knots import Cost, Inputs
 from murdjohe.plans import Plan
@@ -234,6 +235,48 @@ def both_ways(elements: int) -> str:
         if not link.get(f"priority_{end}")
     }
     return edits.changed(plan, wanted).decode()
+
+
+def rings_of_rings(count: int, size: int) -> str:
+    """A ring of so many core sites, and behind each two neighbours of it a ring of so many more, each link both ways."""
+    links: list[tuple[str, str]] = []
+    for core in range(count):
+        behind = [f"C{core}", *(f"R{core}-{site}" for site in range(size)), f"C{(core + 1) % count}"]
+        links += [(behind[0], behind[-1]), *zip(behind, behind[1:])]
+    near = dict.fromkeys((end for link in links for end in link), 0)
+    rows = []
+    for number, (a, b) in enumerate(links):
+        near[a], near[b] = near[a] + 1, near[b] + 1
+        rows.append(f"L{number} {a} {near[a] + 1} {b} {near[b] + 1}")
+    return planned(rows, ["S0 C0", f"S1 C{count // 2}"])
+
+
+def test_a_knot_of_400_lines_is_repaired_at_the_least_cost() -> None:
+    tables, inputs, graph = in_knots(rings_of_rings(10, 18))
+    repair = repairs.repair_of(tables)
+    assert len(graph) == 400 and repair.is_least and len(repair.sets) == repairs.SETS
+    for found in repair.sets:
+        removed = frozenset(line.name for line in found.lines)
+        assert rings.rings_left(graph, removed) == [] and found.cost == inputs.cost(removed)
+        assert all(rings.rings_left(graph, removed - {line}) for line in removed)
+
+
+@TRIED
+@given(st.integers(0, 2**32))
+def test_rings_over_hops_weigh_least(seed: int) -> None:
+    _, _, graph = in_knots(random_network(seed))
+    lines, chance = sorted(graph), random.Random(seed)
+    if not graph:
+        return
+    weights = [chance.choice([0.0, 0.25, 0.5, 1.0]) for _ in lines]
+    heavy = dict(zip(lines, weights))
+    sums = {frozenset(ring): sum(heavy[line] for line in ring) for ring in nx.simple_cycles(graph)}
+    found = weighed.Weighed(graph, lines).rings(numpy.array(weights), 1.0)
+    for ring in found:
+        assert all(graph.has_edge(line, after) for line, after in zip(ring, [*ring[1:], ring[0]]))
+        assert sums[frozenset(ring)] < 1.0
+    assert bool(found) == (min(sums.values()) < 1.0 - 0.1)
+    assert not found or sum(heavy[line] for line in found[0]) == min(sums.values())
 
 
 FOUND = "(found, perhaps not least)"

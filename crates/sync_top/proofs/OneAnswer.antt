@@ -27,7 +27,7 @@ use Rattle.sync_top.specs.declared.form.PlanForm.TheVariants.{Rank, Chains, Prot
 use Rattle.sync_top.specs.declared.form.RanksForm.{RanksForm}
 use Rattle.sync_top.specs.declared.form.RanksForm.TheVariants.{Check, PrioCheck}
 use Rattle.sync_top.specs.declared.form.EventsForm.{EventsForm}
-use Rattle.sync_top.specs.declared.form.EventsForm.TheVariants.{Sim, PrioSim}
+use Rattle.sync_top.specs.declared.form.EventsForm.TheVariants.{Sim, PrioSim, Inspect}
 use Rattle.sync_top.specs.declared.form.FramesForm.{FramesForm}
 use Rattle.sync_top.specs.declared.form.FramesForm.TheVariants.{Decode, Encode, PcapDecode, PcapEncode}
 use Rattle.sync_top.specs.declared.form.LadderForm.{LadderForm}
@@ -46,6 +46,7 @@ use Rattle.sync_top.specs.Forms.Sweep.{IsSweepTable}
 use Rattle.sync_sweep.specs.SweepText.{table_text}
 use Rattle.sync_sweep.proofs.OneSweep.{one-sweep}
 use Rattle.sync_top.specs.Answer.{PlanAnswer, RanksAnswer, EventsAnswer, FramesAnswer, LadderAnswer, meaning, FormAnswer, IsAnswer}
+use Rattle.inspection.specs.Inspection.{inspection}
 use Rattle.sync_top.proofs.OneText.{same_text}
 use Rattle.sync_top.proofs.ChainAnswers.{one_chained}
 use Rattle.sync_top.proofs.ProtectionAnswers.{one_protected}
@@ -194,6 +195,7 @@ module _ (one_whole : (plan : Topology) (events : List Event) (until : ℕ) (tex
   one_events : (what : EventsForm) (plan : Topology) (events : List Event) (until : ℕ) → IsOne (EventsAnswer what plan events until)
   one_events Sim plan events until = one_report plan events until
   one_events PrioSim plan events until = one_priority_run plan events until
+  one_events Inspect plan events until = one_asked (inspection plan events until)
 
   -- and the bytes of frames or rows
   one_frames : (what : FramesForm) (option : NetOption) (bytes : List ℕ) → IsOne (FramesAnswer what option bytes)

@@ -18,7 +18,7 @@ use Rattle.sync_top.specs.declared.form.PlanForm.TheVariants.{Rank, Chains, Prot
 use Rattle.sync_top.specs.declared.form.RanksForm.{RanksForm}
 use Rattle.sync_top.specs.declared.form.RanksForm.TheVariants.{Check, PrioCheck}
 use Rattle.sync_top.specs.declared.form.EventsForm.{EventsForm}
-use Rattle.sync_top.specs.declared.form.EventsForm.TheVariants.{Sim, PrioSim}
+use Rattle.sync_top.specs.declared.form.EventsForm.TheVariants.{Sim, PrioSim, Inspect}
 use Rattle.sync_top.specs.declared.form.FramesForm.{FramesForm}
 use Rattle.sync_top.specs.declared.form.FramesForm.TheVariants.{Decode, Encode, PcapDecode, PcapEncode}
 use Rattle.sync_top.specs.declared.form.LadderForm.{LadderForm}
@@ -38,6 +38,7 @@ use Rattle.sync_top.specs.Forms.Trial.{IsTrial}
 use Rattle.sync_top.specs.Forms.Sim.{plan_and_events, IsReport}
 use Rattle.sync_top.specs.Forms.Sweep.{IsSweepTable}
 use Rattle.sync_top.specs.Forms.Priority.{IsPriorityVerdict, IsPriorityPlanned, IsPriorityRun}
+use Rattle.sync_top.specs.Forms.Inspect.{IsInspected}
 use Rattle.sync_top.specs.Forms.Node.{element_of_plan, node_bytes, IsNodeReply}
 
 -- what answers a plan
@@ -60,6 +61,7 @@ RanksAnswer PrioCheck plan ranks status text = IsPriorityVerdict plan ranks stat
 abbrev pub EventsAnswer : EventsForm → Topology → List Event → ℕ → Status → List ℕ → Type 0
 EventsAnswer Sim plan events until status text = IsReport plan events until status text
 EventsAnswer PrioSim plan events until status text = IsPriorityRun plan events until status text
+EventsAnswer Inspect plan events until status text = IsInspected plan events until status text
 
 -- what answers the bytes of captured frames or of rows
 abbrev pub FramesAnswer : FramesForm → NetOption → List ℕ → Status → List ℕ → Type 0

@@ -12,7 +12,7 @@ use Rattle.sync_top.specs.declared.form.PlanForm.TheVariants.{Rank, Chains, Prot
 use Rattle.sync_top.specs.declared.form.RanksForm.{RanksForm}
 use Rattle.sync_top.specs.declared.form.RanksForm.TheVariants.{Check, PrioCheck}
 use Rattle.sync_top.specs.declared.form.EventsForm.{EventsForm}
-use Rattle.sync_top.specs.declared.form.EventsForm.TheVariants.{Sim, PrioSim}
+use Rattle.sync_top.specs.declared.form.EventsForm.TheVariants.{Sim, PrioSim, Inspect}
 use Rattle.sync_top.specs.declared.form.FramesForm.{FramesForm}
 use Rattle.sync_top.specs.declared.form.FramesForm.TheVariants.{Decode, Encode, PcapDecode, PcapEncode}
 use Rattle.sync_top.specs.declared.form.LadderForm.{LadderForm}
@@ -99,6 +99,7 @@ abbrev pub events_word : List ℕ → Option EventsForm
 events_word word =
     if bytes_eq word (codes "sim") then Some Sim
     else if bytes_eq word (codes "prio-sim") then Some PrioSim
+    else if bytes_eq word (codes "inspect") then Some Inspect
     else None
 
 -- a form on a plan, if the word may name its file; on a ladder, if the word is such a number

@@ -12,4 +12,5 @@ pub mod Hops
 pub mod Nominate
 pub mod Sweep
 pub mod Priority
+pub mod Inspect
 pub mod Node

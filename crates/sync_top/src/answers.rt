@@ -24,6 +24,7 @@ use crate::sim::simulated;
 use crate::sweep::swept;
 use crate::trial::trial_text;
 use capture_text::{decode_lines, encode_rows};
+use inspection::inspect;
 use pcap_file::{decode_pcap, encode_pcap};
 use prio_mode::prio_sim;
 use rank_cert::Cert;
@@ -90,6 +91,7 @@ pub(crate) fn events_found(
     match what {
         EventsForm::Sim => simulated(alloc, plan, events, until),
         EventsForm::PrioSim => Ok(done(prio_sim(alloc, plan, events, until)?)),
+        EventsForm::Inspect => Ok(done(inspect(alloc, plan, events, until)?)),
     }
 }
 

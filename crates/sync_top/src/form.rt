@@ -53,6 +53,8 @@ pub(crate) enum EventsForm {
     Sim,
     /// Its report where elements choose by priority alone.
     PrioSim,
+    /// Why elements take what they take in its last millisecond.
+    Inspect,
 }
 
 /// What is asked of captured frames or rows.
@@ -194,6 +196,7 @@ fn events_word(word: &str) -> Option<EventsForm>
     match word {
         "sim" => Some(EventsForm::Sim),
         "prio-sim" => Some(EventsForm::PrioSim),
+        "inspect" => Some(EventsForm::Inspect),
         _ => None,
     }
 }

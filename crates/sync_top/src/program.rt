@@ -93,18 +93,20 @@ fn reply_to<R: Threads + Sync, F: Folder, G: Gate + Sync>(
 /// on a plan, and `rank PLAN` gives the least ranks as a certificate, or the first cycle. `chains
 /// PLAN` gives the longest chains of timing into each element, or the first cycle. `protected PLAN`
 /// tells whom each single failure cuts off that needn't be. `agree PLAN` tells whether priorities
-/// agree with the ways of timing, and for how long after the last event a network may then change, or
-/// the first circle of lines that clash. `hops PLAN` gives the hop counts, and `nominate PLAN` the
-/// plan with priorities by fewest hops. `decode OPTION FILE` gives the rows of captured frames, and `encode OPTION FILE` the frames of rows.
-/// `pcap-decode OPTION FILE` and `pcap-encode OPTION FILE` do the same for a classic pcap capture
-/// and rows with times. `sim PLAN EVENTS UNTIL` runs the plan's network from 0 to UNTIL with the
-/// faults and commands of an event list, and writes the report; UNTIL is a millisecond up to
-/// 86,400,000. `sweep PLAN AT UNTIL` tells for each link what the network is at UNTIL where that
-/// link alone fails at AT, a millisecond up to UNTIL. `prio-check`, `prio-rank` and `prio-sim` take
-/// the same files for a network whose elements choose by priority alone: a test of ranks, the least
-/// ranks or the event file of forced switches that make a loop, and the report of a run. `gen N`
-/// writes the ladder of N elements, 2 to 2,000, and `trial N` what planner, test and simulator find
-/// of it. PLAN, CERT, EVENTS and FILE are nonempty names of files, and OPTION is `I` or `II`.
+/// agree with the ways of timing, and for how long after the last event a network may then change,
+/// or the first circle of lines that clash. `hops PLAN` gives the hop counts, and `nominate PLAN`
+/// the plan with priorities by fewest hops. `decode OPTION FILE` gives the rows of captured frames,
+/// and `encode OPTION FILE` the frames of rows. `pcap-decode OPTION FILE` and `pcap-encode OPTION
+/// FILE` do the same for a classic pcap capture and rows with times. `sim PLAN EVENTS UNTIL` runs
+/// the plan's network from 0 to UNTIL with the faults and commands of an event list, and writes the
+/// report; UNTIL is a millisecond up to 86,400,000. `inspect PLAN EVENTS AT` runs it to AT, and
+/// tells of each command whether it was taken, what each element chose, and of each input why it is
+/// taken or isn't. `sweep PLAN AT UNTIL` tells for each link what the network is at UNTIL where
+/// that link alone fails at AT, a millisecond up to UNTIL. `prio-check`, `prio-rank` and `prio-sim`
+/// take the same files for a network whose elements choose by priority alone: a test of ranks, the
+/// least ranks or the event file of forced switches that make a loop, and the report of a run. `gen
+/// N` writes the ladder of N elements, 2 to 2,000, and `trial N` what planner, test and simulator
+/// find of it. PLAN, CERT, EVENTS and FILE are nonempty names of files, and OPTION is `I` or `II`.
 ///
 /// The whole text is made before its first byte is written, and it is written by one `write_all`.
 /// `sweep` works on threads of the runtime, and waits for these alone; each calls the gate, which

@@ -4,7 +4,7 @@
     >>> murdjohe.rank("plan.toml").result.ranks
 
 What the program refuses is raised as `murdjohe.Refused`, with the number, the place and a sentence. The functions are those
-of `murdjohe.api`, the dataclasses those of `murdjohe.reports`; they are read when they are first asked for.
+of `murdjohe.api`, the dataclasses those of `murdjohe.reports` and `murdjohe.inspections`; they are read when first asked for.
 """
 
 from __future__ import annotations
@@ -23,6 +23,7 @@ if TYPE_CHECKING:
         encode,
         gen,
         hops,
+        inspect,
         node,
         nominate,
         pcap_decode,
@@ -47,6 +48,7 @@ __all__ = [
     "encode",
     "gen",
     "hops",
+    "inspect",
     "node",
     "nominate",
     "pcap_decode",

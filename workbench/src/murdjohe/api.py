@@ -1,8 +1,8 @@
 """Each form of the program as a function, for notebooks and scripts.
 
 A file is given by its path (text or PathLike) or by its bytes; a time as milliseconds or as text with units (`20m`), up to
-a day; an option is "I" or "II". Each function gives a dataclass of `reports` with the program's bytes and status beside
-it. What is refused is raised as Refused. Nothing is written anywhere.
+a day; an option is "I" or "II". Each function gives a dataclass of `reports` or `inspections` with the program's bytes
+and status beside it. What is refused is raised as Refused. Nothing is written anywhere.
 """
 
 from __future__ import annotations
@@ -13,7 +13,7 @@ from contextlib import contextmanager
 from dataclasses import dataclass
 from typing import Generic, TypeVar
 
-from murdjohe import core, inputs, refusals, reports
+from murdjohe import core, inputs, inspections, refusals, reports
 from murdjohe.core import Answer
 from murdjohe.forms import FORMS
 from murdjohe.inputs import Words
@@ -133,6 +133,11 @@ def nominate(plan: Source) -> Answered[reports.Written]:
 def sim(plan: Source, events: Source, until: Time) -> Answered[reports.Report]:
     """Runs the network from 0 to `until`."""
     return answered("sim", reports.report, plan, events, until)
+
+
+def inspect(plan: Source, events: Source, at: Time) -> Answered[inspections.Inspection]:
+    """Runs the network from 0 to `at`, and says why each input is taken or isn't."""
+    return answered("inspect", inspections.inspection, plan, events, at)
 
 
 def sweep(plan: Source, at: Time, until: Time) -> Answered[reports.Sweep]:

@@ -34,6 +34,7 @@ BEGINNINGS = (
     (b"kind,failure,elements,first", "a table of `protected`"),
     (b"link,settled,", "a table of `sweep`"),
     (b"changes\n", "a report of a run"),
+    (b"commands\n", "an answer of `inspect`"),
     (b"cycle ", "the answer of a `rank` that found a ring, and no certificate"),
     (b"falls ", "an answer of `check`"),
     (b"accepted\n", "an answer of `check`"),

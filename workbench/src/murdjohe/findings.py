@@ -35,9 +35,10 @@ class Finding:
 
 @dataclass(frozen=True)
 class Said:
-    """What the program says of a plan: the ring that it found, if one, the failures that cut somebody off, and the chains."""
+    """What the program says of a plan: the ring or else the clash that it found, if one, whom failures cut off, and the chains."""
 
     ring: tuple[str, ...] | None = None
+    clash: tuple[str, ...] | None = None
     gaps: tuple[Gap, ...] = ()
     chains: tuple[Chain, ...] = ()
 
@@ -161,6 +162,44 @@ def on_rings(looked: Looked, ring: tuple[str, ...] | None) -> Iterator[Finding]:
         yield Finding(line, ERROR, what, "`murdjohe repair` finds what to take away")
 
 
+@dataclass(frozen=True)
+class Last:
+    """A line that may become the last resort of its element, and the least priority with which it does."""
+
+    line: Line
+    priority: int
+
+
+def last_resort(looked: Looked, clash: tuple[str, ...]) -> Last | None:
+    """The line of a clash that is followed by one straight back and is nearest to the last place of its element.
+
+    Such a line bears on no line back any more where it is the last resort. None where no other input leaves it room.
+    """
+    found = []
+    for name, after in zip(clash, (*clash[1:], clash[0])):
+        line, back = looked.by_name[name], looked.by_name[after]
+        inputs = looked.orders[line.receiver].inputs
+        own = {one.name for one in looked.lines if one.bundle == line.bundle}
+        priority = 1 + max((one.priority for one in inputs if one.name not in own), default=0)
+        if line.bundle == back.bundle and priority <= knots.LOWEST:
+            found.append(Last(line, priority))
+    return min(found, key=lambda last: last.priority - last.line.priority) if found else None
+
+
+def on_clash(looked: Looked, clash: tuple[str, ...] | None) -> Iterator[Finding]:
+    """The lines that bear on one another in a circle, and which of them may become a last resort."""
+    if clash:
+        last = last_resort(looked, clash)
+        what = f"elements may swing for ever over {' -> '.join([*clash, clash[0]])}"
+        remedy = f"take the priority of {' or '.join(clash)} away"
+        if last:
+            link = last.line.name.partition(">")[0]
+            most = f"{last.line.key} = {last.priority} or more of link {link}"
+            remedy = f"make {last.line.name} the last resort of {last.line.receiver}: {most}"
+        line = looked.line_of(last.line) if last else min(looked.line_of(looked.by_name[name]) for name in clash)
+        yield Finding(line, WARNING, what, remedy)
+
+
 def place_of(looked: Looked, gap: Gap) -> int:
     """Where what fails stands: of a bundle its first link."""
     if gap.kind == "bundle":
@@ -199,7 +238,8 @@ def findings_of(plan: Plan, said: Said) -> list[Finding]:
     looked = Looked(plan)
     if not looked.rows:
         return [Finding(1, ERROR, "there is no element in the plan", "is it the file that was meant?")]
-    found = [*on_rings(looked, said.ring), *on_gaps(looked, said.gaps), *on_chains(looked, said.chains)]
+    found = [*on_rings(looked, said.ring), *on_clash(looked, said.clash)]
+    found += [*on_gaps(looked, said.gaps), *on_chains(looked, said.chains)]
     for look in (on_sources, on_ways, on_pairs, on_places, on_levels):
         found += look(looked)
     return sorted(found, key=lambda finding: (finding.line, KINDS.index(finding.kind)))

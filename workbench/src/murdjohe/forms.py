@@ -84,6 +84,7 @@ class Form:
 _PLAN = Word("PLAN", PLAN)
 _CERT = Word("CERT", CERTIFICATE)
 _EVENTS = Word("EVENTS", EVENTS)
+_AT = Word("AT", TIME)
 _UNTIL = Word("UNTIL", TIME)
 _OPTION = Word("OPTION", OPTION)
 _N = Word("N", COUNT)
@@ -97,6 +98,7 @@ TRYING = "To try things on"
 _MAKE = "murdjohe gen 5 > plan.toml"
 _RANK = "murdjohe rank plan.toml > certificate.csv"
 _CUT = "printf 'at,what,target,value\\n60000,down,S1,\\n' > events.csv"
+_LOCKED = "printf 'at,what,target,value\\n60000,lockout,R2>E2,\\n' > events.csv"
 _ROW = "echo 020000000001,info,QL-PRC > rows"
 _TIMED = "echo 1,5,020000000001,info,QL-PRC > rows"
 _HEARD = "echo 60000,down,S1\\>E1, > received"
@@ -167,8 +169,16 @@ _ALL = (
         (_MAKE, _CUT, "murdjohe sim plan.toml events.csv 10m"),
     ),
     Form(
+        "inspect",
+        (_PLAN, _EVENTS, _AT),
+        RUNNING,
+        "says of each input at AT why it is taken or isn't",
+        (0, 3, 5, 7, 9),
+        (_MAKE, _LOCKED, "murdjohe inspect plan.toml events.csv 10m"),
+    ),
+    Form(
         "sweep",
-        (_PLAN, Word("AT", TIME), _UNTIL),
+        (_PLAN, _AT, _UNTIL),
         RUNNING,
         "lets each link fail alone at AT, and looks at UNTIL",
         (0, 3, 7, 9),

@@ -2,7 +2,8 @@
 
 Each ring that is known has to lose a line. The set that costs least for these is sought; rings that it leaves are added, until
 none is left: then it is least for all rings. In the same way failures are added that cut off more than the solution says. The
-parts of the cost are made least one after the other.
+parts of the cost are made least one after the other, but where all but the last may be nothing at once that is taken first.
+Before whole numbers are sought, rings are added that the solution in parts of lines breaks by less than one.
 """
 
 from __future__ import annotations
@@ -18,11 +19,16 @@ from scipy.sparse import csr_matrix
 
 from murdjohe.gaps import Failure
 from murdjohe.knots import Inputs
-from murdjohe.rings import ring_through, rings_left
+from murdjohe.rings import rings_left
+from murdjohe.weighed import Weighed
 
 Terms = dict[int, float]  # coefficients by the number of their variable
 Row = tuple[Terms, float, float]  # a sum that has to stand between two numbers
+Fixed = list[tuple[Callable[[], Terms], float]]  # sums that are known, and how much they may be at most
 OPTIMAL = 0  # the status of a solution that is proved to be least
+BROKEN = 1 - 1e-6  # by how much a solution in parts of lines has to break each ring
+REMOVED = 1e6  # what a removed line weighs, so that rings of other lines are found
+ROUNDS = 50  # in which rings are added before whole numbers are sought
 MISSED, LEARNT = 200, 20  # failures that are looked at in one solution, and sets of lines that are learnt of them
 
 
@@ -49,21 +55,22 @@ class Search:
             own = {self.at[name]: -1.0 for name in inputs.of[element]}
             self.rows.append(({**own, number: 1.0}, 1.0 - len(own), numpy.inf))
         self.known: set[frozenset[str]] = set()
-        self.add([ring_through(knot, knot, name) for name in self.lines])
+        self.weighed = Weighed(knot, self.lines)
+        self.add(self.weighed.rings(numpy.ones(len(self.lines)), numpy.inf))
         for element in receivers:
             self.leave_one(element)
 
-    def add(self, rings: list[list[str]]) -> None:
-        """That each of these rings loses a line."""
-        new: dict[frozenset[str], None] = {frozenset(ring): None for ring in rings}
-        self.rows += [({self.at[name]: 1.0 for name in ring}, 1.0, numpy.inf) for ring in new if ring not in self.known]
+    def add(self, rings: list[list[str]]) -> int:
+        """That each of these rings loses a line; how many of them weren't known."""
+        new = [ring for ring in dict.fromkeys(frozenset(ring) for ring in rings) if ring not in self.known]
+        self.rows += [({self.at[name]: 1.0 for name in sorted(ring)}, 1.0, numpy.inf) for ring in new]
         self.known.update(new)
+        return len(new)
 
     def left(self, removed: Collection[str]) -> list[list[str]]:
-        """Rings without these lines, none exactly where none is left: a shortest one through each line that is on one."""
-        kept = set(self.lines).difference(removed)
-        on_rings = {name for ring in rings_left(self.knot, removed) for name in ring}
-        return [ring_through(self.knot, kept, name) for name in sorted(on_rings)]
+        """Rings without these lines, none exactly where none is left: a shortest one over each hop that is on one."""
+        weights = numpy.array([REMOVED if name in removed else 1.0 for name in self.lines])
+        return self.weighed.rings(weights, REMOVED)
 
     def failure(self, failure: Failure) -> int:
         """The variable of a failure, 1 where it has to cut off more than before."""
@@ -102,10 +109,13 @@ class Search:
         height = {number: float(self.inputs.height(name)) for number, name in enumerate(self.lines)}
         return [lambda: lost, lambda: dict.fromkeys(self.failures.values(), 1.0), lambda: first, lambda: height]
 
-    def solution(self, rows: list[Row], terms: Terms) -> Any:
+    def solution(self, cuts: list[Row], fixed: Fixed, terms: Terms, is_whole: bool = True) -> Any:
         """The variables with the least sum of the terms; None where none keep the rows. Raises Unsolved."""
         whole = len(self.lines) + len(self.elements)
         count = whole + len(self.failures)
+        most = numpy.ones(count)
+        most[[number for made, sum_of in fixed if not sum_of for number in made()]] = 0.0
+        rows = self.rows + cuts + [(made(), -numpy.inf, sum_of) for made, sum_of in fixed if sum_of]
         costs = numpy.zeros(count)
         costs[list(terms)] = list(terms.values())
         data = [value for row, _, _ in rows for value in row.values()]
@@ -117,34 +127,55 @@ class Search:
         if left <= 0:
             raise Unsolved
         options = {"mip_rel_gap": 0.0, "time_limit": left}
-        kinds = (numpy.arange(count) < whole).astype(int)  # (those of failures are whole where those of lines are)
-        found = milp(costs, integrality=kinds, bounds=Bounds(0, 1), constraints=bounds, options=options)
+        # (those of failures are whole where those of lines are)
+        kinds = (numpy.arange(count) < whole).astype(int) if is_whole else numpy.zeros(count)
+        found = milp(costs, integrality=kinds, bounds=Bounds(0, most), constraints=bounds, options=options)
         if found.x is None and found.status == 2:
             return None
         if found.x is None or found.status != OPTIMAL:
             raise Unsolved
         return found.x
 
+    def tighten(self, cuts: list[Row], fixed: Fixed, terms: Terms) -> None:
+        """Adds rings that the least solution in parts of lines doesn't break as a whole. Raises Unsolved."""
+        for _ in range(ROUNDS):
+            values = self.solution(cuts, fixed, terms, is_whole=False)
+            if values is None or not self.add(self.weighed.rings(values[: len(self.lines)], BROKEN)):
+                return
+
+    def least_of(
+        self, cuts: list[Row], fixed: Fixed, terms: Callable[[], Terms]
+    ) -> tuple[frozenset[str], float] | None:
+        """The lines with the least sum of the terms, and it; None where there are none. Raises Unsolved."""
+        self.tighten(cuts, fixed, terms())
+        while True:
+            made = terms()
+            values = self.solution(cuts, fixed, made)
+            if values is None:
+                return None
+            removed = frozenset(name for name, value in zip(self.lines, values) if value > 0.5)
+            left = self.left(removed)
+            self.add(left)
+            if not left:
+                self.met.append(removed)
+            has_learnt = bool(fixed) and self.learn(removed, values)
+            if not left and not has_learnt:
+                return removed, float(round(sum(value * values[number] for number, value in made.items())))
+
     def least(self, cuts: list[Row]) -> frozenset[str] | None:
         """The lines that cost least under these cuts; None where there are none. Raises Unsolved."""
-        fixed: list[tuple[Callable[[], Terms], float]] = []
+        stages = self.stages()
+        free = self.least_of(cuts, [(terms, 0.0) for terms in stages[:-1]], stages[-1])
+        if free:
+            return free[0]
+        fixed: Fixed = []
         removed: frozenset[str] = frozenset()
-        for terms in self.stages():
-            while True:
-                known: list[Row] = [(made(), -numpy.inf, most) for made, most in fixed]
-                values = self.solution(self.rows + cuts + known, terms())
-                if values is None:
-                    return None
-                removed = frozenset(name for name, value in zip(self.lines, values) if value > 0.5)
-                left = self.left(removed)
-                if left:
-                    self.add(left)
-                    continue
-                self.met.append(removed)
-                if not fixed or not self.learn(removed, values):
-                    break
-            sum_of = round(sum(value * values[number] for number, value in terms().items()))
-            fixed.append((terms, float(sum_of)))
+        for terms in stages:
+            found = self.least_of(cuts, fixed, terms)
+            if not found:
+                return None
+            removed = found[0]
+            fixed.append((terms, found[1]))
         return removed
 
     def without(self, removed: Collection[str]) -> Row:

@@ -45,6 +45,10 @@ class PlanFile:
         """The failures that cut somebody off who needn't be, as the program says."""
         return api.protected(self.data).result.rows
 
+    def clash(self) -> tuple[str, ...] | None:
+        """The lines that bear on one another in a circle, as the program says; none where timing may go round anyway."""
+        return api.agree(self.data).result.clash if self.ranking.ring is None else None
+
     def chains(self) -> tuple[reports.Chain, ...]:
         """How long chains into each element may become, as the program says; none where timing may go round."""
         return api.chains(self.data).result.rows or ()

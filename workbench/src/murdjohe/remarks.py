@@ -218,6 +218,27 @@ def on_run(words: Words, text: str) -> list[str]:
     return said
 
 
+def on_inspection(words: Words, text: str) -> list[str]:
+    """Commands that were rejected, and inputs that are locked out at elements that take nothing."""
+    rows = [line.split(",") for line in text.splitlines()]
+    rejected = [
+        f"{word} {name} at {at}"
+        for at, _, word, name, answer in (row for row in rows if len(row) == 5)
+        if answer == "rejected"
+    ]
+    said = after(words, text)
+    if rejected:
+        verb = "was" if len(rejected) == 1 else "were"
+        said.append(f"{plural(len(rejected), 'command')} {verb} rejected: {listed(rejected)}")
+    six = [row for row in rows if len(row) == 6]
+    idle = {row[0] for row in six if row[5] in ("holdover", "freerun")}
+    barred = [row[1] for row in six if row[0] in idle and row[5] == "locked-out"]
+    if barred:
+        verb = "is" if len(barred) == 1 else "are"
+        said.append(f"{plural(len(barred), 'input')} of elements that take nothing {verb} locked out: {listed(barred)}")
+    return said
+
+
 def own_by(text: str) -> list[str]:
     """The elements whose trace ends at an own clock, each with that element where it is another."""
     rows = [line.split(",") for line in text.splitlines() if line.count(",") == 3]
@@ -317,6 +338,8 @@ def on_done(words: Words, text: str) -> list[str]:
         return ["no loop can form: " + (on_plan(words, greatest_rank(text)) or ["ranks rise over every hop"])[0]]
     if name in ("sim", "prio-sim"):
         return on_run(words, text)
+    if name == "inspect":
+        return on_inspection(words, text)
     if name == "trial":
         return ["the ladder isn't settled at its end"] if text.endswith("settled no\n") else []
     if name == "sweep":

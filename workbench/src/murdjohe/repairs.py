@@ -18,7 +18,7 @@ from murdjohe.reports import Gap
 
 SETS = 3  # sets that are told
 # of processor time (so that a busy machine finds the same) for all least sets together; as long again for one that isn't known to be
-SECONDS = 20.0
+SECONDS = 25.0
 CONTEXT = 3  # lines around a change in a patch
 LINES = re.compile(rb"[^\n]*\n|[^\n]+")
 
@@ -59,7 +59,8 @@ def repair_of(tables: dict[str, Any], seconds: float = SECONDS) -> Repair:
     is_least = False
     if all(len(part) <= LARGE for part in parts):
         best, is_least = least_sets.least_sets(nx.compose_all(parts), inputs, SETS, seconds)
-    best = best or [greedy_of(parts, inputs, seconds)]
+    if not is_least:
+        best = [min((*best, greedy_of(parts, inputs, seconds)), key=lambda lines: (inputs.cost(lines), sorted(lines)))]
     sets = [Found(tuple(line for line in lines if line.name in removed), inputs.cost(removed)) for removed in best]
     return Repair([(len(part), *knots.rings_in(part)) for part in parts], sets, is_least)
 

@@ -11,7 +11,9 @@ from dataclasses import dataclass
 from typing import Any
 
 from murdjohe import core
+from murdjohe.answer_rows import fields_of, parts_of
 from murdjohe.core import Answer
+from murdjohe.inspections import inspection
 
 Loop = tuple[str, ...]
 
@@ -213,10 +215,6 @@ class Written:
     text: str
 
 
-def fields_of(lines: list[str]) -> list[list[str]]:
-    return [line.split(",") for line in lines]
-
-
 def verdict(answer: Answer) -> Verdict:
     said = answer.said.split()
     return Verdict(True, None) if answer.status == core.DONE else Verdict(False, (said[1], said[2]))
@@ -262,25 +260,13 @@ def change(line: str) -> Change:
     return Change(int(at), element, mode, None if taken == "none" else taken, level[0] if level else None, state)
 
 
-def parts_of(lines: list[str]) -> dict[str, list[str]]:
-    """The lines of each part of a report, and what stands after the last part's name."""
-    found: dict[str, list[str]] = {"changes": [], "inputs": [], "traces": [], "loops": [], "": []}
-    part = ""
-    for line in lines:
-        if line in found and line:
-            part = line
-        else:
-            found[part].append(line)
-    return found
-
-
 def input_of(row: list[str]) -> Input:
     element, name, condition, left = row
     return Input(element, name, condition, int(left))
 
 
 def report(answer: Answer) -> Report:
-    parts = parts_of(answer.said.splitlines())
+    parts = parts_of(answer.said.splitlines(), ("changes", "inputs", "traces", "loops"))
     stopped = [line for line in parts["changes"] if line.startswith("stopped,")]
     settled = [line for line in parts["loops"] if line.startswith("settled ")]
     return Report(
@@ -354,6 +340,7 @@ READERS: dict[str, Callable[[Answer], Any]] = {
     "encode": written,
     "sim": report,
     "prio-sim": report,
+    "inspect": inspection,
     "sweep": sweep,
     "trial": trial,
     "decode": frames,

@@ -20,9 +20,9 @@ def lint(context: click.Context, plan: str, as_json: bool) -> int:
 
     Errors: no element, no source, elements with no way to a clock, a ring that the program finds. Warnings: sources that
     aren't nominated or that nobody takes, elements with one way in, single failures that cut somebody off to whom other links
-    lead (`protected`), chains longer than G.803's 60 lines, 20 since a filter and 10 filters (`chains`), links and bundles that
-    are nominated at both ends without floors, inputs of one priority. Notes: sources whose name says another level. The status
-    is 1 where there is an error.
+    lead (`protected`), priorities that clash (`agree`), chains longer than G.803's 60 lines, 20 since a filter and 10 filters
+    (`chains`), links and bundles that are nominated at both ends without floors, inputs of one priority. Notes: sources whose
+    name says another level. The status is 1 where there is an error.
 
     \b
       $ murdjohe gen 5 > plan.toml
@@ -30,7 +30,7 @@ def lint(context: click.Context, plan: str, as_json: bool) -> int:
     """
     taken = plan_file.read(plan)
     gaps = taken.gaps()
-    found = findings.findings_of(taken.plan, Said(taken.ranking.ring, gaps, taken.chains()))
+    found = findings.findings_of(taken.plan, Said(taken.ranking.ring, taken.clash(), gaps, taken.chains()))
     verdict = plan_file.judged(taken.verdict(), gaps)
     if as_json or context.find_root().params["json"]:
         context.obj.put(plain_json.text([dataclasses.asdict(finding) for finding in found]))

@@ -71,7 +71,7 @@ def repair_plan(context: click.Context, plan: str, patch: bool, as_json: bool, o
 
     All knots of lines are looked at, and how many rings they have. A set costs first the elements that lose their last input,
     then the gaps that arise: single failures that cut off more than before. Then come the first choices that it takes, and how
-    high its priorities are. It is told as least where that is known: up to 400 lines in a knot, and within 20 seconds of
+    high its priorities are. It is told as least where that is known: up to 400 lines in a knot, and within 25 seconds of
     processor time; else as found, perhaps not least. Up to three sets are told. The plan without the first is put before the
     program, which says too whether it is protected. The status is 0 where the program accepts it, and where no ring was there.
 

@@ -1,0 +1,9 @@
+mod Reasons
+mod Ordered
+mod Bars
+mod Applied
+mod Asking
+mod Tabled
+mod Accessors
+mod Shown
+mod Told

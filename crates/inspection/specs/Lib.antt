@@ -1,0 +1,5 @@
+pub mod Verdict
+pub mod Commands
+pub mod Inspection
+pub mod Tables
+pub mod Runs

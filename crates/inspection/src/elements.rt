@@ -1,0 +1,117 @@
+//! The elements, each with what it chose.
+
+ghost use Rattle.std.specs.Prelude.{◌≡◌, ◌<◌, ◌+◌, ◌++◌, ℕ, false, List, length, IfSome, OnOk, option_and_then, slice_get};
+ghost use Rattle.sync_ql.specs.Moment.{Moment};
+ghost use Rattle.sync_ql.specs.Told.{moments_until};
+ghost use Rattle.sync_element.specs.ElementState.{IsInTime};
+ghost use Rattle.sync_element.specs.StandsFor.{StandsFor as ElementStandsFor};
+ghost use Rattle.sync_topo.specs.declared.event.Event.{Event};
+ghost use Rattle.sync_topo.specs.Lines.{inputs_of, IsInput};
+ghost use Rattle.sync_net.specs.Standing.{StandsFor};
+ghost use Rattle.inspection.specs.Inspection.{element_after, element_row, elements_part, clock_text};
+
+use net_words::taken_of;
+use shown_words::{put_choice, put_taken, state_word};
+use std::alloc::Global;
+use sync_element::Element;
+use sync_net::Net;
+use sync_ql::rules::{ClockState, Mode};
+use sync_ql::{Level, name_of};
+use sync_text::{NoMemory, Text};
+use sync_topo::{InputId, Plan};
+
+/// What an element chose. After G.781, selection modes, selected input and clock modes.
+#[derive(Clone, Copy, Debug, Drop)]
+pub struct InspectedElement {
+    /// How its input is chosen.
+    pub mode: Mode,
+    /// The input that is forced, or else switched to by hand.
+    pub switched: Option<InputId>,
+    /// The input that is taken.
+    pub taken: Option<InputId>,
+    /// Its level.
+    pub level: Level,
+    /// What its clock follows.
+    pub state: ClockState,
+}
+
+// Puts all elements, as they are in the millisecond of the last step.
+pub fn put_elements(
+    alloc: Global,
+    text: &mut Text,
+    net: &Net<'_>,
+    until: u64,
+) -> Result<(), NoMemory>
+    requires live { net.now.spent ≡ false }
+    ensures put { OnOk result ((all : List Event) → StandsFor net.now all (until + 1) →
+        text.new ≡ text.old ++ elements_part net.now.plan all until) }
+{
+    text.put(b"elements\n")?;
+    let plan = net.plan();
+    for e in 0..plan.elements() {
+        let it = inspected(plan, e, net.element(e));
+        put_row(alloc, text, plan, e, it)?;
+    }
+    Ok(())
+}
+
+// What an element of a plan chose, from its last step up to but not at `due`, if nothing is told.
+#[tactic(auto, unfolding(crate::specs::Inspection::element_after))]
+fn inspected(plan: &Plan, e: u32, element: &Element) -> InspectedElement
+    requires within { e < length plan.now.elements }
+    ensures chose { (past : List Moment) (n : ℕ) → ElementStandsFor element.now past →
+        IsInTime element.now n → result ≡ element_after plan.now e element.now.settings
+        (moments_until element.now.settings n past) }
+    ensures switched { IfSome result.switched (IsInput plan.now) }
+    ensures taken { IfSome result.taken (IsInput plan.now) }
+{
+    InspectedElement {
+        mode: element.mode(),
+        switched: input_at(plan, e, element.switched()),
+        taken: taken_of(plan, e, element),
+        level: element.level(),
+        state: element.state(),
+    }
+}
+
+// The input at a place of an element.
+fn input_at(plan: &Plan, e: u32, place: Option<u32>) -> Option<InputId>
+    requires within { e < length plan.now.elements }
+    ensures input { result ≡ option_and_then (slice_get (inputs_of plan.now e)) place }
+    ensures within { IfSome result (IsInput plan.now) }
+{
+    match place {
+        Some(place) => plan.inputs(e).get(place as usize).copied(),
+        None => None,
+    }
+}
+
+// Puts the row of an element.
+fn put_row(
+    alloc: Global,
+    text: &mut Text,
+    plan: &Plan,
+    e: u32,
+    it: InspectedElement,
+) -> Result<(), NoMemory>
+    requires within { e < length plan.now.elements }
+    requires switched { IfSome it.switched (IsInput plan.now) }
+    requires taken { IfSome it.taken (IsInput plan.now) }
+    ensures put { OnOk result (text.new ≡ text.old ++ element_row plan.now e it) }
+{
+    put_choice(alloc, text, plan, e, it.mode, it.switched)?;
+    text.put(b",")?;
+    put_taken(alloc, text, plan, it.taken)?;
+    text.put(b",")?;
+    put_clock(text, it.level, it.state)?;
+    text.put(b"\n")
+}
+
+// Puts the level and what the clock follows.
+fn put_clock(text: &mut Text, level: Level, state: ClockState) -> Result<(), NoMemory>
+    ensures put { OnOk result (text.new ≡ text.old ++ clock_text level state) }
+{
+    text.put(name_of(level).as_bytes())?;
+    text.put(b",")?;
+    text.put(state_word(state))
+}
