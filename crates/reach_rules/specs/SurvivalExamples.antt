@@ -12,7 +12,6 @@ use Rattle.sync_topo.specs.Topology.{Topology}
 use Rattle.sync_topo.specs.Bundles.{lowest_of_bundle}
 use Rattle.sync_topo.specs.Lines.{line_id}
 use Rattle.net_rules.specs.Signals.{planned_level}
-use Rattle.net_rules.specs.Settings.{own_level}
 use Rattle.net_rules.specs.History.{settings_of}
 use Rattle.reach_rules.specs.declared.failure.Failure.{Failure}
 use Rattle.reach_rules.specs.declared.failure.Failure.TheVariants as fails
