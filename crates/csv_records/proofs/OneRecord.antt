@@ -1,4 +1,4 @@
--- A list that takes a text to its end is the list of its records.
+-- What a record leaves of a text: it takes a byte, and the text may end after it.
 use Rattle.std.proofs.Common.{◌≡◌, ◌≤◌, ◌<◌, ◌+◌, ◌-◌, ℕ, zero, suc, Bool, true, false, List, [], ◌∷◌, ◌++◌, length, Option, Some, None, if◌then◌else◌, ◌==◌, ◌&&◌, refl, inl, arith, ◌∙◌}
 use Rattle.csv.specs.Machine.{Read, after_end, ends_at_end, ends_with, field_after, fields_after, in_field, is_byte, is_end, next_record, start_field, start_record, step}
 use Rattle.csv.specs.Reading.{AreRecords, ExplainsRead, Reached, Ready, ReadRecord, default_config, is_flexible, stops_reader, records, records_from, source_of}
@@ -93,62 +93,3 @@ takes_a_byte cfg s (c ∷ rest) p may e =
     let later = after_byte cfg s [] [] c rest p e
     (leaves_off cfg (step cfg s c).0 (fields_after (step cfg s c).1 [] []) (field_after (step cfg s c).1 c []) rest p) in
     (record { stops = later.stops; left = omega (arith, later.left) }, omega arith)
-
--- the records that are reached are as many as there are turns for
-pub reached-are : (cfg : Config) (n : ℕ) (s s2 : State) (xs ys : List ℕ) (rows : List (List (List ℕ)))
-    → ends_at_end s ≡ false → length xs < n → Reached cfg s xs rows s2 ys → next_record cfg s2 [] [] ys ≡ None
-    → rows ≡ records_from cfg n s xs
-unfolding Reached records_from
-reached-are cfg zero s s2 xs ys rows may room reached ends = absurd (omega arith)
-reached-are cfg (suc n) s s2 xs ys [] may room reached ends = rw (reached.0, reached.1, ends) refl
-reached-are cfg (suc n) s s2 xs ys (row ∷ rows) may room (p, next, is, more) ends =
-    let byte = takes_a_byte cfg s xs p may next in
-    let rest = reached-are cfg n p.1 s2 p.2 ys rows byte.0.stops (omega (arith, byte.0.left, byte.1)) more ends in
-    rw (next, is, ← rest) refl
-
-pub records-are : (cfg : Config) (xs : List ℕ) (rows : List (List (List ℕ))) → AreRecords cfg st.StartRecord xs rows → rows ≡ records cfg xs
-records-are cfg xs rows (s2, ys, reached, ends) = reached-are cfg (length xs + 1) st.StartRecord s2 xs ys rows refl (omega arith) reached ends
-
--- a reader has given these records of a text, and has the rest of it left
-pub record HasRead {R : Type 0} (rem : R → Option (List ℕ)) (reader : Reader R) (turns : ℕ) (text : List ℕ) (rows : List (List (List ℕ))) : Type 0 where
-  pub trims : reader.trim ≡ trim.None
-  pub ready : Ready reader
-  pub flexible : is_flexible reader ≡ true
-  pub goes_on : 0 < turns
-  pub config : reader.config ≡ default_config
-  pub rest : List ℕ
-  pub source : source_of rem reader ≡ Some rest
-  pub reached : Reached default_config st.StartRecord text rows reader.state rest
-
--- a read that gave a record
-pub one_more : {R : Type 0} (rem : R → Option (List ℕ)) (a b : Reader R) (turns left : ℕ) (text : List ℕ) (rows : List (List (List ℕ))) (fields : List (List ℕ))
-    → HasRead rem a turns text rows → ReadRecord rem a b true fields → b.first ≡ true → 0 < left → is_flexible b ≡ is_flexible a
-    → HasRead rem b left text (rows ++ fields ∷ [])
-one_more rem a b turns left text rows fields so_far read first more same =
-    let next = rows-more rem a b fields default_config st.StartRecord text so_far.rest rows so_far.config so_far.source so_far.reached read in
-    record {
-      trims = read.3 ∙ so_far.trims;
-      ready = inl first;
-      flexible = same ∙ so_far.flexible;
-      goes_on = more;
-      config = read.2 ∙ so_far.config;
-      rest = next.0;
-      source = next.1;
-      reached = next.2;
-    }
-
--- a read that gave none
-pub no_more : {R : Type 0} (rem : R → Option (List ℕ)) (a b : Reader R) (turns : ℕ) (text : List ℕ) (rows : List (List (List ℕ)))
-    → HasRead rem a turns text rows → ReadRecord rem a b false [] → rows ≡ records default_config text
-no_more rem a b turns text rows so_far read =
-    records-are default_config text rows
-    (a.state, so_far.rest, so_far.reached, rows-end rem a b [] default_config so_far.rest so_far.config so_far.source read)
-
--- a reader of bytes that takes records of any length fails only where it stops
-pub stops : {R : Type 0} (rem : R → Option (List ℕ)) (a b : Reader R) (why : ErrorKind) → is_flexible a ≡ true → ExplainsRead rem a b false why → stops_reader why ≡ true
-stops rem a b (kind.Io error) flexible read = refl
-stops rem a b kind.OutOfMemory flexible read = refl
-stops rem a b (kind.UnequalLengths pos expected len) flexible read = cc (flexible, read.0)
-stops rem a b (kind.Utf8 pos error) flexible read = cc read.0
-stops rem a b (kind.Serialize text) flexible read = absurd read
-stops rem a b (kind.Deserialize pos error) flexible read = absurd read
