@@ -1,5 +1,5 @@
-use Rattle.std.proofs.Common.{sym, ◌∙◌}
-use Rattle.event_file.proofs.row.event_of.Goals as goal
+use Rattle.std.proofs.Common.{sym}
+use Rattle.event_file.proofs.row.event_said.Goals as goal
 
 -- what the word says fits the plan, and its value is of the plan's option
 pub returns-in-Some-with_value-clause-fits : goal.returns-in-Some-with_value-clause-fits
