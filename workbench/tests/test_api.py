@@ -110,6 +110,15 @@ def test_an_inspection() -> None:
 
 def test_plans_are_written() -> None:
     assert murdjohe.nominate(MESH / "topology.toml").text == (MESH / "plan.toml").read_bytes()
+    found = murdjohe.protect(MESH / "topology.toml")
+    assert (found.status, found.result) == (0, reports.Protection(found.text.decode(), ()))
+    assert murdjohe.protected(found.text).status == murdjohe.agree(found.text).status == 0
+    no_room = (
+        b'element = [{ name = "A" }, { name = "B" }]\nlink = [{ name = "L", a = "A", b = "B" }]\n'
+        b'source = [{ name = "S", at = "A", level = "QL-PRC" }, { name = "T", at = "B", level = "QL-PRC", priority = 255 }]\n'
+    )
+    none = murdjohe.protect(no_room)
+    assert (none.status, none.result) == (1, reports.Protection(None, (reports.Gap("source", "T", 1, "B"),)))
     assert murdjohe.gen(4).result.text == (EXAMPLES / "ladder" / "plan.toml").read_text()
 
 

@@ -108,6 +108,34 @@ def test_a_clash_is_told() -> None:
     assert len(rest) == 2
 
 
+RING = (
+    'element = [{ name = "A" }, { name = "B" }, { name = "C" }]\n'
+    'link = [{ name = "L1", a = "A", b = "B" }, { name = "L2", a = "B", b = "C" }, { name = "L3", a = "C", b = "A" }]\n'
+    'source = [{ name = "S", at = "A", level = "QL-PRC" }]\n'
+)
+
+
+def test_who_wants_a_floor_is_told() -> None:
+    both = "1 link or bundle is nominated at both ends: L2"
+    want = "2 elements there have no floor better than the other's own clock, and may swing with it while no source reaches them: "
+    assert said("protect", "-", stdin=RING) == [both, want + "B, C"]
+    floored = RING.replace('{ name = "B" }', '{ name = "B", floor = "QL-SSU-B" }')
+    assert said("protect", "-", stdin=floored) == [
+        both,
+        want.replace("2 elements there have", "1 element there has") + "C",
+    ]
+    assert said("protect", "-", stdin=floored.replace('name = "C"', 'name = "C", floor = "QL-SSU-B"')) == [both]
+    assert said("protect", "-", stdin=CHAIN + SOURCE) == said("hops", "-", stdin=CHAIN + SOURCE)
+
+
+def test_that_no_plan_is_found_is_told() -> None:
+    source = ', { name = "T", at = "B", level = "QL-PRC", priority = 255 }]'
+    (line,) = said("protect", "-", stdin=RING.rstrip("]\n") + source, status=1)
+    assert line.startswith(
+        "no plan: in the one that was found 1 failure leaves elements without a clock that they could have. "
+    )
+
+
 def test_an_inspection_is_told() -> None:
     assert said("inspect", "metro-ring/plan.toml", "metro-ring/works.csv", "5m") == [
         "1 command was rejected: forced N1>north-1 at 180000",
@@ -125,7 +153,7 @@ def test_a_plan_without_a_clock_is_told() -> None:
     ]
 
 
-@pytest.mark.parametrize("form", ["rank", "chains", "protected", "agree", "hops", "nominate", "prio-rank"])
+@pytest.mark.parametrize("form", ["rank", "chains", "protected", "agree", "hops", "nominate", "protect", "prio-rank"])
 def test_an_empty_plan_is_told(form: str) -> None:
     assert any("the plan is empty" in line or "0 elements" in line for line in said(form, "-"))
 

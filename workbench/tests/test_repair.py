@@ -19,7 +19,7 @@ from hypothesis import given, settings
 from hypothesis import strategies as st
 
 import murdjohe as forms
-from murdjohe import edits, greedy_sets, knots, least_sets, repairs, rings, weighed
+from murdjohe import edits, greedy_sets, knots, least_sets, nominated, repairs, rings, weighed
 from murdjohe.documents import Document
 from murdjohe.knots import Cost, Inputs
 from murdjohe.plans import Plan
@@ -101,7 +101,7 @@ def test_a_repair_as_json(folder: Path) -> None:
 def in_knots(text: str) -> tuple[dict[str, Any], Inputs, nx.DiGraph]:
     """The tables of a plan, its inputs, and the hops of its knots."""
     tables = Plan(Document("plan.toml", text.encode())).tables
-    lines = knots.lines_of(tables)
+    lines = nominated.lines_of(tables)
     parts = knots.knots_of(knots.graph_of(lines))
     return tables, knots.inputs_of(tables, lines), nx.compose_all(parts) if parts else nx.DiGraph()
 

@@ -4,3 +4,4 @@ pub mod KnownLaws
 pub mod LoopLaws
 pub mod OneList
 pub mod WithinLaws
+pub mod OneEndings

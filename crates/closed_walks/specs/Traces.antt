@@ -1,6 +1,5 @@
 -- Traces as they are answered.
-use Rattle.std.specs.Prelude.{◌≡◌, ℕ, List, length, map}
-use Rattle.sync_topo.specs.declared.input.LineId.{LineId}
+use Rattle.std.specs.Prelude.{◌≡◌, ℕ, List, length, Some, slice_get}
 use Rattle.sync_topo.specs.Topology.{Topology}
 use Rattle.net_rules.specs.Walks.{Taken, TraceEnd, at_source, at_clock, at_loop, IsTrace}
 use Rattle.closed_walks.specs.declared.traced.Ending.{Ending}
@@ -17,3 +16,8 @@ end_of (Loop element) = at_loop element
 abbrev pub EndsSo : Topology → Taken → ℕ → Ending → Type 0
 EndsSo plan taken element ending =
     (lines : List ℕ) × (length lines ≡ ending.lines) × IsTrace plan taken element lines (end_of ending.end)
+
+-- how the traces of all elements end, by what each takes
+pub record AreEndings (plan : Topology) (taken : Taken) (endings : List Ending) : Type 0 where
+  pub count : length endings ≡ length plan.elements
+  pub each : (element : ℕ) (ending : Ending) → slice_get endings element ≡ Some ending → EndsSo plan taken element ending

@@ -1,7 +1,7 @@
 -- The fields of a record, as `csv` finds them.
 use Rattle.std.proofs.Common.{◌≡◌, ◌≢◌, ◌<◌, ℕ, zero, suc, List, [], ◌∷◌, length, Some, None, slice_get, refl, arith}
 use Rattle.csv.specs.Records.{field_at}
-use Rattle.csv_records.specs.Fields.{pair_of, four_of}
+use Rattle.csv_records.specs.Fields.{pair_of, four_of, five_of}
 
 -- the field at a place is the list's element there
 pub field_at_is : (fields : List (List ℕ)) (i : ℕ) → field_at fields i ≡ slice_get fields i
@@ -72,3 +72,42 @@ four_short (v ∷ w ∷ x ∷ y ∷ z ∷ more) place within n = refl
 
 -- what the fields of a record say of its four
 pub ruleset four_facts = (four_is, four_other, four_short)
+
+-- five fields that are the first to the fifth of five
+pub five_is : (fields : List (List ℕ)) (a b c d e : List ℕ) → length fields ≡ 5 → Some a ≡ slice_get fields 0 → Some b ≡ slice_get fields 1
+    → Some c ≡ slice_get fields 2 → Some d ≡ slice_get fields 3 → Some e ≡ slice_get fields 4 → Some (a, b, c, d, e) ≡ five_of fields
+five_is [] a b c d e n f g h i j = absurd (omega arith)
+five_is (v ∷ []) a b c d e n f g h i j = absurd (omega arith)
+five_is (v ∷ w ∷ []) a b c d e n f g h i j = absurd (omega arith)
+five_is (v ∷ w ∷ x ∷ []) a b c d e n f g h i j = absurd (omega arith)
+five_is (v ∷ w ∷ x ∷ y ∷ []) a b c d e n f g h i j = absurd (omega arith)
+five_is (v ∷ w ∷ x ∷ y ∷ z ∷ []) a b c d e n f g h i j = cc
+five_is (u ∷ v ∷ w ∷ x ∷ y ∷ z ∷ more) a b c d e n f g h i j = absurd (omega arith)
+
+-- a record of another length is not of five
+pub five_other : (fields : List (List ℕ)) → length fields ≢ 5 → five_of fields ≡ None
+five_other [] n = refl
+five_other (v ∷ []) n = refl
+five_other (v ∷ w ∷ []) n = refl
+five_other (v ∷ w ∷ x ∷ []) n = refl
+five_other (v ∷ w ∷ x ∷ y ∷ []) n = refl
+five_other (v ∷ w ∷ x ∷ y ∷ z ∷ []) n = absurd (n refl)
+five_other (u ∷ v ∷ w ∷ x ∷ y ∷ z ∷ more) n = refl
+
+-- nor is one without a field at one of the first five places
+pub five_short : (fields : List (List ℕ)) (place : ℕ) → place < 5 → slice_get fields place ≡ None → five_of fields ≡ None
+five_short [] place within n = refl
+five_short (v ∷ []) place within n = refl
+five_short (v ∷ w ∷ []) place within n = refl
+five_short (v ∷ w ∷ x ∷ []) place within n = refl
+five_short (v ∷ w ∷ x ∷ y ∷ []) place within n = refl
+five_short (v ∷ w ∷ x ∷ y ∷ z ∷ []) zero within n = cc
+five_short (v ∷ w ∷ x ∷ y ∷ z ∷ []) (suc zero) within n = cc
+five_short (v ∷ w ∷ x ∷ y ∷ z ∷ []) (suc (suc zero)) within n = cc
+five_short (v ∷ w ∷ x ∷ y ∷ z ∷ []) (suc (suc (suc zero))) within n = cc
+five_short (v ∷ w ∷ x ∷ y ∷ z ∷ []) (suc (suc (suc (suc zero)))) within n = cc
+five_short (v ∷ w ∷ x ∷ y ∷ z ∷ []) (suc (suc (suc (suc (suc place))))) within n = absurd (omega arith)
+five_short (u ∷ v ∷ w ∷ x ∷ y ∷ z ∷ more) place within n = refl
+
+-- what the fields of a record say of its five
+pub ruleset five_facts = (five_is, five_other, five_short)

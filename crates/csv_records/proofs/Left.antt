@@ -10,7 +10,7 @@ use Rattle.csv.specs.declared.parser.State.{State}
 use Rattle.csv.specs.declared.parser.State.TheVariants as st
 use Rattle.csv_records.specs.Records.{records_of}
 use Rattle.csv_records.specs.Stream.{records_left, unread, IsReading}
-use Rattle.csv_records.proofs.AllRecords.{LeavesOff, takes_a_byte}
+use Rattle.csv_records.proofs.OneRecord.{LeavesOff, takes_a_byte}
 
 -- any number of turns that goes beyond the bytes gives the same records
 same_records : (cfg : Config) (n m : ℕ) (s : State) (xs : List ℕ) → ends_at_end s ≡ false → length xs < n → length xs < m

@@ -1,4 +1,4 @@
-pub mod AllRecords
+pub mod OneRecord
 pub mod Left
 pub mod Count
 pub mod FieldFacts

@@ -1,7 +1,7 @@
 // One record and its fields.
 
 ghost use Rattle.std.specs.Prelude.{◌≡◌, ◌==◌, [], List, length, option_map, slice_get};
-ghost use Rattle.csv_records.specs.Fields.{pair_of, four_of};
+ghost use Rattle.csv_records.specs.Fields.{pair_of, four_of, five_of};
 
 use csv::ByteRecord;
 use std::alloc::Global;
@@ -25,8 +25,6 @@ impl Model for Record {
 }
 
 impl Record {
-    ghost use Rattle.csv.specs.Records.{fields_of};
-
     /// A record without fields.
     pub(crate) fn new(alloc: Global) -> Record
         ensures { result ≡ [] }
@@ -34,12 +32,6 @@ impl Record {
         Record {
             fields: ByteRecord::new(alloc),
         }
-    }
-
-    pub(crate) fn of(fields: ByteRecord) -> Record
-        ensures { result ≡ fields_of fields }
-    {
-        Record { fields }
     }
 
     /// How many fields the record has.
@@ -96,6 +88,26 @@ impl Record {
         let fourth = self.get(3)?;
         if self.len() == 4 {
             Some((first, second, third, fourth))
+        } else {
+            None
+        }
+    }
+
+    /// All fields of a record of five.
+    ///
+    /// `None` where the record has fewer fields or more.
+    #[tactic(auto, using(crate::proofs::FieldFacts::five_facts))]
+    pub fn five(&self) -> Option<(&[u8], &[u8], &[u8], &[u8], &[u8])>
+        ensures { option_map (λ five. (five.0.now, five.1.now, five.2.now, five.3.now, five.4.now)) result
+            ≡ five_of self.now }
+    {
+        let first = self.get(0)?;
+        let second = self.get(1)?;
+        let third = self.get(2)?;
+        let fourth = self.get(3)?;
+        let fifth = self.get(4)?;
+        if self.len() == 5 {
+            Some((first, second, third, fourth, fifth))
         } else {
             None
         }

@@ -1,11 +1,11 @@
 // The records of a text, one after another.
 
 ghost use Rattle.std.specs.Prelude.{◌≡◌, ◌≤◌, ◌+◌, [], ◌∷◌, length, true, false, Ok, OnOk, OnErr};
+ghost use Rattle.csv.specs.Reading.{error_kind, stops_reader};
 ghost use Rattle.csv_records.specs.Records.{records_of};
 
-use crate::reading::want_of_memory;
 use crate::record::Record;
-use csv::{Reader, ReaderBuilder};
+use csv::{Error, Reader, ReaderBuilder};
 use std::alloc::Global;
 use std::marker::Model;
 use sync_text::NoMemory;
@@ -13,8 +13,10 @@ use sync_text::NoMemory;
 /// The records of some bytes, taken one after another. Contracts see the record that was taken last,
 /// and those that are left.
 ///
-/// It holds one record at a time. The records are those that `read_records` gives at once.
-/// After RFC 4180.
+/// It holds one record at a time. Fields are parted by commas and may be quoted, spaces are part of
+/// a field, records may differ in length, the first record is one like the others, and a byte order
+/// mark at the start is passed over. No text is refused; an error is want of memory.
+/// After RFC 4180, as the crate `csv` reads it.
 #[derive(Drop)]
 pub struct Records<'a> {
     reader: Reader<&'a [u8]>,
@@ -82,4 +84,14 @@ impl<'a> Records<'a> {
     {
         &self.taken
     }
+}
+
+/// Want of memory, as the one reason that is left for a reader to stop: the bytes are in memory.
+///
+/// An error of the records themselves stops no reader.
+fn want_of_memory(error: Error) -> NoMemory
+    requires { stops_reader (error_kind error) ≡ true }
+{
+    let _ = error;
+    NoMemory
 }

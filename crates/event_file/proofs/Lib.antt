@@ -1,1 +1,5 @@
 pub mod Taking
+pub mod CaseNames
+pub mod CaseRowLaws
+pub mod Sorting
+pub mod CaseTaking

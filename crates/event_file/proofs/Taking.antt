@@ -1,7 +1,7 @@
 -- The rows that are gone through, one more and all.
-use Rattle.std.proofs.Common.{◌≡◌, ◌≤◌, ◌<◌, ◌+◌, ◌-◌, ℕ, zero, suc, List, [], ◌∷◌, ◌++◌, length, Option, Some, None, refl, sym, ap, inl, inr, arith, ◌∙◌, append_assoc, append-nil}
-use Rattle.std.specs.Prelude.{slice_get, slice_index_or, unwrap_or, option_and_then, Result, Ok, Err}
-use Rattle.std.specs.List.{All, filter_map}
+use Rattle.std.proofs.Common.{◌≡◌, ◌≤◌, ◌<◌, ◌+◌, ℕ, suc, List, [], ◌∷◌, ◌++◌, length, Some, None, refl, sym, ap, inl, inr, arith, ◌∙◌, append_assoc, append-nil}
+use Rattle.std.specs.Prelude.{slice_get, unwrap_or, option_and_then, Result, Ok, Err}
+use Rattle.std.specs.List.{All}
 use Rattle.std.proofs.lemmas.Bool.{cases_lt}
 use Rattle.std.proofs.lemmas.List.{get_or_append_left, length-append}
 use Rattle.std.proofs.Math.Seq.{get_or-append_seam}
@@ -9,17 +9,16 @@ use Rattle.std.proofs.lemmas.List.Elements.{All-append, All-cons, All-nil, filte
 use Rattle.sync_topo.specs.declared.event.Event.{Event}
 use Rattle.sync_topo.specs.Topology.{Topology}
 use Rattle.sync_topo.specs.Events.{Fits, IsInOrder}
-use Rattle.csv_records.specs.FirstRefusal.{first_refusal}
 use Rattle.csv_records.proofs.FirstRefusals.{first_refusal-some, first_refusal-none}
 use Rattle.event_file.specs.declared.error.EventErr.{EventErr}
-use Rattle.event_file.specs.declared.error.EventErr.TheVariants.{Header, Fields, Time, Order, What, Target, Value, Limit, NoMemory}
+use Rattle.event_file.specs.declared.error.EventErr.TheVariants.{Header, Fields, Time, Order, What, Target, Value, Limit, Name, Apart, NoMemory}
 use Rattle.event_file.specs.Refusal.{Refuses}
 use Rattle.event_file.specs.Rows.{Fields as Row, event_in, time_in, time_before, row_refusal, refusal_at, event_limit, last_time}
 use Rattle.event_file.specs.EventText.{events_in, events_of_rows, unless_refused}
 use Rattle.event_file.specs.Taken.{AreTaken}
 
 -- what stands behind some rows
-at_seam : (done : List Row) (row : Row) (rest : List Row) → slice_get (done ++ row ∷ rest) (length done) ≡ Some row
+pub at_seam : (done : List Row) (row : Row) (rest : List Row) → slice_get (done ++ row ∷ rest) (length done) ≡ Some row
 at_seam [] row rest = refl
 at_seam (first ∷ done) row rest = at_seam done row rest
 
@@ -32,7 +31,7 @@ next_refusal plan rows n before row rest events taken =
     ∙ ap (λ time. row_refusal plan (n + 1) time row) (sym taken.time)
 
 -- times that don't fall don't fall with one more that is no earlier than any
-in_order_more : (events : List Event) (event : Event) → IsInOrder events → All (λ e. e.at ≤ event.at) events → IsInOrder (events ++ event ∷ [])
+pub in_order_more : (events : List Event) (event : Event) → IsInOrder events → All (λ e. e.at ≤ event.at) events → IsInOrder (events ++ event ∷ [])
 in_order_more events event order last k d within =
     let room : length (events ++ event ∷ []) ≡ length events + 1 = length-append events (event ∷ []) in
     elim (cases_lt (k + 1) (length events)) [
@@ -78,29 +77,32 @@ AreTaken-more plan rows n before row rest events event taken sound is time after
     one_event : (plan : Topology) (row : Row) (event : Event) → event_in plan row ≡ Some event → events_in plan (row ∷ []) ≡ event ∷ []
     one_event plan row event is = rw is refl
 
+-- a refusal that is the answer, unless memory ran out
+pub refused : {A : Type 0} (answer : Result A EventErr) (e : EventErr) → answer ≡ Err e → Refuses e answer
+refused answer Header is = is
+refused answer (Fields k) is = is
+refused answer (Time k) is = is
+refused answer (Order k) is = is
+refused answer (What k) is = is
+refused answer (Target k) is = is
+refused answer (Value k) is = is
+refused answer Limit is = is
+refused answer (Name k) is = is
+refused answer (Apart k) is = is
+refused answer NoMemory is = tt
+
 -- the first row that breaks a rule is the refusal of all
 pub rows_refused : (plan : Topology) (rows : List Row) (n before : ℕ) (row : Row) (rest : List Row) (events : List Event) (error : EventErr)
     → AreTaken plan rows n before (row ∷ rest) events → row_refusal plan (n + 1) before row ≡ Some error
     → Refuses error (events_of_rows plan rows)
 rows_refused plan rows n before row rest events error taken broken =
-    refuses error (ap (λ refusal. unless_refused refusal (events_in plan rows))
+    refused (events_of_rows plan rows) error (ap (λ refusal. unless_refused refusal (events_in plan rows))
     (first_refusal-some (refusal_at plan rows) (length rows) n error within (next_refusal plan rows n before row rest events taken ∙ broken) taken.sound))
   where
     within : n < length rows
     within =
         let size : length (taken.done ++ row ∷ rest) ≡ length taken.done + length (row ∷ rest) = length-append taken.done (row ∷ rest) in
         rw (taken.whole, size, taken.numbered) (omega arith)
-
-    refuses : (e : EventErr) → events_of_rows plan rows ≡ Err e → Refuses e (events_of_rows plan rows)
-    refuses Header is = is
-    refuses (Fields k) is = is
-    refuses (Time k) is = is
-    refuses (Order k) is = is
-    refuses (What k) is = is
-    refuses (Target k) is = is
-    refuses (Value k) is = is
-    refuses Limit is = is
-    refuses NoMemory is = tt
 
 -- where no row is left, none broke a rule, and the events are those of all
 pub rows_given : (plan : Topology) (rows : List Row) (n before : ℕ) (events : List Event) → AreTaken plan rows n before [] events

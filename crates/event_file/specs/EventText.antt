@@ -1,5 +1,5 @@
 -- The events that a text gives, or the first rule that it breaks. This project's own.
-use Rattle.std.specs.Prelude.{ℕ, ◌≤◌, Bool, false, ◌&&◌, List, [], ◌∷◌, length, codes, Option, Some, None, Result, Ok, Err, if◌then◌else◌}
+use Rattle.std.specs.Prelude.{ℕ, Bool, false, ◌&&◌, List, [], ◌∷◌, length, codes, Option, Some, None, Result, Ok, Err, if◌then◌else◌}
 use Rattle.std.specs.List.{filter_map}
 use Rattle.std.specs.Str.{bytes_eq}
 use Rattle.csv_records.specs.Records.{records_of}
@@ -20,10 +20,10 @@ is_header _ = false
 abbrev pub events_in : Topology → List Fields → List Event
 events_in plan rows = filter_map (event_in plan) rows
 
--- the events, where nothing is refused
-abbrev pub unless_refused : Option EventErr → List Event → Result (List Event) EventErr
-unless_refused None events = Ok events
-unless_refused (Some refused) events = Err refused
+-- what is read, where nothing is refused
+abbrev pub unless_refused : {A : Type 0} → Option EventErr → A → Result A EventErr
+unless_refused None read = Ok read
+unless_refused (Some refused) read = Err refused
 
 -- the events of some rows, or the first refusal
 abbrev pub events_of_rows : Topology → List Fields → Result (List Event) EventErr

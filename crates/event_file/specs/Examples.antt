@@ -1,5 +1,5 @@
 -- Rows of event files that are known from outside.
-use Rattle.std.specs.Prelude.{◌≡◌, ◌∷◌, [], codes, Option, Some, None, refl}
+use Rattle.std.specs.Prelude.{◌≡◌, ◌∷◌, [], codes, Some, None, refl}
 use Rattle.sync_topo.specs.declared.event.Part.TheVariants as part
 use Rattle.sync_topo.specs.declared.event.What.TheVariants as what
 use Rattle.sync_text.specs.Number.{number_of}

@@ -2,5 +2,9 @@ pub mod Words
 pub mod Rows
 pub mod EventText
 pub mod Refusal
+pub mod CaseRows
+pub mod CaseText
 pub mod Taken
+pub mod CasesTaken
 pub mod Examples
+pub mod CaseExamples

@@ -1,8 +1,8 @@
--- What a refusal of an event file is printed with, and what a call answers that may refuse.
+-- What a refusal of events or of cases is printed with, and what a call answers that may refuse.
 use Rattle.std.specs.Prelude.{ℕ, Bool, true, false, Option, Some, None, Result}
 use Rattle.sync_text.specs.Gives.{GivesBut, RefusesBut}
 use Rattle.event_file.specs.declared.error.EventErr.{EventErr}
-use Rattle.event_file.specs.declared.error.EventErr.TheVariants.{Header, Fields, Time, Order, What, Target, Value, Limit, NoMemory}
+use Rattle.event_file.specs.declared.error.EventErr.TheVariants.{Header, Fields, Time, Order, What, Target, Value, Limit, Name, Apart, NoMemory}
 
 -- the number by which a refusal is printed; want of memory has none. This project's own
 abbrev pub number_of : EventErr → Option ℕ
@@ -14,6 +14,8 @@ number_of (What n) = Some 30
 number_of (Target n) = Some 31
 number_of (Value n) = Some 32
 number_of Limit = Some 33
+number_of (Name n) = Some 51
+number_of (Apart n) = Some 52
 number_of NoMemory = None
 
 -- memory ran out

@@ -1,6 +1,5 @@
 -- What a row of an event file says. This project's own.
-use Rattle.std.specs.Prelude.{ℕ, ◌+◌, zero, suc, Bool, ◌&&◌, nat_le, nat_lt, List, [], ◌∷◌, codes, is_none, Option, Some, None, option_map, option_and_then, slice_get, unwrap_or, if◌then◌else◌}
-use Rattle.std.specs.Str.{bytes_eq}
+use Rattle.std.specs.Prelude.{ℕ, ◌+◌, zero, suc, nat_le, nat_lt, List, [], ◌∷◌, is_none, Option, Some, None, option_map, option_and_then, slice_get, unwrap_or, if◌then◌else◌}
 use Rattle.csv_records.specs.Fields.{four_of}
 use Rattle.sync_ql.specs.declared.limits.TheConstants.{LAST_MILLISECOND}
 use Rattle.sync_text.specs.Number.{number_of}
@@ -16,6 +15,10 @@ use Rattle.event_file.specs.Words.{word_of, said_of, what_of}
 -- a row's fields
 abbrev pub Fields : Type 0
 Fields = List (List ℕ)
+
+-- a row of the four fields of an event
+abbrev pub event_row : List ℕ → List ℕ → List ℕ → List ℕ → Fields
+event_row at word target value = at ∷ word ∷ target ∷ value ∷ []
 
 -- the last millisecond at which an event may stand, and how many events there may be
 abbrev pub last_time : ℕ

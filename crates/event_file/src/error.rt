@@ -6,42 +6,50 @@ ghost use Rattle.event_file.specs.Refusal.{number_of};
 use sync_text::NoMemory;
 use thiserror::Error;
 
-/// The first rule for event files that a text breaks. Rows count from 1 after the header.
+/// The first rule that a text of events, or of cases, breaks. Rows count from 1 after the header.
 ///
 /// This project's own.
 #[derive(Clone, Copy, Debug, PartialEq, Eq, Error)]
 pub enum EventErr {
-    /// The first record isn't `at,what,target,value`, or there is none.
-    #[error("the first record isn't at,what,target,value")]
+    /// The first record isn't `at,what,target,value`, which begins with `case` for cases; or there is
+    /// none.
+    #[error("the first record isn't the header")]
     Header,
-    /// The row hasn't four fields.
-    #[error("row {0}: not AT,WHAT,TARGET,VALUE")]
+    /// The row hasn't as many fields as the header.
+    #[error("row {0}: not as many fields as the header")]
     Fields(u64),
-    /// The first field is no number, or one above 86,400,000.
+    /// The field for the time is no number, or one above 86,400,000.
     #[error("row {0}: no millisecond up to 86400000")]
     Time(u64),
-    /// The row's time is before that of the row before.
+    /// The row's time is before that of the row before, which for cases is one of the same case.
     #[error("row {0}: before the row before it")]
     Order(u64),
-    /// The second field is no word of the format.
+    /// The field for what happens is no word of the format.
     #[error("row {0}: no word for what happens")]
     What(u64),
-    /// The third field is not the name of something that the word is said of.
+    /// The field for the target is not the name of something that the word is said of.
     #[error("row {0}: not a target of this word")]
     Target(u64),
-    /// The fourth field isn't empty; or, for `level`, it is no level of the plan's option.
+    /// The field for the value isn't empty; or, for `level`, it is no level of the plan's option.
     #[error("row {0}: not a value of this word")]
     Value(u64),
     /// There are more than 100,000 rows.
     #[error("more than 100000 rows")]
     Limit,
+    /// The field for the case is no name; or it is empty, as it is in rows that are common to all
+    /// cases, after a row of a case.
+    #[error("row {0}: no name of a case")]
+    Name(u64),
+    /// The case stood before, and the row before is of another one.
+    #[error("row {0}: apart from the other rows of its case")]
+    Apart(u64),
     /// Memory ran out.
     #[error("out of memory")]
     NoMemory,
 }
 
 impl EventErr {
-    /// The number by which the refusal is printed, from 26 to 33.
+    /// The number by which the refusal is printed, from 26 to 33, and 51 and 52 for cases alone.
     ///
     /// `None` where memory ran out, which refuses no text.
     /// This project's own.
@@ -57,6 +65,8 @@ impl EventErr {
             EventErr::Target(_) => Some(31),
             EventErr::Value(_) => Some(32),
             EventErr::Limit => Some(33),
+            EventErr::Name(_) => Some(51),
+            EventErr::Apart(_) => Some(52),
             EventErr::NoMemory => None,
         }
     }

@@ -5,7 +5,7 @@ ghost use Rattle.std.specs.List.{All};
 ghost use Rattle.sync_topo.specs.Events.{Fits, IsInOrder};
 ghost use Rattle.event_file.specs.EventText.{events_of, events_of_rows, is_header};
 ghost use Rattle.event_file.specs.Refusal.{Gives};
-ghost use Rattle.event_file.specs.Rows.{event_limit, last_time};
+ghost use Rattle.event_file.specs.Rows.{event_limit, event_row, last_time};
 
 use crate::error::EventErr;
 use crate::row::event_of;
@@ -41,14 +41,19 @@ fn is_header(first: &Record) -> bool
     ensures { result ≡ is_header first.now }
 {
     match first.four() {
-        Some((at, what, target, value)) => {
-            at == b"at".as_slice()
-                && what == b"what".as_slice()
-                && target == b"target".as_slice()
-                && value == b"value".as_slice()
-        }
+        Some((at, what, target, value)) => are_headings(at, what, target, value),
         None => false,
     }
+}
+
+/// The fields are those of the header `at,what,target,value`.
+pub(crate) fn are_headings(at: &[u8], what: &[u8], target: &[u8], value: &[u8]) -> bool
+    ensures { result ≡ is_header (event_row at.now what.now target.now value.now) }
+{
+    at == b"at".as_slice()
+        && what == b"what".as_slice()
+        && target == b"target".as_slice()
+        && value == b"value".as_slice()
 }
 
 /// The events of all rows that are left.

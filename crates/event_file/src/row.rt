@@ -3,7 +3,7 @@
 ghost use Rattle.std.specs.Prelude.{◌≡◌, ◌≤◌, IfOk, IfErr, IfSome, Some, None, option_and_then};
 ghost use Rattle.sync_text.specs.Number.{number_of};
 ghost use Rattle.sync_topo.specs.Events.{Fits};
-ghost use Rattle.event_file.specs.Rows.{event_in, time_in, in_time, row_refusal, event_limit, last_time};
+ghost use Rattle.event_file.specs.Rows.{event_row, event_in, time_in, in_time, row_refusal, event_limit, last_time};
 
 use crate::error::EventErr;
 use crate::word::Word;
@@ -35,9 +35,38 @@ pub(crate) fn event_of(
     if number > EVENT_LIMIT {
         return Err(EventErr::Limit);
     }
-    let Some((at, word, target, value)) = row.four() else {
-        return Err(EventErr::Fields(number));
-    };
+    match row.four() {
+        Some((at, word, target, value)) => {
+            event_said(plan, number, before, at, word, target, value)
+        }
+        None => Err(EventErr::Fields(number)),
+    }
+}
+
+/// The event of a row of these fields and of this number, which is in range.
+#[tactic(auto, unfolding(crate::specs::Rows::row_refusal))]
+pub(crate) fn event_said(
+    plan: &Plan,
+    number: u64,
+    before: u64,
+    at: &[u8],
+    word: &[u8],
+    target: &[u8],
+    value: &[u8],
+) -> Result<Event, EventErr>
+    requires { number ≤ event_limit }
+    ensures sound { IfOk result (λ event. row_refusal plan.now number before
+        (event_row at.now word.now target.now value.now) ≡ None) }
+    ensures event { IfOk result (λ event.
+        event_in plan.now (event_row at.now word.now target.now value.now) ≡ Some event) }
+    ensures time { IfOk result (λ event.
+        time_in (event_row at.now word.now target.now value.now) ≡ Some event.at) }
+    ensures after { IfOk result (λ event. before ≤ event.at) }
+    ensures in_time { IfOk result (λ event. event.at ≤ last_time) }
+    ensures fits { IfOk result (Fits plan.now) }
+    ensures refused { IfErr result (λ error. row_refusal plan.now number before
+        (event_row at.now word.now target.now value.now) ≡ Some error) }
+{
     let Some(at) = time_of(at) else {
         return Err(EventErr::Time(number));
     };

@@ -1,3 +1,4 @@
 pub mod EventTimes
 pub mod EventCut
 pub mod Followed
+pub mod Ascending

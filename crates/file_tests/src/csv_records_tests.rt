@@ -1,26 +1,22 @@
 // Texts whose records are known from outside.
 
-use csv_records::{Record, read_records};
-use std::alloc::{AllocError, Global};
+use csv_records::{Record, Records};
+use std::alloc::AllocError;
 use std::process::Abort;
 use std::str;
 use std::test::Fail;
 
-// The records, each in brackets, with bars between its fields.
-fn shown(alloc: Global, records: &[Record]) -> Result<String, AllocError> {
-    let mut text = String::new(alloc);
-    for record in records {
-        text.push('[')?;
-        for place in 0..record.len() {
-            if place > 0 {
-                text.push('|')?;
-            }
-            let field = record.get(place).unwrap_or(b"no field");
-            text.push_str(str::from_utf8(field).unwrap_or("no text"))?;
+// A record in brackets, with bars between its fields.
+fn show(text: &mut String, record: &Record) -> Result<(), AllocError> {
+    text.push('[')?;
+    for place in 0..record.len() {
+        if place > 0 {
+            text.push('|')?;
         }
-        text.push(']')?;
+        let field = record.get(place).unwrap_or(b"no field");
+        text.push_str(str::from_utf8(field).unwrap_or("no text"))?;
     }
-    Ok(text)
+    text.push(']')
 }
 
 fn gives(
@@ -29,8 +25,11 @@ fn gives(
     bytes: &[u8],
     want: &str,
 ) -> Result<(), Fail> {
-    let records = read_records(rt.alloc(), bytes)?;
-    let text = shown(rt.alloc(), records.as_slice())?;
+    let mut records = Records::of(rt.alloc(), bytes);
+    let mut text = String::new(rt.alloc());
+    while records.advance()? {
+        show(&mut text, records.taken())?;
+    }
     assert_eq!(rt; text.as_str(), want, "{name}");
     Ok(())
 }

@@ -9,12 +9,12 @@ fn event_refusals_are_printed(rt: HostRuntime) -> Result<(), Fail> {
         (
             EventErr::Header,
             Some(26),
-            "the first record isn't at,what,target,value",
+            "the first record isn't the header",
         ),
         (
             EventErr::Fields(1),
             Some(27),
-            "row 1: not AT,WHAT,TARGET,VALUE",
+            "row 1: not as many fields as the header",
         ),
         (
             EventErr::Time(2),
@@ -42,6 +42,12 @@ fn event_refusals_are_printed(rt: HostRuntime) -> Result<(), Fail> {
             "row 6: not a value of this word",
         ),
         (EventErr::Limit, Some(33), "more than 100000 rows"),
+        (EventErr::Name(7), Some(51), "row 7: no name of a case"),
+        (
+            EventErr::Apart(8),
+            Some(52),
+            "row 8: apart from the other rows of its case",
+        ),
         (EventErr::NoMemory, None, "out of memory"),
     ] {
         assert_eq!(rt; error.number(), number, "{error}");

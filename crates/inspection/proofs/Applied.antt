@@ -21,7 +21,8 @@ use Rattle.net_rules.proofs.NetLaws.{many-inputs}
 use Rattle.inspection.specs.declared.asked.Asked.{Asked}
 use Rattle.inspection.specs.Commands.{asked_of, command_row, is_taken, row_of, row_at, commands_among, applied_at, commands_part}
 use Rattle.inspection.specs.Tables.{table_after, table_at, commands_told}
-use Rattle.inspection.proofs.Ordered.{Ascend, none-first, before-more, before-before, ascend-before, front-is}
+use Rattle.event_times.proofs.Ascending.{Ascend}
+use Rattle.inspection.proofs.Ordered.{none-first, before-more, before-before, ascend-before, front-is}
 use Rattle.inspection.proofs.Bars.{SameBars, same-commands, same-taken, after-append}
 
 -- the table after more events

@@ -1,32 +1,16 @@
 -- Events in order of time: those before a millisecond, and at one.
-use Rattle.std.proofs.Common.{◌≡◌, ◌≤◌, ◌<◌, ℕ, zero, suc, Bool, true, false, List, [], ◌∷◌, ◌++◌, length, take, Some, slice_get, refl, ap, sym, ◌∙◌, inl, inr, arith}
-use Rattle.std.specs.Prelude.{nat_lt, slice_index_or, if◌then◌else◌}
+use Rattle.std.proofs.Common.{◌≡◌, ◌≤◌, ◌<◌, ℕ, zero, suc, Bool, true, false, List, [], ◌∷◌, ◌++◌, take, Some, slice_get, refl, ap, sym, ◌∙◌, inl, inr, arith}
+use Rattle.std.specs.Prelude.{nat_lt, if◌then◌else◌}
 use Rattle.std.proofs.Math.Decide.{dec_lt}
 use Rattle.std.proofs.lemmas.Bool.{lt-ltb, le-ltb, eq-eqb, ne_eqb}
 use Rattle.std.proofs.lemmas.Bool.Decides.{eqb_tells}
-use Rattle.std.proofs.lemmas.List.Sorted.{IsNonDecreasingBy-from_all_adjacent}
 use Rattle.std.proofs.lemmas.Option.{same_Some, none-some}
 use Rattle.sync_text.specs.Each.{Each}
-use Rattle.sync_text.proofs.Each.{Each-map, Each-filter, each-all, each-at}
+use Rattle.sync_text.proofs.Each.{Each-map, Each-filter, each-at}
 use Rattle.sync_topo.specs.declared.event.Event.{Event}
-use Rattle.sync_topo.specs.Events.{IsInOrder}
 use Rattle.net_rules.specs.Signals.{events_before, events_at}
 use Rattle.net_rules.proofs.EventLaws.{none-before}
-
--- no event is later than one behind it
-abbrev pub Ascend : List Event → Type 0
-Ascend [] = Unit {0}
-Ascend (event ∷ events) = Each (λ later. event.at ≤ later.at) events × Ascend events
-
-ascend-by : (events : List Event) → ((i j : ℕ) (other : Event) → i ≤ j → j < length events → (slice_index_or events i other).at ≤ (slice_index_or events j other).at) → Ascend events
-ascend-by [] order = tt
-ascend-by (event ∷ events) order = (
-  each-all (λ later. event.at ≤ later.at) events (λ k other inside. order 0 (suc k) other (omega arith) (omega (arith, inside))),
-  ascend-by events (λ i j other before inside. order (suc i) (suc j) other (omega (arith, before)) (omega (arith, inside))),
-)
-
-pub ascend : (events : List Event) → IsInOrder events → Ascend events
-ascend events ordered = ascend-by events (λ i j other before inside. IsNonDecreasingBy-from_all_adjacent (λ (event : Event). event.at) events ordered i j other before inside)
+use Rattle.event_times.proofs.Ascending.{Ascend}
 
 -- those before the next millisecond are those before it, and then those at it
 pub before-more : (events : List Event) (t : ℕ) → Ascend events → events_before (suc t) events ≡ events_before t events ++ events_at t events

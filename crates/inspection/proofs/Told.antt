@@ -7,7 +7,8 @@ use Rattle.net_rules.specs.Signals.{events_before}
 use Rattle.event_times.specs.EventTimes.{AreTold, AreWithin}
 use Rattle.inspection.specs.Commands.{commands_part}
 use Rattle.inspection.specs.Tables.{commands_told}
-use Rattle.inspection.proofs.Ordered.{ascend, all-before, before-same}
+use Rattle.event_times.proofs.Ascending.{ascend}
+use Rattle.inspection.proofs.Ordered.{all-before, before-same}
 use Rattle.inspection.proofs.Applied.{commands-same}
 
 told-is : (plan : Topology) (events told : List Event) (until : ℕ) → AreTold plan events 0 until told → AreWithin plan 0 until told → told ≡ events_before (suc until) events

@@ -11,5 +11,6 @@ pub mod PlanFacts
 pub mod OrderLaws
 pub mod NominatedLaws
 pub mod RowLemmas
+pub mod GivenLaws
 pub mod PlaceLemmas
 pub mod CertLaws

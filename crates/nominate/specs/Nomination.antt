@@ -69,9 +69,13 @@ with_priorities priority k [] = []
 with_priorities priority k (link ∷ links) =
     record link { priority_a = priority (2 * k + 1); priority_b = priority (2 * k) } ∷ with_priorities priority (k + 1) links
 
--- the plan with the new priorities: all else is as it was
+-- the plan with these priorities of its lines: all else is as it was
+abbrev pub plan_with : Topology → (ℕ → ℕ) → Topology
+plan_with plan priority = record plan { links = with_priorities priority 0 plan.links }
+
+-- the plan with the new priorities
 abbrev pub nominated_plan : Topology → Counts → Topology
-nominated_plan plan counts = record plan { links = with_priorities (new_priority plan counts) 0 plan.links }
+nominated_plan plan counts = plan_with plan (new_priority plan counts)
 
 -- the plan that is nominated by the hop counts
 pub record IsNominatedPlan (plan nominated : Topology) : Type 0 where

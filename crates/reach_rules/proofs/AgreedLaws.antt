@@ -86,10 +86,10 @@ module _ (plan : Topology) (signals : Signals) (out : Levels) (last bound : ℕ)
   }
 
   -- the millisecond from which every high level is carried always or never, and heard so
-  abbrev start : ℕ
+  abbrev pub start : ℕ
   start = base plan signals out rank last is.wait is.rank is.delay step is.high by well obeys auto + is.delay
 
-  starts-in-time : start ≤ last + bound
+  pub starts-in-time : start ≤ last + bound
   starts-in-time = omega (arith, is.is)
 
   level-high : (element : ℕ) (timed : IsTimed plan signals out last element) → place_of (signals.source_level timed.source last) < is.high
@@ -108,12 +108,12 @@ module _ (plan : Topology) (signals : Signals) (out : Levels) (last bound : ℕ)
       ]
 
   module _ (element : ℕ) (timed : IsTimed plan signals out last element) where
-    no-worse : (t : ℕ) → start ≤ t → IsNoWorse (level_at plan signals out element t) (signals.source_level timed.source last)
+    pub no-worse : (t : ℕ) → start ≤ t → IsNoWorse (level_at plan signals out element t) (signals.source_level timed.source last)
     no-worse t after =
         no-worse-from plan signals out rank last is.wait is.rank is.delay step is.high by well obeys auto timed.source (signals.source_level timed.source last) refl
         (level-high element timed) timed.reaches.above timed.lines element timed.reaches.way t after
 
-    takes-some : (t : ℕ) → start ≤ t → (input : InputId) × (taken_at plan signals out element t ≡ Some input)
+    pub takes-some : (t : ℕ) → start ≤ t → (input : InputId) × (taken_at plan signals out element t ≡ Some input)
     takes-some t after = of (taken_at plan signals out element t) refl
       where
         within : element < length plan.elements
@@ -138,7 +138,7 @@ module _ (plan : Topology) (signals : Signals) (out : Levels) (last bound : ℕ)
         low (inl less) = omega (arith, less, no-worse t after, level-high element timed)
         low (inr same) = omega (arith, same.0, no-worse t after, level-high element timed)
 
-    steady-next : (t : ℕ) → start ≤ t → IsSteadyAt plan signals out t (suc t) element
+    pub steady-next : (t : ℕ) → start ≤ t → IsSteadyAt plan signals out t (suc t) element
     steady-next t after =
         let takes = takes-some t after in
         takes-again plan signals out last is.wait is.delay by.runs_out (IsDelayed-well plan well) obeys element
@@ -152,14 +152,19 @@ module _ (plan : Topology) (signals : Signals) (out : Levels) (last bound : ℕ)
       level = constant-at (level_at plan signals out element) (last + bound) t (λ u since. (steady-next u (omega (arith, since, starts-in-time))).level) after;
     }
 
-  pub settled-from-bound : AreTimed plan signals out last → (t : ℕ) → last + bound ≤ t → IsSettled plan signals out t
-  settled-from-bound timed t after =
+  -- where every element takes the same from one millisecond to the next, the network is settled
+  pub settled-where : ((element : ℕ) → element < length plan.elements → (t : ℕ) → start ≤ t → IsSteadyAt plan signals out t (suc t) element)
+      → (t : ℕ) → last + bound ≤ t → IsSettled plan signals out t
+  settled-where steady t after =
       carried-settles plan signals out last is.wait is.delay by.runs_out (IsDelayed-well plan well) obeys start t
       (λ line nominated u since.
       let within = IsNominated-within plan line nominated in
       sent-steady plan signals out u (suc u) line obeys within
-      (steady-next (sender_of plan line) (timed (sender_of plan line) (sender-within plan well line within)) u since))
+      (steady (sender_of plan line) (sender-within plan well line within) u since))
       (omega arith) (omega (arith, after, is.is)) (omega (arith, after, is.is))
+
+  pub settled-from-bound : AreTimed plan signals out last → (t : ℕ) → last + bound ≤ t → IsSettled plan signals out t
+  settled-from-bound timed = settled-where (λ element within. steady-next element (timed element within))
 
   -- a way that leads somewhere after the last event leads there later
   reaches-later : (source t : ℕ) (lines : List ℕ) (element : ℕ) → last ≤ t → Reaches plan signals out last source lines element → Reaches plan signals out t source lines element
@@ -179,17 +184,20 @@ module _ (plan : Topology) (signals : Signals) (out : Levels) (last bound : ℕ)
           (λ e input may. stays-in plan signals out rank last is.wait is.rank is.delay step is.high by well obeys auto (signals.source_level source last) t e input after
           (input-within plan e input well may.of) may) source lines element way
 
-  pub best-from-bound : AreTimed plan signals out last → (t element : ℕ) → last + bound ≤ t → element < length plan.elements
+  pub best-where : (t element : ℕ) → last + bound ≤ t → IsSettled plan signals out t → IsTimed plan signals out last element
       → IsBestReaching plan signals out t element (level_at plan signals out element t)
-  best-from-bound timed t element after within =
-      let here = timed element within in
+  best-where t element after settled here =
       let late : last ≤ t = omega (arith, after, is.is) in
       let same : signals.source_level here.source last ≡ signals.source_level here.source t =
       sym (level-from plan signals out rank last is.wait is.rank is.delay step is.high by well obeys auto here.source t late) in
-      reach-best plan signals out rank t here.source here.lines element well obeys (agreeing-rises plan rank by.agreeing) (settled-from-bound timed t after)
+      reach-best plan signals out rank t here.source here.lines element well obeys (agreeing-rises plan rank by.agreeing) settled
       (λ e inside. (auto-at plan signals out e last t quiet (auto e inside) late).0.unforced)
       (λ e inside. subst (λ l. IsBetter l (own_level plan e)) same (here.worse e inside))
       (reaches-later here.source t here.lines element late here.reaches)
+
+  pub best-from-bound : AreTimed plan signals out last → (t element : ℕ) → last + bound ≤ t → element < length plan.elements
+      → IsBestReaching plan signals out t element (level_at plan signals out element t)
+  best-from-bound timed t element after within = best-where t element after (settled-from-bound timed t after) (timed element within)
 
 -- by any list of events
 pub comes-to-rest : (plan : Topology) (bound : ℕ) → IsWellFormed plan → IsAgreedBound plan bound → ComesToRest plan bound

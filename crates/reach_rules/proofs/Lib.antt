@@ -8,3 +8,5 @@ pub mod KeptInputs
 pub mod KeptLines
 pub mod AgreeLaws
 pub mod AgreedLaws
+pub mod FailureLaws
+pub mod SurvivalLaws

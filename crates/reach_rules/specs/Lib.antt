@@ -5,3 +5,5 @@ pub mod Protection
 pub mod Examples
 pub mod ProtectionExamples
 pub mod Agreement
+pub mod Survival
+pub mod SurvivalExamples

@@ -20,7 +20,7 @@ link name a b priority_a priority_b bundle =
     record { name = name; a = a; b = b; priority_a = priority_a; priority_b = priority_b; delay_a = 1; delay_b = 1; bundle = bundle }
 
 -- A, B and C in a ring, where B may take its timing over L1, C over L3 and L2, and B over L2 with this priority; a source at A
-abbrev ring : ℕ → Topology
+abbrev pub ring : ℕ → Topology
 ring at_b = record {
   option = I;
   elements = element (codes "A") ∷ element (codes "B") ∷ element (codes "C") ∷ [];
@@ -59,7 +59,7 @@ unfolding dec_lt
 sources_go_with_an_element = refl
 
 -- two links between A and B in one bundle, and one of its own
-abbrev bundled : Topology
+abbrev pub bundled : Topology
 bundled = record {
   option = I;
   elements = element (codes "A") ∷ element (codes "B") ∷ [];

@@ -1,5 +1,5 @@
 //! How far timing goes in a network: how long chains of timing become, how far levels reach, whom
-//! a failure cuts off, and when it comes to rest.
+//! a failure cuts off, when it comes to rest, and what a failure leaves.
 //!
 //! A chain is a list of nominated lines, each of which hops to the next: `Chains` says which
 //! chains lead into an element, which elements are filters, and what is counted of a chain. The
@@ -18,7 +18,8 @@
 //!
 //! Where links are nominated at both ends a network may swing for ever. `Agreement` says when
 //! priorities agree with the ways of timing, so that it can't, and [`agree_law`] from when on it is
-//! at rest.
+//! at rest. A plan that is protected and agrees survives each single failure (`Survival`):
+//! [`survival_law`] puts the two together, so that who is in reach has come to rest on a clock.
 //!
 //! The laws are the contracts of functions that do nothing. They hold no simulator and no planner:
 //! the crates that make rows, and the program that prints them, cite them.
@@ -34,6 +35,7 @@ mod chains;
 mod failure;
 mod protecting;
 mod reaching;
+mod surviving;
 
 pub use agreeing::agree_law;
 pub use chain::Chain;
@@ -41,3 +43,4 @@ pub use chains::chain_law;
 pub use failure::Failure;
 pub use protecting::protection_law;
 pub use reaching::reach_law;
+pub use surviving::survival_law;

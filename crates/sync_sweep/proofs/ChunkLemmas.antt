@@ -18,6 +18,13 @@ AllZip-append R [] more (y ∷ ys) rest zip other = absurd zip
 AllZip-append R (x ∷ xs) more [] rest zip other = absurd zip
 AllZip-append R (x ∷ xs) more (y ∷ ys) rest zip other = (zip.0, AllZip-append R xs more ys rest zip.1 other)
 
+-- they are of one length
+pub zip-length : {A B : Type 0} (R : A → B → Type 0) (xs : List A) (ys : List B) → AllZip R xs ys → length xs ≡ length ys
+zip-length R [] [] zip = refl
+zip-length R [] (y ∷ ys) zip = absurd zip
+zip-length R (x ∷ xs) [] zip = absurd zip
+zip-length R (x ∷ xs) (y ∷ ys) zip = ap suc (zip-length R xs ys zip.1)
+
 -- one place more
 pub AllZip-next : {A B : Type 0} (R : A → B → Type 0) (xs : List A) (i : ℕ) (x : A) (ys : List B) (y : B) (more : List B) → i < length xs
     → AllZip R (take i xs) ys → R x y → take (i + 1) xs ≡ take i xs ++ x ∷ [] → more ≡ ys ++ y ∷ [] → AllZip R (take (i + 1) xs) more

@@ -6,3 +6,9 @@ pub mod LoopLemmas
 pub mod RisingLemmas
 pub mod BoundLemmas
 pub mod OneSweep
+pub mod Told
+pub mod Merging
+pub mod CaseLemmas
+pub mod ShiftLemmas
+pub mod WorkLemmas
+pub mod RowLemmas

@@ -6,3 +6,6 @@ pub mod Base
 pub mod SweepText
 pub mod Branching
 pub mod ShownNow
+pub mod Cases
+pub mod Outcomes
+pub mod Rows

@@ -4,24 +4,25 @@ ghost use Rattle.std.specs.Prelude.{◌≡◌, ◌≤◌, ◌<◌, ◌+◌, ◌-
 ghost use Rattle.std.specs.List.{list_any};
 ghost use Rattle.agenda.specs.Marked.{none_marked};
 ghost use Rattle.sync_topo.specs.declared.event.Event.{Event};
-ghost use Rattle.sync_topo.specs.Events.{Fits, IsEventList};
+ghost use Rattle.sync_topo.specs.Events.{Fits};
 ghost use Rattle.sync_topo.specs.Lines.{line_count};
 ghost use Rattle.sync_topo.specs.WellFormed.{IsWellFormed};
 ghost use Rattle.sync_net.specs.NetState.{NetState, IsInTime};
-ghost use Rattle.sync_net.specs.Standing.{StandsFor, NoneFrom};
+ghost use Rattle.event_times.specs.EventTimes.{AreTold, AreWithin};
+ghost use Rattle.sync_net.specs.Standing.{StandsFor};
 ghost use Rattle.sync_net.specs.Evaluated.{IsContinued};
-ghost use Rattle.sync_sweep.specs.Sweep.{failure};
 ghost use Rattle.sync_sweep.specs.Branching.{IsBranch};
 ghost use Rattle.sync_sweep.specs.ShownNow.{AreShown};
 
 use crate::shown::{Shown, all_shown, note_shown};
 use agenda::Marks;
+use event_times::{next_time, split_at_time};
 use std::alloc::Global;
 use std::sync::ledger::Ledger;
 use sync_net::Net;
 use sync_ql::limits::LAST_MILLISECOND;
 use sync_text::{NoMemory, Steps};
-use sync_topo::{Event, Part, What};
+use sync_topo::Event;
 
 /// A network that runs on from another, which of its elements and lines a step since then touched, and
 /// what each element shows.
@@ -97,117 +98,40 @@ fn step<L: Ledger>(
     Ok(())
 }
 
-// The next millisecond in which a step has to be made, or the end.
-fn next_turn(net: &Net<'_>, until: u64) -> u64
-    requires live { net.now.spent ≡ false }
-    requires begun { 0 < net.now.next }
-    requires before { net.now.next ≤ until }
-    ensures until { result ≤ until }
-    ensures later { net.now.next ≤ result }
-    ensures in_time { IsInTime net.now result }
-{
-    match net.due() {
-        Some(due) if due < until => due,
-        _ => until,
-    }
-}
-
-// The next step, in which no event is told.
-fn step_quietly<L: Ledger>(
-    branch: &mut Branch<'_>,
-    until: u64,
-    steps: &mut Steps<L>,
-) -> Result<u64, NoMemory>
-    requires live { branch.old.net.spent ≡ false }
-    requires begun { 0 < branch.old.net.next }
-    requires before { branch.old.net.next ≤ until }
-    requires in_range { until ≤ LAST_MILLISECOND }
-    requires elements { length branch.old.elements.flags ≡ length branch.old.net.plan.elements }
-    requires lines { length branch.old.lines.flags ≡ line_count branch.old.net.plan }
-    ensures plan { branch.new.net.plan ≡ branch.old.net.plan }
-    ensures shown { branch.new.shown ≡ branch.old.shown }
-    ensures elements { length branch.new.elements.flags ≡ length branch.old.elements.flags }
-    ensures lines { length branch.new.lines.flags ≡ length branch.old.lines.flags }
-    ensures live { OnOk result (branch.new.net.spent ≡ false) }
-    ensures next { IfOk result (λ next. branch.new.net.next ≡ next) }
-    ensures later { IfOk result (λ next. branch.old.net.next < next) }
-    ensures up_to { IfOk result (λ next. next ≤ until + 1) }
-    ensures stands { OnOk result ((all : List Event) → IsEventList branch.old.net.plan all →
-        NoneFrom branch.old.net.next (until + 1) all → StandsFor branch.old.net all branch.old.net.next →
-        StandsFor branch.new.net all branch.new.net.next) }
-    ensures branch { OnOk result ((base : NetState) →
-        IsBranch base branch.old.net branch.old.elements branch.old.lines →
-        IsBranch base branch.new.net branch.new.elements branch.new.lines) }
-{
-    let now = next_turn(&branch.net, until);
-    step(branch, now, &[], steps)?;
-    Ok(now + 1)
-}
-
-// A link fails in the millisecond that comes.
-pub fn fail_link<L: Ledger>(
-    branch: &mut Branch<'_>,
-    at: u64,
-    link: u32,
-    steps: &mut Steps<L>,
-) -> Result<(), NoMemory>
-    requires live { branch.old.net.spent ≡ false }
-    requires begun { branch.old.net.next ≡ at }
-    requires in_range { at ≤ LAST_MILLISECOND }
-    requires link { link < length branch.old.net.plan.links }
-    requires elements { length branch.old.elements.flags ≡ length branch.old.net.plan.elements }
-    requires lines { length branch.old.lines.flags ≡ line_count branch.old.net.plan }
-    ensures plan { branch.new.net.plan ≡ branch.old.net.plan }
-    ensures shown { branch.new.shown ≡ branch.old.shown }
-    ensures elements { length branch.new.elements.flags ≡ length branch.old.elements.flags }
-    ensures lines { length branch.new.lines.flags ≡ length branch.old.lines.flags }
-    ensures live { OnOk result (branch.new.net.spent ≡ false) }
-    ensures next { OnOk result (branch.new.net.next ≡ at + 1) }
-    ensures listed { IsEventList branch.new.net.plan (failure at link) }
-    ensures none { (later : ℕ) → NoneFrom (at + 1) later (failure at link) }
-    ensures stands { OnOk result (StandsFor branch.old.net (failure at link) at →
-        StandsFor branch.new.net (failure at link) (at + 1)) }
-    ensures branch { OnOk result ((base : NetState) →
-        IsBranch base branch.old.net branch.old.elements branch.old.lines →
-        IsBranch base branch.new.net branch.new.elements branch.new.lines) }
-{
-    let fails = [Event {
-        at,
-        what: What::Down(Part::Link(link)),
-    }];
-    let _due = branch.net.due();
-    step(branch, at, &fails, steps)?;
-    Ok(())
-}
-
-// All steps up to and with a millisecond, in which no event is told.
-pub fn run_out<L: Ledger>(
+// All steps from a millisecond up to and with another, which are told the events that stand there.
+pub fn run_events<L: Ledger>(
     branch: &mut Branch<'_>,
     from: u64,
+    events: &[Event],
     until: u64,
     steps: &mut Steps<L>,
 ) -> Result<(), NoMemory>
     requires live { branch.old.net.spent ≡ false }
-    requires begun { 0 < from }
     requires from { branch.old.net.next ≡ from }
-    requires before { from ≤ until + 1 }
+    requires before { from ≤ until }
     requires in_range { until ≤ LAST_MILLISECOND }
+    requires events { AreWithin branch.old.net.plan from until events.now }
     requires elements { length branch.old.elements.flags ≡ length branch.old.net.plan.elements }
     requires lines { length branch.old.lines.flags ≡ line_count branch.old.net.plan }
     ensures plan { branch.new.net.plan ≡ branch.old.net.plan }
     ensures shown { branch.new.shown ≡ branch.old.shown }
     ensures live { OnOk result (branch.new.net.spent ≡ false) }
     ensures next { OnOk result (branch.new.net.next ≡ until + 1) }
-    ensures stands { OnOk result ((all : List Event) → IsEventList branch.old.net.plan all →
-        NoneFrom from (until + 1) all → StandsFor branch.old.net all from →
-        StandsFor branch.new.net all (until + 1)) }
+    ensures stands { OnOk result ((all : List Event) →
+        AreTold branch.old.net.plan all from until events.now →
+        StandsFor branch.old.net all from → StandsFor branch.new.net all (until + 1)) }
     ensures branch { OnOk result ((base : NetState) →
         IsBranch base branch.old.net branch.old.elements branch.old.lines →
         IsBranch base branch.new.net branch.new.elements branch.new.lines) }
 {
     let mut next = from;
+    let mut rest = events;
     while next <= until {
-        next = step_quietly(branch, until, steps)?;
+        let now = next_time(next, rest, branch.net.due(), until);
+        let (here, later) = split_at_time(rest, now);
+        step(branch, now, here, steps)?;
+        rest = later;
+        next = now + 1;
     }
     Ok(())
 }

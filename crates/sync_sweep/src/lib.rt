@@ -11,6 +11,7 @@
 #![tactic(auto)]
 
 mod branch;
+mod cases;
 mod chunks;
 mod counted_levels;
 mod counted_states;
@@ -18,11 +19,12 @@ mod counting;
 mod crossing;
 mod gate;
 mod laws;
-mod links;
+mod outcomes;
 mod row;
 mod shown;
 mod sweeping;
 mod table;
+mod working;
 
 pub use gate::{FreeGate, Gate};
 pub use laws::one_sweep_law;

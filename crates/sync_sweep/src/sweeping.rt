@@ -1,17 +1,21 @@
 //! All links of a plan, in chunks that run at once.
 
-ghost use Rattle.std.specs.Prelude.{◌≡◌, ◌≤◌, ◌<◌, ◌*◌, ◌^◌, ℕ, true, length, IfOk, IfSome, MatchOption};
+ghost use Rattle.std.specs.Prelude.{◌≡◌, ◌≤◌, ◌<◌, ◌*◌, ◌^◌, ℕ, true, List, length, IfOk, IfSome};
 ghost use Rattle.std.specs.List.{All};
-ghost use Rattle.net_rules.specs.Settling.{IsSettlingBound};
-ghost use Rattle.sync_sweep.specs.Sweep.{AreRows, AreSweepRows};
+ghost use Rattle.sync_topo.specs.Events.{IsCase, IsEventList};
 ghost use Rattle.sync_sweep.specs.Base.{IsBase};
+ghost use Rattle.sync_sweep.specs.Cases.{NoneBefore};
+ghost use Rattle.sync_sweep.specs.Outcomes.{AreOutcomes, IsBoundAfter};
+ghost use Rattle.sync_sweep.specs.Sweep.{AreSweepRows};
 
-use crate::chunks::{join_rows, rows_of};
+use crate::cases::{begin_of, failures};
+use crate::chunks::{join_outcomes, outcomes_of};
 use crate::gate::Gate;
-use crate::links::link_numbers;
-use crate::row::SweepRow;
+use crate::outcomes::Outcome;
+use crate::row::{SweepRow, rows_of};
 use cycle_plan::settling_bound;
 use event_sim::{Reach, Sim, Watch};
+use event_times::events_until;
 use std::alloc::Global;
 use std::marker::Brand;
 use std::sync::ledger::{Blank, Ledger};
@@ -19,9 +23,9 @@ use std::thread;
 use std::thread::Threads;
 use sync_ql::limits::LAST_MILLISECOND;
 use sync_text::{NoMemory, Rows, Steps};
-use sync_topo::Plan;
+use sync_topo::{Case, Event, Plan};
 
-/// Into so many chunks the links are cut at most.
+/// Into so many chunks the cases are cut at most.
 const CHUNKS: usize = 8;
 
 /// What becomes of the plan's network at `until` where one link alone goes down at `at`, for each
@@ -48,113 +52,147 @@ pub fn sweep<R: Threads + Sync, G: Gate + Sync>(
         row.settled ≡ true))) }
 {
     net_rules::event_law();
-    let links = link_numbers(alloc, plan.links())?;
-    if links.is_empty() {
+    let cases = failures(alloc, plan.links(), at)?;
+    let outcomes = all_outcomes(rt, alloc, plan, &[], cases.as_slice(), until, gate)?;
+    rows_of(alloc, outcomes.as_slice())
+}
+
+// What becomes of the plan's network at the end of a millisecond in each case, where the common
+// events happen in all of them.
+pub fn all_outcomes<R: Threads + Sync, G: Gate + Sync>(
+    rt: &R,
+    alloc: Global,
+    plan: &Plan,
+    common: &[Event],
+    cases: &[Case],
+    until: u64,
+    gate: &G,
+) -> Result<Rows<Outcome>, NoMemory>
+    requires common { IsEventList plan.now common.now }
+    requires cases { All (IsCase plan.now) cases.now }
+    requires few { length cases.now < 2 ^ 32 }
+    requires in_range { until ≤ LAST_MILLISECOND }
+    ensures outcomes { IfOk result (AreOutcomes plan.now common.now until cases.now) }
+{
+    if cases.is_empty() {
         return Ok(Rows::new(alloc));
     }
-    let bound = settling_bound(alloc, plan, at)?;
-    let base = base_run::<Brand>(alloc, plan, at, Blank::new(1))?;
-    in_chunks(rt, alloc, &base, at, until, bound, links.as_slice(), gate)
+    let bound = settling_bound(alloc, plan, until)?;
+    let from = begin_of(cases, until);
+    let base = base_run::<Brand>(alloc, plan, common, from, Blank::new(1))?;
+    in_chunks(rt, alloc, &base, common, from, until, bound, cases, gate)
 }
 
-// How many links each chunk has: enough that there are at most eight chunks.
-fn chunk_size(links: usize) -> usize
-    requires { 0 < links }
+// How many cases each chunk has: enough that there are at most eight chunks.
+fn chunk_size(cases: usize) -> usize
+    requires { 0 < cases }
     ensures some { 0 < result }
-    ensures few_chunks { links ≤ CHUNKS * result }
+    ensures few_chunks { cases ≤ CHUNKS * result }
 {
-    links.div_ceil(CHUNKS)
+    cases.div_ceil(CHUNKS)
 }
 
-// The rows of links, worked in chunks.
+// What becomes of the network in each case, worked in chunks.
 fn in_chunks<R: Threads + Sync, G: Gate + Sync>(
     rt: &R,
     alloc: Global,
     base: &Sim<'_>,
-    at: u64,
+    common: &[Event],
+    from: u64,
     until: u64,
     bound: Option<u64>,
-    links: &[u32],
+    cases: &[Case],
     gate: &G,
-) -> Result<Rows<SweepRow>, NoMemory>
-    requires some { 0 < length links.now }
-    requires few { length links.now < 2 ^ 32 }
-    requires base { IsBase at base.now }
-    requires links { All (λ link. link < length base.now.net.plan.links) links.now }
-    requires in_order { at ≤ until }
+) -> Result<Rows<Outcome>, NoMemory>
+    requires some { 0 < length cases.now }
+    requires few { length cases.now < 2 ^ 32 }
+    requires base { IsBase common.now from base.now }
+    requires common { IsEventList base.now.net.plan common.now }
+    requires cases { All (IsCase base.now.net.plan) cases.now }
+    requires later { NoneBefore from cases.now }
+    requires in_order { from ≤ until }
     requires in_range { until ≤ LAST_MILLISECOND }
-    requires bound { MatchOption bound ((other : ℕ) → ¬ IsSettlingBound base.now.net.plan at other)
-        (IsSettlingBound base.now.net.plan at) }
-    ensures rows { IfOk result (AreRows base.now.net.plan at until links.now) }
+    requires bound { IsBoundAfter base.now.net.plan until bound }
+    ensures outcomes { IfOk result (AreOutcomes base.now.net.plan common.now until cases.now) }
 {
-    let size = chunk_size(links.len());
+    let size = chunk_size(cases.len());
     let parts = thread::map_chunks(
         rt,
         alloc,
-        links,
+        cases,
         size,
-        &|start: usize, chunk: &[u32]| -> Result<Rows<SweepRow>, NoMemory>
-            requires { (0 < size) × (start < 2 ^ 32) × IsBase at base.now
-                × All (λ link. link < length base.now.net.plan.links) chunk.now
-                × (at ≤ until) × (until ≤ LAST_MILLISECOND)
-                × MatchOption bound ((other : ℕ) → ¬ IsSettlingBound base.now.net.plan at other)
-                (IsSettlingBound base.now.net.plan at) }
-            ensures { IfOk result (AreRows base.entry.now.net.plan at until chunk.entry.now) }
-        { work(gate, alloc, base, at, until, bound, size, start, chunk) },
+        &|start: usize, chunk: &[Case]| -> Result<Rows<Outcome>, NoMemory>
+            requires { (0 < size) × (start < 2 ^ 32) × IsBase common.now from base.now
+                × IsEventList base.now.net.plan common.now
+                × All (IsCase base.now.net.plan) chunk.now × NoneBefore from chunk.now
+                × (from ≤ until) × (until ≤ LAST_MILLISECOND)
+                × IsBoundAfter base.now.net.plan until bound }
+            ensures { IfOk result (AreOutcomes base.entry.now.net.plan common.entry.now until
+                chunk.entry.now) }
+        {
+            work(
+                gate, alloc, base, common, from, until, bound, size, start, chunk,
+            )
+        },
     );
     match parts {
-        Ok(parts) => join_rows(alloc, parts.as_slice()),
+        Ok(parts) => join_outcomes(alloc, parts.as_slice()),
         Err(_) => Err(NoMemory),
     }
 }
 
-// The rows of a chunk of links, from the place of its first.
+// What becomes of the network in the cases of a chunk, from the place of its first.
 fn work<G: Gate>(
     gate: &G,
     alloc: Global,
     base: &Sim<'_>,
-    at: u64,
+    common: &[Event],
+    from: u64,
     until: u64,
     bound: Option<u64>,
     size: usize,
     start: usize,
-    chunk: &[u32],
-) -> Result<Rows<SweepRow>, NoMemory>
+    chunk: &[Case],
+) -> Result<Rows<Outcome>, NoMemory>
     requires size { 0 < size }
     requires start { start < 2 ^ 32 }
-    requires base { IsBase at base.now }
-    requires links { All (λ link. link < length base.now.net.plan.links) chunk.now }
-    requires in_order { at ≤ until }
+    requires base { IsBase common.now from base.now }
+    requires common { IsEventList base.now.net.plan common.now }
+    requires cases { All (IsCase base.now.net.plan) chunk.now }
+    requires later { NoneBefore from chunk.now }
+    requires in_order { from ≤ until }
     requires in_range { until ≤ LAST_MILLISECOND }
-    requires bound { MatchOption bound ((other : ℕ) → ¬ IsSettlingBound base.now.net.plan at other)
-        (IsSettlingBound base.now.net.plan at) }
-    ensures rows { IfOk result (AreRows base.now.net.plan at until chunk.now) }
+    requires bound { IsBoundAfter base.now.net.plan until bound }
+    ensures outcomes { IfOk result (AreOutcomes base.now.net.plan common.now until chunk.now) }
 {
     gate.enter((start / size) as u32);
-    rows_of(alloc, base, at, until, bound, chunk)
+    outcomes_of(alloc, base, common, from, until, bound, chunk)
 }
 
-// A simulator of the plan that watches nothing and has come as far as up to a millisecond, in which
-// nothing has happened.
+// A simulator of the plan that watches nothing and has come as far as up to a millisecond, with
+// the common events before it.
 fn base_run<'a, L: Ledger>(
     alloc: Global,
     plan: &'a Plan,
-    at: u64,
+    common: &[Event],
+    from: u64,
     blank: Blank,
 ) -> Result<Sim<'a>, NoMemory>
     requires name { blank.name ≡ L.name }
     requires parts { blank.parts ≡ L.parts }
     requires some { 0 < blank.parts }
-    requires in_range { at ≤ LAST_MILLISECOND }
+    requires common { IsEventList plan.now common.now }
+    requires in_range { from ≤ LAST_MILLISECOND }
     ensures plan { IfOk result (λ sim. sim.net.plan ≡ plan.now) }
-    ensures base { IfOk result (IsBase at) }
+    ensures base { IfOk result (IsBase common.now from) }
 {
     let mut steps = Steps::<L>::new(blank);
     let mut sim = Sim::new(alloc, plan, Watch::Nothing)?;
-    if at == 0 {
+    if from == 0 {
         return Ok(sim);
     }
-    match sim.advance(&[], at - 1, &mut steps)? {
+    let told = events_until(common, from - 1);
+    match sim.advance(told, from - 1, &mut steps)? {
         Reach::Until => Ok(sim),
         Reach::Stopped(_) => unreachable!(),
     }

@@ -8,6 +8,7 @@ pub mod AgreeAnswers
 pub mod OneAnswer
 pub mod Accepted
 pub mod LoopFree
+pub mod Surviving
 pub mod Reports
 pub mod RowsOfHops
 pub mod LadderRises

@@ -19,7 +19,7 @@ use Rattle.rank_cert.specs.Ranks.{Ranks, rank_of}
 use Rattle.rank_cert.specs.CertificateText.{certificate_of}
 use Rattle.sync_top.specs.declared.status.Status.{Status}
 use Rattle.sync_top.specs.declared.status.Status.TheVariants.{Done}
-use Rattle.sync_top.specs.declared.form.PlanForm.TheVariants.{Rank, Chains, Protected, Agree, Hops, Nominate, PrioRank, Sweep}
+use Rattle.sync_top.specs.declared.form.PlanForm.TheVariants.{Rank, Chains, Protected, Protect, Agree, Hops, Nominate, PrioRank, Sweep}
 use Rattle.sync_top.specs.declared.form.RanksForm.TheVariants.{Check, PrioCheck}
 use Rattle.sync_top.specs.declared.form.LadderForm.TheVariants.{Gen, Trial}
 use Rattle.sync_top.specs.Form.{Form, form_of, on_plan, on_ranks, on_events, on_frames, on_ladder, node}
@@ -59,7 +59,7 @@ plan-well bytes plan is = by (rows_in_file bytes) is
     by (Err error) given = cc
 
 -- so is the plan of a file
-file-well : (name : List ℕ) (files : Contents) (plan : Topology) → plan_in name files ≡ Ok plan → IsWellFormed plan
+pub file-well : (name : List ℕ) (files : Contents) (plan : Topology) → plan_in name files ≡ Ok plan → IsWellFormed plan
 file-well name files plan is = there (get files name) refl
   where
     read : (bytes : List ℕ) (o : Result Topology PlanFileErr) → plan_of bytes ≡ o → get files name ≡ Some bytes → nat_lt file_limit (length bytes) ≡ false → IsWellFormed plan
@@ -91,7 +91,7 @@ ranks_never_done plan name files known said is done = there (get files name) ref
     there (Some bytes) found = long bytes (nat_lt file_limit (length bytes)) refl found
 
 -- what was read where the answer is done, and the answer to it
-done-read : {A : Type 0} (Answers : A → Status → List ℕ → Type 0) (read : Result A End) (text : List ℕ)
+pub done-read : {A : Type 0} (Answers : A → Status → List ℕ → Type 0) (read : Result A End) (text : List ℕ)
     → ((known : Status) (said : List ℕ) → read ≡ Err (answered known said) → known ≡ Done → ⊥)
     → Answered Answers read Done text → (value : A) × (read ≡ Ok value) × Answers value Done text
 done-read Answers (Ok value) text never answer = (value, refl, answer)
@@ -154,6 +154,7 @@ form-bounds (Some (on_plan Chains plan)) files text answer = chains-bound plan t
 form-bounds (Some (on_plan Rank plan)) files text answer = tt
 form-bounds (Some (on_plan Protected plan)) files text answer = tt
 form-bounds (Some (on_plan Agree plan)) files text answer = tt
+form-bounds (Some (on_plan Protect plan)) files text answer = tt
 form-bounds (Some (on_plan Hops plan)) files text answer = tt
 form-bounds (Some (on_plan Nominate plan)) files text answer = tt
 form-bounds (Some (on_plan PrioRank plan)) files text answer = tt
@@ -177,6 +178,7 @@ form-holds_out (Some (on_plan Protected plan)) files text answer = protected-hol
 form-holds_out (Some (on_plan Rank plan)) files text answer = tt
 form-holds_out (Some (on_plan Chains plan)) files text answer = tt
 form-holds_out (Some (on_plan Agree plan)) files text answer = tt
+form-holds_out (Some (on_plan Protect plan)) files text answer = tt
 form-holds_out (Some (on_plan Hops plan)) files text answer = tt
 form-holds_out (Some (on_plan Nominate plan)) files text answer = tt
 form-holds_out (Some (on_plan PrioRank plan)) files text answer = tt
@@ -201,6 +203,7 @@ form-rests (Some (on_plan Agree plan)) files text answer = agreed-rests plan tex
 form-rests (Some (on_plan Rank plan)) files text answer = tt
 form-rests (Some (on_plan Chains plan)) files text answer = tt
 form-rests (Some (on_plan Protected plan)) files text answer = tt
+form-rests (Some (on_plan Protect plan)) files text answer = tt
 form-rests (Some (on_plan Hops plan)) files text answer = tt
 form-rests (Some (on_plan Nominate plan)) files text answer = tt
 form-rests (Some (on_plan PrioRank plan)) files text answer = tt

@@ -23,7 +23,7 @@ use Rattle.sync_ql.specs.declared.levels.NetOption.{NetOption}
 use Rattle.sync_top.specs.declared.status.Status.{Status}
 use Rattle.sync_top.specs.declared.status.Status.TheVariants.{Done, Refuted, Usage, BadPlan, BadCert, BadEvents, BadFrames, ReadFault, WriteFault, TooLong, NoMemory, Stopped}
 use Rattle.sync_top.specs.declared.form.PlanForm.{PlanForm}
-use Rattle.sync_top.specs.declared.form.PlanForm.TheVariants.{Rank, Chains, Protected, Agree, Hops, Nominate, PrioRank, Sweep}
+use Rattle.sync_top.specs.declared.form.PlanForm.TheVariants.{Rank, Chains, Protected, Protect, Agree, Hops, Nominate, PrioRank, Sweep}
 use Rattle.sync_top.specs.declared.form.RanksForm.{RanksForm}
 use Rattle.sync_top.specs.declared.form.RanksForm.TheVariants.{Check, PrioCheck}
 use Rattle.sync_top.specs.declared.form.EventsForm.{EventsForm}
@@ -45,7 +45,7 @@ use Rattle.sync_top.specs.Forms.Sim.{IsReport}
 use Rattle.sync_top.specs.Forms.Sweep.{IsSweepTable}
 use Rattle.sync_sweep.specs.SweepText.{table_text}
 use Rattle.sync_sweep.proofs.OneSweep.{one-sweep}
-use Rattle.sync_top.specs.Answer.{PlanAnswer, RanksAnswer, EventsAnswer, FramesAnswer, LadderAnswer, meaning, FormAnswer, IsAnswer}
+use Rattle.sync_top.specs.Answer.{PlanAnswer, RanksAnswer, EventsAnswer, FramesAnswer, LadderAnswer, meaning, HasOneAnswer, FormAnswer, IsAnswer}
 use Rattle.inspection.specs.Inspection.{inspection}
 use Rattle.sync_top.proofs.OneText.{same_text}
 use Rattle.sync_top.proofs.ChainAnswers.{one_chained}
@@ -176,15 +176,16 @@ module _ (one_whole : (plan : Topology) (events : List Event) (until : ℕ) (tex
       (first.0 ∙ sym second.0, first.1.2 ∙ ap plan_text (mine.is ∙ ap (nominated_plan plan) counts ∙ sym theirs.is) ∙ sym second.1.2)
 
   -- what answers a plan is one
-  one_plan : (what : PlanForm) (plan : Topology) → IsOne (PlanAnswer what plan)
-  one_plan Rank plan = one_planned plan
-  one_plan Chains plan = one_chained plan
-  one_plan Protected plan = one_protected plan
-  one_plan Agree plan = one_agreed plan
-  one_plan Hops plan = one_hop_rows plan
-  one_plan Nominate plan = one_nominated plan
-  one_plan PrioRank plan = one_priority_planned plan
-  one_plan (Sweep at until) plan = one_sweep_table plan at until
+  one_plan : (what : PlanForm) (name : List ℕ) → HasOneAnswer (Some (on_plan what name)) → (plan : Topology) → IsOne (PlanAnswer what plan)
+  one_plan Rank name has plan = one_planned plan
+  one_plan Chains name has plan = one_chained plan
+  one_plan Protected name has plan = one_protected plan
+  one_plan Protect name has plan = absurd has
+  one_plan Agree name has plan = one_agreed plan
+  one_plan Hops name has plan = one_hop_rows plan
+  one_plan Nominate name has plan = one_nominated plan
+  one_plan PrioRank name has plan = one_priority_planned plan
+  one_plan (Sweep at until) name has plan = one_sweep_table plan at until
 
   -- so is what answers the ranks of a certificate
   one_ranks : (what : RanksForm) (plan : Topology) (ranks : Ranks) → IsOne (RanksAnswer what plan ranks)
@@ -215,24 +216,24 @@ module _ (one_whole : (plan : Topology) (events : List Event) (until : ℕ) (tex
       one_answered (λ rows. AreFramesSent plan element rows until) (λ rows. one_sent plan element rows until) (accepted_rows (rows_of plan element bytes))
 
   -- what a form reads has one answer
-  one_meaning : (form : Form) (read : (meaning form).reading.Read) → IsOne ((meaning form).Answers read)
-  one_meaning (on_plan what plan) read = one_plan what read
-  one_meaning (on_ranks what plan cert) read = one_ranks what read.0 read.1
-  one_meaning (on_events what plan events until) read = one_events what read.0 read.1 until
-  one_meaning (on_frames what option name) read = one_frames what option read
-  one_meaning (on_ladder what n) read = one_ladder what n
-  one_meaning (node plan element name until) read = one_node read.0 read.1 read.2 until
+  one_meaning : (form : Form) → HasOneAnswer (Some form) → (read : (meaning form).reading.Read) → IsOne ((meaning form).Answers read)
+  one_meaning (on_plan what plan) has read = one_plan what plan has read
+  one_meaning (on_ranks what plan cert) has read = one_ranks what read.0 read.1
+  one_meaning (on_events what plan events until) has read = one_events what read.0 read.1 until
+  one_meaning (on_frames what option name) has read = one_frames what option read
+  one_meaning (on_ladder what n) has read = one_ladder what n
+  one_meaning (node plan element name until) has read = one_node read.0 read.1 read.2 until
 
   -- a form has one answer
-  one_form : (form : Option Form) (files : Contents) → IsOne (FormAnswer form files)
-  one_form None files status other text another first second = (first.0 ∙ sym second.0, first.1 ∙ sym second.1)
-  one_form (Some form) files status other text another first second =
-      one_answered (meaning form).Answers (one_meaning form) ((meaning form).reading.read files) status other text another first second
+  one_form : (form : Option Form) (files : Contents) → HasOneAnswer form → IsOne (FormAnswer form files)
+  one_form None files has status other text another first second = (first.0 ∙ sym second.0, first.1 ∙ sym second.1)
+  one_form (Some form) files has status other text another first second =
+      one_answered (meaning form).Answers (one_meaning form has) ((meaning form).reading.read files) status other text another first second
 
-  pub one_status : (words : List (List ℕ)) (files : Contents) (status other : Status) (text another : List ℕ) → IsAnswer words files status text
-      → IsAnswer words files other another → status ≡ other
-  one_status words files status other text another first second = (one_form (form_of words) files status other text another first second).0
+  pub one_status : (words : List (List ℕ)) (files : Contents) (status other : Status) (text another : List ℕ) → HasOneAnswer (form_of words)
+      → IsAnswer words files status text → IsAnswer words files other another → status ≡ other
+  one_status words files status other text another has first second = (one_form (form_of words) files has status other text another first second).0
 
-  pub one_text : (words : List (List ℕ)) (files : Contents) (status other : Status) (text another : List ℕ) → IsAnswer words files status text
-      → IsAnswer words files other another → text ≡ another
-  one_text words files status other text another first second = (one_form (form_of words) files status other text another first second).1
+  pub one_text : (words : List (List ℕ)) (files : Contents) (status other : Status) (text another : List ℕ) → HasOneAnswer (form_of words)
+      → IsAnswer words files status text → IsAnswer words files other another → text ≡ another
+  one_text words files status other text another has first second = (one_form (form_of words) files has status other text another first second).1

@@ -1,6 +1,6 @@
 -- The program's answer to some words over some files: a status and a text.
 use Rattle.std.specs.Prelude.{◌≡◌, ℕ, ◌⊎◌, nat_lt, Bool, List, codes, Option, Some, None, Err}
-use Rattle.std.specs.Prelude.{IsTrue, IfSome, IsErr}
+use Rattle.std.specs.Prelude.{⊤, IsTrue, IfSome, IsErr}
 use Rattle.std.specs.Io.KnownBytes.{Appends}
 use Rattle.sync_edge.specs.Faults.{Rose}
 use Rattle.sync_edge.specs.Transfers.{AppendsFront}
@@ -14,7 +14,7 @@ use Rattle.rank_cert.specs.Ranks.{Ranks}
 use Rattle.capture_text.specs.Capture.{decoded_text, encoded_text}
 use Rattle.pcap_file.specs.Timed.{decoded_pcap, encoded_pcap}
 use Rattle.sync_top.specs.declared.form.PlanForm.{PlanForm}
-use Rattle.sync_top.specs.declared.form.PlanForm.TheVariants.{Rank, Chains, Protected, Agree, Hops, Nominate, PrioRank, Sweep}
+use Rattle.sync_top.specs.declared.form.PlanForm.TheVariants.{Rank, Chains, Protected, Protect, Agree, Hops, Nominate, PrioRank, Sweep}
 use Rattle.sync_top.specs.declared.form.RanksForm.{RanksForm}
 use Rattle.sync_top.specs.declared.form.RanksForm.TheVariants.{Check, PrioCheck}
 use Rattle.sync_top.specs.declared.form.EventsForm.{EventsForm}
@@ -29,6 +29,7 @@ use Rattle.sync_top.specs.Forms.Check.{documents, IsVerdict}
 use Rattle.sync_top.specs.Forms.Rank.{IsPlanned}
 use Rattle.sync_top.specs.Forms.Chains.{IsChained}
 use Rattle.sync_top.specs.Forms.Protected.{IsProtectedText}
+use Rattle.sync_top.specs.Forms.Protect.{IsProtectingText}
 use Rattle.sync_top.specs.Forms.Agree.{IsAgreedText}
 use Rattle.sync_top.specs.Forms.Hops.{AreHopRows}
 use Rattle.sync_top.specs.Forms.Nominate.{IsNominatedText}
@@ -46,6 +47,7 @@ abbrev pub PlanAnswer : PlanForm → Topology → Status → List ℕ → Type 0
 PlanAnswer Rank plan status text = IsPlanned plan status text
 PlanAnswer Chains plan status text = IsChained plan status text
 PlanAnswer Protected plan status text = IsProtectedText plan status text
+PlanAnswer Protect plan status text = IsProtectingText plan status text
 PlanAnswer Agree plan status text = IsAgreedText plan status text
 PlanAnswer Hops plan status text = AreHopRows plan status text
 PlanAnswer Nominate plan status text = IsNominatedText plan status text
@@ -113,6 +115,11 @@ FormAnswer (Some form) files status text = Answered (meaning form).Answers ((mea
 -- the program's answer to some words
 abbrev pub IsAnswer : List (List ℕ) → Contents → Status → List ℕ → Type 0
 IsAnswer words files status text = FormAnswer (form_of words) files status text
+
+-- over given files the form has one answer: each has but `protect`, of which it isn't said which plan is found
+abbrev pub HasOneAnswer : Option Form → Type 0
+HasOneAnswer (Some (on_plan Protect plan)) = ⊥
+HasOneAnswer form = ⊤
 
 -- a form whose answer comes to a file that isn't there
 abbrev pub FormMissesFile : Option Form → Contents → Type 0

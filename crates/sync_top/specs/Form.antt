@@ -8,7 +8,7 @@ use Rattle.sync_ql.specs.declared.levels.NetOption.{NetOption}
 use Rattle.sync_ql.specs.declared.limits.TheConstants.{LAST_MILLISECOND}
 use Rattle.sync_ql.specs.declared.levels.NetOption.TheVariants.{I, II}
 use Rattle.sync_top.specs.declared.form.PlanForm.{PlanForm}
-use Rattle.sync_top.specs.declared.form.PlanForm.TheVariants.{Rank, Chains, Protected, Agree, Hops, Nominate, PrioRank, Sweep}
+use Rattle.sync_top.specs.declared.form.PlanForm.TheVariants.{Rank, Chains, Protected, Protect, Agree, Hops, Nominate, PrioRank, Sweep}
 use Rattle.sync_top.specs.declared.form.RanksForm.{RanksForm}
 use Rattle.sync_top.specs.declared.form.RanksForm.TheVariants.{Check, PrioCheck}
 use Rattle.sync_top.specs.declared.form.EventsForm.{EventsForm}
@@ -65,6 +65,7 @@ plan_word word =
     if bytes_eq word (codes "rank") then Some Rank
     else if bytes_eq word (codes "chains") then Some Chains
     else if bytes_eq word (codes "protected") then Some Protected
+    else if bytes_eq word (codes "protect") then Some Protect
     else if bytes_eq word (codes "agree") then Some Agree
     else if bytes_eq word (codes "hops") then Some Hops
     else if bytes_eq word (codes "nominate") then Some Nominate

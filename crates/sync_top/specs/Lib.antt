@@ -11,4 +11,5 @@ pub mod LoopFree
 pub mod ChainBounds
 pub mod Protection
 pub mod Agreement
+pub mod Survival
 pub mod HopRows

@@ -19,7 +19,7 @@ use crate::ladder::ladder_text;
 use crate::nomination::nominated;
 use crate::planner::planned;
 use crate::priority::priority_planned;
-use crate::protecting::gaps_found;
+use crate::protecting::{gaps_found, protected_plan};
 use crate::sim::simulated;
 use crate::sweep::swept;
 use crate::trial::trial_text;
@@ -51,6 +51,7 @@ pub(crate) fn plan_found<R: Threads + Sync, G: Gate + Sync>(
         PlanForm::Rank => planned(alloc, plan),
         PlanForm::Chains => chained(alloc, plan),
         PlanForm::Protected => gaps_found(alloc, plan),
+        PlanForm::Protect => protected_plan(alloc, plan),
         PlanForm::Agree => agreed(alloc, plan),
         PlanForm::Hops => counted(alloc, plan),
         PlanForm::Nominate => nominated(alloc, plan),

@@ -19,6 +19,9 @@ pub(crate) enum PlanForm {
     Chains,
     /// Whom each single failure cuts off that needn't be.
     Protected,
+    /// The plan with priorities by which no single failure cuts anybody off, or whom failures cut off in
+    /// the plan that is found.
+    Protect,
     /// Whether priorities agree with the ways of timing, and the bound, or the first clash.
     Agree,
     /// The hop counts.
@@ -146,6 +149,7 @@ fn plan_word(word: &str) -> Option<PlanForm>
         "rank" => Some(PlanForm::Rank),
         "chains" => Some(PlanForm::Chains),
         "protected" => Some(PlanForm::Protected),
+        "protect" => Some(PlanForm::Protect),
         "agree" => Some(PlanForm::Agree),
         "hops" => Some(PlanForm::Hops),
         "nominate" => Some(PlanForm::Nominate),

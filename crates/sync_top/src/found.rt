@@ -12,8 +12,7 @@ use sync_text::{NoMemory, Text};
 pub(crate) enum Finding {
     /// All was done.
     Done,
-    /// Ranks don't rise, or none do; or a plan isn't protected or
-    /// doesn't agree.
+    /// Ranks don't rise, or none do; or a plan isn't protected, or doesn't agree.
     Refuted,
     /// A report ends before what doesn't fit any more.
     Stopped,
@@ -50,6 +49,16 @@ pub(crate) fn done(text: Text) -> Found
 {
     Found {
         finding: Finding::Done,
+        text,
+    }
+}
+
+/// It was refuted, and this is the text.
+pub(crate) fn refuted(text: Text) -> Found
+    ensures { result ≡ record { finding = Finding.Refuted; text = text } }
+{
+    Found {
+        finding: Finding::Refuted,
         text,
     }
 }

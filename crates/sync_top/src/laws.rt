@@ -5,20 +5,24 @@ ghost use Rattle.std.specs.FinMap.{get};
 ghost use Rattle.sync_edge.specs.Contents.{Contents};
 ghost use Rattle.sync_top.specs.declared.status.Status.{Status};
 ghost use Rattle.sync_top.specs.Reading.{text_line};
-ghost use Rattle.sync_top.specs.Answer.{IsAnswer};
+ghost use Rattle.sync_top.specs.Answer.{HasOneAnswer, IsAnswer};
+ghost use Rattle.sync_top.specs.Form.{form_of};
 
 use trace_report::one_report_law;
 
-/// The law of the one answer: over given files some words have one status and one text.
+/// The law of the one answer: over given files some words have one status and one text. Words that
+/// ask for `protect` may have more, since it isn't said which plan is found.
 ///
 /// It does nothing: its contract is the law. This project's own.
 pub fn one_answer_law()
     ensures status { (words : List (List ℕ)) → (files : Contents) → (status other : Status)
-        → (text another : List ℕ) → IsAnswer words files status text
-        → IsAnswer words files other another → status ≡ other }
+        → (text another : List ℕ) → HasOneAnswer (form_of words)
+        → IsAnswer words files status text → IsAnswer words files other another
+        → status ≡ other }
     ensures text { (words : List (List ℕ)) → (files : Contents) → (status other : Status)
-        → (text another : List ℕ) → IsAnswer words files status text
-        → IsAnswer words files other another → text ≡ another }
+        → (text another : List ℕ) → HasOneAnswer (form_of words)
+        → IsAnswer words files status text → IsAnswer words files other another
+        → text ≡ another }
 {
     one_report_law();
 }

@@ -3,8 +3,8 @@
 //!
 //! `IsAnswer` says which status and text the words have over which files; `Delivers` that it was
 //! written, and `IsCut` what a write fault leaves. Which words are a form is `form_of`. That there
-//! is one answer is [`one_answer_law`], and that what `rank` writes is accepted
-//! [`planned_is_accepted_law`]. No clause says that memory is found; docs/promises.md tells what
+//! is one answer, to all words but `protect`, is [`one_answer_law`], and that what `rank` writes is
+//! accepted [`planned_is_accepted_law`]. No clause says that memory is found; docs/promises.md tells what
 //! shows it.
 #![tactic(auto)]
 

@@ -6,10 +6,12 @@ ghost use Rattle.sync_edge.specs.Faults.{Rose};
 ghost use Rattle.sync_top.specs.Status.{OnAnswer};
 ghost use Rattle.sync_top.specs.Form.{form_of};
 ghost use Rattle.sync_top.specs.Answer.{across, file_count, reads_file, IsAnswer, MissesFile, FirstEnds, HasFiles, Delivers, IsCut, MayFault, fault_text};
+ghost use Rattle.net_rules.specs.Safety.{IsLoopFree};
 ghost use Rattle.sync_top.specs.LoopFree.{IsCheckedLoopFree};
 ghost use Rattle.sync_top.specs.ChainBounds.{IsBoundedByChains};
 ghost use Rattle.sync_top.specs.Protection.{IsHoldingOut};
 ghost use Rattle.sync_top.specs.Agreement.{IsComingToRest};
+ghost use Rattle.sync_top.specs.Survival.{Protects, IsSurvivor};
 ghost use Rattle.sync_top.specs.Forms.Priority.{IsCheckedForPriority};
 ghost use Rattle.sync_top.specs.Work.{EndsIn, Works};
 
@@ -92,7 +94,8 @@ fn reply_to<R: Threads + Sync, F: Folder, G: Gate + Sync>(
 /// The words are those after the program's name. `check PLAN CERT` tests the ranks of a certificate
 /// on a plan, and `rank PLAN` gives the least ranks as a certificate, or the first cycle. `chains
 /// PLAN` gives the longest chains of timing into each element, or the first cycle. `protected PLAN`
-/// tells whom each single failure cuts off that needn't be. `agree PLAN` tells whether priorities
+/// tells whom each single failure cuts off that needn't be, and `protect PLAN` gives the plan with
+/// priorities by which none does, or whom failures cut off in the plan that it found. `agree PLAN` tells whether priorities
 /// agree with the ways of timing, and for how long after the last event a network may then change,
 /// or the first circle of lines that clash. `hops PLAN` gives the hop counts, and `nominate PLAN`
 /// the plan with priorities by fewest hops. `decode OPTION FILE` gives the rows of captured frames,
@@ -155,6 +158,20 @@ pub fn run<R: Threads + Sync, F: Folder, K: Sink, G: Gate + Sync>(
     // settled, and each element has exactly the best of the levels that reach it.
     ensures agreed_comes_to_rest { result ≡ Status.Done → IfSome (F.contents folder.old)
         (IsComingToRest (form_of (map string_bytes words.now))) }
+
+    // Where `protect` is done, a plan was read, and the text that was written is that of a plan in
+    // which no timing loop can form, but two elements that face each other on one link or bundle.
+    ensures protected_plan_is_loop_free { result ≡ Status.Done → IfSome (F.contents folder.old)
+        (Protects IsLoopFree (form_of (map string_bytes words.now)) (K.written sink.old) (K.written sink.new)) }
+
+    // And that plan survives each single failure. Let the level of each nominated source be better
+    // than do-not-use and than every own clock, and no floor better than the worst of them. Then for
+    // every failure, and every list of events in which only parts of it go down and come up again:
+    // from the bound after the last event on, each element that is in reach takes an input, the same
+    // in every millisecond, at one level that is no worse than the worst of those; and where all
+    // others than the element that fails are in reach, each of these milliseconds is settled.
+    ensures protected_plan_survives { result ≡ Status.Done → IfSome (F.contents folder.old)
+        (Protects IsSurvivor (form_of (map string_bytes words.now)) (K.written sink.old) (K.written sink.new)) }
 
     // Which words are a form doesn't depend on any file. Other words, `gen` and `trial` call the
     // folder not at all.

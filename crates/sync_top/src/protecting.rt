@@ -2,12 +2,14 @@ ghost use Rattle.std.specs.Prelude.{◌≡◌, ◌++◌, ◌<◌, [], length, un
 ghost use Rattle.std.specs.List.{All};
 ghost use Rattle.reach_rules.specs.Protection.{IsFailureOf};
 ghost use Rattle.protection.specs.Gaps.{IsGapIn};
+ghost use Rattle.sync_top.specs.Forms.Protect.{IsProtectingText};
 ghost use Rattle.sync_top.specs.Forms.Protected.{failure_word, failure_name, cut_text, gap_row, gaps_text, IsProtectedText};
 ghost use Rattle.sync_top.specs.Work.{ends_in};
 
-use crate::found::{Finding, Found, done};
+use crate::found::{Found, done, refuted};
 use crate::reply::line_text;
-use protection::{Failure, Gap, protected};
+use plan_file::write_plan;
+use protection::{Failure, Gap, Protected, protect, protected};
 use std::alloc::Global;
 use sync_text::{NoMemory, Text};
 use sync_topo::Plan;
@@ -93,8 +95,16 @@ pub(crate) fn gaps_found(alloc: Global, plan: &Plan) -> Result<Found, NoMemory>
     if gaps.as_slice().is_empty() {
         return Ok(done(line_text(alloc, b"protected")?));
     }
-    Ok(Found {
-        finding: Finding::Refuted,
-        text: gaps_text(alloc, plan, gaps.as_slice())?,
-    })
+    Ok(refuted(gaps_text(alloc, plan, gaps.as_slice())?))
+}
+
+/// What is found for a plan: the text of the plan with priorities by which no single failure cuts
+/// anybody off, or whom failures cut off in the plan that is found.
+pub(crate) fn protected_plan(alloc: Global, plan: &Plan) -> Result<Found, NoMemory>
+    ensures { IfOk result (λ found. IsProtectingText plan.now (ends_in found.finding) found.text) }
+{
+    match protect(alloc, plan)? {
+        Protected::Plan(found) => Ok(done(write_plan(alloc, &found)?)),
+        Protected::Gaps(gaps) => Ok(refuted(gaps_text(alloc, plan, gaps.as_slice())?)),
+    }
 }

@@ -47,7 +47,9 @@ fn put_place(text: &mut Text, refused: EventErr) -> Result<(), NoMemory>
         | EventErr::Order(row)
         | EventErr::What(row)
         | EventErr::Target(row)
-        | EventErr::Value(row) => put_number(text, row),
+        | EventErr::Value(row)
+        | EventErr::Name(row)
+        | EventErr::Apart(row) => put_number(text, row),
     }
 }
 

@@ -8,8 +8,8 @@ pub enum Status {
     /// The answer was written.
     Done,
     /// `check`, `prio-check`: the rank doesn't rise over some hop; `rank`, `chains`, `prio-rank`:
-    /// no ranks rise; `protected`: a failure cuts somebody off who needn't be; `agree`:
-    /// lines bear on one another in a circle.
+    /// no ranks rise; `protected`, `protect`: a failure cuts somebody off who needn't be; `agree`: lines
+    /// bear on one another in a circle.
     Refuted,
     /// The words are no form of the program.
     Usage,

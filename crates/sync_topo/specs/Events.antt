@@ -6,6 +6,7 @@ use Rattle.sync_topo.specs.declared.event.Part.TheVariants as part
 use Rattle.sync_topo.specs.declared.event.What.{What}
 use Rattle.sync_topo.specs.declared.event.What.TheVariants.{Down, Up, EsmcOff, EsmcOn, SourceLevel, Lockout, Unlock, Forced, Manual, Clear, ClearWtr}
 use Rattle.sync_topo.specs.declared.event.Event.{Event}
+use Rattle.sync_topo.specs.declared.event.Case.{Case}
 use Rattle.sync_topo.specs.Topology.{Topology}
 use Rattle.sync_topo.specs.Lines.{line_count, IsInput}
 
@@ -41,3 +42,8 @@ IsInOrder events = AllAdjacentBelow (λ one next. one.at ≤ next.at) events (le
 pub record IsEventList (plan : Topology) (events : List Event) : Type 0 where
   pub fit : All (Fits plan) events
   pub in_order : IsInOrder events
+
+-- a case of a plan: something happens in it
+pub record IsCase (plan : Topology) (case : Case) : Type 0 where
+  pub list : IsEventList plan case.events
+  pub some : 0 < length case.events

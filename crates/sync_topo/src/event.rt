@@ -2,6 +2,7 @@
 
 use crate::input::{InputId, LineId};
 use sync_ql::Level;
+use sync_text::Rows;
 
 /// What may go down and come up.
 ///
@@ -25,6 +26,15 @@ pub struct Event {
     pub at: u64,
     /// What happens.
     pub what: What,
+}
+
+/// What happens in one run alone, of many that have other events in common.
+///
+/// This project's own.
+#[derive(Debug, Drop)]
+pub struct Case {
+    /// What happens, in order of time.
+    pub events: Rows<Event>,
 }
 
 /// What happens.

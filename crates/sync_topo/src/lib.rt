@@ -34,11 +34,11 @@ mod wiring;
 
 pub use element::Element;
 pub use error::PlanErr;
-pub use event::{Event, Part, What};
+pub use event::{Case, Event, Part, What};
 pub use input::{InputId, LineId, is_same_input};
 pub use laws::{bundle_law, goes_back_law};
 pub use link::Link;
-pub use names::MOST_NAME_BYTES;
+pub use names::{MOST_NAME_BYTES, Names, is_name};
 pub use outputs::all_lines_out;
 pub use parts::{MOST_ELEMENTS, MOST_LINKS, MOST_SOURCES};
 pub use place::{Place, Section};

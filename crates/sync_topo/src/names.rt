@@ -11,8 +11,10 @@ use sync_text::NoMemory;
 pub const MOST_NAME_BYTES: usize = 32;
 
 /// Names, each at its place in the order in which they came. Contracts see their list.
+///
+/// A name is looked up without going through the others. This project's own.
 #[derive(Drop)]
-pub(crate) struct Names {
+pub struct Names {
     alloc: Global,
     set: IndexSet<Vec<u8>>,
 }
@@ -26,8 +28,8 @@ impl Model for Names {
 }
 
 impl Names {
-    /// No names.
-    pub(crate) fn new(alloc: Global) -> Names
+    /// No names. It takes no memory.
+    pub fn new(alloc: Global) -> Names
         ensures { result ≡ [] }
     {
         Names {
@@ -37,7 +39,7 @@ impl Names {
     }
 
     /// No names, with room for so many.
-    pub(crate) fn with_capacity(alloc: Global, count: usize) -> Result<Names, NoMemory>
+    pub fn with_capacity(alloc: Global, count: usize) -> Result<Names, NoMemory>
         ensures { IfOk result (λ names. names ≡ []) }
     {
         let Ok(set) = IndexSet::with_capacity(alloc, count) else {
@@ -47,7 +49,9 @@ impl Names {
     }
 
     /// The place of a name, counted from 0.
-    pub(crate) fn place_of(&self, name: &[u8]) -> Option<usize>
+    ///
+    /// `None` where no name is this one.
+    pub fn place_of(&self, name: &[u8]) -> Option<usize>
         ensures place { result ≡ place_of self.now name.now }
         ensures found { is_some result ≡ is_named self.now name.now }
         ensures named { IfSome result (λ place. slice_get self.now place ≡ Some name.now) }
@@ -57,14 +61,14 @@ impl Names {
     }
 
     /// One of the names is this one.
-    pub(crate) fn has(&self, name: &[u8]) -> bool
+    pub fn has(&self, name: &[u8]) -> bool
         ensures { result ≡ is_named self.now name.now }
     {
         self.set.contains(name)
     }
 
     /// Puts a new name at the end.
-    pub(crate) fn add(&mut self, name: &[u8]) -> Result<(), NoMemory>
+    pub fn add(&mut self, name: &[u8]) -> Result<(), NoMemory>
         requires { is_named self.old name.now ≡ false }
         ensures { OnOk result (self.new ≡ self.old ++ name.now ∷ []) }
     {
@@ -85,8 +89,10 @@ fn is_name_byte(byte: u8) -> bool
     matches!(byte, b'A'..=b'Z' | b'a'..=b'z' | b'0'..=b'9' | b'_' | b'-')
 }
 
-/// The bytes keep the rule for names.
-pub(crate) fn is_name(name: &[u8]) -> bool
+/// The bytes keep the rule for names: 1 to [`MOST_NAME_BYTES`] of A to Z, a to z, 0 to 9, `_` and `-`.
+///
+/// This project's own.
+pub fn is_name(name: &[u8]) -> bool
     ensures { result ≡ is_name name.now }
 {
     1 <= name.len() && name.len() <= MOST_NAME_BYTES && all_name_bytes(name)

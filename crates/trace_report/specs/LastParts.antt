@@ -9,13 +9,12 @@ use Rattle.sync_topo.specs.Topology.{Topology}
 use Rattle.sync_topo.specs.Lines.{element_name, source_name}
 use Rattle.net_rules.specs.Signals.{signals_by}
 use Rattle.net_rules.specs.History.{out_at}
-use Rattle.net_rules.specs.Walks.{Taken}
 use Rattle.net_rules.specs.Safety.{taken_in}
 use Rattle.net_rules.specs.Settled.{IsSettled}
 use Rattle.closed_walks.specs.declared.traced.End.{End}
 use Rattle.closed_walks.specs.declared.traced.End.TheVariants.{Source, OwnClock, Loop}
 use Rattle.closed_walks.specs.declared.traced.Ending.{Ending}
-use Rattle.closed_walks.specs.Traces.{EndsSo}
+use Rattle.closed_walks.specs.Traces.{AreEndings}
 use Rattle.closed_walks.specs.Loops.{AreLoops}
 use Rattle.closed_walks.specs.WalkText.{walk_rows}
 
@@ -50,11 +49,6 @@ loops_part plan walks = codes "loops\n" ++ walk_rows plan walks
 abbrev pub settled_part : Bool → List ℕ
 settled_part true = codes "settled yes\n"
 settled_part false = codes "settled no\n"
-
--- how the traces of all elements end, by what each takes
-pub record AreEndings (plan : Topology) (taken : Taken) (endings : List Ending) : Type 0 where
-  pub count : length endings ≡ length plan.elements
-  pub each : (element : ℕ) (ending : Ending) → slice_get endings element ≡ Some ending → EndsSo plan taken element ending
 
 -- the last parts in a millisecond, by the plan and all events
 pub record AreLastParts (plan : Topology) (events : List Event) (t : ℕ) (text : List ℕ) : Type 0 where

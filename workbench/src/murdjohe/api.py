@@ -130,6 +130,11 @@ def nominate(plan: Source) -> Answered[reports.Written]:
     return answered("nominate", reports.written, plan)
 
 
+def protect(plan: Source) -> Answered[reports.Protection]:
+    """The plan with priorities by which no single failure cuts anybody off; or whom failures cut off in the one that was found."""
+    return answered("protect", reports.protection, plan)
+
+
 def sim(plan: Source, events: Source, until: Time) -> Answered[reports.Report]:
     """Runs the network from 0 to `until`."""
     return answered("sim", reports.report, plan, events, until)

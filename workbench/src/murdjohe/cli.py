@@ -25,6 +25,7 @@ OWN = {
     "diff": ("diff", forms.PLANNING, "says what differs between two plans"),
     "orders": ("orders", forms.PLANNING, "prints what to set at each element"),
     "rehearse": ("rehearse", forms.RUNNING, "shows works as they will go: events, changes, what is rejected"),
+    "failures": ("failures", forms.RUNNING, "writes the failures of a plan, and pairs of them, as cases"),
     "export": ("export", FILES, "writes the tables of a plan, with its priorities"),
     "apply": ("apply", FILES, "takes the priorities of one plan into another, spelling kept"),
     "draw": ("draw", FILES, "draws a plan, with the levels and selections of a report"),

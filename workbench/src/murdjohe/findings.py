@@ -9,8 +9,8 @@ import re
 from collections.abc import Iterator
 from dataclasses import dataclass
 
-from murdjohe import knots, levels, network
-from murdjohe.knots import Line
+from murdjohe import levels, network, nominated
+from murdjohe.nominated import Line
 from murdjohe.orders import NONE, Order, orders_of
 from murdjohe.plans import Plan
 from murdjohe.remarks import LONGEST, plural
@@ -49,7 +49,7 @@ class Looked:
     def __init__(self, plan: Plan) -> None:
         self.plan = plan
         self.orders = {order.element: order for order in orders_of(plan.tables, plan.option)}
-        self.lines = knots.lines_of(plan.tables)
+        self.lines = nominated.lines_of(plan.tables)
         self.by_name = {line.name: line for line in self.lines}
         self.rows = {name: number for number, name in enumerate(plan.names("element"), start=1)}
 
@@ -103,17 +103,33 @@ def is_floored(order: Order, other: Order, option: str) -> bool:
     return order.floor != NONE and ranks.index(order.floor) < ranks.index(other.own)
 
 
-def on_pairs(looked: Looked) -> Iterator[Finding]:
-    """Links and bundles that are nominated at both ends, where an element has no floor that keeps the other's own clock out."""
+@dataclass(frozen=True)
+class Pair:
+    """A link or bundle that is nominated at both ends: which it is, its nominated lines, and the elements at its ends that have
+    no floor which keeps the other's own clock out."""
+
+    kind: str
+    name: str
+    lines: tuple[Line, ...]
+    bare: tuple[str, ...]
+
+
+def pairs_of(looked: Looked) -> Iterator[Pair]:
+    """The links and bundles that are nominated at both ends."""
     bundles: dict[tuple[str, str], list[Line]] = {}
     for line in looked.lines:
         bundles.setdefault(line.bundle, []).append(line)
     for (kind, name), lines in bundles.items():
-        if len({line.receiver for line in lines}) < 2:
-            continue
-        two = [looked.orders[end] for end in (lines[0].receiver, lines[0].sender)]
-        pairs = ((two[0], two[1]), (two[1], two[0]))
-        bare = [one.element for one, other in pairs if not is_floored(one, other, looked.plan.option)]
+        if len({line.receiver for line in lines}) > 1:
+            one, other = (looked.orders[end] for end in (lines[0].receiver, lines[0].sender))
+            both, option = ((one, other), (other, one)), looked.plan.option
+            yield Pair(kind, name, tuple(lines), tuple(a.element for a, b in both if not is_floored(a, b, option)))
+
+
+def on_pairs(looked: Looked) -> Iterator[Finding]:
+    """Links and bundles that are nominated at both ends, where an element has no floor that keeps the other's own clock out."""
+    for pair in pairs_of(looked):
+        kind, name, lines, bare = pair.kind, pair.name, pair.lines, pair.bare
         if bare:
             what = f'{kind} "{name}" is nominated at both ends, and {" and ".join(bare)} would follow the other\'s own clock'
             remedy = f"give {'each' if len(bare) == 2 else 'it'} a floor better than that clock, or nominate one end"
@@ -181,7 +197,7 @@ def last_resort(looked: Looked, clash: tuple[str, ...]) -> Last | None:
         inputs = looked.orders[line.receiver].inputs
         own = {one.name for one in looked.lines if one.bundle == line.bundle}
         priority = 1 + max((one.priority for one in inputs if one.name not in own), default=0)
-        if line.bundle == back.bundle and priority <= knots.LOWEST:
+        if line.bundle == back.bundle and priority <= nominated.LOWEST:
             found.append(Last(line, priority))
     return min(found, key=lambda last: last.priority - last.line.priority) if found else None
 

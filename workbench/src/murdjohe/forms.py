@@ -161,6 +161,14 @@ _ALL = (
         (_MAKE, "murdjohe nominate plan.toml > nominated.toml"),
     ),
     Form(
+        "protect",
+        (_PLAN,),
+        PLANNING,
+        "gives a plan priorities by which no failure cuts anybody off",
+        (0, 1, 3, 7, 9),
+        (_MAKE, "murdjohe protect plan.toml > protecting.toml", "murdjohe protected protecting.toml"),
+    ),
+    Form(
         "sim",
         (_PLAN, _EVENTS, _UNTIL),
         RUNNING,

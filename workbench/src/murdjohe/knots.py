@@ -14,47 +14,15 @@ from typing import Any
 import networkx as nx
 
 from murdjohe.gaps import Ways
+from murdjohe.nominated import LOWEST, Line
 
-LOWEST = 255  # the lowest priority
 LARGE = 400  # lines of a knot up to which least sets are sought
 RINGS = {True: 1_000, False: 100}  # rings that are counted in a knot that isn't larger than that, and in a larger one
-
-
-@dataclass(frozen=True)
-class Line:
-    """A nominated line: its name, the number of its link from 1 on, the end into which it leads, its elements and priority.
-
-    `bundle` is what it shares with the lines of its link or bundle.
-    """
-
-    name: str
-    number: int
-    end: str
-    sender: str
-    receiver: str
-    bundle: tuple[str, str]
-    priority: int
-
-    @property
-    def key(self) -> str:
-        return f"priority_{self.end}"
 
 
 # What a set of lines costs: elements that lose their last input, failures that cut off more than before, first choices, and how
 # high the priorities are, summed up: 255 for priority 1, 1 for priority 255. The less the better, in this order.
 Cost = tuple[int, int, int, int]
-
-
-def lines_of(tables: dict[str, Any]) -> list[Line]:
-    """The nominated lines, in the order of the plan."""
-    found = []
-    for number, link in enumerate(tables.get("link", []), start=1):
-        bundle = ("bundle", link["bundle"]) if "bundle" in link else ("link", link["name"])
-        for end, other in (("b", "a"), ("a", "b")):
-            if priority := link.get(f"priority_{end}", 0):
-                name = f"{link['name']}>{link[end]}"
-                found.append(Line(name, number, end, link[other], link[end], bundle, priority))
-    return found
 
 
 def graph_of(lines: Iterable[Line]) -> nx.DiGraph:

@@ -25,7 +25,8 @@ from murdjohe.weighed import Weighed
 Terms = dict[int, float]  # coefficients by the number of their variable
 Row = tuple[Terms, float, float]  # a sum that has to stand between two numbers
 Fixed = list[tuple[Callable[[], Terms], float]]  # sums that are known, and how much they may be at most
-OPTIMAL = 0  # the status of a solution that is proved to be least
+OPTIMAL, LATE = 0, 1  # statuses: a solution that is proved to be least, and that time ran out
+PATIENCE = 4  # how many times as long as its processor time a search may take by the clock
 BROKEN = 1 - 1e-6  # by how much a solution in parts of lines has to break each ring
 REMOVED = 1e6  # what a removed line weighs, so that rings of other lines are found
 ROUNDS = 50  # in which rings are added before whole numbers are sought
@@ -43,6 +44,7 @@ class Search:
         self.knot = knot
         self.inputs = inputs
         self.end = time.process_time() + seconds
+        self.latest = time.monotonic() + PATIENCE * seconds
         self.lines = sorted(knot)
         self.at = {name: number for number, name in enumerate(self.lines)}
         receivers = sorted({inputs.lines[name].receiver for name in self.lines})
@@ -109,6 +111,17 @@ class Search:
         height = {number: float(self.inputs.height(name)) for number, name in enumerate(self.lines)}
         return [lambda: lost, lambda: dict.fromkeys(self.failures.values(), 1.0), lambda: first, lambda: height]
 
+    def answer(self, costs: Any, **wanted: Any) -> Any:
+        """What HiGHS answers in the processor time that is left. Raises Unsolved where there is none.
+
+        HiGHS counts time by the clock: where that runs out on a busy machine, it is asked again, up to PATIENCE times as long.
+        """
+        while (left := self.end - time.process_time()) > 0 and time.monotonic() < self.latest:
+            found = milp(costs, options={"mip_rel_gap": 0.0, "time_limit": left}, **wanted)
+            if found.status != LATE:
+                return found
+        raise Unsolved
+
     def solution(self, cuts: list[Row], fixed: Fixed, terms: Terms, is_whole: bool = True) -> Any:
         """The variables with the least sum of the terms; None where none keep the rows. Raises Unsolved."""
         whole = len(self.lines) + len(self.elements)
@@ -123,13 +136,9 @@ class Search:
         starts = numpy.cumsum([0, *(len(row) for row, _, _ in rows)])
         matrix = csr_matrix((data, places, starts), shape=(len(rows), count))
         bounds = LinearConstraint(matrix, [low for _, low, _ in rows], [high for _, _, high in rows])
-        left = self.end - time.process_time()
-        if left <= 0:
-            raise Unsolved
-        options = {"mip_rel_gap": 0.0, "time_limit": left}
         # (those of failures are whole where those of lines are)
         kinds = (numpy.arange(count) < whole).astype(int) if is_whole else numpy.zeros(count)
-        found = milp(costs, integrality=kinds, bounds=Bounds(0, most), constraints=bounds, options=options)
+        found = self.answer(costs, integrality=kinds, bounds=Bounds(0, most), constraints=bounds)
         if found.x is None and found.status == 2:
             return None
         if found.x is None or found.status != OPTIMAL:

@@ -5,6 +5,7 @@ Commands that read a plan begin here: a plan that the program refuses is told in
 
 from __future__ import annotations
 
+from functools import cached_property
 from typing import Any
 
 from murdjohe import api, core, documents, forms, inputs, refusals, reports
@@ -19,16 +20,21 @@ PROTECTED = "protected"  # what `protected` says of a plan without gaps
 
 
 class PlanFile:
-    """A plan that was taken: its name in sentences, its octets, its text with lines, and what `rank` answers to it."""
+    """A plan that was taken: its name in sentences, its octets, and what `rank` answers to it."""
 
     def __init__(self, name: str, data: bytes, ranking: reports.Ranking, certificate: bytes) -> None:
         self.name = name
         self.data = data
         self.ranking = ranking
         self.certificate = certificate
-        self.plan = Plan(documents.Document(name, data))
-        if self.plan.fault:
-            raise Wrong(f"{name}: the program takes it, and Python's reader doesn't: {self.plan.fault}")
+
+    @cached_property
+    def plan(self) -> Plan:
+        """The plan with the lines of its file, which is read when it is asked for. Raises Wrong where Python can't."""
+        plan = Plan(documents.Document(self.name, self.data))
+        if plan.fault:
+            raise Wrong(f"{self.name}: the program takes it, and Python's reader doesn't: {plan.fault}")
+        return plan
 
     @property
     def tables(self) -> dict[str, Any]:

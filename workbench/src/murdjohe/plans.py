@@ -4,6 +4,7 @@ from __future__ import annotations
 
 import re
 import tomllib
+from functools import cached_property
 
 from murdjohe import toml_reader
 from murdjohe.documents import Document
@@ -44,14 +45,22 @@ class Plan:
     def __init__(self, document: Document) -> None:
         self.document = document
         self.text = document.text
-        self.masked = toml_reader.masked(self.text)
         self.fault: str | None = None
         self.tables: dict[str, Any] = {}
         try:
             self.tables = toml_reader.tables(self.text)
         except (tomllib.TOMLDecodeError, RecursionError) as fault:
             self.fault = str(fault)
-        self.regions = {section: list(self._regions(section)) for section in SECTIONS}
+
+    @cached_property
+    def masked(self) -> str:
+        """The text with blanks in place of strings and comments."""
+        return toml_reader.masked(self.text)
+
+    @cached_property
+    def regions(self) -> dict[str, list[tuple[int, int]]]:
+        """Where each row of each section begins and ends in the text."""
+        return {section: list(self._regions(section)) for section in SECTIONS}
 
     def _regions(self, section: str) -> Iterator[tuple[int, int]]:
         """Where each row of a section begins and ends in the text."""

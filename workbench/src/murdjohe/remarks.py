@@ -166,6 +166,10 @@ def on_refuted(words: Words, text: str) -> list[str]:
     """Why ranks fall, or no ranks rise, or a plan isn't protected or doesn't agree."""
     if words.form.name == "protected":
         return on_gaps(text)
+    if words.form.name == "protect":
+        from murdjohe import protecting
+
+        return protecting.on_none(text)
     if words.form.name == "agree":
         return on_clash(words, text.split()[1:])
     said = text.split()
@@ -287,7 +291,7 @@ def on_chains(text: str) -> list[str]:
 
 
 def on_nominated(words: Words) -> list[str]:
-    """Which elements `nominate` could give no input: by the program's own count of hops."""
+    """Which elements `nominate` and `protect` could give no input: by the program's own count of hops."""
     return on_hops(core.run(["hops", words.passed[1]]).text.decode("utf-8", "replace"))
 
 
@@ -355,6 +359,10 @@ def on_done(words: Words, text: str) -> list[str]:
         return on_hops(text)
     if name == "nominate":
         return on_nominated(words)
+    if name == "protect":
+        from murdjohe import protecting
+
+        return on_nominated(words) + protecting.on_found(text)
     return on_capture(words, text) if name in ("decode", "pcap-decode") else []
 
 

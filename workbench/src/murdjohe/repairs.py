@@ -10,9 +10,10 @@ from typing import Any
 
 import networkx as nx
 
-from murdjohe import edits, greedy_sets, knots, least_sets
+from murdjohe import edits, greedy_sets, knots, least_sets, nominated
 from murdjohe.edits import Wanted
-from murdjohe.knots import LARGE, Cost, Inputs, Line
+from murdjohe.knots import LARGE, Cost, Inputs
+from murdjohe.nominated import Line
 from murdjohe.plans import Plan
 from murdjohe.reports import Gap
 
@@ -49,7 +50,7 @@ def greedy_of(parts: list[nx.DiGraph], inputs: Inputs, seconds: float) -> frozen
 
 def repair_of(tables: dict[str, Any], seconds: float = SECONDS) -> Repair:
     """The repair of a plan; one without sets where no ring is left. The search takes twice these seconds at most, and little more."""
-    lines = knots.lines_of(tables)
+    lines = nominated.lines_of(tables)
     inputs = knots.inputs_of(tables, lines)
     parts = knots.knots_of(knots.graph_of(lines))
     if not parts:

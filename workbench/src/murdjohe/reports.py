@@ -74,6 +74,14 @@ class Gaps:
 
 
 @dataclass(frozen=True)
+class Protection:
+    """What `protect` says: the text of the plan that was found, or a row for each failure that cuts somebody off in it."""
+
+    text: str | None
+    gaps: tuple[Gap, ...]
+
+
+@dataclass(frozen=True)
 class Agreement:
     """What `agree` says: for how many milliseconds after the last event a network may change, or the lines that clash."""
 
@@ -242,6 +250,12 @@ def gaps(answer: Answer) -> Gaps:
     return Gaps(tuple(Gap(kind, failure or None, int(elements), first) for kind, failure, elements, first in rows))
 
 
+def protection(answer: Answer) -> Protection:
+    if answer.status == core.DONE:
+        return Protection(answer.said, ())
+    return Protection(None, gaps(answer).rows)
+
+
 def agreement(answer: Answer) -> Agreement:
     words = answer.said.split()
     return Agreement(int(words[2]), None) if answer.status == core.DONE else Agreement(None, tuple(words[1:]))
@@ -336,6 +350,7 @@ READERS: dict[str, Callable[[Answer], Any]] = {
     "agree": agreement,
     "hops": hops,
     "nominate": written,
+    "protect": protection,
     "gen": written,
     "encode": written,
     "sim": report,

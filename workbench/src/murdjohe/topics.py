@@ -26,8 +26,8 @@ name = "S"
 at = "A"
 level = "QL-PRC"
 
-Without priorities `murdjohe nominate` gives them. The head may have option = "I" or "II", and version = 2, in which a
-link may have a bundle. The keys of each row, and their limits:
+Without priorities `murdjohe nominate` gives them, and `murdjohe protect` so that no one failure cuts anybody off. The head
+may have option = "I" or "II", and version = 2, in which a link may have a bundle. The keys of each row, and their limits:
 """
 EVENTS = """\
 An event list is a table with commas. `at` is in milliseconds and rises; `value` is empty but for `level`.

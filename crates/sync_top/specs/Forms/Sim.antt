@@ -27,6 +27,8 @@ event_place (refusal.What n) = codes " " ++ decimal n
 event_place (refusal.Target n) = codes " " ++ decimal n
 event_place (refusal.Value n) = codes " " ++ decimal n
 event_place refusal.Limit = []
+event_place (refusal.Name n) = codes " " ++ decimal n
+event_place (refusal.Apart n) = codes " " ++ decimal n
 event_place refusal.NoMemory = []
 
 -- the line on events that are refused

@@ -1,4 +1,4 @@
-use Rattle.std.proofs.Common.{◌≡◌, ◌∙◌, sym, ap, refl, true, false, Ok}
+use Rattle.std.proofs.Common.{ap, Ok}
 use Rattle.event_file.proofs.Taking.{AreTaken-more, rows_refused, rows_given}
 use Rattle.event_file.proofs.reading.take_rows.Goals as goal
 

@@ -1,42 +1,51 @@
-use Rattle.std.proofs.Common.{◌≡◌, ◌<◌, ℕ, List, length, ap, sym, subst, ◌∙◌}
-use Rattle.std.specs.Prelude.{IfOk, MatchOption}
-use Rattle.std.specs.List.{All, range_with_len}
+use Rattle.std.proofs.Common.{◌≡◌, ◌<◌, ℕ, List, [], length, ap, sym, subst, ◌∙◌, arith}
+use Rattle.std.specs.Prelude.{IfOk}
+use Rattle.std.specs.List.{All, AllZip, range_with_len}
 use Rattle.std.proofs.lemmas.Result.{IfOk-weaker}
 use Rattle.sync_topo.specs.WellFormed.{IsWellFormed}
-use Rattle.net_rules.specs.Settling.{IsSettlingBound}
-use Rattle.sync_sweep.specs.Sweep.{AreRows}
+use Rattle.sync_topo.specs.declared.event.Case.{Case}
+use Rattle.sync_topo.specs.Events.{IsCase}
+use Rattle.sync_sweep.specs.Cases.{merged}
+use Rattle.sync_sweep.specs.Outcomes.{AreOutcomes, IsOutcome}
+use Rattle.sync_sweep.specs.Sweep.{failure, AreSweepRows}
 use Rattle.sync_sweep.proofs.BoundLemmas.{IsSettledIfDue, range-below, rows-settled, rows-within}
+use Rattle.sync_sweep.proofs.ChunkLemmas.{zip-length}
+use Rattle.sync_sweep.proofs.RowLemmas.{failures-are, swept}
 use Rattle.sync_sweep.proofs.sweeping.sweep.Goals as goal
 
-pub in_chunks-requires-clause-links : goal.in_chunks-requires-clause-links
-in_chunks-requires-clause-links g c κs within =
-    let plan = c.in_ok-base.base.net.plan in
-    let numbers : c.as_slice.result.now ≡ range_with_len 0 c.links.result = c.as_slice.ensures.value ∙ c.in_ok-links.ensures.numbers in
-    let count : c.links.result ≡ length plan.links = c.links.ensures.count ∙ ap (λ p. length p.links) (sym c.in_ok-base.ensures.plan) in
-    subst (λ (xs : List ℕ). All (λ link. link < length plan.links) xs) (sym numbers)
-    (subst (λ n. All (λ link. link < n) (range_with_len 0 c.links.result)) count (range-below c.links.result))
+pub all_outcomes-requires-clause-cases : goal.all_outcomes-requires-clause-cases
+all_outcomes-requires-clause-cases g c κs within =
+    let plan = c.args.plan.now in
+    subst (λ (xs : List Case). All (IsCase plan) xs) (sym c.as_slice.ensures)
+    (failures-are plan c.args.at (range_with_len 0 c.links.result) c.in_ok-cases.cases
+    (subst (λ n. All (λ link. link < n) (range_with_len 0 c.links.result)) c.links.ensures.count (range-below c.links.result)) c.in_ok-cases.ensures.cases)
 
-pub in_chunks-requires-clause-bound : goal.in_chunks-requires-clause-bound
-in_chunks-requires-clause-bound g c κs within =
-    subst (λ p. MatchOption c.in_ok-bound.bound ((other : ℕ) → ¬ IsSettlingBound p c.args.at other) (IsSettlingBound p c.args.at))
-    (sym c.in_ok-base.ensures.plan) c.in_ok-bound.ensures.bound
+pub rows_of-requires : goal.rows_of-requires
+rows_of-requires g c = record {
+  few =
+      let well = c.links.ensures.well_formed in
+      let many = zip-length (λ case. IsOutcome c.args.plan.now (merged [] case.events) c.args.until) c.as_slice.result.now c.in_ok-outcomes.outcomes c.in_ok-outcomes.ensures.outcomes in
+      omega (arith, well.few_links, c.links.ensures.count, c.in_ok-cases.ensures.count, ap length c.as_slice.ensures, many, ap length c.as_slice-2.ensures);
+}
 
-pub returns-clause-bound : goal.returns-clause-bound
-returns-clause-bound g c =
-    let plan = c.in_ok-base.base.net.plan in
-    let well : IsWellFormed plan = subst IsWellFormed (sym c.in_ok-base.ensures.plan) c.links.ensures.well_formed in
-    IfOk-weaker c.in_chunks.result (AreRows plan c.args.at c.args.until c.as_slice.result.now) (All (IsSettledIfDue c.args.until))
-    (λ rows are. rows-settled plan c.args.at c.args.until c.as_slice.result.now rows
-    (λ events last bound t none is late. c.event_law.ensures.bound plan events last bound t well none is late) are)
-    c.in_chunks.ensures.rows
+pub returns-clause-rows : goal.returns-clause-rows
+returns-clause-rows g c =
+    swept c.args.plan.now c.args.at c.args.until c.links.result c.in_ok-cases.cases c.as_slice-2.result.now c.rows_of.result c.requires.in_order c.links.ensures.count c.in_ok-cases.ensures.cases
+    (rw (c.as_slice-2.ensures, ← c.as_slice.ensures) c.in_ok-outcomes.ensures.outcomes) c.rows_of.ensures.rows c.rows_of.ensures.links
 
 pub returns-clause-of_plan : goal.returns-clause-of_plan
 returns-clause-of_plan g c =
-    let plan = c.in_ok-base.base.net.plan in
-    let numbers : c.as_slice.result.now ≡ range_with_len 0 c.links.result = c.as_slice.ensures.value ∙ c.in_ok-links.ensures.numbers in
-    let all : All (λ link. link < c.links.result) c.as_slice.result.now =
-    subst (λ (xs : List ℕ). All (λ link. link < c.links.result) xs) (sym numbers) (range-below c.links.result) in
-    subst (λ n. IfOk c.in_chunks.result (All (λ row. row.link < n))) c.links.ensures.count
-    (IfOk-weaker c.in_chunks.result (AreRows plan c.args.at c.args.until c.as_slice.result.now) (All (λ row. row.link < c.links.result))
-    (λ rows are. rows-within plan c.args.at c.args.until c.links.result c.as_slice.result.now rows all are)
-    c.in_chunks.ensures.rows)
+    let plan = c.args.plan.now in
+    IfOk-weaker c.rows_of.result (AreSweepRows plan c.args.at c.args.until) (All (λ row. row.link < length plan.links))
+    (λ rows are. rows-within plan c.args.at c.args.until (length plan.links) (range_with_len 0 (length plan.links)) rows (range-below (length plan.links)) are)
+    (swept plan c.args.at c.args.until c.links.result c.in_ok-cases.cases c.as_slice-2.result.now c.rows_of.result c.requires.in_order c.links.ensures.count c.in_ok-cases.ensures.cases
+    (rw (c.as_slice-2.ensures, ← c.as_slice.ensures) c.in_ok-outcomes.ensures.outcomes) c.rows_of.ensures.rows c.rows_of.ensures.links)
+
+pub returns-clause-bound : goal.returns-clause-bound
+returns-clause-bound g c =
+    let plan = c.args.plan.now in
+    IfOk-weaker c.rows_of.result (AreSweepRows plan c.args.at c.args.until) (All (IsSettledIfDue c.args.until))
+    (λ rows are. rows-settled plan c.args.at c.args.until (range_with_len 0 (length plan.links)) rows
+    (λ events last bound t none is late. c.event_law.ensures.bound plan events last bound t c.links.ensures.well_formed none is late) are)
+    (swept plan c.args.at c.args.until c.links.result c.in_ok-cases.cases c.as_slice-2.result.now c.rows_of.result c.requires.in_order c.links.ensures.count c.in_ok-cases.ensures.cases
+    (rw (c.as_slice-2.ensures, ← c.as_slice.ensures) c.in_ok-outcomes.ensures.outcomes) c.rows_of.ensures.rows c.rows_of.ensures.links)

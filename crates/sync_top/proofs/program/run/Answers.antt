@@ -2,6 +2,9 @@ use Rattle.std.proofs.Common.{map}
 use Rattle.std.specs.String.{string_bytes}
 use Rattle.sync_top.proofs.Cuts.{cut-from}
 use Rattle.sync_top.proofs.LoopFree.{loop_free-from, never_loops-from, bounds-from, holds_out-from, rests-from}
+use Rattle.sync_top.proofs.Surviving.{protects-from, found-loop_free, found-survives}
+use Rattle.net_rules.specs.Safety.{IsLoopFree}
+use Rattle.sync_top.specs.Survival.{IsSurvivor}
 use Rattle.sync_top.proofs.program.run.Goals as goal
 
 pub returns-clause-cut : goal.returns-clause-cut
@@ -40,3 +43,17 @@ returns-in-Ok-write_all-clause-agreed_comes_to_rest g c =
     let F = g.F.Folder in
     rests-from (map string_bytes c.args.words.now) (F.contents c.args.folder.now) (F.steady c.args.folder.now) (F.faults c.args.folder.now) (F.faults c.reply_to.new.folder)
     c.in-Ok.reply.status c.in-Ok.reply.text c.in-Ok.ensures.ends
+
+pub returns-in-Ok-write_all-clause-protected_plan_is_loop_free : goal.returns-in-Ok-write_all-clause-protected_plan_is_loop_free
+returns-in-Ok-write_all-clause-protected_plan_is_loop_free g c =
+    let F = g.F.Folder in let K = g.K.Sink in
+    protects-from IsLoopFree found-loop_free (K.written c.args.sink.now) (K.written c.write_all.new.sink)
+    (map string_bytes c.args.words.now) (F.contents c.args.folder.now) (F.steady c.args.folder.now) (F.faults c.args.folder.now) (F.faults c.reply_to.new.folder)
+    c.in-Ok.reply.status c.in-Ok.reply.text c.in-Ok.ensures.ends (rw c.bytes.ensures at c.in-Ok-write_all.ensures.ok)
+
+pub returns-in-Ok-write_all-clause-protected_plan_survives : goal.returns-in-Ok-write_all-clause-protected_plan_survives
+returns-in-Ok-write_all-clause-protected_plan_survives g c =
+    let F = g.F.Folder in let K = g.K.Sink in
+    protects-from IsSurvivor found-survives (K.written c.args.sink.now) (K.written c.write_all.new.sink)
+    (map string_bytes c.args.words.now) (F.contents c.args.folder.now) (F.steady c.args.folder.now) (F.faults c.args.folder.now) (F.faults c.reply_to.new.folder)
+    c.in-Ok.reply.status c.in-Ok.reply.text c.in-Ok.ensures.ends (rw c.bytes.ensures at c.in-Ok-write_all.ensures.ok)

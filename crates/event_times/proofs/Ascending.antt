@@ -1,0 +1,38 @@
+-- Events in order of time, one after another.
+use Rattle.std.proofs.Common.{◌≤◌, ◌<◌, ℕ, zero, suc, List, [], ◌∷◌, length, arith}
+use Rattle.std.specs.Prelude.{slice_index_or}
+use Rattle.std.proofs.lemmas.List.Sorted.{all_adjacent_from_non_decreasing}
+use Rattle.sync_text.specs.Each.{Each}
+use Rattle.sync_text.proofs.Each.{each-all, all-each}
+use Rattle.sync_topo.specs.declared.event.Event.{Event}
+use Rattle.sync_topo.specs.Events.{IsInOrder}
+use Rattle.event_times.proofs.EventTimes.{in-order}
+
+-- no event is later than one behind it
+abbrev pub Ascend : List Event → Type 0
+Ascend [] = Unit {0}
+Ascend (event ∷ events) = Each (λ later. event.at ≤ later.at) events × Ascend events
+
+ascend-by : (events : List Event)
+    → ((i j : ℕ) (other : Event) → i ≤ j → j < length events → (slice_index_or events i other).at ≤ (slice_index_or events j other).at)
+    → Ascend events
+ascend-by [] order = tt
+ascend-by (event ∷ events) order = (
+  each-all (λ later. event.at ≤ later.at) events (λ k other inside. order 0 (suc k) other (omega arith) (omega (arith, inside))),
+  ascend-by events (λ i j other before inside. order (suc i) (suc j) other (omega (arith, before)) (omega (arith, inside))),
+)
+
+pub ascend : (events : List Event) → IsInOrder events → Ascend events
+ascend events ordered = ascend-by events (in-order events ordered)
+
+ascended : (events : List Event) → Ascend events → (i j : ℕ) (other : Event) → i ≤ j → j < length events
+    → (slice_index_or events i other).at ≤ (slice_index_or events j other).at
+ascended [] order i j other before inside = absurd (omega (arith, inside))
+ascended (event ∷ events) order zero zero other before inside = omega arith
+ascended (event ∷ events) order zero (suc j) other before inside = all-each (λ later. event.at ≤ later.at) events order.0 j other (omega (arith, inside))
+ascended (event ∷ events) order (suc i) zero other before inside = absurd (omega (arith, before))
+ascended (event ∷ events) order (suc i) (suc j) other before inside = ascended events order.1 i j other (omega (arith, before)) (omega (arith, inside))
+
+-- and so they are in order
+pub ordered-by : (events : List Event) → Ascend events → IsInOrder events
+ordered-by events order = all_adjacent_from_non_decreasing (λ (event : Event). event.at) events (ascended events order)

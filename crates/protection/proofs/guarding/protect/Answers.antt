@@ -1,0 +1,20 @@
+use Rattle.std.proofs.Common.{sym, ◌∙◌}
+use Rattle.net_rules.proofs.FinalLaws.{loop_free}
+use Rattle.protection.proofs.FoundLaws.{empty-is, gaps-in}
+use Rattle.protection.proofs.guarding.protect.Goals as goal
+
+pub returns-then-is_empty-clause-loop_free : goal.returns-then-is_empty-clause-loop_free
+returns-then-is_empty-clause-loop_free c =
+    let orderly = c.in_ok-found.ensures.orderly in
+    loop_free c.in_ok-found.found orderly.rising.0 orderly.well_formed orderly.rising.1
+
+pub returns-clause-within : goal.returns-clause-within
+returns-clause-within c = gaps-in c.args.plan.now c.in_ok-found.found c.in_ok-gaps.gaps c.in_ok-found.ensures c.in_ok-gaps.ensures.within
+
+pub returns-then-is_empty-clause-protected : goal.returns-then-is_empty-clause-protected
+returns-then-is_empty-clause-protected c =
+    c.in_ok-gaps.ensures.protected.0 (empty-is c.in_ok-gaps.gaps (rw (c.as_slice.ensures) at (sym c.is_empty.ensures ∙ c.if-is_empty.true)))
+
+pub returns-then-is_empty-clause-holds : goal.returns-then-is_empty-clause-holds
+returns-then-is_empty-clause-holds c =
+    c.in_ok-gaps.ensures.holds (empty-is c.in_ok-gaps.gaps (rw (c.as_slice.ensures) at (sym c.is_empty.ensures ∙ c.if-is_empty.true)))

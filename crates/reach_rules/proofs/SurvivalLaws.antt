@@ -1,0 +1,289 @@
+-- A plan that is protected and agrees survives each single failure: who is in reach is timed, and the one that is gone is timed too or takes nothing.
+use Rattle.std.proofs.Common.{◌≡◌, ◌≤◌, ◌<◌, ◌+◌, ◌⊎◌, ℕ, suc, Bool, true, false, not, ◌&&◌, List, [], ◌∷◌, length, Option, None, Some, IsSome, refl, ap, sym, subst, ◌∙◌, inl, inr, arith}
+use Rattle.std.specs.Prelude.{if◌then◌else◌, IsNone}
+use Rattle.std.specs.Option.{option_map_or}
+use Rattle.std.proofs.lemmas.Bool.{true≢false, eqb-true}
+use Rattle.sync_text.specs.Each.{Each}
+use Rattle.sync_ql.specs.declared.levels.Level.{Level}
+use Rattle.sync_ql.specs.Level.{do_not_use_of, IsBetter}
+use Rattle.sync_topo.specs.declared.link.Link.{Link}
+use Rattle.sync_topo.specs.declared.event.Event.{Event}
+use Rattle.sync_topo.specs.declared.input.InputId.{InputId}
+use Rattle.sync_topo.specs.declared.input.InputId.TheVariants.{Line, Source}
+use Rattle.sync_topo.specs.Topology.{Topology}
+use Rattle.sync_topo.specs.WellFormed.{IsWellFormed}
+use Rattle.sync_topo.specs.Lines.{line_input, sender_of, receiver_of, ends_at_b, inputs_of}
+use Rattle.net_rules.specs.Inputs.{IsInputOf}
+use Rattle.net_rules.specs.Signals.{Signals, up_at, esmc_at, planned_level, signals_by}
+use Rattle.net_rules.specs.History.{Levels, settings_of, failed_by, taken_at, level_at, out_at, Obeys}
+use Rattle.net_rules.specs.Settled.{IsSettled}
+use Rattle.net_rules.specs.Settling.{NoneAfter}
+use Rattle.net_rules.specs.Staying.{IsQuietAfter}
+use Rattle.net_rules.proofs.BoundLaws.{runs-out}
+use Rattle.net_rules.proofs.EventLaws.{quiet-after}
+use Rattle.net_rules.proofs.FinalLaws.{obeys-well}
+use Rattle.net_rules.proofs.HistoryLaws.{IsDelayed}
+use Rattle.net_rules.proofs.InputLaws.{inputs-are, each-input}
+use Rattle.net_rules.proofs.NetLaws.{taken-is, not-taken}
+use Rattle.net_rules.proofs.PlanLaws.{HasLink, line-link, sender-within, IsDelayed-well}
+use Rattle.net_rules.proofs.WaitLaws.{RunsOut, up-from, steady-from}
+use Rattle.reach_rules.specs.declared.failure.Failure.{Failure}
+use Rattle.reach_rules.specs.declared.failure.Failure.TheVariants as fails
+use Rattle.reach_rules.specs.Ways.{IsReached}
+use Rattle.reach_rules.specs.Reaching.{says_at, MayComeIn, IsNoWorse, AreOwnWorse}
+use Rattle.reach_rules.specs.Protection.{is_element_gone, IsServing, IsServed, IsInReach, IsProtectedFrom, IsProtected, AreWithoutCommands}
+use Rattle.reach_rules.specs.Agreement.{IsAgreedBound, AreAuto, IsTimed, IsSteadyAt}
+use Rattle.reach_rules.specs.Survival.{AreOfFailure, IsClockSource, AreClocksBetter, IsIdle, AreOthersInReach, IsSurvivedFrom, SurvivesOne, Survives}
+use Rattle.reach_rules.proofs.AgreedLaws.{by, start, starts-in-time, no-worse, takes-some, steady-next, steady-from-bound, settled-where, best-where}
+use Rattle.reach_rules.proofs.FailureLaws.{kept-up, esmc-on, level-planned, no-command}
+use Rattle.reach_rules.proofs.ProtectionLaws.{no-commands, always-off, free-without, stands-among, way-source, floor-lets}
+use Rattle.reach_rules.proofs.ReachLaws.{input-within, ways-map}
+
+-- without commands no element is ever under a forced or a manual switch
+pub auto-without : (plan : Topology) (events : List Event) (out : Levels) (t : ℕ) → AreWithoutCommands events → AreAuto plan (signals_by plan events) out t
+auto-without plan events out t without element within =
+    let off = always-off plan (signals_by plan events) out element (no-commands plan events without element) (suc t) in
+    record { unforced = off.unforced; unswitched = off.unswitched }
+
+-- an element none of whose inputs is up takes nothing once each time has run out
+module _ (plan : Topology) (signals : Signals) (out : Levels) (last wait delay : ℕ) (by : RunsOut plan signals last wait delay)
+    (delayed : IsDelayed plan) (obeys : Obeys plan signals out) (element : ℕ) (idle : IsIdle plan signals last element) where
+  pub idle-takes : (t : ℕ) → last + wait ≤ t → taken_at plan signals out element t ≡ None
+  idle-takes t after = of (taken_at plan signals out element t) refl
+    where
+      of : (o : Option InputId) → taken_at plan signals out element t ≡ o → taken_at plan signals out element t ≡ None
+      of None is = is
+      of (Some input) is =
+          let taken = taken-is plan signals out element t input is in
+          let down : signals.up input t ≡ false = up-from plan signals out last wait delay by delayed obeys input t (omega (arith, after)) ∙ idle input taken.of in
+          let failed : failed_by plan signals input t ≡ true = steady-from plan signals out last wait delay by delayed obeys input t after ∙ ap not down in
+          absurd (true≢false (sym failed ∙ taken.good))
+
+  pub idle-steady : (t : ℕ) → last + wait ≤ t → IsSteadyAt plan signals out t (suc t) element
+  idle-steady t after =
+      let now = idle-takes t after in
+      let next = idle-takes (suc t) (omega (arith, after)) in
+      record {
+        taken = next ∙ sym now;
+        level = not-taken plan signals out element (suc t) next ∙ sym (not-taken plan signals out element t now);
+      }
+
+-- a nominated input of an element that is up
+pub record IsOpen (plan : Topology) (events : List Event) (t element : ℕ) (input : InputId) : Type 0 where
+  pub of : IsInputOf plan element input
+  pub up : up_at events input t ≡ true
+
+-- one stands in a list, or none of the list is up
+abbrev HasOpen : Topology → List Event → ℕ → ℕ → List InputId → Type 0
+HasOpen plan events t element inputs =
+    ((input : InputId) × IsOpen plan events t element input) ⊎ Each (λ input. up_at events input t ≡ false) inputs
+
+one-more-open : (plan : Topology) (events : List Event) (t element : ℕ) (input : InputId) (inputs : List InputId) (up : Bool) → IsInputOf plan element input
+    → up_at events input t ≡ up → HasOpen plan events t element inputs → HasOpen plan events t element (input ∷ inputs)
+one-more-open plan events t element input inputs true is up rest = inl (input, record { of = is; up = up })
+one-more-open plan events t element input inputs false is down (inl found) = inl found
+one-more-open plan events t element input inputs false is down (inr rest) = inr (down, rest)
+
+has-open : (plan : Topology) (events : List Event) (t element : ℕ) (inputs : List InputId) → Each (IsInputOf plan element) inputs
+    → HasOpen plan events t element inputs
+has-open plan events t element [] each = inr tt
+has-open plan events t element (input ∷ inputs) each =
+    one-more-open plan events t element input inputs (up_at events input t) each.0 refl (has-open plan events t element inputs each.1)
+
+-- so an element has one, or none of its inputs is up
+open-or-idle : (plan : Topology) (events : List Event) (t element : ℕ)
+    → ((input : InputId) × IsOpen plan events t element input) ⊎ IsIdle plan (signals_by plan events) t element
+open-or-idle plan events t element = elim (has-open plan events t element (inputs_of plan element) (inputs-are plan element)) [
+  | inl found ↦ inl found
+  | inr none ↦ inr (each-input (λ input. up_at events input t ≡ false) plan element none)
+]
+
+-- no two elements are gone
+one-gone : (failure : Failure) (one other : ℕ) → is_element_gone failure one ≡ true → is_element_gone failure other ≡ true → one ≡ other
+one-gone (fails.Element gone) one other here there = eqb-true one gone here ∙ sym (eqb-true other gone there)
+one-gone fails.Nothing one other here there = cc
+one-gone (fails.Link link) one other here there = cc
+one-gone (fails.Bundle link) one other here there = cc
+one-gone (fails.Source source) one other here there = cc
+
+-- a line ends elsewhere than where it begins
+ends-apart : (plan : Topology) (line : ℕ) → HasLink plan line → sender_of plan line ≡ receiver_of plan line → ⊥
+ends-apart plan line has same =
+    of (ends_at_b line)
+    (sym (ap (λ o. option_map_or (λ (link : Link). if ends_at_b line then link.a else link.b) o 0) has.is)
+    ∙ same
+    ∙ ap (λ o. option_map_or (λ (link : Link). if ends_at_b line then link.b else link.a) o 0) has.is)
+  where
+    of : (b : Bool) → (if b then has.link.a else has.link.b) ≡ (if b then has.link.b else has.link.a) → ⊥
+    of true joined = has.joins.apart joined
+    of false joined = has.joins.apart (sym joined)
+
+module _ (plan : Topology) (failure : Failure) (events : List Event) (worst : Level) (well : IsWellFormed plan) (of_failure : AreOfFailure plan failure events)
+    (better : AreClocksBetter plan worst) (out : Levels) (last : ℕ) where
+  abbrev signals : Signals
+  signals = signals_by plan events
+
+  serving-open : (element : ℕ) (input : InputId) → IsServing plan failure element input → IsOpen plan events last element input
+  serving-open element input serves = record { of = serves.of; up = kept-up plan failure events of_failure input last serves.kept }
+
+  level-is : (source : ℕ) → signals.source_level source last ≡ planned_level plan source
+  level-is source = level-planned plan failure events of_failure source last
+
+  says : (input : InputId) → up_at events input last ≡ true → says_at signals input last ≡ true
+  says (Line line) up = both (up_at events (line_input line.0) last) (esmc_at events line.0 last) up (esmc-on plan failure events of_failure line.0 last)
+    where
+      both : (a b : Bool) → a ≡ true → b ≡ true → (a && b) ≡ true
+      both true b here there = there
+      both false b here there = here
+  says (Source source) up = up
+
+  -- a level no worse than the worst comes in where an input is up
+  comes : (level : Level) → IsNoWorse level worst → (element : ℕ) (input : InputId) → IsOpen plan events last element input
+      → MayComeIn plan signals out level last element input
+  comes level no_worse element input is_open =
+      let stands = stands-among plan element input is_open.of in
+      let free = free-without plan events out (no-command plan failure events of_failure) last element in
+      record {
+        of = is_open.of;
+        says = says input is_open.up;
+        place = stands.0;
+        there = stands.1;
+        unlocked = free.unlocked stands.0;
+        unforced = free.unforced;
+        not_below = floor-lets (settings_of plan element).floor level worst no_worse (better.floors element (input-within plan element input well is_open.of));
+      }
+
+  -- so over a way of such inputs an element is timed
+  timed-by : (source : ℕ) (lines : List ℕ) (element : ℕ) → IsReached plan (IsOpen plan events last) source lines element → IsTimed plan signals out last element
+  timed-by source lines element way =
+      let from = way-source plan (IsOpen plan events last) source lines element way in
+      let clock : IsClockSource plan source = from.1.of.nominated in
+      let is = level-is source in
+      record {
+        source = source;
+        lines = lines;
+        reaches = record {
+          above = subst (λ l. IsBetter l (do_not_use_of l.option)) (sym is) (better.above source clock);
+          way = ways-map plan (IsOpen plan events last) (MayComeIn plan signals out (signals.source_level source last) last)
+              (comes (signals.source_level source last) (subst (λ l. IsNoWorse l worst) (sym is) (better.least source clock))) source lines element way;
+        };
+        worse = subst (λ l. AreOwnWorse plan l) (sym is) (better.own_worse source clock);
+      }
+
+  pub served-timed : (element : ℕ) → IsServed plan failure element → IsTimed plan signals out last element
+  served-timed element (source, lines, way) =
+      timed-by source lines element (ways-map plan (IsServing plan failure) (IsOpen plan events last) serving-open source lines element way)
+
+  -- the source of a timed element is no worse than the worst
+  pub timed-worst : (element : ℕ) (timed : IsTimed plan signals out last element) → IsNoWorse (signals.source_level timed.source last) worst
+  timed-worst element timed =
+      let from =
+      way-source plan (MayComeIn plan signals out (signals.source_level timed.source last) last) timed.source timed.lines element timed.reaches.way in
+      subst (λ l. IsNoWorse l worst) (sym (level-is timed.source)) (better.least timed.source from.1.of.nominated)
+
+  -- where all others are in reach, the element that is gone is timed over an input that is still up, or idle
+  module _ (others : AreOthersInReach plan failure) (protected : IsProtectedFrom plan failure) where
+    kept-sender : (element line : ℕ) → is_element_gone failure element ≡ true → IsInputOf plan element (line_input line)
+        → is_element_gone failure (sender_of plan line) ≡ false
+    kept-sender element line gone of = by (is_element_gone failure (sender_of plan line)) refl
+      where
+        by : (b : Bool) → is_element_gone failure (sender_of plan line) ≡ b → is_element_gone failure (sender_of plan line) ≡ false
+        by false kept = kept
+        by true too =
+            absurd (ends-apart plan line (line-link plan line well of.has) (one-gone failure (sender_of plan line) element too gone ∙ sym of.of_element))
+
+    gone-timed : (element : ℕ) (input : InputId) → is_element_gone failure element ≡ true → IsOpen plan events last element input
+        → IsTimed plan signals out last element
+    gone-timed element (Source source) gone is_open = timed-by source [] element is_open
+    gone-timed element (Line line) gone is_open =
+        let kept = kept-sender element line.0 gone is_open.of in
+        let served = protected (sender_of plan line.0) (others (sender_of plan line.0) (sender-within plan well line.0 is_open.of.has) kept) in
+        timed-by served.0 (line.0 ∷ served.1) element
+        (is_open, ways-map plan (IsServing plan failure) (IsOpen plan events last) serving-open served.0 served.1 (sender_of plan line.0) served.2)
+
+    pub timed-or-idle : (element : ℕ) → element < length plan.elements
+        → IsTimed plan signals out last element ⊎ IsIdle plan signals last element
+    timed-or-idle element within = by (is_element_gone failure element) refl
+      where
+        by : (gone : Bool) → is_element_gone failure element ≡ gone → IsTimed plan signals out last element ⊎ IsIdle plan signals last element
+        by false kept = inl (served-timed element (protected element (others element within kept)))
+        by true gone = elim (open-or-idle plan events last element) [
+          | inl found ↦ inl (gone-timed element found.0 gone found.1)
+          | inr idle ↦ inr idle
+        ]
+
+-- the law
+module _ (plan : Topology) (bound : ℕ) (well : IsWellFormed plan) (is : IsAgreedBound plan bound) (failure : Failure) (protected : IsProtectedFrom plan failure)
+    (worst : Level) (better : AreClocksBetter plan worst) (events : List Event) (of_failure : AreOfFailure plan failure events) (last : ℕ) (none : NoneAfter events last) where
+  abbrev told : Signals
+  told = signals_by plan events
+
+  abbrev out : Levels
+  out = out_at plan (signals_by plan events)
+
+  obeys : Obeys plan told out
+  obeys = obeys-well plan (signals_by plan events) well
+
+  quiet : IsQuietAfter told last
+  quiet = quiet-after plan events last none
+
+  auto : AreAuto plan told out last
+  auto = auto-without plan events out last (no-command plan failure events of_failure)
+
+  timed : (element : ℕ) → IsInReach plan failure element → IsTimed plan told out last element
+  timed element reach = served-timed plan failure events worst well of_failure better out last element (protected element reach)
+
+  begun : (t : ℕ) → last + bound ≤ t → start plan told out last bound is well obeys quiet auto ≤ t
+  begun t after = omega (arith, after, starts-in-time plan told out last bound is well obeys quiet auto)
+
+  takes : (element t : ℕ) → IsInReach plan failure element → last + bound ≤ t → IsSome (taken_at plan told out element t)
+  takes element t reach after =
+      let some = takes-some plan told out last bound is well obeys quiet auto element (timed element reach) t (begun t after) in
+      subst (λ o. IsSome o) (sym some.1) refl
+
+  no-worse-here : (element t : ℕ) → IsInReach plan failure element → last + bound ≤ t → IsNoWorse (level_at plan told out element t) worst
+  no-worse-here element t reach after =
+      let here = timed element reach in
+      omega (
+        arith,
+        no-worse plan told out last bound is well obeys quiet auto element here t (begun t after),
+        timed-worst plan failure events worst well of_failure better out last element here,
+      )
+
+  settles : AreOthersInReach plan failure → (t : ℕ) → last + bound ≤ t → IsSettled plan told out t
+  settles others = settled-where plan told out last bound is well obeys quiet auto rests
+    where
+      rests : (element : ℕ) → element < length plan.elements → (t : ℕ) → start plan told out last bound is well obeys quiet auto ≤ t
+          → IsSteadyAt plan told out t (suc t) element
+      rests element within t after = elim (timed-or-idle plan failure events worst well of_failure better out last others protected element within) [
+        | inl here ↦ steady-next plan told out last bound is well obeys quiet auto element here t after
+        | inr idle ↦
+            idle-steady plan told out last is.wait is.delay (by plan told out last bound is well obeys quiet auto).runs_out (IsDelayed-well plan well) obeys element idle t
+            (omega (arith, after))
+      ]
+
+  pub survived-from : IsSurvivedFrom plan failure events worst (last + bound)
+  survived-from = record {
+    takes = takes;
+    steady = λ element t reach after. steady-from-bound plan told out last bound is well obeys quiet auto element (timed element reach) t after;
+    no_worse = no-worse-here;
+    settled = settles;
+    best = λ others element t reach after. best-where plan told out last bound is well obeys quiet auto t element after (settles others t after) (timed element reach);
+  }
+
+pub survives-one : (plan : Topology) (bound : ℕ) (failure : Failure) → IsWellFormed plan → IsAgreedBound plan bound → IsProtectedFrom plan failure
+    → SurvivesOne plan bound failure
+survives-one plan bound failure well is protected worst better events fits of_failure last none =
+    survived-from plan bound well is failure protected worst better events of_failure last none
+
+pub survives-each : (plan : Topology) (bound : ℕ) → IsWellFormed plan → IsAgreedBound plan bound → IsProtected plan → Survives plan bound
+survives-each plan bound well is protected failure of = survives-one plan bound failure well is (protected failure of)
+
+-- by the bound an element none of whose inputs is up takes nothing
+pub idle-from-bound : (plan : Topology) (signals : Signals) (out : Levels) (last bound element t : ℕ) → IsWellFormed plan → Obeys plan signals out
+    → IsAgreedBound plan bound → IsQuietAfter signals last → IsIdle plan signals last element → last + bound ≤ t → IsNone (taken_at plan signals out element t)
+idle-from-bound plan signals out last bound element t well obeys is quiet idle after =
+    subst (λ o. IsNone o)
+    (sym (idle-takes plan signals out last is.wait is.delay (runs-out plan signals last is.wait is.delay is.greatest_delay is.greatest_wait quiet)
+    (IsDelayed-well plan well) obeys element idle t (omega (arith, after, is.is))))
+    refl

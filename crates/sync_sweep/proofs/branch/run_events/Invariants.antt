@@ -1,0 +1,30 @@
+use Rattle.std.proofs.Common.{◌≡◌, ◌≤◌, ◌+◌, ◌-◌, ℕ, false, List, length}
+use Rattle.sync_topo.specs.declared.event.Event.{Event}
+use Rattle.net_rules.specs.Signals.{events_at}
+use Rattle.event_times.specs.EventTimes.{AreTold, AreWithin}
+use Rattle.sync_net.specs.NetState.{NetState}
+use Rattle.sync_net.specs.Standing.{StandsFor}
+use Rattle.sync_sweep.specs.Branching.{IsBranch}
+use Rattle.sync_sweep.proofs.branch.run_events.Given as goal
+
+-- the network stands for all events of which those that are given stand here; what is left of them
+-- is from the next millisecond on
+abbrev pub invariant-loop-next : goal.invariant-loop-next
+invariant-loop-next g l = record {
+  plan : l.branch.net.plan ≡ l.fn.branch.net.plan;
+  elements : length l.branch.elements.flags ≡ length l.fn.branch.elements.flags;
+  lines : length l.branch.lines.flags ≡ length l.fn.branch.lines.flags;
+  shown : l.branch.shown ≡ l.fn.branch.shown;
+  live : l.branch.net.spent ≡ false;
+  from : l.fn.from ≤ l.next;
+  next : l.branch.net.next ≡ l.next;
+  up_to : l.next ≤ l.until + 1;
+  rest : AreWithin l.fn.branch.net.plan l.next l.until l.rest;
+  left : (t : ℕ) → l.next ≤ t → t ≤ l.until → events_at t l.events ≡ events_at t l.rest;
+  stands : (all : List Event) → AreTold l.fn.branch.net.plan all l.fn.from l.until l.events → StandsFor l.fn.branch.net all l.fn.from
+      → StandsFor l.branch.net all l.next;
+  branch : (base : NetState) → IsBranch base l.fn.branch.net l.fn.branch.elements l.fn.branch.lines → IsBranch base l.branch.net l.branch.elements l.branch.lines;
+}
+
+abbrev pub decreases-loop-next : goal.decreases-loop-next
+decreases-loop-next g l = l.until + 1 - l.next

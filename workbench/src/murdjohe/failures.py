@@ -1,0 +1,160 @@
+"""Failures of a plan as cases, each with a name and what goes down by it: links, bundles, sources, elements, groups, and pairs of these."""
+
+from __future__ import annotations
+
+import csv
+import io
+import re
+from collections.abc import Collection, Iterable, Iterator
+from dataclasses import dataclass
+from itertools import combinations, islice
+from typing import Any
+
+from murdjohe import documents, table_reader
+from murdjohe.mistakes import Mistakes
+from murdjohe.moments import Event
+from murdjohe.table_reader import Columns
+
+LINKS, BUNDLES, SOURCES, ELEMENTS = "links", "bundles", "sources", "elements"
+KINDS = (LINKS, BUNDLES, SOURCES, ELEMENTS)
+COLUMNS = ("case", "at", "what", "target", "value")
+GROUPS = Columns(("name", "links"), ())
+NAME = re.compile(r"[A-Za-z0-9_-]{1,32}", re.ASCII)
+BETWEEN = "--"  # what stands between the names of a pair
+MOST_ROWS = 100_000  # of a table of cases
+
+
+@dataclass(frozen=True)
+class Failure:
+    """What fails: its kind and name, and the links and sources that are down by it."""
+
+    kind: str
+    name: str
+    down: tuple[str, ...]
+
+
+@dataclass(frozen=True)
+class Case:
+    """A case: its name, what fails in it, and the links and sources that go down, in the order of the plan."""
+
+    name: str
+    failures: tuple[Failure, ...]
+    down: tuple[str, ...]
+
+
+def bundles_of(tables: dict[str, Any]) -> dict[str, list[str]]:
+    """The links of each bundle, in the order of the plan."""
+    found: dict[str, list[str]] = {}
+    for link in tables.get("link", []):
+        if "bundle" in link:
+            found.setdefault(link["bundle"], []).append(link["name"])
+    return found
+
+
+def parts_of(tables: dict[str, Any]) -> dict[str, list[str]]:
+    """The links and sources of each element."""
+    found: dict[str, list[str]] = {row["name"]: [] for row in tables.get("element", [])}
+    for link in tables.get("link", []):
+        found[link["a"]].append(link["name"])
+        found[link["b"]].append(link["name"])
+    for source in tables.get("source", []):
+        found[source["at"]].append(source["name"])
+    return found
+
+
+def failures_of(tables: dict[str, Any], kinds: Collection[str]) -> list[Failure]:
+    """The failures of these kinds, in the order in which `protected` has them; those by which nothing goes down are none."""
+    found = []
+    bundles = bundles_of(tables)
+    for link in tables.get("link", []):
+        if LINKS in kinds:
+            found.append(Failure("link", link["name"], (link["name"],)))
+    if BUNDLES in kinds:
+        found += [Failure("bundle", name, tuple(links)) for name, links in bundles.items()]
+    if SOURCES in kinds:
+        found += [Failure("source", row["name"], (row["name"],)) for row in tables.get("source", [])]
+    if ELEMENTS in kinds:
+        found += [Failure("element", name, tuple(parts)) for name, parts in parts_of(tables).items() if parts]
+    return found
+
+
+def groups_of(path: str, text: str, tables: dict[str, Any]) -> list[Failure]:
+    """The groups of links that fail together, of a table of names and links. Raises Wrong with all that is wrong in it."""
+    mistakes = Mistakes()
+    table = table_reader.read(path, text, GROUPS, {}, mistakes)
+    order = {link["name"]: number for number, link in enumerate(tables.get("link", []))}
+    groups: dict[str, set[str]] = {}
+    for row in table.rows:
+        name, links = row.fields.get("name", ""), row.fields.get("links", "").split()
+        if not NAME.fullmatch(name):
+            what = f"{name!r} is no name of a group" if name else "the group has no name"
+            mistakes.add(path, row.line, f"{what}; a name is 1 to 32 of A-Z a-z 0-9 _ -")
+        if not links:
+            mistakes.add(path, row.line, f"the group {name!r} has no links; write their names with blanks between them")
+        for link in links:
+            if link not in order:
+                what = f"links: {link!r} names no link of the plan{documents.hint(link, order)}"
+                mistakes.add(path, row.line, f"{what}; mend the name, or take it out")
+        groups.setdefault(name, set()).update(links)
+    mistakes.end()
+    return [Failure("group", name, tuple(sorted(links, key=order.__getitem__))) for name, links in groups.items()]
+
+
+def in_order(tables: dict[str, Any]) -> dict[str, int]:
+    """The place of each link and source in the plan."""
+    rows = [*tables.get("link", []), *tables.get("source", [])]
+    return {row["name"]: number for number, row in enumerate(rows)}
+
+
+def sets_of(failures: list[Failure], has_pairs: bool) -> Iterator[tuple[Failure, ...]]:
+    """What fails together: each by itself, then each two, but for those of whom one takes down all that the other does."""
+    yield from ((one,) for one in failures)
+    for one, other in combinations(failures, 2) if has_pairs else ():
+        first, second = set(one.down), set(other.down)
+        if not (first <= second or second <= first):
+            yield one, other
+
+
+def cases_of(failures: list[Failure], has_pairs: bool, order: dict[str, int]) -> Iterator[Case]:
+    """A case for each: named as what fails, or by its number where that is too long for a name or was one before."""
+    taken: set[str] = set()
+    for number, together in enumerate(sets_of(failures, has_pairs), start=1):
+        name = BETWEEN.join(one.name for one in together)
+        if not NAME.fullmatch(name) or name in taken:
+            name = f"{together[0].kind}-{number}" if len(together) == 1 else f"pair-{number}"
+        while name in taken:
+            name += "-"
+        taken.add(name)
+        down = {part for one in together for part in one.down}
+        yield Case(name, together, tuple(sorted(down, key=order.__getitem__)))
+
+
+def chosen(cases: Iterable[Case], first: int, last: int | None) -> list[Case]:
+    """The cases from one number to another, both from 1 on."""
+    return list(islice(cases, first - 1, last))
+
+
+def table_of(common: Iterable[Event], cases: Iterable[Case], at: int) -> bytes:
+    """The table: the events that are common to all cases, and what goes down in each, all of it in one millisecond."""
+    out = io.StringIO(newline="")
+    writer = csv.writer(out, lineterminator="\n")
+    writer.writerow(COLUMNS)
+    writer.writerows(("", event.at, event.what, event.target, event.value) for event in common)
+    writer.writerows((case.name, at, "down", part, "") for case in cases for part in case.down)
+    return out.getvalue().encode()
+
+
+def as_data(common: Iterable[Event], cases: Iterable[Case], at: int) -> dict[str, Any]:
+    """The table as JSON has it, with what fails in each case."""
+    return {
+        "at": at,
+        "during": [vars(event) for event in common],
+        "cases": [
+            {
+                "case": case.name,
+                "failures": [{"kind": one.kind, "name": one.name} for one in case.failures],
+                "down": case.down,
+            }
+            for case in cases
+        ],
+    }
