@@ -10,6 +10,7 @@ from bench.compare.frames import frame_line, random_frame, row_line
 from bench.program import TOP
 from bench.reference.plan import Plan, events_text, plan_text, read_plan
 from bench.reference.random_plans import random_events, random_plan
+from bench.reference.study import cases_text
 
 EXAMPLES = TOP / "examples"
 
@@ -243,6 +244,14 @@ def whole_events(chance: random.Random) -> Whole:
     )
 
 
+def whole_cases(chance: random.Random) -> Whole:
+    """A table of cases with the plan that it is of."""
+    plan, text = whole_plan(chance)
+    until = chance.choice([1, 40, 400])
+    cases = cases_text(plan, random_events(chance, plan, until))
+    return Whole(["study", "plan", "{}", str(until)], cases.encode("ascii"), plan, text)
+
+
 def whole_text(chance: random.Random, form: str) -> Whole:
     """Lines of frames or rows, most of them right."""
     option, right = chance.choice(["I", "II"]), chance.random() < 0.8
@@ -282,6 +291,7 @@ READERS: dict[str, Callable[[random.Random], Whole]] = {
     "plan": whole_plan_alone,
     "certificate": whole_certificate,
     "events": whole_events,
+    "cases": whole_cases,
     "frames": lambda chance: whole_text(chance, "decode"),
     "rows": lambda chance: whole_text(chance, "encode"),
     "capture": whole_capture,

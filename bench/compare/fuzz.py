@@ -2,7 +2,7 @@
 
 usage: python3 -m bench.compare.fuzz PROGRAM [--cases N] [--seed N] [--reader NAME ..] [--processes N] [--keep FOLDER]
 
-For each reader (plan, certificate, events, frames, rows, capture, timed-rows) N files, 5000 where it isn't given,
+For each reader (plan, certificate, events, cases, frames, rows, capture, timed-rows) N files, 5000 where it isn't given,
 are made of whole ones: bits are flipped, octets put in, left out and doubled, the file is cut, lines are swapped,
 doubled and left out, words of a file stand in place of others, and numbers at and past the limits in place of
 numbers. The program has to end by itself, with at most a second of processor time, write nothing to standard error,
@@ -31,9 +31,10 @@ from bench.program import program_words, put_files
 from bench.readings.captures import pcap_answer, pcap_bytes, rows_answer
 from bench.readings.plans import rank_answer
 from bench.readings.records import check_answer, events_refusal
-from bench.readings.refused import Unsure
+from bench.readings.refused import Refused, Unsure
 from bench.reference.plan import Plan, read_events
 from bench.reference.report import sim_text
+from bench.reference.study import COLUMNS, read_cases, study_answer
 
 # The exit status, what was written, what was complained of, and the processor time.
 Answer = tuple[int, bytes, bytes, float]
@@ -57,6 +58,7 @@ REPORT = rb"changes\n(\d+,%b,(auto|forced|manual),(none|%b(>%b)?),%b,(locked|hol
 REPORT += rb"(stopped,\d+\n|inputs\n(.+\n)*traces\n(.+\n)*loops\n(.+\n)*settled (yes|no)\n)"
 BAD_FRAMES = rb"bad frames (1[24] \d+|13 \d+ ([4-9]|1[01]))\n"
 # What each status may write, by form, after docs/formats.md.
+STUDY = COLUMNS.encode("ascii") + rb"\n(%b,(yes|no)(,\d+){4},%b,(\d+|none),\d+,(%b)?,\d+\n)*" % (NAME, LEVEL, NAME)
 FORMS = {
     "rank": {0: rb"line,rank\n(%b,\d+\n)*" % LINE, 1: rb"cycle( %b)+\n" % LINE, 3: BAD_PLAN},
     "check": {
@@ -66,6 +68,7 @@ FORMS = {
         4: rb"bad certificate (34|3[5-7] \d+|38 %b)\n" % LINE,
     },
     "sim": {0: REPORT, 11: REPORT, 3: BAD_PLAN, 5: rb"bad events (26|33|2[7-9] \d+|3[0-2] \d+)\n"},
+    "study": {0: STUDY, 3: BAD_PLAN, 5: rb"bad events (26|33|2[7-9] \d+|3[0-2] \d+|5[12] \d+)\n"},
     "decode": {0: rb"(%b)*" % ROW, 6: BAD_FRAMES},
     "encode": {0: rb"([0-9a-f]{120}\n)*", 6: BAD_FRAMES},
     "pcap-decode": {0: rb"(\d+,\d+,%b)*passed,\d+\n" % ROW, 6: rb"bad capture (4[01]|42 \d+)\n"},
@@ -90,6 +93,8 @@ def expected(chance: random.Random, whole: Whole, data: bytes) -> tuple[int, byt
         return status, text.encode("latin-1")
     if form == "sim" and whole.plan:
         return expected_run(chance, whole.plan, int(words[2]), data)
+    if form == "study" and whole.plan:
+        return expected_study(chance, whole.plan, int(words[2]), data)
     if form == "pcap-decode":
         return pcap_answer(words[0], data)
     return pcap_bytes(words[0], data) if form == "pcap-encode" else rows_answer(form, words[0], data)
@@ -104,6 +109,18 @@ def expected_run(chance: random.Random, plan: Plan, until: int, data: bytes) -> 
         return None
     text = data.removeprefix(b"\xef\xbb\xbf").decode("latin-1")
     return 0, sim_text(plan, read_events(plan, text), until).encode("ascii")
+
+
+def expected_study(chance: random.Random, plan: Plan, until: int, data: bytes) -> tuple[int, bytes] | None:
+    """The answer of `study` to a table of cases, none where these aren't run."""
+    try:
+        read_cases(plan, data)
+    except Refused as refused:
+        return 5, str(refused.args[0]).encode("ascii")
+    if chance.random() < 0.95:
+        return None
+    status, text = study_answer(plan, data, until)
+    return status, text.encode("ascii")
 
 
 # ---- runs

@@ -1,11 +1,12 @@
 """Compares the reports of `sim` on random plans and events with those of the reference.
 
-usage: python3 -m bench.compare.sim PROGRAM [--plans N] [--seed N] [--sweep | --cuts | --inspect]
+usage: python3 -m bench.compare.sim PROGRAM [--plans N] [--seed N] [--sweep | --cuts | --study | --inspect]
        [--long | --short] [--keep FOLDER]
 
 The plans have up to 8 elements, with bundles, both options and enhanced levels, and up to 40 events of every word.
 With --sweep the tables of `sweep` are compared, with --cuts those tables with a study of the reference in which each
-link's failure is a case, with --inspect what `inspect` says. With --long wait-to-restore times are up to ten minutes and
+link's failure is a case, with --study those of `study`, where every fourth event is common to the cases and each other
+one belongs to two of them, with --inspect what `inspect` says. With --long wait-to-restore times are up to ten minutes and
 runs go up to 700000, for which the reference takes a minute each; with --short there are none, and runs go up to 4000.
 It needs Python 3.11.
 """
@@ -22,7 +23,7 @@ from bench.reference.inspection import inspection_text
 from bench.reference.plan import Event, Plan, events_text, plan_text, read_events, read_plan
 from bench.reference.random_plans import random_events, random_plan
 from bench.reference.report import sim_text, sweep_text
-from bench.reference.study import cuts_text
+from bench.reference.study import cases_text, cuts_text, study_answer
 
 # A plan, events, and how long it runs.
 SimCase = tuple[Plan, list[Event], int]
@@ -55,6 +56,10 @@ def expected_and_words(form: str, case: SimCase, folder: str) -> tuple[str, list
     if form in ("sweep", "cuts"):
         table = sweep_text if form == "sweep" else cuts_text
         return table(read, until // 3, until), ["sweep", "plan", until // 3, until]
+    if form == "study":
+        cases = cases_text(plan, events)
+        put_files(folder, {"cases": cases})
+        return study_answer(read, cases.encode("ascii"), until)[1], ["study", "plan", "cases", until]
     text = {"sim": sim_text, "inspect": inspection_text}[form]
     return text(read, read_events(read, texts["events"]), until), [form, "plan", "events", until]
 
@@ -66,6 +71,7 @@ def main() -> int:
     forms = words.add_mutually_exclusive_group()
     forms.add_argument("--sweep", action="store_const", const="sweep", default="sim", dest="form")
     forms.add_argument("--cuts", action="store_const", const="cuts", dest="form")
+    forms.add_argument("--study", action="store_const", const="study", dest="form")
     forms.add_argument("--inspect", action="store_const", const="inspect", dest="form")
     lengths = words.add_mutually_exclusive_group()
     lengths.add_argument("--long", action="store_const", const="long", default="usual", dest="length")

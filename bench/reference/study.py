@@ -11,7 +11,7 @@ from bench.levels import LEVELS
 from bench.readings.records import event_refusal, records, targets_of
 from bench.readings.refused import Refused
 from bench.reference.network import Network, closed_walks, trace_of
-from bench.reference.plan import Event, Plan, read_events
+from bench.reference.plan import Event, Plan, events_text, read_events
 
 HEADER = ["case", "at", "what", "target", "value"]
 COLUMNS = "case,settled,locked,holdover,freerun,loops,worst,bound,lost,first,longest"
@@ -99,6 +99,14 @@ def study_answer(plan: Plan, data: bytes, until: int) -> tuple[int, str]:
         return 5, str(refused.args[0])
     rows = [case_row(plan, case.name, merged(plan, cases, case), until) for case in cases.cases]
     return 0, COLUMNS + "\n" + "".join(rows)
+
+
+def cases_text(plan: Plan, events: list[Event]) -> str:
+    """A table of cases of these events: every fourth is common to all, and each other one belongs to two cases."""
+    rows = events_text(plan, events).splitlines()[1:]
+    own = [row for number, row in enumerate(rows) if number % 4]
+    cases = {"": rows[0::4], "c1": own[0::3], "c2": own[1::3], "c3": own[2::3], "all": own}
+    return "".join(["case,at,what,target,value\n", *(f"{name},{row}\n" for name in cases for row in cases[name])])
 
 
 def cuts_text(plan: Plan, at: int, until: int) -> str:

@@ -5,7 +5,7 @@ import random
 import pytest
 
 from bench.reference import runs_by_hand, study
-from bench.reference.plan import Plan, events_text, plan_text, read_plan
+from bench.reference.plan import Plan, events_text, plan_text, read_events, read_plan
 from bench.reference.random_plans import random_events, random_plan
 from bench.reference.report import sweep_text
 
@@ -134,3 +134,16 @@ def test_a_case_is_worked_by_itself() -> None:
             assert int(locked) + int(holdover) + int(freerun) == len(plan.elements)
             assert int(lost) >= int(holdover) + int(freerun) and (first == "") == (lost == "0")
             assert int(longest) < len(plan.elements)
+
+
+def test_cases_are_made_of_events_in_order_of_time() -> None:
+    events = read_events(CHAIN, "at,what,target,value\n" + "".join(f"{at},down,L1,\n" for at in range(9)))
+    text = study.cases_text(CHAIN, events)
+    cases = study.read_cases(CHAIN, text.encode("ascii"))
+    assert [row[0] for row in cases.common] == ["0", "4", "8"]
+    assert [(case.name, [row[0] for row in case.rows]) for case in cases.cases] == [
+        ("c1", ["1", "5"]),
+        ("c2", ["2", "6"]),
+        ("c3", ["3", "7"]),
+        ("all", ["1", "2", "3", "5", "6", "7"]),
+    ]

@@ -17,6 +17,7 @@ FILES = [
     "plan",
     "certificate",
     "events",
+    "cases",
     "report",
     "capture",
     "rows",
@@ -85,6 +86,7 @@ def files(folder: Path) -> Path:
     }
     for name, source in (at | {"capture": "lab/capture.pcap", "rows": "lab/stimulus.rows"}).items():
         (folder / name).write_bytes((EXAMPLES / source).read_bytes())
+    (folder / "cases").write_text("case,at,what,target,value\n,5,down,L1,\na,9,up,L1,\n")
     return folder
 
 

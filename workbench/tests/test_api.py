@@ -87,6 +87,10 @@ def test_tables() -> None:
     cuts = murdjohe.sweep(MESH / "redundant.toml", 60_000, "400s").result.rows
     assert [cut.link for cut in cuts] == ["C", "N1", "S2", "H", "A1", "A2", "A3", "A4"]
     assert all(cut.is_settled and cut.locked == 7 and cut.bound is None for cut in cuts)
+    cases = b"case,at,what,target,value\n" + b"".join(b"%b,60000,down,%b,\n" % (name, name) for name in (b"H", b"N1"))
+    rows = murdjohe.study(MESH / "redundant.toml", cases, "400s").result.rows
+    assert [row.case for row in rows] == ["H", "N1"]
+    assert all(row.is_settled and (row.locked, row.lost, row.first, row.bound) == (7, 0, None, None) for row in rows)
     trial = murdjohe.trial(10).result
     assert (trial.elements, trial.links, trial.top, trial.changes, trial.is_settled) == (10, 17, 8, 23, True)
     assert trial.last == reports.Change(300_310, "E3", "auto", "S3>E3", "QL-PRC", "locked")
@@ -150,6 +154,7 @@ def test_one_element() -> None:
         (3, 18, "link 1", "the bytes:8: ", lambda: murdjohe.rank(PLAN.replace(b'b = "B"', b'b = "C"'))),
         (4, 38, "L1>B", "the bytes: ", lambda: murdjohe.check(PLAN, b"line,rank\n")),
         (5, 28, "1", "the bytes:2: ", lambda: murdjohe.sim(PLAN, b"at,what,target,value\nx,down,L1,\n", 9)),
+        (5, 51, "1", "the bytes:2: ", lambda: murdjohe.study(PLAN, b"case,at,what,target,value\na b,5,down,L1,\n", 9)),
         (6, 13, "1", "the bytes:1: ", lambda: murdjohe.decode("I", b"00\n")),
         (7, None, None, "nosuch: ", lambda: murdjohe.rank("nosuch")),
         (9, None, None, "the bytes: ", lambda: murdjohe.rank(b"#" * 8_388_609)),

@@ -60,7 +60,7 @@ def test_the_example_in_the_help_of_a_picture_runs(folder: Path, name: str) -> N
     assert (folder / lines[-1].rpartition(" ")[2]).read_bytes().startswith(b"<?xml")
 
 
-PLANNERS = ["lint", "diff", "repair", "orders", "export", "apply"]
+PLANNERS = ["lint", "diff", "repair", "orders", "failures", "export", "apply", "why"]
 
 
 @pytest.mark.parametrize("name", PLANNERS)
@@ -87,6 +87,10 @@ def test_the_plan_of_the_help_is_accepted(folder: Path) -> None:
     (folder / "plan.toml").write_text(plan)
     ran = murdjohe("sim", "plan.toml", "-", "20m", folder=folder, stdin=rows.encode() + b"\n")
     assert ran.status == 0, ran.err
+    text = murdjohe("help", "cases").out.decode()
+    cases = text[text.index("case,at") : text.index("\n\n`murdjohe study PLAN")] + "\n"
+    ran = murdjohe("study", "plan.toml", "-", "20m", folder=folder, stdin=cases.encode())
+    assert (ran.status, [row.split(",")[0] for row in ran.out.decode().splitlines()]) == (0, ["case", "cut", "clock"])
 
 
 def test_the_version_names_workbench_program_and_toolchain(core: str) -> None:
@@ -123,6 +127,9 @@ def test_the_version_of_an_installed_program_is_what_stands_beside_it(tmp_path: 
         ),
         (["sim", "p", "e", "86400001"], 'UNTIL is "86400001", which is more than a day'),
         (["sim", "p", "e", "25h"], 'UNTIL is "25h", which is more than a day'),
+        (["study", "p"], "study: CASES is missing, a list of cases, events with the name of a case"),
+        (["study", "p", "c", "1e6"], 'study: UNTIL is "1e6"; it is a time up to a day'),
+        (["study", "p", "", "9"], "study: CASES is empty; it is the name of a file"),
         (["sweep", "p", "400000", "60000"], 'AT, "400000", is after UNTIL, "60000"'),
         (["sweep", "p", "10m", "60s"], 'AT, "10m", is after UNTIL, "60s"'),
         (["decode", "i", "f"], 'OPTION is "i"; it is I or II'),
@@ -209,6 +216,10 @@ def completed(*words: str) -> list[str]:
 
 def test_words_are_completed() -> None:
     assert completed("swe") == ["plain,sweep"]
+    assert completed("stu") == ["plain,study"]
+    assert completed("study", "ring/plan.toml", "ring/ev") == ["file,ring/ev"]
+    assert completed("study", "ring/plan.toml", "ring/events.csv", "") == []
+    assert completed("help", "cas") == ["plain,cases"]
     assert {"plain,prio-check", "plain,prio-rank", "plain,prio-sim"} == set(completed("prio-"))
     assert completed("check", "ring/pl") == ["file,ring/pl"]
     assert completed("decode", "I") == ["plain,I", "plain,II"]

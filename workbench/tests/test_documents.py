@@ -26,6 +26,7 @@ def test_each_number_of_the_program_has_a_meaning_once() -> None:
         "plan": PLAN,
         "certificate": set(range(34, 39)),
         "events": set(range(26, 34)),
+        "cases": {26, 27, 51, 52},
         "frames": {12, 13, 14},
         "capture": {40, 41, 42, 14},
         "node": set(range(43, 51)),
@@ -41,9 +42,18 @@ def test_each_number_of_the_program_has_a_meaning_once() -> None:
         assert all(entry[key] for entry in tables[table] for key in keys)
 
 
+def test_a_list_of_cases_has_the_numbers_of_an_event_list_and_more() -> None:
+    for number in range(28, 34):
+        assert refusals.meaning("cases", number) == refusals.meaning("events", number) != {}
+    for number in (26, 27):
+        assert refusals.says("cases", number) != refusals.says("events", number)
+    for number in (51, 52):
+        assert refusals.meaning("cases", number) and not refusals.meaning("events", number)
+
+
 def test_the_forms_are_those_of_the_formats() -> None:
     text = (TOP / "docs" / "formats.md").read_text(encoding="utf-8")
-    table = text[text.index("| words | what it does |") : text.index("PLAN, CERT, EVENTS and FILE")]
+    table = text[text.index("| words | what it does |") : text.index("PLAN, CERT, EVENTS, CASES and FILE")]
     written = re.findall(r"^\| `([^`]+)` \|", table, re.M)
     assert sorted(form.synopsis for form in forms.FORMS.values()) == sorted(written)
 

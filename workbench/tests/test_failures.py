@@ -112,6 +112,38 @@ def test_names_are_apart_and_no_longer_than_names_are() -> None:
     assert all(failures.NAME.fullmatch(name) for name in names)
 
 
+names = st.lists(
+    st.text("ab-", min_size=1, max_size=6) | st.sampled_from(["pair-4", "pair-5", "link-2", "-", "--"]), max_size=7
+)
+
+
+@given(names, names)
+def test_names_of_cases_are_those_of_a_list_of_all_names(links: list[str], groups: list[str]) -> None:
+    """A plain way to name cases keeps all names that were given; only some of them have to be kept."""
+    found = [failures.Failure("link", name, (f"{number}",)) for number, name in enumerate(dict.fromkeys(links))]
+    found += [failures.Failure("group", name, (f"g{number}",)) for number, name in enumerate(dict.fromkeys(groups))]
+    taken: set[str] = set()
+    wanted = []
+    for number, together in enumerate(failures.sets_of(found, True), start=1):
+        name = "--".join(one.name for one in together)
+        if len(name) > 32 or name in taken:
+            name = f"{together[0].kind}-{number}" if len(together) == 1 else f"pair-{number}"
+        while name in taken:
+            name += "-"
+        taken.add(name)
+        wanted.append(name)
+    order = {part: number for number, part in enumerate(part for one in found for part in one.down)}
+    assert [case.name for case in failures.cases_of(found, True, order)] == wanted
+    assert failures.count_of(found, True) == len(wanted)
+
+
+def test_of_millions_of_pairs_few_names_are_kept() -> None:
+    found = [failures.Failure("link", f"L{number}", (f"L{number}",)) for number in range(60)]
+    kept = failures.CaseNames(found)
+    given = {kept.name_of(number, together) for number, together in enumerate(failures.sets_of(found, True), 1)}
+    assert len(given) == 60 * 61 // 2 and len(kept.taken) == 60
+
+
 @settings(max_examples=max(30, CASES), deadline=None)
 @given(st.integers(0, 2**32))
 def test_random_plans_have_a_case_for_each_failure(seed: int) -> None:

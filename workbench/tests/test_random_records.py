@@ -98,6 +98,7 @@ def test_certificates_without_a_line(folder: Path) -> None:
 HEADERS: dict[str, tuple[str, list[str], int, str]] = {
     "certificate.csv": ("check", [], 34, "line,rank"),
     "events.csv": ("sim", ["9"], 26, "at,what,target,value"),
+    "cases.csv": ("study", ["9"], 26, "case,at,what,target,value"),
 }
 
 
@@ -198,6 +199,67 @@ def test_events(folder: Path, number: int) -> None:
         (folder / "events.csv").write_bytes(text.encode())
         broken = (number, places[at], words)
         refused("sim", ["plan.toml", "events.csv", "10"], "events.csv", broken, rf"bad events N {at}")
+
+
+def case_rows(chance: random.Random, plan: RandomPlan) -> list[tuple[str, str]]:
+    """Rows of events with their cases: common ones, and those of two cases or more, each in order of time."""
+    names = ["", *chance.sample(["a", "b-1", "C_2", "cut" * 10, "7"], chance.randint(2, 4))]
+    return [(name, row) for name in names for row in event_rows(chance, plan)[1:]]
+
+
+def broken_case(chance: random.Random, plan: RandomPlan, rows: list[tuple[str, str]], number: int) -> tuple[int, str]:
+    """Breaks a row of cases, which count from 0 here: which it is, and words of the sentence."""
+    if number == 51:
+        at = chance.choice([place for place, (name, _) in enumerate(rows) if name])
+        name, words = chance.choice(WRONG_CASES)
+        rows[at] = (name, rows[at][1])
+        return at, f"the name of its case has {words}; a name is "
+    if number == 52:
+        name = chance.choice([name for name, _ in rows if name not in ("", rows[-1][0])])
+        rows.append((name, rows[-1][1]))
+        return len(rows) - 1, f'the case "{name}" stood above, up to line '
+    name = chance.choice(rows)[0]
+    first = next(place for place, (other, _) in enumerate(rows) if other == name)
+    own = ["at,what,target,value", *(row for other, row in rows if other == name)]
+    at, words = broken_event(chance, plan, own, number)
+    rows[first + at - 1] = (name, own[at])
+    return first + at - 1, words
+
+
+WRONG_CASES = [("a b", "the sign ' '"), ("L1>B", "the sign '>'"), ("M.1", "a dot"), ("x" * 33, "33 signs")]
+
+
+def with_header(chance: random.Random, rows: list[tuple[str, str]]) -> tuple[str, list[int]]:
+    """A list of cases with blank lines between its rows, and the line of each row."""
+    text, places = with_blank_lines(chance, ["case,at,what,target,value", *(f"{name},{row}" for name, row in rows)])
+    return text, places[1:]
+
+
+@pytest.mark.parametrize("number", [28, 29, 30, 31, 32, 51, 52])
+def test_cases(folder: Path, number: int) -> None:
+    for seed in range(CASES):
+        chance = random.Random(f"cases {number} {seed}")
+        plan, _ = ranked_plan(chance, folder)
+        rows = case_rows(chance, plan)
+        at, words = broken_case(chance, plan, rows, number)
+        text, places = with_header(chance, rows)
+        (folder / "cases.csv").write_bytes(text.encode())
+        broken = (number, places[at], words)
+        refused("study", ["plan.toml", "cases.csv", "10"], "cases.csv", broken, rf"bad events N {at + 1}")
+
+
+def test_common_events_below_a_case(folder: Path) -> None:
+    for seed in range(CASES):
+        chance = random.Random(f"cases below {seed}")
+        plan, _ = ranked_plan(chance, folder)
+        rows = case_rows(chance, plan)
+        at = chance.choice([place for place, (name, _) in enumerate(rows) if place and rows[place - 1][0]])
+        rows[at] = ("", rows[at][1])
+        text, places = with_header(chance, rows)
+        (folder / "cases.csv").write_bytes(text.encode())
+        words = f'it has no case, and stands below a row of case "{rows[at - 1][0]}", line {places[at - 1]}; '
+        broken = (51, places[at], words)
+        refused("study", ["plan.toml", "cases.csv", "10"], "cases.csv", broken, rf"bad events N {at + 1}")
 
 
 def test_events_past_the_limit(folder: Path) -> None:

@@ -200,6 +200,15 @@ def test_a_sweep_names_the_cuts_and_warns_of_locked() -> None:
     assert said("sweep", "mesh/redundant.toml", "60s", "400s")[0] == "no cut of 8 leaves anybody in holdover"
 
 
+def test_a_study_names_the_cases_that_the_sweep_has_as_cuts() -> None:
+    cases = "case,at,what,target,value\n" + "".join(f"{link},60000,down,{link},\n" for link in ("A4", "C", "N1", "A1"))
+    few = "of 4 cases leave elements without a source (how many, most first): "
+    assert said("study", "mesh/plan.toml", "-", "400s", stdin=cases) == [f"3 {few}N1 (2), A4 (1), A1 (1)"]
+    none = ["4 of 4 events are after 59999, and had no effect", "no case of 4 leaves anybody without a source"]
+    assert said("study", "mesh/plan.toml", "-", "59999", stdin=cases) == none
+    assert said("study", "mesh/redundant.toml", "-", "400s", stdin=cases) == none[1:]
+
+
 def test_a_run_says_who_follows_no_clock_and_that_it_goes_on(folder: Path) -> None:
     events = "at,what,target,value\n60000,down,N1,\n9000000,up,N1,\n"
     lines = said("sim", "mesh/plan.toml", "-", "700s", stdin=events)

@@ -26,6 +26,8 @@ def sentence(folder: Path, form: str, *files: str | bytes, more: tuple[str, ...]
     [
         ("line,rank\nL1>B,0\n", "one:1: `line,rank`: it is a certificate, and no plan"),
         ("at,what,target,value\n", "one:1: `at,what,target,value`: it is an event list, and no plan"),
+        ("case,at,what,target,value\n", "one:1: `case,at,what,target,value`: it is a list of cases, and no plan"),
+        ("case,settled,locked\n", "one:1: `case,settled,locked`: it is a table of `study`, and no plan"),
         ("bad plan 25 18 link 7\n", "it is the refusal `bad plan 25 18 link 7` of an earlier command, whose own file"),
         ("cycle L1>B L2>C L3>A\n", "it is the answer of a `rank` that found a ring"),
         ("name;a;b\nL1;A;B\n", "it is a table, and no plan; `murdjohe import` makes a plan of tables"),
@@ -149,11 +151,15 @@ def test_a_link_without_a_priority_has_the_line_of_its_row(folder: Path) -> None
     assert f", one:{at};" in sentence(folder, "check", RING, "line,rank\nL1>A,0\n")
 
 
-@pytest.mark.parametrize("form", ["check", "sim", "prio-check", "prio-sim"])
+CERTIFICATE, EVENTS = ("line,rank\n", "a certificate"), ("at,what,target,value\n", "an event list")
+BESIDE = {"check": CERTIFICATE, "prio-check": CERTIFICATE, "sim": EVENTS, "prio-sim": EVENTS}
+BESIDE["study"] = ("case,at,what,target,value\n", "a list of cases")
+
+
+@pytest.mark.parametrize("form", list(BESIDE))
 def test_swapped_files_are_told(folder: Path, form: str) -> None:
-    other = "line,rank\n" if form.endswith("check") else "at,what,target,value\n"
+    other, kind = BESIDE[form]
     more = () if form.endswith("check") else ("9",)
-    kind = "a certificate" if form.endswith("check") else "an event list"
     end = "`" if form.endswith("check") else " ..`"
     told = sentence(folder, form, other, RING, more=more)
     assert told == f"one is {kind}, and two is a plan: the two words are swapped; write `murdjohe {form} two one{end}"
@@ -193,7 +199,9 @@ def test_which_file_is_too_long(folder: Path) -> None:
 @pytest.mark.parametrize(
     "data", [b"", b"\0" * 30, b"\xff" * 300, b'"' * 99, b"[[" * 5000, b"=" * 80, bytes(range(256)) * 40]
 )
-@pytest.mark.parametrize("form", ["rank", "check", "sim", "decode", "encode", "pcap-decode", "pcap-encode", "node"])
+@pytest.mark.parametrize(
+    "form", ["rank", "check", "sim", "study", "decode", "encode", "pcap-decode", "pcap-encode", "node"]
+)
 def test_no_bytes_end_in_a_trace(folder: Path, form: str, data: bytes) -> None:
     (folder / "plan").write_text(RING)
     (folder / "file").write_bytes(data)
@@ -201,6 +209,7 @@ def test_no_bytes_end_in_a_trace(folder: Path, form: str, data: bytes) -> None:
         "rank": ["file"],
         "check": ["plan", "file"],
         "sim": ["plan", "file", "9"],
+        "study": ["plan", "file", "9"],
         "node": ["plan", "A", "file", "9"],
     }
     ran = murdjohe(form, *words.get(form, ["I", "file"]), folder=folder)

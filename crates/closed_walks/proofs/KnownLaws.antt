@@ -4,7 +4,7 @@ use Rattle.std.specs.Prelude.{slice_set, slice_get}
 use Rattle.std.proofs.Math.Decide.{dec_lt}
 use Rattle.std.proofs.lemmas.Bool.{true≢false}
 use Rattle.std.proofs.lemmas.Bool.Decides.{eqb_tells}
-use Rattle.std.proofs.lemmas.List.{get_or-set_same, get_or-set_other, length-set, length-replicate}
+use Rattle.std.proofs.lemmas.List.{get_or-set_same, get_or-set_other, length-set, length-replicate, length-map}
 use Rattle.std.proofs.lemmas.Option.{none-some, same_Some}
 use Rattle.sync_text.proofs.Each.{Each-append}
 use Rattle.sync_text.specs.Each.{Each}
@@ -24,9 +24,12 @@ use Rattle.closed_walks.specs.declared.traced.End.{End}
 use Rattle.closed_walks.specs.declared.traced.End.TheVariants as end_as
 use Rattle.closed_walks.specs.declared.traced.Ending.{Ending}
 use Rattle.closed_walks.specs.Taking.{taken_in_list, AreTaken}
-use Rattle.closed_walks.specs.Traces.{end_of, EndsSo}
-use Rattle.closed_walks.specs.Following.{Follows, IsPassed, is_met, AreMet}
+use Rattle.closed_walks.specs.Traces.{end_of, EndsSo, AreFound}
+use Rattle.closed_walks.specs.declared.following.Next.{Next}
+use Rattle.closed_walks.specs.declared.following.Next.TheVariants.{On, Over}
+use Rattle.closed_walks.specs.Following.{next_of, Follows, IsPassed, is_met, AreMet}
 use Rattle.closed_walks.specs.Known.{known_at, IsKnown, AreKnown, IsOnLoop, IsEndAt, IsMoreKnown}
+use Rattle.closed_walks.proofs.FollowLaws.{trace-begins, takes-on, ends-over}
 use Rattle.closed_walks.proofs.Rings.{comes-back, loop-ends, loop-next, loop-takes, rotated}
 
 -- what is taken is an input of the element's own
@@ -501,3 +504,68 @@ pub each-ends : (plan : Topology) (taken : Taken) (endings : List Ending) (known
     → (element : ℕ) (ending : Ending) → slice_get endings element ≡ Some ending → EndsSo plan taken element ending
 each-ends plan taken endings known are is element ending at =
     subst (λ (o : Option Ending). IfSome o (EndsSo plan taken element)) (each-known endings known element ending is at) (are.holds element)
+
+pub find-known : (endings : List Ending) (known : List (Option Ending)) (element : ℕ) (ending : Ending) → map Some endings ≡ known → known_at known element ≡ Some ending
+    → slice_get endings element ≡ Some ending
+find-known endings known element ending is at = there endings element (ap (λ xs. known_at xs element) is ∙ at)
+  where
+    there : (xs : List Ending) (i : ℕ) → known_at (map Some xs) i ≡ Some ending → slice_get xs i ≡ Some ending
+    there [] i none = absurd (none-some ending none)
+    there (x ∷ xs) zero here = here
+    there (x ∷ xs) (suc i) later = there xs i later
+
+-- all are known
+all-given : (known : List (Option Ending)) → ((k : ℕ) → k < length known → IsKnown known k) → (endings : List Ending) × (map Some endings ≡ known)
+all-given [] all = ([], refl)
+all-given (None ∷ known) all = absurd (true≢false (sym (all 0 (omega arith))))
+all-given (Some ending ∷ known) all =
+    let rest = all-given known (λ k within. all (suc k) (omega (arith, within))) in
+    (ending ∷ rest.0, ap (λ xs. Some ending ∷ xs) rest.1)
+
+pub all-found : (plan : Topology) (taken : Taken) (known : List (Option Ending)) → AreKnown plan taken known → ((k : ℕ) → k < length plan.elements → IsKnown known k) → AreFound plan taken known
+all-found plan taken known are all =
+    let given = all-given known (λ k within. all k (let count = are.count in omega (arith, within, count))) in
+    record {
+      endings = given.0;
+      is = given.1;
+      are = record {
+        count = sym (length-map given.0 Some) ∙ ap length given.1 ∙ are.count;
+        each = each-ends plan taken given.0 known are given.1;
+      };
+    }
+
+pub found-each : (plan : Topology) (taken : Taken) (known : List (Option Ending)) (endings : List Ending) → AreFound plan taken known → map Some endings ≡ known
+    → (element : ℕ) (ending : Ending) → slice_get endings element ≡ Some ending → EndsSo plan taken element ending
+found-each plan taken known endings found is element ending at =
+    found.are.each element ending (find-known found.endings known element ending found.is (each-known endings known element ending is at))
+
+pub found-known : (plan : Topology) (taken : Taken) (known : List (Option Ending)) → AreFound plan taken known → (k : ℕ) → k < length known → IsKnown known k
+found-known plan taken known found k within =
+    subst (λ xs. IsKnown xs k) found.is (there found.endings k (let count = length-map found.endings Some in let same = ap length found.is in omega (arith, within, count, same)))
+  where
+    there : (xs : List Ending) (i : ℕ) → i < length xs → IsKnown (map Some xs) i
+    there [] i none = absurd (omega (arith, none))
+    there (x ∷ xs) zero inside = refl
+    there (x ∷ xs) (suc i) inside = there xs i (omega (arith, inside))
+
+pub found-count : (plan : Topology) (taken : Taken) (known : List (Option Ending)) (endings : List Ending) → AreFound plan taken known → map Some endings ≡ known
+    → length endings ≡ length plan.elements
+found-count plan taken known endings found is =
+    sym (length-map endings Some) ∙ ap length (is ∙ sym found.is) ∙ length-map found.endings Some ∙ found.are.count
+
+-- an element that takes no line
+pub over-here : (plan : Topology) (taken : Taken) (element : ℕ) (end : End) (next : Next) → next ≡ next_of (taken element) element → next ≡ Over end
+    → EndsSo plan taken element (record { lines = 0; end = end })
+over-here plan taken element end next is over =
+    ([], refl, ends-over plan taken [] element [] [] element end next (trace-begins plan taken [] element [] (λ k. (λ met. absurd (true≢false (sym met)), λ one. absurd one))) refl is over)
+
+pub over-none : (taken : Taken) (element line : ℕ) (end : End) (next : Next) → next ≡ next_of (taken element) element → next ≡ Over end → taken element ≡ Some (line_input line) → ⊥
+over-none taken element line end next is over takes = never (record { 0 = line }) (sym (is ∙ ap (λ o. next_of o element) takes) ∙ over)
+  where
+    never : (l : LineId) → On l ≡ Over end → ⊥
+    never l same = cc
+
+pub on-line : (plan : Topology) (taken : Taken) (element other : ℕ) (line : LineId) (next : Next) → next ≡ next_of (taken element) element → next ≡ On line → taken element ≡ Some (line_input other)
+    → other ≡ line.0
+on-line plan taken element other line next is on takes =
+    line_input-same other line.0 (same_Some (line_input other) (line_input line.0) (sym takes ∙ takes-on (taken element) element line next is on))

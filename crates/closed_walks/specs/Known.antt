@@ -1,4 +1,4 @@
--- Private to this crate: the endings that are known, as a list by the number of the element.
+-- The endings that are known, as a list by the number of the element.
 use Rattle.std.specs.Prelude.{◌≡◌, ◌⊎◌, ℕ, [], List, length, slice_index_or, Option, None, Some, is_some, IsTrue, IfSome}
 use Rattle.sync_topo.specs.Topology.{Topology}
 use Rattle.sync_topo.specs.Lines.{line_input, sender_of}

@@ -1,5 +1,5 @@
 -- Traces as they are answered.
-use Rattle.std.specs.Prelude.{◌≡◌, ℕ, List, length, Some, slice_get}
+use Rattle.std.specs.Prelude.{◌≡◌, ℕ, List, length, map, Option, Some, slice_get}
 use Rattle.sync_topo.specs.Topology.{Topology}
 use Rattle.net_rules.specs.Walks.{Taken, TraceEnd, at_source, at_clock, at_loop, IsTrace}
 use Rattle.closed_walks.specs.declared.traced.Ending.{Ending}
@@ -21,3 +21,9 @@ EndsSo plan taken element ending =
 pub record AreEndings (plan : Topology) (taken : Taken) (endings : List Ending) : Type 0 where
   pub count : length endings ≡ length plan.elements
   pub each : (element : ℕ) (ending : Ending) → slice_get endings element ≡ Some ending → EndsSo plan taken element ending
+
+-- so they end, as a list by the number of the element
+pub record AreFound (plan : Topology) (taken : Taken) (known : List (Option Ending)) : Type 0 where
+  pub endings : List Ending
+  pub is : map Some endings ≡ known
+  pub are : AreEndings plan taken endings

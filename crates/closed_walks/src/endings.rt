@@ -7,11 +7,11 @@ ghost use Rattle.sync_topo.specs.WellFormed.{IsWellFormed};
 ghost use Rattle.net_rules.specs.GoingBack.{ComesBack};
 ghost use Rattle.closed_walks.specs.declared.traced.Ending.{Ending};
 ghost use Rattle.closed_walks.specs.Taking.{taken_in_list, AreTaken};
-ghost use Rattle.closed_walks.specs.Traces.{EndsSo};
+ghost use Rattle.closed_walks.specs.Traces.{EndsSo, AreFound};
 ghost use Rattle.closed_walks.specs.Following.{Follows, is_met};
 ghost use Rattle.closed_walks.specs.Known.{known_at, IsKnown, AreKnown, IsEndAt, IsMoreKnown};
 
-use crate::following::{Next, follow, next_of, no_marks};
+use crate::following::{Next, follow, next_of};
 use crate::traced::{End, Ending};
 use std::alloc::Global;
 use sync_text::{NoMemory, Rows};
@@ -100,25 +100,30 @@ fn note_end(
     }
 }
 
-// Notes how the trace of an element ends, by that of the one that it takes its timing from.
-fn note_before(plan: &Plan, taken: &[Option<InputId>], known: &mut [Option<Ending>], element: u32)
+// Notes how the trace of an element ends where it takes no line, or that of the one that it takes its
+// timing from is known.
+fn note_next(plan: &Plan, taken: &[Option<InputId>], known: &mut [Option<Ending>], element: u32)
     requires taken { AreTaken plan.now taken.now }
     requires element { element < length plan.now.elements }
     requires known { AreKnown plan.now (taken_in_list taken.now) known.old }
-    ensures { (line : ℕ) → taken_in_list taken.now element ≡ Some (line_input line) →
-        IsKnown known.old (sender_of plan.now line) →
-        IsMoreKnown plan.now (taken_in_list taken.now) known.old known.new
-        × IsKnown known.new element }
+    ensures more { IsMoreKnown plan.now (taken_in_list taken.now) known.old known.new }
+    ensures element { (line : ℕ) → taken_in_list taken.now element ≡ Some (line_input line) →
+        IsKnown known.old (sender_of plan.now line) → IsKnown known.new element }
 {
     let _elements = plan.elements();
     if known[element as usize].is_some() {
         return;
     }
-    if let Some(ending) = known[taken_from(plan, taken, element) as usize] {
-        known[element as usize] = Some(Ending {
-            lines: ending.lines + 1,
-            end: ending.end,
-        });
+    match next_of(taken[element as usize], element) {
+        Next::Over(end) => known[element as usize] = Some(Ending { lines: 0, end }),
+        Next::On(line) => {
+            if let Some(ending) = known[plan.from(line) as usize] {
+                known[element as usize] = Some(Ending {
+                    lines: ending.lines + 1,
+                    end: ending.end,
+                });
+            }
+        }
     }
 }
 
@@ -140,7 +145,7 @@ fn note_back(
 {
     let mut lines = lines;
     while let Some(line) = lines.pop() {
-        note_before(plan, taken, known, plan.to(line));
+        note_next(plan, taken, known, plan.to(line));
     }
 }
 
@@ -168,6 +173,79 @@ fn resolve(
     Ok(())
 }
 
+// Notes how the traces end of the elements of a list, one after another, as far as what comes before
+// them is known; those that are known are marked.
+fn note_in_order(
+    plan: &Plan,
+    taken: &[Option<InputId>],
+    order: &[u32],
+    met: &mut [bool],
+    known: &mut [Option<Ending>],
+)
+    requires taken { AreTaken plan.now taken.now }
+    requires marks { length met.old ≡ length plan.now.elements }
+    requires known { AreKnown plan.now (taken_in_list taken.now) known.old }
+    requires met { (k : ℕ) → is_met met.old k ≡ true → IsKnown known.old k }
+    ensures marks { length met.new ≡ length met.old }
+    ensures known { AreKnown plan.now (taken_in_list taken.now) known.new }
+    ensures met { (k : ℕ) → is_met met.new k ≡ true → IsKnown known.new k }
+{
+    let elements = plan.elements();
+    for element in order {
+        if *element < elements {
+            note_next(plan, taken, known, *element);
+            met[*element as usize] = known[*element as usize].is_some();
+        }
+    }
+}
+
+// So many elements, none of which is marked, and of none of which the ending is known.
+fn forget(count: u32, met: &mut Vec<bool>, known: &mut Vec<Option<Ending>>) -> Result<(), NoMemory>
+    ensures met { OnOk result (met.new.items ≡ replicate count false) }
+    ensures known { OnOk result (known.new.items ≡ replicate count None) }
+{
+    met.clear();
+    known.clear();
+    met.resize(count as usize, false)?;
+    known.resize(count as usize, None)?;
+    Ok(())
+}
+
+/// Finds how the trace of each element ends, by the element's number, in memory that serves again.
+///
+/// It takes time by the number of elements and lines of the plan, however long the traces are. It is
+/// quick where most elements come in the order behind those that they take their timing from; any list
+/// serves as an order. What stood in the two lists is forgotten.
+/// `NoMemory` comes for want of memory alone. This project's own.
+pub fn find_endings(
+    alloc: Global,
+    plan: &Plan,
+    taken: &[Option<InputId>],
+    order: &[u32],
+    met: &mut Vec<bool>,
+    known: &mut Vec<Option<Ending>>,
+) -> Result<(), NoMemory>
+    requires taken { AreTaken plan.now taken.now }
+    ensures found { OnOk result (AreFound plan.now (taken_in_list taken.now) known.new.items) }
+    ensures well_formed { IsWellFormed plan.now }
+{
+    forget(plan.elements(), met, known)?;
+    note_in_order(plan, taken, order, met.as_mut_slice(), known.as_mut_slice());
+    for element in 0..plan.elements() {
+        if !met[element as usize] {
+            resolve(
+                alloc,
+                plan,
+                taken,
+                met.as_mut_slice(),
+                known.as_mut_slice(),
+                element,
+            )?;
+        }
+    }
+    Ok(())
+}
+
 /// How the trace of each element ends, by the element's number: of how many lines it is, and where.
 ///
 /// It takes time by the number of elements and lines of the plan, however long the traces are.
@@ -184,29 +262,10 @@ pub fn endings_of(
         EndsSo plan.now (taken_in_list taken.now) element ending) }
     ensures well_formed { IsWellFormed plan.now }
 {
-    let mut met = no_marks(alloc, plan.elements())?;
-    let mut known = none_known(alloc, plan.elements())?;
-    for element in 0..plan.elements() {
-        resolve(
-            alloc,
-            plan,
-            taken,
-            met.as_mut_slice(),
-            known.as_mut_slice(),
-            element,
-        )?;
-    }
+    let mut met = Vec::new(alloc);
+    let mut known = Vec::new(alloc);
+    find_endings(alloc, plan, taken, &[], &mut met, &mut known)?;
     all_known(alloc, known.as_slice())
-}
-
-// So many elements, of none of which the ending is known.
-fn none_known(alloc: Global, count: u32) -> Result<Vec<Option<Ending>>, NoMemory>
-    ensures { IfOk result (λ known. known.items ≡ replicate count None) }
-{
-    match vec![in alloc; None; count as usize] {
-        Ok(known) => Ok(known),
-        Err(_) => Err(NoMemory),
-    }
 }
 
 // The endings, all of which are known.

@@ -4,7 +4,7 @@
 //! | who asks | what |
 //! |---|---|
 //! | whence an element has its timing | [`follow`] |
-//! | how the traces of all elements end | [`endings_of`] |
+//! | how the traces of all elements end | [`endings_of`], and again and again [`find_endings`] |
 //! | which closed walks stand | [`walks_of`], and as text [`put_walks`] |
 //!
 //! Each is told what the elements of a plan take, as a list by the number of the element
@@ -22,7 +22,7 @@ mod listing;
 mod traced;
 mod walk_text;
 
-pub use endings::endings_of;
+pub use endings::{endings_of, find_endings};
 pub use following::{Next, Way, follow, next_of, no_marks};
 pub use listing::walks_of;
 pub use traced::{End, Ending, Traced, Walk};

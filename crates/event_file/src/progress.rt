@@ -132,7 +132,7 @@ impl CasesSoFar {
         }) }
     {
         self.names.add(name)?;
-        self.listed.push(text_of(alloc, name)?)?;
+        self.listed.push(Text::from_bytes(alloc, name)?)?;
         self.close()?;
         self.current = Some(Case {
             events: Rows::new(alloc),
@@ -181,13 +181,4 @@ impl CasesSoFar {
             cases: self.whole,
         })
     }
-}
-
-/// Some bytes as a text.
-fn text_of(alloc: Global, bytes: &[u8]) -> Result<Text, NoMemory>
-    ensures { IfOk result (λ text. text ≡ bytes.now) }
-{
-    let mut text = Text::new(alloc);
-    text.put(bytes)?;
-    Ok(text)
 }

@@ -1,11 +1,12 @@
 -- Events in order of time, one after another.
-use Rattle.std.proofs.Common.{◌≤◌, ◌<◌, ℕ, zero, suc, List, [], ◌∷◌, length, arith}
-use Rattle.std.specs.Prelude.{slice_index_or}
+use Rattle.std.proofs.Common.{◌≡◌, ◌≤◌, ◌<◌, ℕ, zero, suc, Bool, true, false, List, [], ◌∷◌, length, arith}
+use Rattle.std.specs.Prelude.{slice_index_or, nat_lt, if◌then◌else◌}
 use Rattle.std.proofs.lemmas.List.Sorted.{all_adjacent_from_non_decreasing}
 use Rattle.sync_text.specs.Each.{Each}
-use Rattle.sync_text.proofs.Each.{each-all, all-each}
+use Rattle.sync_text.proofs.Each.{each-all, all-each, Each-map, Each-filter}
 use Rattle.sync_topo.specs.declared.event.Event.{Event}
 use Rattle.sync_topo.specs.Events.{IsInOrder}
+use Rattle.net_rules.specs.Signals.{events_before}
 use Rattle.event_times.proofs.EventTimes.{in-order}
 
 -- no event is later than one behind it
@@ -36,3 +37,17 @@ ascended (event ∷ events) order (suc i) (suc j) other before inside = ascended
 -- and so they are in order
 pub ordered-by : (events : List Event) → Ascend events → IsInOrder events
 ordered-by events order = all_adjacent_from_non_decreasing (λ (event : Event). event.at) events (ascended events order)
+
+-- those before a millisecond are in order
+pub ascend-before : (n : ℕ) (events : List Event) → Ascend events → Ascend (events_before n events)
+ascend-before n [] order = tt
+ascend-before n (event ∷ events) order = of (nat_lt event.at n) (ascend-before n events order.1)
+  where
+    kept : Each (λ later. event.at ≤ later.at) (events_before n events)
+    kept =
+        Each-map (λ later. (event.at ≤ later.at) × (nat_lt later.at n ≡ true)) (λ later. event.at ≤ later.at) (λ later both. both.0) (events_before n events)
+        (Each-filter (λ later. event.at ≤ later.at) (λ later. nat_lt later.at n) events order.0)
+
+    of : (b : Bool) → Ascend (events_before n events) → Ascend (if b then event ∷ events_before n events else events_before n events)
+    of true rest = (kept, rest)
+    of false rest = rest

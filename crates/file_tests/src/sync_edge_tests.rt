@@ -8,7 +8,7 @@ use sync_edge::{
     read_all, write_all,
 };
 use sync_text::{NoMemory, Rows, Text};
-use test_makers::{numbers, text};
+use test_makers::numbers;
 
 /// What `read_all` gave: the bytes, or the name of the error.
 fn answer(read: &Result<Text, ReadErr>) -> &[u8] {
@@ -35,8 +35,8 @@ fn reads(rt: &(impl Abort + AllocGlobal), row: ReadRow) -> Result<(), Fail> {
     let alloc = rt.alloc();
     let mut files = Rows::new(alloc);
     files.push(MemFile {
-        name: text(alloc, b"plan")?,
-        bytes: text(alloc, b"version=2")?,
+        name: Text::from_bytes(alloc, b"plan")?,
+        bytes: Text::from_bytes(alloc, b"version=2")?,
     })?;
     let mut folder = MemFolder::new(files, 4, numbers(alloc, row.fails)?);
     let read = read_all(alloc, &mut folder, row.name, row.limit);

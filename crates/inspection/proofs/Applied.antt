@@ -21,8 +21,8 @@ use Rattle.net_rules.proofs.NetLaws.{many-inputs}
 use Rattle.inspection.specs.declared.asked.Asked.{Asked}
 use Rattle.inspection.specs.Commands.{asked_of, command_row, is_taken, row_of, row_at, commands_among, applied_at, commands_part}
 use Rattle.inspection.specs.Tables.{table_after, table_at, commands_told}
-use Rattle.event_times.proofs.Ascending.{Ascend}
-use Rattle.inspection.proofs.Ordered.{none-first, before-more, before-before, ascend-before, front-is}
+use Rattle.event_times.proofs.Ascending.{Ascend, ascend-before}
+use Rattle.inspection.proofs.Ordered.{none-first, before-more, before-before, front-is}
 use Rattle.inspection.proofs.Bars.{SameBars, same-commands, same-taken, after-append}
 
 -- the table after more events
@@ -75,7 +75,7 @@ applied-same plan events n place event element order at early =
     let commands : List Cmd = commands_among plan element here in
     let out : Levels = out_at plan (signals_by plan events) in
     let before : Switches = switches_at (settings_of plan element) (element_past plan (signals_by plan events) out element event.at) in
-    let front : take place told ≡ events_before event.at events ++ here = front-is told place event (ascend-before events n order) at ∙ ap (λ earlier. earlier ++ here) (before-before events event.at n early) in
+    let front : take place told ≡ events_before event.at events ++ here = front-is told place event (ascend-before n events order) at ∙ ap (λ earlier. earlier ++ here) (before-before events event.at n early) in
     let table : table_after plan (take place told) element ≡ after_commands (table_after plan (events_before event.at events) element) commands =
     ap (λ earlier. table_after plan earlier element) front ∙ table-append plan (events_before event.at events) here element in
     subst (SameBars (after_commands before commands)) (sym table)

@@ -6,7 +6,7 @@ use Rattle.std.proofs.lemmas.Bool.{lt-ltb, le-ltb, eq-eqb, ne_eqb}
 use Rattle.std.proofs.lemmas.Bool.Decides.{eqb_tells}
 use Rattle.std.proofs.lemmas.Option.{same_Some, none-some}
 use Rattle.sync_text.specs.Each.{Each}
-use Rattle.sync_text.proofs.Each.{Each-map, Each-filter, each-at}
+use Rattle.sync_text.proofs.Each.{Each-map, each-at}
 use Rattle.sync_topo.specs.declared.event.Event.{Event}
 use Rattle.net_rules.specs.Signals.{events_before, events_at}
 use Rattle.net_rules.proofs.EventLaws.{none-before}
@@ -86,18 +86,4 @@ before-before (event ∷ events) m n early = elim (dec_lt event.at n) [
         → (if b then event ∷ events_before m (events_before n events) else events_before m (events_before n events))
         ≡ (if b then event ∷ events_before m events else events_before m events)
     by true rest = ap (λ more. event ∷ more) rest
-    by false rest = rest
-
--- those before a millisecond are in order
-pub ascend-before : (events : List Event) (n : ℕ) → Ascend events → Ascend (events_before n events)
-ascend-before [] n order = tt
-ascend-before (event ∷ events) n order = by (nat_lt event.at n) (ascend-before events n order.1)
-  where
-    kept : Each (λ later. event.at ≤ later.at) (events_before n events)
-    kept =
-        Each-map (λ later. (event.at ≤ later.at) × (nat_lt later.at n ≡ true)) (λ later. event.at ≤ later.at) (λ later both. both.0) (events_before n events)
-        (Each-filter (λ later. event.at ≤ later.at) (λ later. nat_lt later.at n) events order.0)
-
-    by : (b : Bool) → Ascend (events_before n events) → Ascend (if b then event ∷ events_before n events else events_before n events)
-    by true rest = (kept, rest)
     by false rest = rest

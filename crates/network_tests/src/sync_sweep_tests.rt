@@ -1,8 +1,10 @@
-//! That the chunks of a sweep run at once, and that its rows are those of plain runs.
+//! That the chunks of a sweep run at once, and that its rows are those of plain runs; and the rows of
+//! studies.
 
 ghost use Rattle.std.specs.Prelude.{◌<◌};
 
 mod plain;
+mod studied;
 
 use plan_gen::generate;
 use std::process::Abort;

@@ -72,8 +72,8 @@ fn element_row(alloc: Global, element: &Element) -> Result<ElementRow, NoMemory>
     ensures { IfOk result (λ row. row ≡ row_of_element element.now) }
 {
     Ok(ElementRow {
-        name: text_of(alloc, element.name.bytes())?,
-        own: Some(text_of(alloc, name_of(element.own).as_bytes())?),
+        name: Text::from_bytes(alloc, element.name.bytes())?,
+        own: Some(Text::from_bytes(alloc, name_of(element.own).as_bytes())?),
         floor: floor_name(alloc, element.floor)?,
         holdoff: Some(i64::from(element.holdoff)),
         wtr: Some(i64::from(element.wtr / MINUTE)),
@@ -85,7 +85,7 @@ fn floor_name(alloc: Global, floor: Option<Level>) -> Result<Option<Text>, NoMem
     ensures { IfOk result (λ name. name ≡ option_map name_of floor) }
 {
     match floor {
-        Some(level) => Ok(Some(text_of(alloc, name_of(level).as_bytes())?)),
+        Some(level) => Ok(Some(Text::from_bytes(alloc, name_of(level).as_bytes())?)),
         None => Ok(None),
     }
 }
@@ -104,9 +104,9 @@ fn link_row(
         (record link.now { priority_a = priority_a; priority_b = priority_b })) }
 {
     Ok(LinkRow {
-        name: text_of(alloc, link.name.bytes())?,
-        a: text_of(alloc, element_name(plan, link.a))?,
-        b: text_of(alloc, element_name(plan, link.b))?,
+        name: Text::from_bytes(alloc, link.name.bytes())?,
+        a: Text::from_bytes(alloc, element_name(plan, link.a))?,
+        b: Text::from_bytes(alloc, element_name(plan, link.b))?,
         priority_a: Some(i64::from(priority_a)),
         priority_b: Some(i64::from(priority_b)),
         delay_a: Some(i64::from(link.delay_a)),
@@ -120,7 +120,7 @@ fn bundle_name(alloc: Global, bundle: &Option<Text>) -> Result<Option<Text>, NoM
     ensures { IfOk result (λ name. name ≡ bundle.now) }
 {
     match bundle {
-        Some(name) => Ok(Some(text_of(alloc, name.bytes())?)),
+        Some(name) => Ok(Some(Text::from_bytes(alloc, name.bytes())?)),
         None => Ok(None),
     }
 }
@@ -131,9 +131,9 @@ fn source_row(alloc: Global, plan: &Plan, source: &Source) -> Result<SourceRow, 
     ensures { IfOk result (λ row. row ≡ row_of_source plan.now source.now) }
 {
     Ok(SourceRow {
-        name: text_of(alloc, source.name.bytes())?,
-        at: text_of(alloc, element_name(plan, source.at))?,
-        level: text_of(alloc, name_of(source.level).as_bytes())?,
+        name: Text::from_bytes(alloc, source.name.bytes())?,
+        at: Text::from_bytes(alloc, element_name(plan, source.at))?,
+        level: Text::from_bytes(alloc, name_of(source.level).as_bytes())?,
         priority: Some(i64::from(source.priority)),
     })
 }
@@ -144,13 +144,4 @@ fn element_name(plan: &Plan, element: u32) -> &[u8]
     ensures { result.now ≡ element_name plan.now element }
 {
     plan.element(element).name.bytes()
-}
-
-/// A text of these bytes.
-fn text_of(alloc: Global, bytes: &[u8]) -> Result<Text, NoMemory>
-    ensures { IfOk result (λ text. text ≡ bytes.now) }
-{
-    let mut text = Text::new(alloc);
-    text.put(bytes)?;
-    Ok(text)
 }

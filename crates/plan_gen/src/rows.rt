@@ -113,27 +113,18 @@ fn source_row(alloc: Global, name: &[u8], at: &[u8], level: &[u8]) -> Result<Sou
     ensures { IfOk result (λ row. row ≡ source_row name.now at.now level.now) }
 {
     Ok(SourceRow {
-        name: text_of(alloc, name)?,
-        at: text_of(alloc, at)?,
-        level: text_of(alloc, level)?,
+        name: Text::from_bytes(alloc, name)?,
+        at: Text::from_bytes(alloc, at)?,
+        level: Text::from_bytes(alloc, level)?,
         priority: None,
     })
-}
-
-/// A text of these bytes.
-fn text_of(alloc: Global, bytes: &[u8]) -> Result<Text, NoMemory>
-    ensures { IfOk result (λ text. text ≡ bytes.now) }
-{
-    let mut text = Text::new(alloc);
-    text.put(bytes)?;
-    Ok(text)
 }
 
 /// A name of a letter and a number.
 fn numbered(alloc: Global, letter: &[u8], number: u32) -> Result<Text, NoMemory>
     ensures { IfOk result (λ text. text ≡ numbered letter.now number) }
 {
-    let mut text = text_of(alloc, letter)?;
+    let mut text = Text::from_bytes(alloc, letter)?;
     text.put_number(u64::from(number))?;
     Ok(text)
 }

@@ -29,13 +29,10 @@ const CALM: Outside = Outside {
 };
 
 fn file(alloc: Global, name: &[u8], bytes: &[u8]) -> Result<MemFile, NoMemory> {
-    let mut file = MemFile {
-        name: Text::new(alloc),
-        bytes: Text::new(alloc),
-    };
-    file.name.put(name)?;
-    file.bytes.put(bytes)?;
-    Ok(file)
+    Ok(MemFile {
+        name: Text::from_bytes(alloc, name)?,
+        bytes: Text::from_bytes(alloc, bytes)?,
+    })
 }
 
 fn words(alloc: Global, words: &[&str]) -> Result<Vec<String>, AllocError> {

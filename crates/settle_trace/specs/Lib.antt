@@ -1,2 +1,3 @@
 pub mod Now
 pub mod Resting
+pub mod Taking

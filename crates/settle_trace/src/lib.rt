@@ -3,6 +3,7 @@
 //! | who asks | what |
 //! |---|---|
 //! | whether anything would still change | [`settled`] |
+//! | what an element takes | [`taken_input`], and all elements [`taken_inputs`] |
 //! | whence an element has its timing | [`trace`], and of all elements [`traces`] |
 //! | which loops stand | [`loops`] |
 //!
@@ -20,5 +21,6 @@ mod tracings;
 pub use closed_walks::{End, Ending, Traced, Walk};
 pub use looping::loops;
 pub use settling::settled;
+pub use taking::{taken_input, taken_inputs};
 pub use tracing::trace;
 pub use tracings::traces;

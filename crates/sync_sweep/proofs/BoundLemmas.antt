@@ -1,45 +1,30 @@
--- Rows with a settling bound that has come are settled.
-use Rattle.std.proofs.Common.{◌≡◌, ℕ, true, suc, ◌≤◌, ◌<◌, List, [], ◌∷◌, Option, None, Some, arith}
-use Rattle.std.specs.Prelude.{IfSome, MatchOption}
-use Rattle.std.specs.List.{All, range_with_len}
+-- Rows with a settling bound that has come are settled, and each is of a link of the plan.
+use Rattle.std.proofs.Common.{ℕ, suc, ◌<◌, Bool, List, [], ◌∷◌, sym, subst, arith}
+use Rattle.std.specs.List.{All, AllZip, range_with_len}
 use Rattle.std.proofs.lemmas.List.Elements.{All-cons, All-nil}
 use Rattle.std.proofs.lemmas.List.FromFn.{get_or-range_with_len, length-range_with_len}
+use Rattle.sync_topo.specs.declared.event.Case.{Case}
 use Rattle.sync_topo.specs.declared.event.Event.{Event}
 use Rattle.sync_topo.specs.Topology.{Topology}
-use Rattle.net_rules.specs.Signals.{signals_by}
-use Rattle.net_rules.specs.History.{out_at}
-use Rattle.net_rules.specs.Settled.{IsSettled}
-use Rattle.net_rules.specs.Settling.{NoneAfter, IsSettlingBound}
 use Rattle.sync_sweep.specs.declared.row.SweepRow.{SweepRow}
-use Rattle.sync_sweep.specs.Sweep.{failure, IsSweepRow, AreRows}
-
--- from the bound on every millisecond is settled
-abbrev pub SettlesByBound : Topology → Type 0
-SettlesByBound plan = (events : List Event) (last bound t : ℕ) → NoneAfter events last → IsSettlingBound plan last bound → bound ≤ t
-    → IsSettled plan (signals_by plan events) (out_at plan (signals_by plan events)) t
+use Rattle.sync_sweep.specs.declared.working.Worked.{Worked}
+use Rattle.sync_sweep.specs.Rows.{IsRowOf}
+use Rattle.sync_sweep.specs.Sweep.{AreRows}
+use Rattle.sync_sweep.specs.Working.{AreWorked, IsSettledIfDue}
 
 -- a row whose bound has come is settled
-abbrev pub IsSettledIfDue : ℕ → SweepRow → Type 0
-IsSettledIfDue until row = IfSome row.bound (λ bound. bound ≤ until → row.settled ≡ true)
+abbrev pub IsRowSettledIfDue : ℕ → SweepRow → Type 0
+IsRowSettledIfDue until row = IsSettledIfDue until row.outcome
 
-row-settled : (plan : Topology) (at until link : ℕ) (row : SweepRow) → SettlesByBound plan → IsSweepRow plan at until link row → IsSettledIfDue until row
-row-settled plan at until link row law is = of row.bound is.bound
-  where
-    none : NoneAfter (failure at link) at
-    none = All-cons (λ event. event.at ≤ at) (record { at = at; what = _ }) [] (omega arith) (All-nil (λ event. event.at ≤ at))
-
-    of : (bound : Option ℕ) → MatchOption bound ((other : ℕ) → ¬ IsSettlingBound plan at other) (IsSettlingBound plan at)
-        → IfSome bound (λ b. b ≤ until → row.settled ≡ true)
-    of None has = tt
-    of (Some bound) has = λ due. is.settled.1 (law (failure at link) at bound until none has due)
-
-pub rows-settled : (plan : Topology) (at until : ℕ) (links : List ℕ) (rows : List SweepRow) → SettlesByBound plan → AreRows plan at until links rows
-    → All (IsSettledIfDue until) rows
-rows-settled plan at until [] [] law are = All-nil (IsSettledIfDue until)
-rows-settled plan at until [] (row ∷ rows) law are = absurd are
-rows-settled plan at until (link ∷ links) [] law are = absurd are
-rows-settled plan at until (link ∷ links) (row ∷ rows) law are =
-    All-cons (IsSettledIfDue until) row rows (row-settled plan at until link row law are.0) (rows-settled plan at until links rows law are.1)
+-- the rows of what the engine gives
+pub rows-settled : (plan : Topology) (common : List Event) (until : ℕ) (timed : Bool) (cases : List Case) (worked : List Worked) (rows : List SweepRow)
+    → AreWorked plan common until timed cases worked → AllZip IsRowOf worked rows → All (IsRowSettledIfDue until) rows
+rows-settled plan common until timed cases [] [] are same = All-nil (IsRowSettledIfDue until)
+rows-settled plan common until timed cases [] (row ∷ rows) are same = absurd same
+rows-settled plan common until timed cases (one ∷ worked) [] are same = absurd same
+rows-settled plan common until timed [] (one ∷ worked) (row ∷ rows) are same = absurd are
+rows-settled plan common until timed (case ∷ cases) (one ∷ worked) (row ∷ rows) are same =
+    All-cons (IsRowSettledIfDue until) row rows (subst (IsSettledIfDue until) (sym same.0) are.0.due) (rows-settled plan common until timed cases worked rows are.1 same.1)
 
 -- the numbers up to but not at a count are below it
 pub range-below : (n : ℕ) → All (λ x. x < n) (range_with_len 0 n)

@@ -1,7 +1,6 @@
 -- What a run is told, and when something happens in it last.
 use Rattle.std.proofs.Common.{◌≡◌, ◌≢◌, ◌≤◌, ◌<◌, ◌⊎◌, ◌+◌, ◌-◌, inl, inr, ℕ, zero, suc, List, [], ◌∷◌, ◌++◌, length, take, drop, refl, ap, sym, subst, ◌∙◌, arith}
 use Rattle.std.specs.Prelude.{slice_get, slice_index_or, Some}
-use Rattle.std.specs.List.{All}
 use Rattle.std.proofs.Math.Decide.{dec_lt}
 use Rattle.std.proofs.lemmas.List.{get_or-drop, get_or-take, length-drop, length-take, take-append-drop}
 use Rattle.std.proofs.lemmas.List.Elements.{All-drop, filter-append}
@@ -14,10 +13,9 @@ use Rattle.event_times.specs.EventTimes.{AreTold, AreWithin}
 use Rattle.event_times.proofs.EventTimes.{in-order, none-at}
 use Rattle.sync_sweep.specs.Cases.{merged, IsTimeUntil, IsLastUntil}
 use Rattle.sync_sweep.proofs.ChunkLemmas.{got}
-use Rattle.event_times.proofs.Ascending.{ascend, ordered-by}
-use Rattle.sync_sweep.proofs.Merging.{ascend-merged, at-merged, each-merged, merged-list, stands-at}
-use Rattle.sync_text.specs.Each.{Each}
-use Rattle.sync_text.proofs.Each.{each-all, all-each, Each-map}
+use Rattle.event_times.proofs.Ascending.{ascend}
+use Rattle.sync_sweep.proofs.Merging.{at-merged, each-merged, merged-list, stands-at}
+use Rattle.sync_text.proofs.Each.{each-all, all-each}
 use Rattle.std.proofs.lemmas.List.Sorted.{all_adjacent_from_non_decreasing}
 
 -- the events from the first that is not before a millisecond

@@ -18,7 +18,7 @@ use Rattle.net_rules.specs.Signals.{Signals, signals_by}
 use Rattle.net_rules.specs.History.{Levels, settings_of, out_at, element_past, element_state, level_at}
 use Rattle.sync_net.specs.Standing.{ElementStands}
 use Rattle.sync_sweep.specs.declared.counted_states.States.{States}
-use Rattle.sync_sweep.specs.Sweep.{is_in, level_in, IsWorstOf}
+use Rattle.sync_sweep.specs.Outcomes.{is_in, level_in, IsWorstOf}
 use Rattle.sync_sweep.specs.Counts.{AreTallied, AreCounted}
 use Rattle.sync_sweep.proofs.Tallies.{is_kind}
 use Rattle.std.specs.Prelude.{slice_index_or}

@@ -5,10 +5,17 @@ pub mod CountLemmas
 pub mod LoopLemmas
 pub mod RisingLemmas
 pub mod BoundLemmas
+pub mod OneOutcome
 pub mod OneSweep
+pub mod OneStudy
 pub mod Told
 pub mod Merging
 pub mod CaseLemmas
 pub mod ShiftLemmas
+pub mod EarlierLemmas
+pub mod TimingLemmas
+pub mod TimedLemmas
 pub mod WorkLemmas
 pub mod RowLemmas
+pub mod StudyLemmas
+pub mod StudyTextLemmas

@@ -1,16 +1,14 @@
 -- Events of all runs and those of one, in order of time.
-use Rattle.std.proofs.Common.{◌≡◌, ◌≢◌, ◌≤◌, ◌<◌, ◌⊎◌, inl, inr, ℕ, zero, suc, Bool, true, false, List, [], ◌∷◌, ◌++◌, length, take, drop, refl, ap, sym, subst, ◌∙◌, arith}
+use Rattle.std.proofs.Common.{◌≡◌, ◌≢◌, ◌≤◌, ◌<◌, inl, inr, ℕ, zero, suc, Bool, true, false, List, [], ◌∷◌, ◌++◌, length, take, drop, refl, ap, ◌∙◌, arith}
 use Rattle.std.specs.Prelude.{nat_eq, nat_lt, slice_get, slice_index_or, Some, if◌then◌else◌}
-use Rattle.std.specs.List.{All}
 use Rattle.std.proofs.Math.Decide.{dec_lt}
 use Rattle.std.proofs.lemmas.Bool.{lt-ltb, le-ltb}
 use Rattle.std.proofs.lemmas.Bool.Decides.{eqb_tells}
-use Rattle.std.proofs.lemmas.List.{append-nil}
 use Rattle.sync_text.specs.Each.{Each}
 use Rattle.sync_text.proofs.Each.{Each-map, each-all, all-each}
 use Rattle.sync_topo.specs.declared.event.Event.{Event}
 use Rattle.sync_topo.specs.Topology.{Topology}
-use Rattle.sync_topo.specs.Events.{Fits, IsInOrder, IsEventList}
+use Rattle.sync_topo.specs.Events.{Fits, IsEventList}
 use Rattle.net_rules.specs.Signals.{events_at}
 use Rattle.event_times.proofs.EventTimes.{none-at}
 use Rattle.event_times.proofs.Ascending.{Ascend, ascend, ordered-by}

@@ -10,7 +10,7 @@ use Rattle.net_rules.specs.Walks.{Taken, IsClosedWalk}
 use Rattle.net_rules.specs.Settling.{IsSettlingBound}
 use Rattle.net_rules.proofs.Backs.{hop-nominated, hop-nominates}
 use Rattle.closed_walks.specs.Loops.{IsLoop}
-use Rattle.sync_sweep.specs.Sweep.{AreSoManyLoops}
+use Rattle.sync_sweep.specs.Outcomes.{AreSoManyLoops}
 
 -- the least ranks as a function, 0 where a line isn't nominated
 module _ (plan : Topology) (ranked : (line : ℕ) → IsNominated plan line → (rank : ℕ) × IsLeastRank (hops plan) line rank) where

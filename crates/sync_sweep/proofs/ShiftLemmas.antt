@@ -1,8 +1,8 @@
 -- The settling bound after one millisecond, by the one after another.
-use Rattle.std.proofs.Common.{◌≡◌, ◌≤◌, ◌-◌, ◌+◌, ℕ, Option, None, Some, arith}
-use Rattle.std.specs.Prelude.{IfSome, MatchOption}
+use Rattle.std.proofs.Common.{◌≤◌, ◌-◌, ◌+◌, ℕ, Option, None, Some, arith}
+use Rattle.std.specs.Prelude.{IfSome}
 use Rattle.sync_topo.specs.Topology.{Topology}
-use Rattle.net_rules.specs.Settling.{IsSettlingBound, settled_from}
+use Rattle.net_rules.specs.Settling.{IsSettlingBound}
 use Rattle.sync_sweep.specs.Outcomes.{IsBoundAfter}
 
 -- it is later by as much as the millisecond

@@ -1,5 +1,6 @@
 -- A case on a branch.
-use Rattle.std.proofs.Common.{◌≡◌, ◌≤◌, ◌<◌, ◌*◌, ℕ, List, [], ◌∷◌, ◌++◌, length, ◌+◌, inl, inr, ap, sym, subst, ◌∙◌, arith}
+use Rattle.std.proofs.Common.{◌≡◌, ◌≤◌, ◌<◌, ℕ, List, [], ◌∷◌, ◌++◌, length, ◌+◌, ◌-◌, Option, None, Some, inl, inr, ap, sym, subst, ◌∙◌, arith}
+use Rattle.std.specs.Prelude.{IfSome}
 use Rattle.std.specs.List.{All}
 use Rattle.std.proofs.lemmas.List.{append-nil}
 use Rattle.std.proofs.lemmas.Option.{slice_get_cases}
@@ -11,7 +12,7 @@ use Rattle.sync_topo.specs.declared.event.What.TheVariants.{Down, Up, EsmcOff, E
 use Rattle.sync_topo.specs.declared.input.InputId.{InputId}
 use Rattle.sync_topo.specs.declared.input.InputId.TheVariants.{Line, Source}
 use Rattle.sync_topo.specs.Topology.{Topology}
-use Rattle.sync_topo.specs.Events.{IsPart, MayHappen, Fits, IsCase, IsEventList}
+use Rattle.sync_topo.specs.Events.{IsPart, MayHappen, IsCase, IsEventList}
 use Rattle.sync_topo.specs.Lines.{line_count, IsInput}
 use Rattle.sync_topo.specs.WellFormed.{IsWellFormed}
 use Rattle.net_rules.specs.Signals.{events_at}
@@ -19,9 +20,17 @@ use Rattle.event_times.specs.EventTimes.{AreTold}
 use Rattle.event_times.proofs.EventTimes.{none-at}
 use Rattle.sync_net.specs.NetState.{NetState}
 use Rattle.sync_net.specs.Standing.{StandsFor}
+use Rattle.settle_trace.specs.Now.{taken_now}
 use Rattle.sync_topo.specs.declared.event.Case.{Case}
 use Rattle.sync_sweep.specs.Base.{AreCommonBefore}
 use Rattle.sync_sweep.specs.Cases.{merged}
+use Rattle.sync_sweep.specs.declared.timings.Timing.{Timing}
+use Rattle.sync_sweep.specs.declared.timed.Timed.{Timed}
+use Rattle.closed_walks.specs.Taking.{AreTaken}
+use Rattle.sync_sweep.specs.ShownNow.{AreAlikeBut}
+use Rattle.sync_sweep.specs.Timed.{IsTimed}
+use Rattle.sync_sweep.specs.Outcomes.{taken_by}
+use Rattle.sync_sweep.specs.Timing.{IsTiming}
 use Rattle.sync_sweep.proofs.CountLemmas.{some-element}
 use Rattle.event_times.proofs.Ascending.{ascend}
 use Rattle.sync_sweep.proofs.Merging.{at-merged, merged-list}
@@ -38,15 +47,34 @@ common-before plan common own from first second later = record {
       ∙ append-nil (events_at t common);
 }
 
--- so the network stands for the run at its end
-pub stood : (base branch after : NetState) (common own told : List Event) (from until : ℕ) → branch ≡ base → IsEventList base.plan common → IsEventList base.plan own
-    → All (λ event. from ≤ event.at) own → ((all : List Event) → AreCommonBefore base.plan common from all → StandsFor base all from)
-    → AreTold base.plan (merged common own) from until told
+-- so the network stands at its end for each list that has these events alone up to there
+pub stood : (base branch after : NetState) (common told all : List Event) (from until : ℕ) → branch ≡ base
+    → ((all : List Event) → AreCommonBefore base.plan common from all → StandsFor base all from)
     → ((all : List Event) → AreTold branch.plan all from until told → StandsFor branch all from → StandsFor after all (until + 1))
-    → StandsFor after (merged common own) (until + 1)
-stood base branch after common own told from until same first second later stands are run =
-    run (merged common own) (subst (λ (n : NetState). AreTold n.plan (merged common own) from until told) (sym same) are)
-    (subst (λ (n : NetState). StandsFor n (merged common own) from) (sym same) (stands (merged common own) (common-before base.plan common own from first second later)))
+    → AreCommonBefore base.plan common from all → AreTold base.plan all from until told → StandsFor after all (until + 1)
+stood base branch after common told all from until same stands run before are =
+    run all (subst (λ (n : NetState). AreTold n.plan all from until told) (sym same) are)
+    (subst (λ (n : NetState). StandsFor n all from) (sym same) (stands all before))
+
+-- its timing is that of the run
+pub timing-by : (base net : NetState) (plan : Topology) (all : List Event) (until : ℕ) (timed : Option Timed) (places : List ℕ) (timing : Option Timing) → net.plan ≡ plan
+    → base.plan ≡ net.plan → net.next - 1 ≡ until → StandsFor net all net.next → IfSome timed (IsTimed base) → AreAlikeBut places net base
+    → IfSome timing (λ some. (base : NetState) (all : List Event) → base.plan ≡ net.plan → IfSome timed (IsTimed base) → AreAlikeBut places net base
+    → StandsFor net all net.next → IsTiming net.plan (taken_now net all) some)
+    → IfSome timing (IsTiming plan (taken_by plan all until))
+timing-by base net plan all until timed places None same of_base now stands is_timed alike is = tt
+timing-by base net plan all until timed places (Some timing) same of_base now stands is_timed alike is =
+    subst (λ (p : Topology). IsTiming p (taken_by p all until) timing) same
+    (subst (λ t. IsTiming net.plan (taken_by net.plan all t) timing) now (is base all of_base is_timed alike stands))
+
+-- what serves to time the cases of a base serves a branch of it
+pub timed-own : (base : NetState) (plan : Topology) (timed : Option Timed) → base.plan ≡ plan → IfSome timed (IsTimed base) → IfSome timed (λ some. AreTaken plan some.taken.items)
+timed-own base plan None same is = tt
+timed-own base plan (Some timed) same is = subst (λ p. AreTaken p timed.taken.items) same is.taken.own
+
+pub timed-same : (base : NetState) (timed : Option Timed) → IfSome timed (IsTimed base) → IfSome timed (λ some. some.now.items ≡ some.taken.items)
+timed-same base None is = tt
+timed-same base (Some timed) is = is.same
 
 -- a plan to which something happens has elements
 some-source : (plan : Topology) (source : ℕ) → IsWellFormed plan → source < length plan.sources → 0 < length plan.elements

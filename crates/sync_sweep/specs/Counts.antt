@@ -8,7 +8,7 @@ use Rattle.sync_topo.specs.declared.event.Event.{Event}
 use Rattle.sync_topo.specs.Topology.{Topology}
 use Rattle.shown_words.specs.Sameness.{is_same_state}
 use Rattle.sync_sweep.specs.declared.counted_states.States.{States}
-use Rattle.sync_sweep.specs.Sweep.{is_in}
+use Rattle.sync_sweep.specs.Outcomes.{is_in}
 
 -- how many are counted
 abbrev pub counted : States → ℕ

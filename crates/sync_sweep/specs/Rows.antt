@@ -1,14 +1,14 @@
--- Private to this crate: the row of an outcome.
-use Rattle.std.specs.Prelude.{◌≡◌}
-use Rattle.sync_sweep.specs.declared.outcomes.Outcome.{Outcome}
+-- Private to this crate: the rows of what the engine gives.
+use Rattle.std.specs.Prelude.{◌≡◌, Some}
 use Rattle.sync_sweep.specs.declared.row.SweepRow.{SweepRow}
+use Rattle.sync_sweep.specs.declared.studying.StudyRow.{StudyRow}
+use Rattle.sync_sweep.specs.declared.working.Worked.{Worked}
 
--- it says what the outcome says
-pub record IsRowOf (outcome : Outcome) (row : SweepRow) : Type 0 where
-  pub settled : row.settled ≡ outcome.settled
-  pub locked : row.locked ≡ outcome.locked
-  pub holdover : row.holdover ≡ outcome.holdover
-  pub free : row.free ≡ outcome.free
-  pub loops : row.loops ≡ outcome.loops
-  pub worst : row.worst ≡ outcome.worst
-  pub bound : row.bound ≡ outcome.bound
+-- a row of a sweep says what becomes of the network in its case
+abbrev pub IsRowOf : Worked → SweepRow → Type 0
+IsRowOf worked row = row.outcome ≡ worked.outcome
+
+-- and one of a study its timing too
+pub record IsStudyRowOf (worked : Worked) (row : StudyRow) : Type 0 where
+  pub outcome : row.outcome ≡ worked.outcome
+  pub timing : worked.timing ≡ Some row.timing

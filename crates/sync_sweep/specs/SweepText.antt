@@ -6,6 +6,7 @@ use Rattle.std.specs.Option.{option_map_or}
 use Rattle.sync_ql.specs.Level.{name_of}
 use Rattle.sync_topo.specs.declared.link.Link.{Link}
 use Rattle.sync_topo.specs.Topology.{Topology}
+use Rattle.sync_sweep.specs.declared.outcomes.Outcome.{Outcome}
 use Rattle.sync_sweep.specs.declared.row.SweepRow.{SweepRow}
 
 -- the name of a link
@@ -21,18 +22,18 @@ bound_word None = codes "none"
 bound_word (Some bound) = decimal bound
 
 -- how many elements are in each state, and how many closed walks there are
-abbrev pub counts_text : SweepRow → List ℕ
-counts_text row =
-    decimal row.locked ++ codes "," ++ decimal row.holdover ++ codes "," ++ decimal row.free ++ codes "," ++ decimal row.loops
+abbrev pub counts_text : Outcome → List ℕ
+counts_text outcome =
+    decimal outcome.locked ++ codes "," ++ decimal outcome.holdover ++ codes "," ++ decimal outcome.free ++ codes "," ++ decimal outcome.loops
 
--- all but the link's name
-abbrev pub results_text : SweepRow → List ℕ
-results_text row =
-    settled_word row.settled ++ codes "," ++ counts_text row ++ codes "," ++ name_of row.worst ++ codes "," ++ bound_word row.bound
+-- what becomes of a network: settled,locked,holdover,freerun,loops,worst,bound
+abbrev pub results_text : Outcome → List ℕ
+results_text outcome =
+    settled_word outcome.settled ++ codes "," ++ counts_text outcome ++ codes "," ++ name_of outcome.worst ++ codes "," ++ bound_word outcome.bound
 
 -- a row: link,settled,locked,holdover,freerun,loops,worst,bound
 abbrev pub row_text : Topology → SweepRow → List ℕ
-row_text plan row = link_name plan row.link ++ codes "," ++ results_text row ++ codes "\n"
+row_text plan row = link_name plan row.link ++ codes "," ++ results_text row.outcome ++ codes "\n"
 
 abbrev pub head_text : List ℕ
 head_text = codes "link,settled,locked,holdover,freerun,loops,worst,bound\n"

@@ -6,11 +6,12 @@ ghost use Rattle.sync_topo.specs.Events.{IsCase, IsEventList};
 ghost use Rattle.sync_sweep.specs.Base.{IsBase};
 ghost use Rattle.sync_sweep.specs.Cases.{NoneBefore};
 ghost use Rattle.sync_sweep.specs.Chunks.{joined};
-ghost use Rattle.sync_sweep.specs.Outcomes.{AreOutcomes, IsBoundAfter};
+ghost use Rattle.sync_sweep.specs.Outcomes.{IsBoundAfter};
+ghost use Rattle.sync_sweep.specs.Working.{AreWorked};
 
 use crate::branch::new_branch;
-use crate::outcomes::Outcome;
-use crate::working::case_outcome;
+use crate::timed::timed_if;
+use crate::working::{Worked, case_worked};
 use event_sim::Sim;
 use std::alloc::Global;
 use sync_ql::limits::LAST_MILLISECOND;
@@ -18,7 +19,7 @@ use sync_text::{NoMemory, Rows};
 use sync_topo::{Case, Event};
 
 // What becomes of the network in some cases.
-pub fn outcomes_of(
+pub fn worked_in(
     alloc: Global,
     base: &Sim<'_>,
     common: &[Event],
@@ -26,7 +27,8 @@ pub fn outcomes_of(
     until: u64,
     bound: Option<u64>,
     cases: &[Case],
-) -> Result<Rows<Outcome>, NoMemory>
+    timed: bool,
+) -> Result<Rows<Worked>, NoMemory>
     requires base { IsBase common.now from base.now }
     requires common { IsEventList base.now.net.plan common.now }
     requires cases { All (IsCase base.now.net.plan) cases.now }
@@ -34,42 +36,53 @@ pub fn outcomes_of(
     requires in_order { from ≤ until }
     requires in_range { until ≤ LAST_MILLISECOND }
     requires bound { IsBoundAfter base.now.net.plan until bound }
-    ensures outcomes { IfOk result (AreOutcomes base.now.net.plan common.now until cases.now) }
+    ensures worked { IfOk result (AreWorked base.now.net.plan common.now until timed cases.now) }
 {
-    let mut outcomes = Rows::new(alloc);
+    let mut worked = Rows::new(alloc);
     let _reached = base.reached();
     let net = base.net();
     let mut branch = new_branch(alloc, net)?;
+    let mut timed = timed_if(alloc, net, timed)?;
     for case in cases {
-        let outcome = case_outcome(alloc, net, &mut branch, common, from, until, bound, case)?;
-        outcomes.push(outcome)?;
+        let one = case_worked(
+            alloc,
+            net,
+            &mut branch,
+            &mut timed,
+            common,
+            from,
+            until,
+            bound,
+            case,
+        )?;
+        worked.push(one)?;
     }
-    Ok(outcomes)
+    Ok(worked)
 }
 
 // What all parts give in order, unless memory ran out for one.
-pub fn join_outcomes(
+pub fn join_worked(
     alloc: Global,
-    parts: &[Result<Rows<Outcome>, NoMemory>],
-) -> Result<Rows<Outcome>, NoMemory>
-    ensures { IfOk result (λ outcomes. joined parts.now ≡ Some outcomes) }
+    parts: &[Result<Rows<Worked>, NoMemory>],
+) -> Result<Rows<Worked>, NoMemory>
+    ensures { IfOk result (λ worked. joined parts.now ≡ Some worked) }
 {
-    let mut outcomes = Rows::new(alloc);
+    let mut worked = Rows::new(alloc);
     for part in parts {
         match part {
-            Ok(part) => put_all(&mut outcomes, part.as_slice())?,
+            Ok(part) => put_all(&mut worked, part.as_slice())?,
             Err(_) => return Err(NoMemory),
         }
     }
-    Ok(outcomes)
+    Ok(worked)
 }
 
-// Puts outcomes at the end of others.
-fn put_all(outcomes: &mut Rows<Outcome>, more: &[Outcome]) -> Result<(), NoMemory>
-    ensures { OnOk result (outcomes.new ≡ outcomes.old ++ more.now) }
+// Puts what a part gives at the end of others.
+fn put_all(worked: &mut Rows<Worked>, more: &[Worked]) -> Result<(), NoMemory>
+    ensures { OnOk result (worked.new ≡ worked.old ++ more.now) }
 {
-    for outcome in more {
-        outcomes.push(*outcome)?;
+    for one in more {
+        worked.push(*one)?;
     }
     Ok(())
 }

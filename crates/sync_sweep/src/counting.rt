@@ -6,7 +6,7 @@ ghost use Rattle.sync_topo.specs.declared.event.Event.{Event};
 ghost use Rattle.sync_topo.specs.WellFormed.{IsWellFormed};
 ghost use Rattle.sync_net.specs.Standing.{StandsFor};
 ghost use Rattle.settle_trace.specs.Now.{now_of};
-ghost use Rattle.sync_sweep.specs.Sweep.{IsWorstOf};
+ghost use Rattle.sync_sweep.specs.Outcomes.{IsWorstOf};
 ghost use Rattle.sync_sweep.specs.ShownNow.{AreStates, AreLevels, AreShown};
 ghost use Rattle.sync_sweep.specs.Counts.{AreCounted};
 

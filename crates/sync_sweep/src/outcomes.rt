@@ -1,14 +1,14 @@
 //! What becomes of a network in a run, at its end.
 
-ghost use Rattle.std.specs.Prelude.{◌≡◌, ◌≤◌, ◌<◌, ℕ, false, IsTrue, List, length, IfOk, IfSome};
+ghost use Rattle.std.specs.Prelude.{◌≡◌, ◌≤◌, ◌<◌, ℕ, true, false, IsTrue, List, length, IfOk, IfSome};
+ghost use Rattle.net_rules.specs.Settling.{NoneAfter};
 ghost use Rattle.net_rules.specs.Walks.{IsClosedWalk};
 ghost use Rattle.sync_topo.specs.declared.event.Event.{Event};
 ghost use Rattle.sync_topo.specs.Topology.{Topology};
 ghost use Rattle.sync_topo.specs.Hops.{IsRising};
 ghost use Rattle.sync_net.specs.Standing.{StandsFor};
 ghost use Rattle.settle_trace.specs.Now.{now_of, taken_now};
-ghost use Rattle.sync_sweep.specs.Sweep.{AreSoManyLoops};
-ghost use Rattle.sync_sweep.specs.Outcomes.{IsShown, IsBoundAfter};
+ghost use Rattle.sync_sweep.specs.Outcomes.{AreSoManyLoops, IsShown, IsBoundAfter};
 ghost use Rattle.sync_sweep.specs.ShownNow.{AreShown};
 
 use crate::counting::tally_of;
@@ -117,6 +117,9 @@ pub fn outcome_of(
     ensures shown { IfOk result (λ outcome. (all : List Event) →
         StandsFor net.now all net.now.next → IsShown net.now.plan all (now_of net.now) outcome) }
     ensures bound { IfOk result (λ outcome. outcome.bound ≡ bound) }
+    ensures due { IfOk result (λ outcome. (all : List Event) →
+        StandsFor net.now all net.now.next → NoneAfter all last →
+        IfSome outcome.bound (λ bound. bound ≤ now_of net.now → outcome.settled ≡ true)) }
 {
     let _elements = net.plan().elements();
     let tally = tally_of(net, shown);

@@ -1,18 +1,19 @@
 //! All links of a plan, in chunks that run at once.
 
-ghost use Rattle.std.specs.Prelude.{◌≡◌, ◌≤◌, ◌<◌, ◌*◌, ◌^◌, ℕ, true, List, length, IfOk, IfSome};
+ghost use Rattle.std.specs.Prelude.{◌≡◌, ◌≤◌, ◌<◌, ◌*◌, ◌/◌, ℕ, true, List, length, IfOk, IfSome};
 ghost use Rattle.std.specs.List.{All};
 ghost use Rattle.sync_topo.specs.Events.{IsCase, IsEventList};
 ghost use Rattle.sync_sweep.specs.Base.{IsBase};
 ghost use Rattle.sync_sweep.specs.Cases.{NoneBefore};
-ghost use Rattle.sync_sweep.specs.Outcomes.{AreOutcomes, IsBoundAfter};
+ghost use Rattle.sync_sweep.specs.Outcomes.{IsBoundAfter};
 ghost use Rattle.sync_sweep.specs.Sweep.{AreSweepRows};
+ghost use Rattle.sync_sweep.specs.Working.{AreWorked};
 
 use crate::cases::{begin_of, failures};
-use crate::chunks::{join_outcomes, outcomes_of};
+use crate::chunks::{join_worked, worked_in};
 use crate::gate::Gate;
-use crate::outcomes::Outcome;
 use crate::row::{SweepRow, rows_of};
+use crate::working::Worked;
 use cycle_plan::settling_bound;
 use event_sim::{Reach, Sim, Watch};
 use event_times::events_until;
@@ -48,31 +49,31 @@ pub fn sweep<R: Threads + Sync, G: Gate + Sync>(
     requires in_range { until ≤ LAST_MILLISECOND }
     ensures rows { IfOk result (AreSweepRows plan.now at until) }
     ensures of_plan { IfOk result (All (λ row. row.link < length plan.now.links)) }
-    ensures bound { IfOk result (All (λ row. IfSome row.bound (λ bound. bound ≤ until →
-        row.settled ≡ true))) }
+    ensures bound { IfOk result (All (λ row. IfSome row.outcome.bound (λ bound. bound ≤ until →
+        row.outcome.settled ≡ true))) }
 {
     net_rules::event_law();
     let cases = failures(alloc, plan.links(), at)?;
-    let outcomes = all_outcomes(rt, alloc, plan, &[], cases.as_slice(), until, gate)?;
-    rows_of(alloc, outcomes.as_slice())
+    let worked = work_all(rt, alloc, plan, &[], cases.as_slice(), until, false, gate)?;
+    rows_of(alloc, worked.as_slice())
 }
 
 // What becomes of the plan's network at the end of a millisecond in each case, where the common
-// events happen in all of them.
-pub fn all_outcomes<R: Threads + Sync, G: Gate + Sync>(
+// events happen in all of them, with the timing of its elements where they are to be timed.
+pub fn work_all<R: Threads + Sync, G: Gate + Sync>(
     rt: &R,
     alloc: Global,
     plan: &Plan,
     common: &[Event],
     cases: &[Case],
     until: u64,
+    timed: bool,
     gate: &G,
-) -> Result<Rows<Outcome>, NoMemory>
+) -> Result<Rows<Worked>, NoMemory>
     requires common { IsEventList plan.now common.now }
     requires cases { All (IsCase plan.now) cases.now }
-    requires few { length cases.now < 2 ^ 32 }
     requires in_range { until ≤ LAST_MILLISECOND }
-    ensures outcomes { IfOk result (AreOutcomes plan.now common.now until cases.now) }
+    ensures worked { IfOk result (AreWorked plan.now common.now until timed cases.now) }
 {
     if cases.is_empty() {
         return Ok(Rows::new(alloc));
@@ -80,7 +81,9 @@ pub fn all_outcomes<R: Threads + Sync, G: Gate + Sync>(
     let bound = settling_bound(alloc, plan, until)?;
     let from = begin_of(cases, until);
     let base = base_run::<Brand>(alloc, plan, common, from, Blank::new(1))?;
-    in_chunks(rt, alloc, &base, common, from, until, bound, cases, gate)
+    in_chunks(
+        rt, alloc, &base, common, from, until, bound, cases, timed, gate,
+    )
 }
 
 // How many cases each chunk has: enough that there are at most eight chunks.
@@ -90,6 +93,15 @@ fn chunk_size(cases: usize) -> usize
     ensures few_chunks { cases ≤ CHUNKS * result }
 {
     cases.div_ceil(CHUNKS)
+}
+
+// The number of a chunk, by the place of its first case.
+fn chunk_number(start: usize, size: usize) -> u32
+    requires some { 0 < size }
+    requires start { start < CHUNKS * size }
+    ensures { result ≡ start / size }
+{
+    (start / size) as u32
 }
 
 // What becomes of the network in each case, worked in chunks.
@@ -102,10 +114,10 @@ fn in_chunks<R: Threads + Sync, G: Gate + Sync>(
     until: u64,
     bound: Option<u64>,
     cases: &[Case],
+    timed: bool,
     gate: &G,
-) -> Result<Rows<Outcome>, NoMemory>
+) -> Result<Rows<Worked>, NoMemory>
     requires some { 0 < length cases.now }
-    requires few { length cases.now < 2 ^ 32 }
     requires base { IsBase common.now from base.now }
     requires common { IsEventList base.now.net.plan common.now }
     requires cases { All (IsCase base.now.net.plan) cases.now }
@@ -113,7 +125,7 @@ fn in_chunks<R: Threads + Sync, G: Gate + Sync>(
     requires in_order { from ≤ until }
     requires in_range { until ≤ LAST_MILLISECOND }
     requires bound { IsBoundAfter base.now.net.plan until bound }
-    ensures outcomes { IfOk result (AreOutcomes base.now.net.plan common.now until cases.now) }
+    ensures worked { IfOk result (AreWorked base.now.net.plan common.now until timed cases.now) }
 {
     let size = chunk_size(cases.len());
     let parts = thread::map_chunks(
@@ -121,22 +133,22 @@ fn in_chunks<R: Threads + Sync, G: Gate + Sync>(
         alloc,
         cases,
         size,
-        &|start: usize, chunk: &[Case]| -> Result<Rows<Outcome>, NoMemory>
-            requires { (0 < size) × (start < 2 ^ 32) × IsBase common.now from base.now
+        &|start: usize, chunk: &[Case]| -> Result<Rows<Worked>, NoMemory>
+            requires { (0 < size) × (start < CHUNKS * size) × IsBase common.now from base.now
                 × IsEventList base.now.net.plan common.now
                 × All (IsCase base.now.net.plan) chunk.now × NoneBefore from chunk.now
                 × (from ≤ until) × (until ≤ LAST_MILLISECOND)
                 × IsBoundAfter base.now.net.plan until bound }
-            ensures { IfOk result (AreOutcomes base.entry.now.net.plan common.entry.now until
+            ensures { IfOk result (AreWorked base.entry.now.net.plan common.entry.now until timed
                 chunk.entry.now) }
         {
             work(
-                gate, alloc, base, common, from, until, bound, size, start, chunk,
+                gate, alloc, base, common, from, until, bound, size, start, chunk, timed,
             )
         },
     );
     match parts {
-        Ok(parts) => join_outcomes(alloc, parts.as_slice()),
+        Ok(parts) => join_worked(alloc, parts.as_slice()),
         Err(_) => Err(NoMemory),
     }
 }
@@ -153,9 +165,10 @@ fn work<G: Gate>(
     size: usize,
     start: usize,
     chunk: &[Case],
-) -> Result<Rows<Outcome>, NoMemory>
+    timed: bool,
+) -> Result<Rows<Worked>, NoMemory>
     requires size { 0 < size }
-    requires start { start < 2 ^ 32 }
+    requires start { start < CHUNKS * size }
     requires base { IsBase common.now from base.now }
     requires common { IsEventList base.now.net.plan common.now }
     requires cases { All (IsCase base.now.net.plan) chunk.now }
@@ -163,10 +176,10 @@ fn work<G: Gate>(
     requires in_order { from ≤ until }
     requires in_range { until ≤ LAST_MILLISECOND }
     requires bound { IsBoundAfter base.now.net.plan until bound }
-    ensures outcomes { IfOk result (AreOutcomes base.now.net.plan common.now until chunk.now) }
+    ensures worked { IfOk result (AreWorked base.now.net.plan common.now until timed chunk.now) }
 {
-    gate.enter((start / size) as u32);
-    outcomes_of(alloc, base, common, from, until, bound, chunk)
+    gate.enter(chunk_number(start, size));
+    worked_in(alloc, base, common, from, until, bound, chunk, timed)
 }
 
 // A simulator of the plan that watches nothing and has come as far as up to a millisecond, with

@@ -5,6 +5,7 @@ ghost use Rattle.std.specs.List.{All};
 ghost use Rattle.sync_ql.specs.Level.{name_of as level_name};
 ghost use Rattle.sync_sweep.specs.SweepText.{bound_word, counts_text, link_name, results_text, row_text, settled_word, table_text};
 
+use crate::outcomes::Outcome;
 use crate::row::SweepRow;
 use std::alloc::Global;
 use sync_ql::{Level, name_of};
@@ -35,7 +36,7 @@ fn put_row(text: &mut Text, plan: &Plan, row: &SweepRow) -> Result<(), NoMemory>
 {
     text.put(link_name(plan, row.link))?;
     text.put(b",")?;
-    put_results(text, row)?;
+    put_results(text, &row.outcome)?;
     text.put(b"\n")
 }
 
@@ -47,17 +48,17 @@ fn link_name(plan: &Plan, link: u32) -> &[u8]
     plan.link(link).name.bytes()
 }
 
-// Puts all of a row but the link's name.
-fn put_results(text: &mut Text, row: &SweepRow) -> Result<(), NoMemory>
-    ensures put { OnOk result (text.new ≡ text.old ++ results_text row.now) }
+// Puts what becomes of a network.
+pub fn put_results(text: &mut Text, outcome: &Outcome) -> Result<(), NoMemory>
+    ensures put { OnOk result (text.new ≡ text.old ++ results_text outcome.now) }
 {
-    text.put(settled_word(row.settled))?;
+    text.put(settled_word(outcome.settled))?;
     text.put(b",")?;
-    put_counts(text, row)?;
+    put_counts(text, outcome)?;
     text.put(b",")?;
-    put_level(text, row.worst)?;
+    put_level(text, outcome.worst)?;
     text.put(b",")?;
-    put_bound(text, row.bound)
+    put_bound(text, outcome.bound)
 }
 
 // Puts the name of a level.
@@ -68,16 +69,16 @@ fn put_level(text: &mut Text, level: Level) -> Result<(), NoMemory>
 }
 
 // Puts how many elements are in each state, and how many closed walks there are.
-fn put_counts(text: &mut Text, row: &SweepRow) -> Result<(), NoMemory>
-    ensures put { OnOk result (text.new ≡ text.old ++ counts_text row.now) }
+fn put_counts(text: &mut Text, outcome: &Outcome) -> Result<(), NoMemory>
+    ensures put { OnOk result (text.new ≡ text.old ++ counts_text outcome.now) }
 {
-    text.put_number(u64::from(row.locked))?;
+    text.put_number(u64::from(outcome.locked))?;
     text.put(b",")?;
-    text.put_number(u64::from(row.holdover))?;
+    text.put_number(u64::from(outcome.holdover))?;
     text.put(b",")?;
-    text.put_number(u64::from(row.free))?;
+    text.put_number(u64::from(outcome.free))?;
     text.put(b",")?;
-    text.put_number(u64::from(row.loops))
+    text.put_number(u64::from(outcome.loops))
 }
 
 // Puts the settling bound, or that there is none.

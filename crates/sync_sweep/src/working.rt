@@ -1,6 +1,6 @@
 //! One case on a branch, which goes back.
 
-ghost use Rattle.std.specs.Prelude.{◌≡◌, ◌≤◌, ◌<◌, ◌+◌, ℕ, false, List, length, IfOk, OnOk};
+ghost use Rattle.std.specs.Prelude.{◌≡◌, ◌≤◌, ◌<◌, ◌+◌, ℕ, false, List, length, is_some, IfOk, IfSome, OnOk};
 ghost use Rattle.std.specs.List.{All};
 ghost use Rattle.sync_topo.specs.declared.event.Event.{Event};
 ghost use Rattle.sync_topo.specs.Events.{IsCase, IsEventList};
@@ -11,12 +11,16 @@ ghost use Rattle.sync_net.specs.Standing.{StandsFor};
 ghost use Rattle.sync_sweep.specs.Base.{AreCommonBefore};
 ghost use Rattle.sync_sweep.specs.Branching.{IsBranch};
 ghost use Rattle.sync_sweep.specs.Cases.{merged};
-ghost use Rattle.sync_sweep.specs.Outcomes.{IsOutcome, IsBoundAfter};
+ghost use Rattle.sync_sweep.specs.Outcomes.{IsBoundAfter};
 ghost use Rattle.sync_sweep.specs.ShownNow.{AreShown};
+ghost use Rattle.sync_sweep.specs.Timed.{IsTimed};
+ghost use Rattle.sync_sweep.specs.Working.{IsWorked};
 
 use crate::branch::{Branch, go_back, run_events, show};
 use crate::cases::{run_last, told_of};
 use crate::outcomes::{Outcome, bound_after, outcome_of};
+use crate::timed::{Timed, timing_if};
+use crate::timings::Timing;
 use std::alloc::Global;
 use std::marker::Brand;
 use std::sync::ledger::{Blank, Ledger};
@@ -24,6 +28,13 @@ use sync_net::Net;
 use sync_ql::limits::LAST_MILLISECOND;
 use sync_text::{NoMemory, Steps};
 use sync_topo::{Case, Event};
+
+/// What becomes of a network in a case, and the timing of its elements where that is asked for.
+#[derive(Clone, Copy, Debug, PartialEq, Eq, Drop)]
+pub struct Worked {
+    pub outcome: Outcome,
+    pub timing: Option<Timing>,
+}
 
 // The network runs to its end; its steps are counted on a ledger.
 fn run_out<L: Ledger>(
@@ -59,17 +70,19 @@ fn run_out<L: Ledger>(
 }
 
 // What becomes of the network in a case, on a branch of the network that has come as far as up to a
-// millisecond before which only the common events happen; the branch goes back.
-pub fn case_outcome(
+// millisecond before which only the common events happen, with the timing of its elements where that
+// is to be told; the branch goes back.
+pub fn case_worked(
     alloc: Global,
     base: &Net<'_>,
     branch: &mut Branch<'_>,
+    timed: &mut Option<Timed>,
     common: &[Event],
     from: u64,
     until: u64,
     bound: Option<u64>,
     case: &Case,
-) -> Result<Outcome, NoMemory>
+) -> Result<Worked, NoMemory>
     requires live { base.now.spent ≡ false }
     requires begun { base.now.next ≡ from }
     requires stands { (all : List Event) → AreCommonBefore base.now.plan common.now from all →
@@ -83,11 +96,14 @@ pub fn case_outcome(
     requires branch { IsBranch base.now branch.old.net branch.old.elements branch.old.lines }
     requires same { branch.old.net ≡ base.now }
     requires shown { AreShown base.now branch.old.shown }
-    ensures outcome { IfOk result
-        (IsOutcome base.now.plan (merged common.now case.now.events) until) }
+    requires timed { IfSome timed.old (IsTimed base.now) }
+    ensures worked { IfOk result
+        (IsWorked base.now.plan (merged common.now case.now.events) until (is_some timed.old)) }
     ensures branch { OnOk result (IsBranch base.now branch.new.net branch.new.elements branch.new.lines) }
     ensures same { OnOk result (branch.new.net ≡ base.now) }
     ensures shown { OnOk result (AreShown base.now branch.new.shown) }
+    ensures kept { OnOk result (is_some timed.new ≡ is_some timed.old) }
+    ensures timed { OnOk result (IfSome timed.new (IsTimed base.now)) }
 {
     let _elements = base.plan().elements();
     let own = case.events.as_slice();
@@ -97,6 +113,7 @@ pub fn case_outcome(
     let last = run_last(common, own, until);
     let bound = bound_after(bound, until, last);
     let outcome = outcome_of(alloc, &branch.net, &branch.shown, last, bound)?;
+    let timing = timing_if(alloc, &branch.net, timed, branch.elements.listed())?;
     go_back(alloc, branch, base)?;
-    Ok(outcome)
+    Ok(Worked { outcome, timing })
 }

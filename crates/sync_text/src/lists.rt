@@ -32,6 +32,15 @@ impl Text {
         }
     }
 
+    /// A text of its own with these bytes.
+    pub fn from_bytes(alloc: Global, bytes: &[u8]) -> Result<Text, NoMemory>
+        ensures { IfOk result (λ text. text ≡ bytes.now) }
+    {
+        let mut text = Text::new(alloc);
+        text.put(bytes)?;
+        Ok(text)
+    }
+
     /// Puts the bytes at the end.
     ///
     /// A refused put leaves the text as it was.

@@ -1,5 +1,5 @@
 -- That `agree` has one answer.
-use Rattle.std.proofs.Common.{◌≡◌, ◌<◌, ◌≤◌, ℕ, List, length, refl, sym, subst, ◌∙◌, ap, inl, inr, arith}
+use Rattle.std.proofs.Common.{◌≡◌, ◌≤◌, ℕ, List, refl, sym, subst, ◌∙◌, ap, inl, inr, arith}
 use Rattle.std.specs.Prelude.{◌⊎◌, codes}
 use Rattle.std.proofs.lemmas.Bool.{cases_lt}
 use Rattle.sync_topo.specs.Topology.{Topology}
@@ -10,7 +10,7 @@ use Rattle.reach_rules.specs.Agreement.{IsHighCount, IsAgreedBound, agreed_in}
 use Rattle.cycle_plan.proofs.AgreedLemmas.{bears-nominates}
 use Rattle.cycle_plan.proofs.BoundLemmas.{cyclic-none}
 use Rattle.cycle_plan.proofs.OneCycle.{one_cycle}
-use Rattle.sync_sweep.proofs.OneSweep.{one-greatest}
+use Rattle.sync_sweep.proofs.OneOutcome.{one-greatest}
 use Rattle.sync_top.specs.declared.status.Status.{Status}
 use Rattle.sync_top.specs.declared.status.Status.TheVariants.{Done, Refuted, Usage, BadPlan, BadCert, BadEvents, BadFrames, ReadFault, WriteFault, TooLong, NoMemory, Stopped}
 use Rattle.sync_top.specs.Forms.Rank.{lines_text}

@@ -22,7 +22,7 @@ use Rattle.sync_top.specs.declared.status.Status.TheVariants.{Done}
 use Rattle.sync_top.specs.declared.form.PlanForm.TheVariants.{Rank, Chains, Protected, Protect, Agree, Hops, Nominate, PrioRank, Sweep}
 use Rattle.sync_top.specs.declared.form.RanksForm.TheVariants.{Check, PrioCheck}
 use Rattle.sync_top.specs.declared.form.LadderForm.TheVariants.{Gen, Trial}
-use Rattle.sync_top.specs.Form.{Form, form_of, on_plan, on_ranks, on_events, on_frames, on_ladder, node}
+use Rattle.sync_top.specs.Form.{Form, form_of, on_plan, on_ranks, on_events, study, on_frames, on_ladder, node}
 use Rattle.sync_top.specs.Reading.{End, no_file, answered, file_limit, plan_in, Answered}
 use Rattle.sync_top.specs.Forms.Check.{ranks_in, documents, IsVerdictOver}
 use Rattle.sync_top.specs.Answer.{FormAnswer, IsAnswer, MissesFile}
@@ -124,6 +124,7 @@ form-loop_free (Some (on_ranks Check plan name)) files text answer =
     (found.0, found.1, loop_free found.0 (rank_of found.2.0) (file-well plan files found.0 found.1) found.2.1)
 form-loop_free (Some (on_ranks PrioCheck plan name)) files text answer = tt
 form-loop_free (Some (on_events what plan events until)) files text answer = tt
+form-loop_free (Some (study plan cases until)) files text answer = tt
 form-loop_free (Some (on_frames what option name)) files text answer = tt
 form-loop_free (Some (on_ladder Gen n)) files text answer = tt
 form-loop_free (Some (on_ladder Trial n)) files text answer = answer.1.accepted
@@ -137,6 +138,7 @@ form-never_loops (Some (on_ranks PrioCheck plan name)) files text answer =
     let found = rising hops_any plan name text files answer in
     (found.0, found.1, never_loops found.0 (rank_of found.2.0) found.2.1)
 form-never_loops (Some (on_events what plan events until)) files text answer = tt
+form-never_loops (Some (study plan cases until)) files text answer = tt
 form-never_loops (Some (on_frames what option name)) files text answer = tt
 form-never_loops (Some (on_ladder what n)) files text answer = tt
 form-never_loops (Some (node plan element name until)) files text answer = tt
@@ -161,6 +163,7 @@ form-bounds (Some (on_plan PrioRank plan)) files text answer = tt
 form-bounds (Some (on_plan (Sweep at until) plan)) files text answer = tt
 form-bounds (Some (on_ranks what plan name)) files text answer = tt
 form-bounds (Some (on_events what plan events until)) files text answer = tt
+form-bounds (Some (study plan cases until)) files text answer = tt
 form-bounds (Some (on_frames what option name)) files text answer = tt
 form-bounds (Some (on_ladder what n)) files text answer = tt
 form-bounds (Some (node plan element name until)) files text answer = tt
@@ -185,6 +188,7 @@ form-holds_out (Some (on_plan PrioRank plan)) files text answer = tt
 form-holds_out (Some (on_plan (Sweep at until) plan)) files text answer = tt
 form-holds_out (Some (on_ranks what plan name)) files text answer = tt
 form-holds_out (Some (on_events what plan events until)) files text answer = tt
+form-holds_out (Some (study plan cases until)) files text answer = tt
 form-holds_out (Some (on_frames what option name)) files text answer = tt
 form-holds_out (Some (on_ladder what n)) files text answer = tt
 form-holds_out (Some (node plan element name until)) files text answer = tt
@@ -210,6 +214,7 @@ form-rests (Some (on_plan PrioRank plan)) files text answer = tt
 form-rests (Some (on_plan (Sweep at until) plan)) files text answer = tt
 form-rests (Some (on_ranks what plan name)) files text answer = tt
 form-rests (Some (on_events what plan events until)) files text answer = tt
+form-rests (Some (study plan cases until)) files text answer = tt
 form-rests (Some (on_frames what option name)) files text answer = tt
 form-rests (Some (on_ladder what n)) files text answer = tt
 form-rests (Some (node plan element name until)) files text answer = tt

@@ -32,7 +32,7 @@ use Rattle.sync_top.specs.declared.form.FramesForm.{FramesForm}
 use Rattle.sync_top.specs.declared.form.FramesForm.TheVariants.{Decode, Encode, PcapDecode, PcapEncode}
 use Rattle.sync_top.specs.declared.form.LadderForm.{LadderForm}
 use Rattle.sync_top.specs.declared.form.LadderForm.TheVariants.{Gen, Trial}
-use Rattle.sync_top.specs.Form.{Form, form_of, on_plan, on_ranks, on_events, on_frames, on_ladder, node}
+use Rattle.sync_top.specs.Form.{Form, form_of, on_plan, on_ranks, on_events, study, on_frames, on_ladder, node}
 use Rattle.sync_top.specs.Reading.{End, no_file, answered, Answered, IsText}
 use Rattle.sync_top.specs.Forms.Rank.{IsPlanned, cycle_text}
 use Rattle.sync_top.specs.Forms.Hops.{AreHopRows, hops_text}
@@ -43,6 +43,12 @@ use Rattle.nominate.proofs.HopLaws.{one-list}
 use Rattle.sync_top.specs.Forms.Captures.{accepted_frames, accepted_capture}
 use Rattle.sync_top.specs.Forms.Sim.{IsReport}
 use Rattle.sync_top.specs.Forms.Sweep.{IsSweepTable}
+use Rattle.sync_top.specs.Forms.Study.{IsStudyTable}
+use Rattle.event_file.specs.declared.case_file.Cases.{Cases}
+use Rattle.sync_topo.specs.declared.event.Case.{Case}
+use Rattle.sync_sweep.specs.declared.studying.StudyRow.{StudyRow}
+use Rattle.sync_sweep.specs.Study.{AreStudyRows}
+use Rattle.sync_sweep.specs.StudyText.{study_text}
 use Rattle.sync_sweep.specs.SweepText.{table_text}
 use Rattle.sync_sweep.proofs.OneSweep.{one-sweep}
 use Rattle.sync_top.specs.Answer.{PlanAnswer, RanksAnswer, EventsAnswer, FramesAnswer, LadderAnswer, meaning, HasOneAnswer, FormAnswer, IsAnswer}
@@ -139,101 +145,110 @@ either_report plan events until WriteFault text report = absurd report
 either_report plan events until TooLong text report = absurd report
 either_report plan events until NoMemory text report = absurd report
 
-module _ (one_whole : (plan : Topology) (events : List Event) (until : ℕ) (text another : List ℕ) → IsWholeReport plan events until text → IsWholeReport plan events until another → text ≡ another) where
-  -- a run gives one report
-  one_report : (plan : Topology) (events : List Event) (until : ℕ) → IsOne (IsReport plan events until)
-  one_report plan events until status other text another first second =
-      elim (either_report plan events until status text first) [
-        | inl whole ↦ elim (either_report plan events until other another second) [
-          | inl also ↦ (whole.0 ∙ sym also.0, one_whole plan events until text another whole.2 also.2)
-          | inr short ↦ absurd (omega (arith, whole.1, short.1.1.all))
+module _ (one_whole : (plan : Topology) (events : List Event) (until : ℕ) (text another : List ℕ) → IsWholeReport plan events until text → IsWholeReport plan events until another → text ≡ another)
+    (one_study_rows : (plan : Topology) (common : List Event) (until : ℕ) (cases : List Case) (rows others : List StudyRow) → AreStudyRows plan common until cases rows
+    → AreStudyRows plan common until cases others → rows ≡ others)
+  where
+    -- a run gives one report
+    one_report : (plan : Topology) (events : List Event) (until : ℕ) → IsOne (IsReport plan events until)
+    one_report plan events until status other text another first second =
+        elim (either_report plan events until status text first) [
+          | inl whole ↦ elim (either_report plan events until other another second) [
+            | inl also ↦ (whole.0 ∙ sym also.0, one_whole plan events until text another whole.2 also.2)
+            | inr short ↦ absurd (omega (arith, whole.1, short.1.1.all))
+          ]
+          | inr short ↦ elim (either_report plan events until other another second) [
+            | inl whole ↦ absurd (omega (arith, whole.1, short.1.1.all))
+            | inr also ↦
+                (short.0 ∙ sym also.0, short.1.2 ∙ ap (stopped_report plan events) (one_last plan events until short.1.0 also.1.0 short.1.1 also.1.1) ∙ sym also.1.2)
+          ]
         ]
-        | inr short ↦ elim (either_report plan events until other another second) [
-          | inl whole ↦ absurd (omega (arith, whole.1, short.1.1.all))
-          | inr also ↦
-              (short.0 ∙ sym also.0, short.1.2 ∙ ap (stopped_report plan events) (one_last plan events until short.1.0 also.1.0 short.1.1 also.1.1) ∙ sym also.1.2)
-        ]
-      ]
 
-  -- the rows of hop counts are one
-  one_hop_rows : (plan : Topology) → IsOne (AreHopRows plan)
-  one_hop_rows plan status other text another first second =
-      let same = one-list plan first.1.0 second.1.0 first.1.1 second.1.1 in
-      (first.0 ∙ sym second.0, first.1.2 ∙ ap (hops_text plan) same ∙ sym second.1.2)
+    -- the rows of hop counts are one
+    one_hop_rows : (plan : Topology) → IsOne (AreHopRows plan)
+    one_hop_rows plan status other text another first second =
+        let same = one-list plan first.1.0 second.1.0 first.1.1 second.1.1 in
+        (first.0 ∙ sym second.0, first.1.2 ∙ ap (hops_text plan) same ∙ sym second.1.2)
 
-  -- a plan has one table of link failures
-  one_sweep_table : (plan : Topology) (at until : ℕ) → IsOne (IsSweepTable plan at until)
-  one_sweep_table plan at until status other text another first second =
-      let same = one-sweep plan at until first.1.0 second.1.0 first.1.1 second.1.1 in
-      (first.0 ∙ sym second.0, first.1.2 ∙ ap (table_text plan) same ∙ sym second.1.2)
+    -- a plan has one table of link failures
+    one_sweep_table : (plan : Topology) (at until : ℕ) → IsOne (IsSweepTable plan at until)
+    one_sweep_table plan at until status other text another first second =
+        let same = one-sweep plan at until first.1.0 second.1.0 first.1.1 second.1.1 in
+        (first.0 ∙ sym second.0, first.1.2 ∙ ap (table_text plan) same ∙ sym second.1.2)
 
-  -- the hop counts of a plan are one, and so are the plan that is nominated by them and its text
-  one_nominated : (plan : Topology) → IsOne (IsNominatedText plan)
-  one_nominated plan status other text another first second =
-      let mine = first.1.1 in
-      let theirs = second.1.1 in
-      let counts = one-list plan mine.counts theirs.counts mine.are theirs.are in
-      (first.0 ∙ sym second.0, first.1.2 ∙ ap plan_text (mine.is ∙ ap (nominated_plan plan) counts ∙ sym theirs.is) ∙ sym second.1.2)
+    -- the hop counts of a plan are one, and so are the plan that is nominated by them and its text
+    one_nominated : (plan : Topology) → IsOne (IsNominatedText plan)
+    one_nominated plan status other text another first second =
+        let mine = first.1.1 in
+        let theirs = second.1.1 in
+        let counts = one-list plan mine.counts theirs.counts mine.are theirs.are in
+        (first.0 ∙ sym second.0, first.1.2 ∙ ap plan_text (mine.is ∙ ap (nominated_plan plan) counts ∙ sym theirs.is) ∙ sym second.1.2)
 
-  -- what answers a plan is one
-  one_plan : (what : PlanForm) (name : List ℕ) → HasOneAnswer (Some (on_plan what name)) → (plan : Topology) → IsOne (PlanAnswer what plan)
-  one_plan Rank name has plan = one_planned plan
-  one_plan Chains name has plan = one_chained plan
-  one_plan Protected name has plan = one_protected plan
-  one_plan Protect name has plan = absurd has
-  one_plan Agree name has plan = one_agreed plan
-  one_plan Hops name has plan = one_hop_rows plan
-  one_plan Nominate name has plan = one_nominated plan
-  one_plan PrioRank name has plan = one_priority_planned plan
-  one_plan (Sweep at until) name has plan = one_sweep_table plan at until
+    -- what answers a plan is one
+    one_plan : (what : PlanForm) (name : List ℕ) → HasOneAnswer (Some (on_plan what name)) → (plan : Topology) → IsOne (PlanAnswer what plan)
+    one_plan Rank name has plan = one_planned plan
+    one_plan Chains name has plan = one_chained plan
+    one_plan Protected name has plan = one_protected plan
+    one_plan Protect name has plan = absurd has
+    one_plan Agree name has plan = one_agreed plan
+    one_plan Hops name has plan = one_hop_rows plan
+    one_plan Nominate name has plan = one_nominated plan
+    one_plan PrioRank name has plan = one_priority_planned plan
+    one_plan (Sweep at until) name has plan = one_sweep_table plan at until
 
-  -- so is what answers the ranks of a certificate
-  one_ranks : (what : RanksForm) (plan : Topology) (ranks : Ranks) → IsOne (RanksAnswer what plan ranks)
-  one_ranks Check plan ranks = one_verdict (hops plan) plan ranks
-  one_ranks PrioCheck plan ranks = one_verdict (hops_any plan) plan ranks
+    -- so is what answers the ranks of a certificate
+    one_ranks : (what : RanksForm) (plan : Topology) (ranks : Ranks) → IsOne (RanksAnswer what plan ranks)
+    one_ranks Check plan ranks = one_verdict (hops plan) plan ranks
+    one_ranks PrioCheck plan ranks = one_verdict (hops_any plan) plan ranks
 
-  -- and events
-  one_events : (what : EventsForm) (plan : Topology) (events : List Event) (until : ℕ) → IsOne (EventsAnswer what plan events until)
-  one_events Sim plan events until = one_report plan events until
-  one_events PrioSim plan events until = one_priority_run plan events until
-  one_events Inspect plan events until = one_asked (inspection plan events until)
+    -- and events
+    one_events : (what : EventsForm) (plan : Topology) (events : List Event) (until : ℕ) → IsOne (EventsAnswer what plan events until)
+    one_events Sim plan events until = one_report plan events until
+    one_events PrioSim plan events until = one_priority_run plan events until
+    one_events Inspect plan events until = one_asked (inspection plan events until)
 
-  -- and the bytes of frames or rows
-  one_frames : (what : FramesForm) (option : NetOption) (bytes : List ℕ) → IsOne (FramesAnswer what option bytes)
-  one_frames Decode option bytes = one_answered IsText one_asked (accepted_frames (decoded_text option bytes))
-  one_frames Encode option bytes = one_answered IsText one_asked (accepted_frames (encoded_text option bytes))
-  one_frames PcapDecode option bytes = one_answered IsText one_asked (accepted_capture (decoded_pcap option bytes))
-  one_frames PcapEncode option bytes = one_answered IsText one_asked (accepted_frames (encoded_pcap option bytes))
+    -- and cases
+    one_study : (plan : Topology) (cases : Cases) (until : ℕ) → IsOne (IsStudyTable plan cases until)
+    one_study plan cases until status other text another first second =
+        (first.0 ∙ sym second.0, first.1.2 ∙ ap (study_text plan cases.names) (one_study_rows plan cases.common until cases.cases first.1.0 second.1.0 first.1.1 second.1.1) ∙ sym second.1.2)
 
-  -- and a number of elements
-  one_ladder : (what : LadderForm) (n : ℕ) → IsOne (LadderAnswer what n)
-  one_ladder Gen n status other text another first second = (first.0 ∙ sym second.0, first.1 ∙ sym second.1)
-  one_ladder Trial n status other text another first second = one_trial n status other text another first second
+    -- and the bytes of frames or rows
+    one_frames : (what : FramesForm) (option : NetOption) (bytes : List ℕ) → IsOne (FramesAnswer what option bytes)
+    one_frames Decode option bytes = one_answered IsText one_asked (accepted_frames (decoded_text option bytes))
+    one_frames Encode option bytes = one_answered IsText one_asked (accepted_frames (encoded_text option bytes))
+    one_frames PcapDecode option bytes = one_answered IsText one_asked (accepted_capture (decoded_pcap option bytes))
+    one_frames PcapEncode option bytes = one_answered IsText one_asked (accepted_frames (encoded_pcap option bytes))
 
-  -- and what an element received
-  one_node : (plan : Topology) (element : ℕ) (bytes : List ℕ) (until : ℕ) → IsOne (IsNodeReply plan element bytes until)
-  one_node plan element bytes until =
-      one_answered (λ rows. AreFramesSent plan element rows until) (λ rows. one_sent plan element rows until) (accepted_rows (rows_of plan element bytes))
+    -- and a number of elements
+    one_ladder : (what : LadderForm) (n : ℕ) → IsOne (LadderAnswer what n)
+    one_ladder Gen n status other text another first second = (first.0 ∙ sym second.0, first.1 ∙ sym second.1)
+    one_ladder Trial n status other text another first second = one_trial n status other text another first second
 
-  -- what a form reads has one answer
-  one_meaning : (form : Form) → HasOneAnswer (Some form) → (read : (meaning form).reading.Read) → IsOne ((meaning form).Answers read)
-  one_meaning (on_plan what plan) has read = one_plan what plan has read
-  one_meaning (on_ranks what plan cert) has read = one_ranks what read.0 read.1
-  one_meaning (on_events what plan events until) has read = one_events what read.0 read.1 until
-  one_meaning (on_frames what option name) has read = one_frames what option read
-  one_meaning (on_ladder what n) has read = one_ladder what n
-  one_meaning (node plan element name until) has read = one_node read.0 read.1 read.2 until
+    -- and what an element received
+    one_node : (plan : Topology) (element : ℕ) (bytes : List ℕ) (until : ℕ) → IsOne (IsNodeReply plan element bytes until)
+    one_node plan element bytes until =
+        one_answered (λ rows. AreFramesSent plan element rows until) (λ rows. one_sent plan element rows until) (accepted_rows (rows_of plan element bytes))
 
-  -- a form has one answer
-  one_form : (form : Option Form) (files : Contents) → HasOneAnswer form → IsOne (FormAnswer form files)
-  one_form None files has status other text another first second = (first.0 ∙ sym second.0, first.1 ∙ sym second.1)
-  one_form (Some form) files has status other text another first second =
-      one_answered (meaning form).Answers (one_meaning form has) ((meaning form).reading.read files) status other text another first second
+    -- what a form reads has one answer
+    one_meaning : (form : Form) → HasOneAnswer (Some form) → (read : (meaning form).reading.Read) → IsOne ((meaning form).Answers read)
+    one_meaning (on_plan what plan) has read = one_plan what plan has read
+    one_meaning (on_ranks what plan cert) has read = one_ranks what read.0 read.1
+    one_meaning (on_events what plan events until) has read = one_events what read.0 read.1 until
+    one_meaning (study plan cases until) has read = one_study read.0 read.1 until
+    one_meaning (on_frames what option name) has read = one_frames what option read
+    one_meaning (on_ladder what n) has read = one_ladder what n
+    one_meaning (node plan element name until) has read = one_node read.0 read.1 read.2 until
 
-  pub one_status : (words : List (List ℕ)) (files : Contents) (status other : Status) (text another : List ℕ) → HasOneAnswer (form_of words)
-      → IsAnswer words files status text → IsAnswer words files other another → status ≡ other
-  one_status words files status other text another has first second = (one_form (form_of words) files has status other text another first second).0
+    -- a form has one answer
+    one_form : (form : Option Form) (files : Contents) → HasOneAnswer form → IsOne (FormAnswer form files)
+    one_form None files has status other text another first second = (first.0 ∙ sym second.0, first.1 ∙ sym second.1)
+    one_form (Some form) files has status other text another first second =
+        one_answered (meaning form).Answers (one_meaning form has) ((meaning form).reading.read files) status other text another first second
 
-  pub one_text : (words : List (List ℕ)) (files : Contents) (status other : Status) (text another : List ℕ) → HasOneAnswer (form_of words)
-      → IsAnswer words files status text → IsAnswer words files other another → text ≡ another
-  one_text words files status other text another has first second = (one_form (form_of words) files has status other text another first second).1
+    pub one_status : (words : List (List ℕ)) (files : Contents) (status other : Status) (text another : List ℕ) → HasOneAnswer (form_of words)
+        → IsAnswer words files status text → IsAnswer words files other another → status ≡ other
+    one_status words files status other text another has first second = (one_form (form_of words) files has status other text another first second).0
+
+    pub one_text : (words : List (List ℕ)) (files : Contents) (status other : Status) (text another : List ℕ) → HasOneAnswer (form_of words)
+        → IsAnswer words files status text → IsAnswer words files other another → text ≡ another
+    one_text words files status other text another has first second = (one_form (form_of words) files has status other text another first second).1

@@ -8,7 +8,7 @@ use Rattle.event_sim.specs.declared.change.Change.{Change}
 use Rattle.event_sim.specs.Rows.{rows_until}
 use Rattle.sync_top.specs.declared.trial.TheConstants.{LAST}
 use Rattle.sync_top.specs.Forms.Trial.{AreReportRows, IsTrialText, IsSettledAt, trial_events, trial_text}
-use Rattle.sync_sweep.proofs.OneSweep.{one-greatest}
+use Rattle.sync_sweep.proofs.OneOutcome.{one-greatest}
 use Rattle.sync_top.proofs.LastFits.{one_last}
 
 -- a run has one list of rows that its report has

@@ -23,7 +23,7 @@ use Rattle.sync_top.specs.declared.form.FramesForm.{FramesForm}
 use Rattle.sync_top.specs.declared.form.FramesForm.TheVariants.{Decode, Encode, PcapDecode, PcapEncode}
 use Rattle.sync_top.specs.declared.form.LadderForm.{LadderForm}
 use Rattle.sync_top.specs.declared.form.LadderForm.TheVariants.{Gen, Trial}
-use Rattle.sync_top.specs.Form.{Form, on_plan, on_ranks, on_events, on_frames, on_ladder, node, form_of}
+use Rattle.sync_top.specs.Form.{Form, on_plan, on_ranks, on_events, study, on_frames, on_ladder, node, form_of}
 use Rattle.sync_top.specs.Reading.{Reading, one_file, two_files, no_files, Answered, text_line, no_file, file, plan_in}
 use Rattle.sync_top.specs.Forms.Check.{documents, IsVerdict}
 use Rattle.sync_top.specs.Forms.Rank.{IsPlanned}
@@ -38,6 +38,7 @@ use Rattle.sync_top.specs.Forms.Gen.{IsLadderText}
 use Rattle.sync_top.specs.Forms.Trial.{IsTrial}
 use Rattle.sync_top.specs.Forms.Sim.{plan_and_events, IsReport}
 use Rattle.sync_top.specs.Forms.Sweep.{IsSweepTable}
+use Rattle.sync_top.specs.Forms.Study.{plan_and_cases, IsStudyTable}
 use Rattle.sync_top.specs.Forms.Priority.{IsPriorityVerdict, IsPriorityPlanned, IsPriorityRun}
 use Rattle.sync_top.specs.Forms.Inspect.{IsInspected}
 use Rattle.sync_top.specs.Forms.Node.{element_of_plan, node_bytes, IsNodeReply}
@@ -91,6 +92,10 @@ meaning (on_ranks what plan certificate) = record {
 meaning (on_events what plan events until) = record {
   reading = two_files (plan_in plan) (plan_and_events plan events);
   Answers = λ read. EventsAnswer what read.0 read.1 until;
+}
+meaning (study plan cases until) = record {
+  reading = two_files (plan_in plan) (plan_and_cases plan cases);
+  Answers = λ read. IsStudyTable read.0 read.1 until;
 }
 meaning (on_frames what option name) = record { reading = one_file (file name); Answers = FramesAnswer what option }
 meaning (on_ladder what n) = record { reading = no_files; Answers = λ _. LadderAnswer what n }

@@ -1,5 +1,5 @@
 -- The words of the command line. This project's own.
-use Rattle.std.specs.Prelude.{ℕ, Bool, ◌&&◌, nat_lt, nat_le, true, false, List, [], ◌∷◌, length, codes, Option, Some, None, option_and_then, if◌then◌else◌}
+use Rattle.std.specs.Prelude.{ℕ, Bool, ◌&&◌, nat_lt, nat_le, List, [], ◌∷◌, length, codes, Option, Some, None, option_and_then, if◌then◌else◌}
 use Rattle.std.specs.Option.{option_map}
 use Rattle.std.specs.Str.{bytes_eq}
 use Rattle.sync_topo.specs.declared.parts.TheConstants.{MOST_ELEMENTS}
@@ -26,6 +26,8 @@ pub data Form : Type 0 where
   on_ranks : RanksForm → List ℕ → List ℕ → Form
   -- of a run of a plan with events, up to a millisecond
   on_events : EventsForm → List ℕ → List ℕ → ℕ → Form
+  -- of the runs of a plan in many cases, up to a millisecond
+  study : List ℕ → List ℕ → ℕ → Form
   -- of captured frames, or of rows
   on_frames : FramesForm → NetOption → List ℕ → Form
   -- of the ladder of so many elements
@@ -129,25 +131,29 @@ sweep_form plan at_word until_word = if is_file_word plan then option_and_then f
     from : ℕ → Option Form
     from at = option_and_then (up_to at) (millisecond_of until_word)
 
--- a form on events, if the words may name files and are followed by a millisecond up to the last one; or `sweep`
-abbrev pub form_of_four : Option EventsForm → Bool → List ℕ → List ℕ → List ℕ → Option Form
-form_of_four (Some what) sweeps second third fourth =
-    if is_file_word second && is_file_word third then option_map (on_events what second third) (millisecond_of fourth) else None
-form_of_four None true second third fourth = sweep_form second third fourth
-form_of_four None false second third fourth = None
+-- a form of a plan and another file, if the words may name files and are followed by a millisecond up to the last one
+abbrev pub run_form : (List ℕ → List ℕ → ℕ → Form) → List ℕ → List ℕ → List ℕ → Option Form
+run_form form plan other word = if is_file_word plan && is_file_word other then option_map (form plan other) (millisecond_of word) else None
+
+-- a form on events, `study` or `sweep`
+abbrev pub form_of_four : Option EventsForm → List ℕ → List ℕ → List ℕ → List ℕ → Option Form
+form_of_four (Some what) word second third fourth = run_form (on_events what) second third fourth
+form_of_four None word second third fourth =
+    if bytes_eq word (codes "study") then run_form study second third fourth
+    else if bytes_eq word (codes "sweep") then sweep_form second third fourth
+    else None
 
 -- the form `node`, if its first and third word may name files and are followed by a millisecond up to the last one; the
 -- element's word may be any
 abbrev pub node_form : List ℕ → List ℕ → List ℕ → List ℕ → Option Form
-node_form plan element name word =
-    if is_file_word plan && is_file_word name then option_map (node plan element name) (millisecond_of word) else None
+node_form plan element name word = run_form (λ plan name. node plan element name) plan name word
 
 -- the form of the words, if they have one
 abbrev pub form_of : List (List ℕ) → Option Form
 form_of (word ∷ second ∷ []) = form_of_two (plan_word word) (ladder_word word) second
 form_of (word ∷ second ∷ third ∷ []) = form_of_three (ranks_word word) (frames_word word) second third
 form_of (word ∷ second ∷ third ∷ fourth ∷ []) =
-    form_of_four (events_word word) (bytes_eq word (codes "sweep")) second third fourth
+    form_of_four (events_word word) word second third fourth
 form_of (word ∷ second ∷ third ∷ fourth ∷ fifth ∷ []) =
     if bytes_eq word (codes "node") then node_form second third fourth fifth else None
 form_of _ = None

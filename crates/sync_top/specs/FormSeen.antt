@@ -6,12 +6,13 @@ use Rattle.sync_top.specs.declared.form.PlanForm.{PlanForm}
 use Rattle.sync_top.specs.declared.form.PlanForm.TheVariants.{Sweep}
 use Rattle.sync_top.specs.declared.form.Form as declared
 use Rattle.sync_top.specs.declared.form.Form.TheVariants as word
-use Rattle.sync_top.specs.Form.{Form, on_plan, on_ranks, on_events, on_frames, on_ladder, node}
+use Rattle.sync_top.specs.Form.{Form, on_plan, on_ranks, on_events, study, on_frames, on_ladder, node}
 
 abbrev pub seen : declared.Form → Form
 seen (word.OnPlan what plan) = on_plan what plan.now
 seen (word.OnRanks what plan certificate) = on_ranks what plan.now certificate.now
 seen (word.OnEvents what plan events until) = on_events what plan.now events.now until
+seen (word.Study plan cases until) = study plan.now cases.now until
 seen (word.OnFrames what option name) = on_frames what option name.now
 seen (word.OnLadder what n) = on_ladder what n
 seen (word.Node plan element name until) = node plan.now element.now name.now until
@@ -25,6 +26,7 @@ IsTimed what = ⊤
 abbrev pub IsSized : declared.Form → Type 0
 IsSized (word.OnPlan what plan) = IsTimed what
 IsSized (word.OnEvents what plan events until) = until ≤ LAST_MILLISECOND
+IsSized (word.Study plan cases until) = until ≤ LAST_MILLISECOND
 IsSized (word.OnLadder what n) = (2 ≤ n) × (n ≤ MOST_ELEMENTS)
 IsSized (word.Node plan element name until) = until ≤ LAST_MILLISECOND
 IsSized form = ⊤

@@ -12,6 +12,7 @@ pub mod Agree
 pub mod Hops
 pub mod Nominate
 pub mod Sweep
+pub mod Study
 pub mod Priority
 pub mod Inspect
 pub mod Node

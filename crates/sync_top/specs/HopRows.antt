@@ -1,5 +1,5 @@
 -- How the rows of hop counts are found: what only private clauses cite.
-use Rattle.std.specs.Prelude.{◌≡◌, ℕ, zero, suc, ◌+◌, ◌<◌, Bool, false, ◌==◌, List, [], ◌∷◌, length, find, Option, Some, None, slice_get, option_map}
+use Rattle.std.specs.Prelude.{◌≡◌, ℕ, zero, suc, ◌<◌, List, [], ◌∷◌, length, find, Option, Some, None, slice_get, option_map}
 use Rattle.std.specs.Option.{option_flatten}
 use Rattle.std.specs.List.{range_with_len}
 use Rattle.sync_topo.specs.declared.input.InputId.{InputId}

@@ -1,8 +1,7 @@
 ghost use Rattle.std.specs.Prelude.{◌≡◌, ◌≤◌, false, map, codes, Some, None, IfSome, if◌then◌else◌};
 ghost use Rattle.std.specs.Option.{option_map};
 ghost use Rattle.std.specs.String.{string_bytes};
-ghost use Rattle.std.specs.Str.{bytes_eq};
-ghost use Rattle.sync_top.specs.Form.{form_of, form_of_two, form_of_three, form_of_four, sweep_form, node_form, ladder_size, millisecond_of, option_of, is_file_word, plan_word, ranks_word, events_word, frames_word, ladder_word};
+ghost use Rattle.sync_top.specs.Form.{form_of, form_of_two, form_of_three, form_of_four, run_form, sweep_form, node_form, on_events, study, ladder_size, millisecond_of, option_of, is_file_word, plan_word, ranks_word, events_word, frames_word, ladder_word};
 ghost use Rattle.sync_top.specs.FormSeen.{seen, IsSized};
 
 use sync_ql::NetOption;
@@ -97,6 +96,15 @@ pub(crate) enum Form<'a> {
         plan: &'a str,
         /// The events' file.
         events: &'a str,
+        /// The last millisecond, at most 86,400,000.
+        until: u64,
+    },
+    /// Of runs in many cases.
+    Study {
+        /// The plan's file.
+        plan: &'a str,
+        /// The cases' file.
+        cases: &'a str,
         /// The last millisecond, at most 86,400,000.
         until: u64,
     },
@@ -240,17 +248,18 @@ fn form_of_three<'a>(word: &str, second: &'a str, third: &'a str) -> Option<Form
 
 /// The form of four words, if they have one.
 fn form_of_four<'a>(word: &str, second: &'a str, third: &'a str, fourth: &str) -> Option<Form<'a>>
-    ensures form { option_map seen result ≡ form_of_four (events_word word.now)
-        (bytes_eq word.now (codes "sweep")) second.now third.now fourth.now }
+    ensures form { option_map seen result ≡ form_of_four (events_word word.now) word.now second.now
+        third.now fourth.now }
     ensures sized { IfSome result IsSized }
 {
     if let Some(what) = events_word(word) {
         return events_form(what, second, third, fourth);
     }
-    if word == "sweep" {
-        return sweep_form(second, third, fourth);
+    match word {
+        "study" => study_form(second, third, fourth),
+        "sweep" => sweep_form(second, third, fourth),
+        _ => None,
     }
-    None
 }
 
 /// The form on events, if the words may name files and are followed by such a millisecond.
@@ -260,7 +269,7 @@ fn events_form<'a>(
     events: &'a str,
     until: &str,
 ) -> Option<Form<'a>>
-    ensures form { option_map seen result ≡ form_of_four (Some what) false plan.now events.now until.now }
+    ensures form { option_map seen result ≡ run_form (on_events what) plan.now events.now until.now }
     ensures sized { IfSome result IsSized }
 {
     if plan.is_empty() || events.is_empty() {
@@ -273,6 +282,18 @@ fn events_form<'a>(
         events,
         until,
     })
+}
+
+/// The form `study`, if its words may name files and are followed by such a millisecond.
+fn study_form<'a>(plan: &'a str, cases: &'a str, until: &str) -> Option<Form<'a>>
+    ensures form { option_map seen result ≡ run_form study plan.now cases.now until.now }
+    ensures sized { IfSome result IsSized }
+{
+    if plan.is_empty() || cases.is_empty() {
+        return None;
+    }
+    let until = millisecond_of(until)?;
+    Some(Form::Study { plan, cases, until })
 }
 
 /// The form `sweep`, if the word may name a file and is followed by two such milliseconds, the

@@ -8,6 +8,7 @@ ghost use Rattle.sync_top.specs.Reading.{text_line};
 ghost use Rattle.sync_top.specs.Answer.{HasOneAnswer, IsAnswer};
 ghost use Rattle.sync_top.specs.Form.{form_of};
 
+use sync_sweep::one_study_law;
 use trace_report::one_report_law;
 
 /// The law of the one answer: over given files some words have one status and one text. Words that
@@ -25,6 +26,7 @@ pub fn one_answer_law()
         → text ≡ another }
 {
     one_report_law();
+    one_study_law();
 }
 
 /// The law that the test of ranks accepts what the planner wrote: where `rank` of a plan was done,

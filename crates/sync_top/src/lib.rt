@@ -30,6 +30,7 @@ mod reply;
 mod running;
 mod sim;
 mod status;
+mod studying;
 mod sweep;
 mod trial;
 mod works;

@@ -18,7 +18,7 @@ ghost use Rattle.sync_top.specs.Work.{EndsIn, Works};
 use crate::form::{Form, form_of};
 use crate::reply::{Reply, Stop};
 use crate::status::Status;
-use crate::works::{no_form, node, on_events, on_frames, on_ladder, on_plan, on_ranks};
+use crate::works::{no_form, node, on_events, on_frames, on_ladder, on_plan, on_ranks, study};
 use std::alloc::Global;
 use std::thread::Threads;
 use sync_edge::{Folder, Sink, write_all};
@@ -49,6 +49,9 @@ fn work<R: Threads + Sync, F: Folder, G: Gate + Sync>(
                 until,
             },
         ) => on_events(alloc, folder, what, plan, events, until),
+        Some(Form::Study { plan, cases, until }) => {
+            study(rt, alloc, folder, plan, cases, until, gate)
+        }
         Some(Form::OnFrames(what, option, name)) => on_frames(alloc, folder, what, option, name),
         Some(
             Form::Node {
@@ -105,14 +108,15 @@ fn reply_to<R: Threads + Sync, F: Folder, G: Gate + Sync>(
 /// report; UNTIL is a millisecond up to 86,400,000. `inspect PLAN EVENTS AT` runs it to AT, and
 /// tells of each command whether it was taken, what each element chose, and of each input why it is
 /// taken or isn't. `sweep PLAN AT UNTIL` tells for each link what the network is at UNTIL where
-/// that link alone fails at AT, a millisecond up to UNTIL. `prio-check`, `prio-rank` and `prio-sim`
+/// that link alone fails at AT, a millisecond up to UNTIL, and `study PLAN CASES UNTIL` for each case
+/// of a list of cases what it is where the case's events happen. `prio-check`, `prio-rank` and `prio-sim`
 /// take the same files for a network whose elements choose by priority alone: a test of ranks, the
 /// least ranks or the event file of forced switches that make a loop, and the report of a run. `gen
 /// N` writes the ladder of N elements, 2 to 2,000, and `trial N` what planner, test and simulator
-/// find of it. PLAN, CERT, EVENTS and FILE are nonempty names of files, and OPTION is `I` or `II`.
+/// find of it. PLAN, CERT, EVENTS, CASES and FILE are nonempty names of files, and OPTION is `I` or `II`.
 ///
 /// The whole text is made before its first byte is written, and it is written by one `write_all`.
-/// `sweep` works on threads of the runtime, and waits for these alone; each calls the gate, which
+/// `sweep` and `study` work on threads of the runtime, and wait for these alone; each calls the gate, which
 /// serves a test.
 ///
 /// This project's own.

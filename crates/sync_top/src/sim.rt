@@ -23,7 +23,7 @@ use sync_topo::{Event, Plan};
 use trace_report::report;
 
 /// The line on events that are refused.
-fn refusal_text(alloc: Global, refused: EventErr) -> Result<Text, NoMemory>
+pub(crate) fn refusal_text(alloc: Global, refused: EventErr) -> Result<Text, NoMemory>
     requires numbered { refused ≢ EventErr.NoMemory }
     ensures { IfOk result (λ text. text ≡ text_line (event_refusal refused)) }
 {

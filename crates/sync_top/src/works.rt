@@ -2,7 +2,7 @@
 
 ghost use Rattle.std.specs.Prelude.{◌≡◌, ◌≤◌, ℕ, Some, None};
 ghost use Rattle.sync_edge.specs.Contents.{KeepsFolder};
-ghost use Rattle.sync_top.specs.Form.{on_plan, on_ranks, on_events, on_frames, on_ladder, node};
+ghost use Rattle.sync_top.specs.Form.{on_plan, on_ranks, on_events, study, on_frames, on_ladder, node};
 ghost use Rattle.sync_top.specs.FormSeen.{IsTimed};
 ghost use Rattle.sync_top.specs.Answer.{across, Outside};
 ghost use Rattle.sync_top.specs.Work.{Works};
@@ -17,6 +17,7 @@ use crate::plan_input::plan_in;
 use crate::reply::{Reply, Stop, line_text};
 use crate::sim::plan_and_events;
 use crate::status::Status;
+use crate::studying::{plan_and_cases, studied};
 use std::alloc::Global;
 use std::thread::Threads;
 use sync_edge::Folder;
@@ -81,6 +82,27 @@ pub(crate) fn on_events<F: Folder>(
         Ok((plan, events)) => {
             replied(events_found(alloc, what, &plan, events.as_slice(), until))
         }
+        Err(stop) => Err(stop),
+    }
+}
+
+/// The work of `study`.
+pub(crate) fn study<R: Threads + Sync, F: Folder, G: Gate + Sync>(
+    rt: &R,
+    alloc: Global,
+    folder: &mut F,
+    plan: &str,
+    cases: &str,
+    until: u64,
+    gate: &G,
+) -> Result<Reply, Stop>
+    requires in_range { until ≤ LAST_MILLISECOND }
+    ensures works { Works (Some (study plan.now cases.now until))
+        (across F.contents F.steady F.faults folder.old folder.new) (F.tries folder.old) (F.tries folder.new) result }
+    ensures keeps { KeepsFolder F.contents F.steady F.faults folder.old folder.new }
+{
+    match plan_and_cases(alloc, folder, plan, cases) {
+        Ok((plan, cases)) => replied(studied(rt, alloc, &plan, &cases, until, gate)),
         Err(stop) => Err(stop),
     }
 }

@@ -1,11 +1,9 @@
-//! What the tests of several crates are made of: plans that stand in more than one, texts, and lists of
+//! What the tests of several crates are made of: plans that stand in more than one, and lists of
 //! numbers. No crate but those of tests stands on it.
 #![tactic(auto)]
 
-ghost use Rattle.std.specs.Prelude.{◌≡◌, IfOk};
-
 use std::alloc::Global;
-use sync_text::{NoMemory, Rows, Text};
+use sync_text::{NoMemory, Rows};
 
 /// Three elements in a row, each of which takes its timing from the one before it. There is no source.
 pub const CHAIN: &[u8] =
@@ -23,15 +21,6 @@ source = [{ name = 'S', at = 'A', level = 'QL-PRC' }]\n";
 /// each line.
 pub const PAIR: &[u8] = b"element = [{ name = 'A' }, { name = 'B' }]\n\
 link = [{ name = 'L1', a = 'A', b = 'B', priority_a = 1, priority_b = 1, delay_a = 10, delay_b = 10 }]\n";
-
-/// A text of these bytes.
-pub fn text(alloc: Global, bytes: &[u8]) -> Result<Text, NoMemory>
-    ensures { IfOk result (λ text. text ≡ bytes.now) }
-{
-    let mut text = Text::new(alloc);
-    text.put(bytes)?;
-    Ok(text)
-}
 
 /// A list of these numbers.
 pub fn numbers(alloc: Global, numbers: &[u32]) -> Result<Rows<u32>, NoMemory> {

@@ -35,6 +35,7 @@ if TYPE_CHECKING:
         protected,
         rank,
         sim,
+        study,
         sweep,
         trial,
     )
@@ -61,6 +62,7 @@ __all__ = [
     "protected",
     "rank",
     "sim",
+    "study",
     "sweep",
     "trial",
 ]

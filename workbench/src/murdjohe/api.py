@@ -150,6 +150,11 @@ def sweep(plan: Source, at: Time, until: Time) -> Answered[reports.Sweep]:
     return answered("sweep", reports.sweep, plan, at, until)
 
 
+def study(plan: Source, cases: Source, until: Time) -> Answered[reports.Study]:
+    """Runs each case of a list from 0 to `until`, by itself and with what is common to all."""
+    return answered("study", reports.study, plan, cases, until)
+
+
 def prio_check(plan: Source, certificate: Source) -> Answered[reports.Verdict]:
     """`check` for elements that choose by priority alone."""
     return answered("prio-check", reports.verdict, plan, certificate)

@@ -110,10 +110,11 @@ def ended(code: int) -> int:
     return status
 
 
-def run(words: Sequence[str | bytes], working: Working | None = None) -> Answer:
+def run(words: Sequence[str | bytes], working: Working | None = None, running: set[int] | None = None) -> Answer:
     """Runs the program on these words, with the standard input and error of this process, and gives all that it wrote.
 
-    Raises Absent where there is no program, and Ended where a signal ended it.
+    While it runs its process is among those that are `running`, for whoever may want to end it. Raises Absent where there is
+    no program, and Ended where a signal ended it.
     """
     program = find()
     argv = [os.fsencode(program), *(os.fsencode(word) for word in words)]
@@ -126,10 +127,14 @@ def run(words: Sequence[str | bytes], working: Working | None = None) -> Answer:
             raise Absent(f"{program} can't be run: {os.strerror(fault.errno or errno.ENOEXEC)}") from fault
         finally:
             os.close(sink)
+        if running is not None:
+            running.add(child)
         try:
             text = received(source, working)
         finally:
             os.close(source)
+            if running is not None:
+                running.discard(child)
             _, code = os.waitpid(child, 0)
     except ValueError as fault:  # a word with a zero octet, which no program can be given
         raise Absent(f"the words can't be given to a program: {fault}") from fault

@@ -29,10 +29,12 @@ BINARIES = (
 BEGINNINGS = (
     (b"line,rank", "a certificate"),
     (b"at,what,target,value", "an event list"),
+    (b"case,at,what,target,value", "a list of cases"),
     (b"element,hops,from", "a table of `hops`"),
     (b"element,links,since,clocks", "a table of `chains`"),
     (b"kind,failure,elements,first", "a table of `protected`"),
     (b"link,settled,", "a table of `sweep`"),
+    (b"case,settled,", "a table of `study`"),
     (b"changes\n", "a report of a run"),
     (b"commands\n", "an answer of `inspect`"),
     (b"cycle ", "the answer of a `rank` that found a ring, and no certificate"),

@@ -5,10 +5,11 @@ from __future__ import annotations
 import csv
 import io
 import re
+from collections import Counter
 from collections.abc import Collection, Iterable, Iterator
 from dataclasses import dataclass
 from itertools import combinations, islice
-from typing import Any
+from typing import Any, TypeVar
 
 from murdjohe import documents, table_reader
 from murdjohe.mistakes import Mistakes
@@ -21,7 +22,7 @@ COLUMNS = ("case", "at", "what", "target", "value")
 GROUPS = Columns(("name", "links"), ())
 NAME = re.compile(r"[A-Za-z0-9_-]{1,32}", re.ASCII)
 BETWEEN = "--"  # what stands between the names of a pair
-MOST_ROWS = 100_000  # of a table of cases
+CaseT = TypeVar("CaseT")
 
 
 @dataclass(frozen=True)
@@ -109,39 +110,82 @@ def in_order(tables: dict[str, Any]) -> dict[str, int]:
 def sets_of(failures: list[Failure], has_pairs: bool) -> Iterator[tuple[Failure, ...]]:
     """What fails together: each by itself, then each two, but for those of whom one takes down all that the other does."""
     yield from ((one,) for one in failures)
-    for one, other in combinations(failures, 2) if has_pairs else ():
-        first, second = set(one.down), set(other.down)
-        if not (first <= second or second <= first):
-            yield one, other
+    parts = [frozenset(one.down) for one in failures]
+    for first, second in combinations(range(len(failures)), 2) if has_pairs else ():
+        if not (parts[first] <= parts[second] or parts[second] <= parts[first]):
+            yield failures[first], failures[second]
+
+
+class CaseNames:
+    """The names of cases, no two alike. Kept are those alone that another case could get, since there may be millions.
+
+    The name of a pair can be told apart into its two in one way where `--` stands in it once; if both are names of one
+    failure each, no other case is called so. Nor is another called by the number of a pair, but where that was a name before.
+    """
+
+    def __init__(self, failures: list[Failure]) -> None:
+        counts = Counter(one.name for one in failures)
+        self.single = {name for name, count in counts.items() if count == 1}
+        self.taken: set[str] = set()
+
+    def is_apart(self, name: str, together: tuple[Failure, ...]) -> bool:
+        """Whether no other case can have the name of this pair."""
+        is_clear = len(together) > 1 and name.find(BETWEEN) == name.rfind(BETWEEN)
+        return is_clear and all(one.name in self.single for one in together)
+
+    def name_of(self, number: int, together: tuple[Failure, ...]) -> str:
+        """The name of the case of this number: as what fails, or by its number where that is no name or was one before."""
+        name = BETWEEN.join(one.name for one in together)
+        is_apart = self.is_apart(name, together)
+        if not NAME.fullmatch(name) or name in self.taken:
+            name = f"{together[0].kind}-{number}" if len(together) == 1 else f"pair-{number}"
+            is_apart = len(together) > 1 and name not in self.taken
+            while name in self.taken:
+                name += "-"
+        if not is_apart:
+            self.taken.add(name)
+        return name
 
 
 def cases_of(failures: list[Failure], has_pairs: bool, order: dict[str, int]) -> Iterator[Case]:
-    """A case for each: named as what fails, or by its number where that is too long for a name or was one before."""
-    taken: set[str] = set()
+    """A case for each of what fails together, one after the other."""
+    names = CaseNames(failures)
     for number, together in enumerate(sets_of(failures, has_pairs), start=1):
-        name = BETWEEN.join(one.name for one in together)
-        if not NAME.fullmatch(name) or name in taken:
-            name = f"{together[0].kind}-{number}" if len(together) == 1 else f"pair-{number}"
-        while name in taken:
-            name += "-"
-        taken.add(name)
         down = {part for one in together for part in one.down}
-        yield Case(name, together, tuple(sorted(down, key=order.__getitem__)))
+        yield Case(names.name_of(number, together), together, tuple(sorted(down, key=order.__getitem__)))
 
 
-def chosen(cases: Iterable[Case], first: int, last: int | None) -> list[Case]:
+def count_of(failures: list[Failure], has_pairs: bool) -> int:
+    """How many cases there are."""
+    return sum(1 for _ in sets_of(failures, has_pairs))
+
+
+def chosen(cases: Iterable[CaseT], first: int, last: int | None) -> Iterator[CaseT]:
     """The cases from one number to another, both from 1 on."""
-    return list(islice(cases, first - 1, last))
+    return islice(cases, first - 1, last)
+
+
+def lines_of(rows: Iterable[Iterable[object]]) -> str:
+    """Rows of a table, a line each."""
+    out = io.StringIO(newline="")
+    csv.writer(out, lineterminator="\n").writerows(rows)
+    return out.getvalue()
+
+
+def common_lines(common: Iterable[Event]) -> str:
+    """The rows of events that are common to all cases."""
+    return lines_of(("", event.at, event.what, event.target, event.value) for event in common)
+
+
+def case_lines(case: Case, at: int) -> str:
+    """The rows of a case, all of whose parts go down in one millisecond; names stand in a table as they are."""
+    return "".join(f"{case.name},{at},down,{part},\n" for part in case.down)
 
 
 def table_of(common: Iterable[Event], cases: Iterable[Case], at: int) -> bytes:
-    """The table: the events that are common to all cases, and what goes down in each, all of it in one millisecond."""
-    out = io.StringIO(newline="")
-    writer = csv.writer(out, lineterminator="\n")
-    writer.writerow(COLUMNS)
-    writer.writerows(("", event.at, event.what, event.target, event.value) for event in common)
-    writer.writerows((case.name, at, "down", part, "") for case in cases for part in case.down)
-    return out.getvalue().encode()
+    """The table: the events that are common to all cases, and what goes down in each."""
+    text = lines_of([COLUMNS]) + common_lines(common)
+    return (text + "".join(case_lines(case, at) for case in cases)).encode()
 
 
 def as_data(common: Iterable[Event], cases: Iterable[Case], at: int) -> dict[str, Any]:

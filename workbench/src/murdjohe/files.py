@@ -2,8 +2,10 @@
 
 from __future__ import annotations
 
+import gzip
 import os
 import tempfile
+from typing import IO
 
 from murdjohe.inputs import STDIN
 from murdjohe.wrong import Wrong, reason
@@ -87,3 +89,53 @@ def mask() -> int:
     bits = os.umask(0)
     os.umask(bits)
     return bits
+
+
+class Growing:
+    """A file that is written piece by piece: beside the one that is meant, whose place it takes once it is whole.
+
+    It is packed by gzip where its name ends in .gz. Whatever ends the writing before, what stood there still does.
+    """
+
+    def __init__(self, path: str) -> None:
+        self.path = path
+        self.beside: str | None = None
+
+    def __enter__(self) -> Growing:
+        try:
+            if is_device(self.path):
+                self.file: IO[bytes] = open(self.path, "wb")
+            else:
+                number, self.beside = tempfile.mkstemp(dir=os.path.dirname(self.path) or ".", prefix=".murdjohe-")
+                self.file = os.fdopen(number, "wb")
+        except OSError as fault:
+            raise reason(self.path, fault) from None
+        self.packed = gzip.GzipFile("", "wb", 6, self.file, 0) if self.path.endswith(".gz") else None
+        return self
+
+    def write(self, data: bytes) -> None:
+        """Writes one more piece. Raises Wrong."""
+        try:
+            (self.packed or self.file).write(data)
+        except OSError as fault:
+            raise reason(self.path, fault) from None
+
+    def end(self) -> None:
+        """Puts the file where it is meant. Raises OSError."""
+        if self.packed:
+            self.packed.close()
+        self.file.close()
+        if self.beside:
+            os.chmod(self.beside, 0o666 & ~mask())
+            os.replace(self.beside, self.path)
+            self.beside = None
+
+    def __exit__(self, kind: type[BaseException] | None, *_: object) -> None:
+        try:
+            if kind is None:
+                self.end()
+        except OSError as fault:
+            raise reason(self.path, fault) from None
+        finally:
+            if self.beside:
+                os.unlink(self.beside)

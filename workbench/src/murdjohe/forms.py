@@ -9,6 +9,7 @@ from __future__ import annotations
 PLAN = "plan"
 CERTIFICATE = "certificate"
 EVENTS = "events"
+CASES = "cases"
 FRAMES = "frames"
 ROWS = "rows"
 CAPTURE = "capture"
@@ -28,6 +29,7 @@ MEANINGS = {
     PLAN: "a plan, a TOML file of elements, links and sources (murdjohe help plan)",
     CERTIFICATE: "a certificate, a rank for each nominated line, as `rank` writes it",
     EVENTS: "an event list, a row each: at,what,target,value (murdjohe help events)",
+    CASES: "a list of cases, events with the name of a case: case,at,what,target,value (murdjohe help cases)",
     FRAMES: "captured ESMC frames, one a line as hexadecimal digits",
     ROWS: "rows of frames, as `decode` writes them: SOURCE,KIND,LEVEL",
     CAPTURE: "a classic pcap capture of one Ethernet interface",
@@ -84,6 +86,7 @@ class Form:
 _PLAN = Word("PLAN", PLAN)
 _CERT = Word("CERT", CERTIFICATE)
 _EVENTS = Word("EVENTS", EVENTS)
+_CASES = Word("CASES", CASES)
 _AT = Word("AT", TIME)
 _UNTIL = Word("UNTIL", TIME)
 _OPTION = Word("OPTION", OPTION)
@@ -99,6 +102,7 @@ _MAKE = "murdjohe gen 5 > plan.toml"
 _RANK = "murdjohe rank plan.toml > certificate.csv"
 _CUT = "printf 'at,what,target,value\\n60000,down,S1,\\n' > events.csv"
 _LOCKED = "printf 'at,what,target,value\\n60000,lockout,R2>E2,\\n' > events.csv"
+_FAIL = "murdjohe failures plan.toml --at 60s > cases.csv"
 _ROW = "echo 020000000001,info,QL-PRC > rows"
 _TIMED = "echo 1,5,020000000001,info,QL-PRC > rows"
 _HEARD = "echo 60000,down,S1\\>E1, > received"
@@ -191,6 +195,14 @@ _ALL = (
         "lets each link fail alone at AT, and looks at UNTIL",
         (0, 3, 7, 9),
         (_MAKE, "murdjohe sweep plan.toml 60s 10m"),
+    ),
+    Form(
+        "study",
+        (_PLAN, _CASES, _UNTIL),
+        RUNNING,
+        "runs each of many cases by itself, and looks at UNTIL",
+        (0, 3, 5, 7, 9),
+        (_MAKE, _FAIL, "murdjohe study plan.toml cases.csv 10m"),
     ),
     Form(
         "prio-check",

@@ -6,7 +6,7 @@ import json
 from collections.abc import Iterator
 from dataclasses import dataclass
 
-from murdjohe import api, core, device, files, lab_lines, talk_report
+from murdjohe import api, columns, core, device, files, lab_lines, talk_report
 from murdjohe.clock_times import Clock
 from murdjohe.device import Finding, Limits
 from murdjohe.documents import Document
@@ -142,7 +142,7 @@ def text(bench: Bench, found: Compared, clock: Clock) -> str:
         [str(finding.at), clock.of_day(zero + finding.at * MILLISECOND, 3), finding.line, finding.what, finding.words]
         for finding in found.findings
     ]
-    return "".join(f"{line}\n" for line in talk_report.table(["ms", "time", "line", "what", "which"], rows))
+    return "".join(f"{line}\n" for line in columns.table(["ms", "time", "line", "what", "which"], rows))
 
 
 def as_json(bench: Bench, found: Compared, said_of: list[str]) -> str:

@@ -8,7 +8,8 @@ from collections.abc import Callable, Iterator
 from contextlib import contextmanager
 
 from rich.console import Console
-from rich.progress import BarColumn, Progress, TextColumn, TimeElapsedColumn
+from rich.progress import BarColumn, Progress, ProgressColumn, Task, TextColumn, TimeElapsedColumn, TimeRemainingColumn
+from rich.text import Text
 
 from murdjohe import core, streams
 
@@ -38,3 +39,30 @@ def watched(what: str) -> Iterator[None]:
         timer.join()
         for stop in stops:
             stop()
+
+
+class Speed(ProgressColumn):
+    """How many a second, once that is known."""
+
+    def render(self, task: Task) -> Text:
+        return Text(f"{task.speed:,.0f} a second" if task.speed else "")
+
+
+@contextmanager
+def counted(what: str, total: int) -> Iterator[Callable[[int], None]]:
+    """What is told of each number of things that are done; on a terminal it shows how many of all that is, how many a second,
+    and when the rest will be done."""
+    if not os.isatty(streams.ERR):
+        yield lambda count: None
+        return
+    columns = (
+        TextColumn("murdjohe {task.description}"),
+        BarColumn(),
+        TextColumn("{task.completed:,.0f} of {task.total:,.0f}"),
+        Speed(),
+        TimeRemainingColumn(),
+    )
+    bar = Progress(*columns, console=Console(stderr=True), transient=True)
+    task = bar.add_task(what, total=total)
+    with bar:
+        yield lambda count: bar.advance(task, count)

@@ -19,6 +19,8 @@ TABLES = {
     core.BAD_EVENTS: ("events", b"bad events "),
 }
 FRAME_TABLES = {b"bad frames ": "frames", b"bad capture ": "capture", b"bad node ": "node"}
+# The table whose numbers another has too, where it has none of its own.
+ALSO = {"cases": "events"}
 PLAN_ROWS = 25  # the number before those of a plan's rows
 
 
@@ -79,7 +81,8 @@ def meanings() -> dict[str, Any]:
 
 def meaning(table: str, number: int) -> dict[str, Any]:
     """The entry of a number; an empty one for a number that a later program may write."""
-    return next((entry for entry in meanings().get(table, []) if entry["number"] == number), {})
+    entries = [entry for name in (table, ALSO.get(table, "")) for entry in meanings().get(name, [])]
+    return next((entry for entry in entries if entry["number"] == number), {})
 
 
 def says(table: str, number: int) -> str:

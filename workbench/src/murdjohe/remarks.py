@@ -183,12 +183,14 @@ def on_refuted(words: Words, text: str) -> list[str]:
 
 def after(words: Words, text: str) -> list[str]:
     """How many events of a run stand after its end."""
-    file, until = words.file(forms.EVENTS), int(words.passed[-1])
+    file, until = words.file(forms.EVENTS, forms.CASES), int(words.passed[-1])
+    column = 1 if file and file.kind == forms.CASES else 0
     try:
         with open(file.path if file else "", encoding="utf-8-sig") as source:
-            times = [row.partition(",")[0].strip('"') for row in rows_of(source.read())]
+            rows = [row.split(",") for row in rows_of(source.read())]
     except (OSError, ValueError):
         return []
+    times = [field.strip('"') for row in rows for field in row[column : column + 1]]
     late = sum(time.isdigit() and int(time) > until for time in times)
     if not late:
         return []
@@ -248,24 +250,6 @@ def own_by(text: str) -> list[str]:
     rows = [line.split(",") for line in text.splitlines() if line.count(",") == 3]
     own = [row for row in rows if row[2] == "own"]
     return [row[0] if row[0] == row[3] else f"{row[0]} (that of {row[3]})" for row in own]
-
-
-def on_sweep(text: str) -> list[str]:
-    """What a table of single failures says."""
-    rows = [line.split(",") for line in text.splitlines()[1:]]
-    left = [f"{row[0]} ({int(row[3]) + int(row[4])})" for row in rows if int(row[3]) + int(row[4])]
-    unsettled = [row[0] for row in rows if row[1] == "no"]
-    loops = [row[0] for row in rows if row[5] != "0"]
-    said = []
-    if left:
-        few = f"{len(left):,} of {plural(len(rows), 'cut')} leave elements in holdover or free-running (how many): "
-        said.append(few + listed(left))
-    if unsettled:
-        said.append(f"{plural(len(unsettled), 'row')} not settled, take a later UNTIL: {listed(unsettled)}")
-    if loops:
-        said.append(f"loops stand after {plural(len(loops), 'cut')}: {listed(loops)}")
-    caution = "`locked` counts whoever takes an input, also one that leads to an own clock: `sim` of a cut says whose clock it is"
-    return [*(said or [f"no cut of {len(rows):,} leaves anybody in holdover"]), caution]
 
 
 def on_hops(text: str) -> list[str]:
@@ -346,8 +330,10 @@ def on_done(words: Words, text: str) -> list[str]:
         return on_inspection(words, text)
     if name == "trial":
         return ["the ladder isn't settled at its end"] if text.endswith("settled no\n") else []
-    if name == "sweep":
-        return on_sweep(text)
+    if name in ("sweep", "study"):
+        from murdjohe import losses
+
+        return losses.on_cuts(text) if name == "sweep" else after(words, text) + losses.on_cases(text)
     if name == "chains":
         return on_chains(text)
     if name == "protected":

@@ -14,6 +14,7 @@ from murdjohe import core
 from murdjohe.answer_rows import fields_of, parts_of
 from murdjohe.core import Answer
 from murdjohe.inspections import inspection
+from murdjohe.studies import Case as Case, Cut as Cut, Study as Study, Sweep as Sweep, study as study, sweep as sweep
 
 Loop = tuple[str, ...]
 
@@ -148,25 +149,6 @@ class Report:
 
 
 @dataclass(frozen=True)
-class Cut:
-    """What the network is at the end where one link failed; `bound` is the settling bound in milliseconds, or None."""
-
-    link: str
-    is_settled: bool
-    locked: int
-    holdover: int
-    freerun: int
-    loops: int
-    worst: str
-    bound: int | None
-
-
-@dataclass(frozen=True)
-class Sweep:
-    rows: tuple[Cut, ...]
-
-
-@dataclass(frozen=True)
 class Trial:
     """What `trial` says of its ladder; `last` is None where nothing changed."""
 
@@ -293,16 +275,6 @@ def report(answer: Answer) -> Report:
     )
 
 
-def cut(row: list[str]) -> Cut:
-    locked, holdover, freerun, loops = map(int, row[2:6])
-    bound = None if row[7] == "none" else int(row[7])
-    return Cut(row[0], row[1] == "yes", locked, holdover, freerun, loops, row[6], bound)
-
-
-def sweep(answer: Answer) -> Sweep:
-    return Sweep(tuple(cut(row) for row in fields_of(answer.said.splitlines()[1:])))
-
-
 def trial(answer: Answer) -> Trial:
     said = dict(line.split(" ", 1) for line in answer.said.splitlines())
     last = change(said["last"]) if said["last"] else None
@@ -357,6 +329,7 @@ READERS: dict[str, Callable[[Answer], Any]] = {
     "prio-sim": report,
     "inspect": inspection,
     "sweep": sweep,
+    "study": study,
     "trial": trial,
     "decode": frames,
     "pcap-decode": capture,

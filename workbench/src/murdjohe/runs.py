@@ -4,8 +4,9 @@ from __future__ import annotations
 
 import csv
 
-from murdjohe import api, core, forms, inputs, reports
+from murdjohe import api, core, forms, inputs, inspections, reports
 from murdjohe.inputs import File
+from murdjohe.inspections import Inspection
 from murdjohe.moments import Event
 from murdjohe.plan_file import PlanFile
 from murdjohe.reports import Report
@@ -43,19 +44,29 @@ def read_events(path: str) -> EventFile:
         raise Wrong(f"{path}: {fault}", status=core.READ_FAULT) from None
 
 
-def report_text(plan: PlanFile, events: EventFile, until: int) -> bytes:
-    """What `sim` prints. Raises Wrong, with the program's status, where it refuses the events."""
-    form = forms.FORMS["sim"]
+def answer_of(name: str, plan: PlanFile, events: EventFile, at: int) -> core.Answer:
+    """What a form answers to a plan, events and a millisecond. Raises Wrong, with the program's status, where it refuses them."""
+    form = forms.FORMS[name]
     with api.named([plan.data, events.data]) as (plan_path, events_path):
         files = [File(forms.PLAN, plan.name, plan_path), File(forms.EVENTS, events.name, events_path)]
-        words = inputs.Words(form, [plan.name, events.name, str(until)], [], files)
-        answer = core.run([form.name, plan_path, events_path, str(until)])
+        words = inputs.Words(form, [plan.name, events.name, str(at)], [], files)
+        answer = core.run([form.name, plan_path, events_path, str(at)])
         if answer.status not in reports.GOOD:
             from murdjohe.sentences import answers
 
-            said = answers.sentence(words, answer) or f"sim: status {answer.status}"
+            said = answers.sentence(words, answer) or f"{name}: status {answer.status}"
             raise Wrong(said, status=answer.status)
-    return answer.text
+    return answer
+
+
+def report_text(plan: PlanFile, events: EventFile, until: int) -> bytes:
+    """What `sim` prints. Raises Wrong."""
+    return answer_of("sim", plan, events, until).text
+
+
+def inspection_of(plan: PlanFile, events: EventFile, at: int) -> Inspection:
+    """What `inspect` says of a millisecond. Raises Wrong."""
+    return inspections.inspection(answer_of("inspect", plan, events, at))
 
 
 def report_of(plan: PlanFile, events: EventFile, until: int) -> Report:

@@ -7,6 +7,7 @@ import json
 from collections.abc import Iterator
 
 from murdjohe.clock_times import Clock, seconds
+from murdjohe.columns import table
 from murdjohe.esmc import Capture, Heard
 from murdjohe.reports import Frame
 from murdjohe.talkers import ASKED_RATE, CROWD, Silence, Talk, Talker
@@ -17,12 +18,6 @@ ROW = ("source", "kind", "level", "clock", "flags", "eeecs", "eecs")
 def said(count: int, one: str, many: str | None = None) -> str:
     """A number of things, as `1 frame` or `2 frames`."""
     return f"{count} {one if count == 1 else many or one + 's'}"
-
-
-def table(heads: list[str], rows: list[list[str]]) -> list[str]:
-    """Columns at least two blanks apart, the last one as it comes."""
-    widths = [max(map(len, column)) for column in zip(heads, *rows)]
-    return ["  ".join(field.ljust(width) for field, width in zip(row, widths)).rstrip() for row in [heads, *rows]]
 
 
 def who(port: str, source: str) -> str:

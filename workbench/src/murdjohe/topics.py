@@ -39,6 +39,21 @@ at,what,target,value
 500000,lockout,L1>B,
 
 """
+CASES = """\
+A list of cases is a table with commas: events, each behind the name of its case. In the run of a case its own events
+happen and those without a name, which are common to all and stand above all cases. The rows of one case stand together;
+their times rise, and begin anew with each case. `murdjohe help events` has the words of an event.
+
+case,at,what,target,value
+,1000,lockout,L1>B,
+,5000,unlock,L1>B,
+cut,60000,down,L1,
+cut,360000,up,L1,
+clock,60000,down,S,
+
+`murdjohe study PLAN CASES UNTIL` says what becomes of the network in each case. `murdjohe failures PLAN` writes a list of
+cases: links, bundles, sources, elements and groups that fail, each alone and, with --pairs, each two together.
+"""
 CERTIFICATE = """\
 A certificate has a rank, a number from 0 on, for each nominated line. `murdjohe rank` writes it.
 
@@ -122,6 +137,7 @@ TOPICS = {
     "plan": ("the plan file", plan),
     "tables": ("tables that become a plan", lambda: TABLES),
     "events": ("the event list", events),
+    "cases": ("the list of cases", lambda: CASES),
     "certificate": ("the certificate", lambda: CERTIFICATE),
     "levels": ("quality levels", level_table),
     "statuses": ("exit statuses", lambda: "Exit statuses:\n\n" + statuses()),

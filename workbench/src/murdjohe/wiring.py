@@ -7,10 +7,12 @@ from typing import Any
 
 from murdjohe.orders import OWN
 
+DELAY_MS = 1  # of a line, where a plan says nothing else
+
 
 @dataclass(frozen=True)
 class Line:
-    """One way of a link: its name as `L1>B`, its number, where it begins and ends, its priority there, and its bundle."""
+    """One way of a link: its name as `L1>B`, its number, where it begins and ends, its priority there, its bundle, its delay."""
 
     name: str
     number: int
@@ -19,6 +21,7 @@ class Line:
     receiver: str
     priority: int
     bundle: tuple[str, str]
+    delay: int
 
 
 @dataclass(frozen=True)
@@ -51,7 +54,8 @@ def lines_of(tables: dict[str, Any]) -> dict[str, Line]:
             name = f"{link['name']}>{link[receiver]}"
             priority = link.get(f"priority_{receiver}", 0)
             ends = link[sender], link[receiver]
-            found[name] = Line(name, 2 * number + side, link["name"], *ends, priority, bundle)
+            delay = link.get(f"delay_{receiver}", DELAY_MS)
+            found[name] = Line(name, 2 * number + side, link["name"], *ends, priority, bundle, delay)
     return found
 
 

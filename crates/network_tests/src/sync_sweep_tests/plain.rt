@@ -12,22 +12,22 @@ use std::test::Fail;
 use std::thread::Threads;
 use sync_net::Net;
 use sync_ql::rules::ClockState::{self, FreeRun, Holdover, Locked};
-use sync_sweep::{FreeGate, SweepRow, sweep};
+use sync_sweep::{FreeGate, Outcome, SweepRow, sweep};
 use sync_text::Steps;
 use sync_topo::{Event, Part, Plan, What};
 
-// The row says what the network shows.
-fn says(rt: &(impl Abort + AllocGlobal), net: &Net<'_>, row: SweepRow) -> Result<(), Fail>
+// The outcome says what the network shows.
+fn says(rt: &(impl Abort + AllocGlobal), net: &Net<'_>, outcome: Outcome) -> Result<(), Fail>
     requires live { net.now.spent ≡ false }
     requires stepped { 0 < net.now.next }
 {
-    assert!(rt; row.locked as usize == count_in(net, Locked));
-    assert!(rt; row.holdover as usize == count_in(net, Holdover));
-    assert!(rt; row.free as usize == count_in(net, FreeRun));
-    assert!(rt; row.settled == settled(net));
-    assert!(rt; row.worst.place == worst_place(net));
+    assert!(rt; outcome.locked as usize == count_in(net, Locked));
+    assert!(rt; outcome.holdover as usize == count_in(net, Holdover));
+    assert!(rt; outcome.free as usize == count_in(net, FreeRun));
+    assert!(rt; outcome.settled == settled(net));
+    assert!(rt; outcome.worst.place == worst_place(net));
     let walks = loops(rt.alloc(), net)?;
-    assert!(rt; row.loops as usize == walks.as_slice().len());
+    assert!(rt; outcome.loops as usize == walks.as_slice().len());
     Ok(())
 }
 
@@ -70,7 +70,7 @@ fn ends_so<L: Ledger>(
         what: What::Down(Part::Link(row.link)),
     }];
     match sim.advance(&fails, 30_000, steps)? {
-        Reach::Until => says(rt, sim.net(), row),
+        Reach::Until => says(rt, sim.net(), row.outcome),
         Reach::Stopped(_) => unreachable!(),
     }
 }

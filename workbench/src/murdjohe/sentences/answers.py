@@ -12,6 +12,8 @@ from murdjohe.inputs import STDIN, File, Words
 from murdjohe.plans import Plan
 from murdjohe.sentences import frames, plan as plan_sentences, records
 
+# The files that stand beside a plan, as they are told where the two are swapped.
+BESIDE = {forms.CERTIFICATE: "a certificate", forms.EVENTS: "an event list", forms.CASES: "a list of cases"}
 NO_MEMORY = "memory ran out, and nothing is written; free some, and run again"
 
 
@@ -107,10 +109,10 @@ def document_of(words: Words, *kinds: str) -> Document:
 
 def swapped(words: Words) -> str | None:
     """The sentence on two files of a form that stand in each other's place."""
-    plan, other = words.file(forms.PLAN), words.file(forms.CERTIFICATE, forms.EVENTS)
+    plan, other = words.file(forms.PLAN), words.file(*BESIDE)
     if not plan or not other:
         return None
-    wanted = "a certificate" if other.kind == forms.CERTIFICATE else "an event list"
+    wanted = BESIDE[other.kind]
     if read_fault(other) or documents.kind_of(documents.read(other)) != "a plan":
         return None
     if documents.kind_of(documents.read(plan)) != wanted:
@@ -127,8 +129,8 @@ def on_refusal(words: Words, refusal: refusals.Refusal) -> str:
         return both or plan_sentences.sentence(document_of(words, forms.PLAN), refusal)
     if refusal.table == "certificate":
         return records.of_certificate(document_of(words, forms.CERTIFICATE), refusal, plan_of(words))
-    if refusal.table == "events":
-        return records.of_events(document_of(words, forms.EVENTS), refusal, plan_of(words))
+    if refusal.table in ("events", "cases"):
+        return records.of_events(document_of(words, forms.EVENTS, forms.CASES), refusal, plan_of(words))
     if refusal.table == "node":
         document = Document("", b"") if refusal.number == 50 else document_of(words, forms.RECEIVED)
         return frames.of_node(document, refusal, words.given[1], plan_of(words))
@@ -137,6 +139,14 @@ def on_refusal(words: Words, refusal: refusals.Refusal) -> str:
         return frames.of_capture(document, refusal)
     option = words.given[0] if words.given[0] in ("I", "II") else "I"
     return frames.of_frames(document, refusal, option, words.file(forms.TIMED_ROWS) is not None)
+
+
+def refusal_of(words: Words, answer: Answer) -> refusals.Refusal | None:
+    """The refusal in an answer to these words; what is said of a list of cases is written as of an event list."""
+    refusal = refusals.of(answer.status, answer.text)
+    if refusal and refusal.table == "events" and any(word.kind == forms.CASES for word in words.form.words):
+        refusal.table = "cases"
+    return refusal
 
 
 def sentence(words: Words, answer: Answer) -> str | None:
@@ -149,7 +159,7 @@ def sentence(words: Words, answer: Answer) -> str | None:
         return on_reading(words)
     if answer.status == core.TOO_LONG:
         return on_length(words)
-    refusal = refusals.of(answer.status, answer.text)
+    refusal = refusal_of(words, answer)
     if refusal is None:
         return None
     try:

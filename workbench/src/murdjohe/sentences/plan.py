@@ -34,6 +34,18 @@ def legal(name: str) -> str:
     return re.sub(r"[^A-Za-z0-9_-]", "-", name.strip())[:32] or "N1"
 
 
+def name_fault(name: str) -> tuple[str, str]:
+    """How a name breaks the rule for names, and what would be right."""
+    signs = "".join(dict.fromkeys(re.findall(r"[^A-Za-z0-9_-]", name)))
+    if not name:
+        what = "is empty"
+    elif len(name) > 32:
+        what = f"has {len(name)} signs"
+    else:
+        what = "has a dot" if signs == "." else f"has the sign{'s' * (len(signs) > 1)} {' '.join(map(repr, signs))}"
+    return what, f'a name is 1 to 32 of A-Z a-z 0-9 _ -, as "{legal(name)}"'
+
+
 def kind_of(value: Any) -> str:
     """What kind of value it is, in words."""
     if isinstance(value, bool):
@@ -160,14 +172,7 @@ def on_name(plan: Plan, section: str, number: int, key: str = "name") -> Finding
     """Where a name breaks the rule for names (16, and 39 for a bundle)."""
     name = str(plan.row(section, number).get(key, ""))
     line, whose = plan.line(section, number, key), "its bundle's name" if key == "bundle" else "its name"
-    signs = "".join(dict.fromkeys(re.findall(r"[^A-Za-z0-9_-]", name)))
-    if not name:
-        what = "is empty"
-    elif len(name) > 32:
-        what = f"has {len(name)} signs"
-    else:
-        what = "has a dot" if signs == "." else f"has the sign{'s' * (len(signs) > 1)} {' '.join(map(repr, signs))}"
-    remedy = f'a name is 1 to 32 of A-Z a-z 0-9 _ -, as "{legal(name)}"'
+    what, remedy = name_fault(name)
     return Finding(line, f'{section} number {number}: {whose} "{name}" {what}', remedy)
 
 

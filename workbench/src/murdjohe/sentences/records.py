@@ -1,4 +1,4 @@
-"""Sentences on refused certificates and event lists: records with commas, whose rows count from 1 after a header."""
+"""Sentences on refused certificates, event lists and lists of cases: records with commas, whose rows count from 1 after a header."""
 
 from __future__ import annotations
 
@@ -10,10 +10,23 @@ from murdjohe import documents, levels, refusals, times
 from murdjohe.documents import Document
 from murdjohe.plans import Plan
 from murdjohe.refusals import Refusal
+from murdjohe.sentences.plan import name_fault
 
-HEADERS = {"certificate": "line,rank", "events": "at,what,target,value"}
-NAMES = {"certificate": "certificate", "events": "event list"}
+HEADERS = {"certificate": "line,rank", "events": "at,what,target,value", "cases": "case,at,what,target,value"}
+NAMES = {"certificate": "certificate", "events": "event list", "cases": "list of cases"}
+FIELDS = {"events": "four", "cases": "five"}  # how many a row of events has
 HEADER_NUMBERS = (34, 26)
+MOST_ROWS = 100_000  # of an event list, and of a list of cases
+# What would be right where one kind of list of events stands for the other.
+INSTEAD = {
+    ("events", "a list of cases"): "`murdjohe study` runs each of its cases",
+    ("cases", "an event list"): "begin with `case,at,what,target,value`, and write its case before each event",
+}
+# What would be right in a list of cases, where that is other than in an event list.
+IN_CASES = {
+    29: "sort the rows of each case by time; those of one millisecond keep their order",
+    33: "put some of the cases into another list",
+}
 # What a target is, by the word of an event.
 ON_INPUTS = ("lockout", "unlock", "forced", "manual", "clear-wtr")
 WORDS = ("down", "up", "esmc-off", "esmc-on", "level", *ON_INPUTS, "clear")
@@ -62,7 +75,8 @@ def on_header(document: Document, table: str) -> str:
         return f"{document.name}: it is empty; begin with `{wanted}`"
     kind = documents.kind_of(document)
     if kind:
-        return f"{document.place(1)}it is {kind}, and no {NAMES[table]}; are two words of the command swapped?"
+        right = INSTEAD.get((table, kind), "are two words of the command swapped?")
+        return f"{document.place(1)}it is {kind}, and no {NAMES[table]}; {right}"
     if sign := documents.separator_of(first, wanted):
         return f"{document.place(1)}its fields have {sign} between them; write commas, as in `{wanted}`"
     same = [field.strip().lower() for field in first.split(",")] == wanted.split(",")
@@ -172,22 +186,20 @@ def on_time(field: str) -> tuple[str, str]:
     return f'"{field}" is no number from 0 to 86400000', refusals.remedy("events", 28)
 
 
-def on_fields(row: Row) -> tuple[str, str]:
-    """What is wrong with a row that hasn't four fields, and what would be right."""
+def on_fields(row: Row, table: str) -> tuple[str, str]:
+    """What is wrong with a row that hasn't as many fields as the header, and what would be right."""
     text = row.fields[0] if row.fields else ""
     if text.lstrip().startswith("#"):
-        return "it is a remark, and event lists have none", "take it out"
-    if len(row.fields) == 1 and text.count(";") == 3:
+        return "it is a remark, and lists of events have none", "take it out"
+    if len(row.fields) == 1 and text.count(";") == HEADERS[table].count(","):
         return "its fields have semicolons between them", "write commas"
-    said = f"it has {len(row.fields)} field{'s' * (len(row.fields) != 1)} in place of four"
-    return said, refusals.remedy("events", 27)
+    said = f"it has {len(row.fields)} field{'s' * (len(row.fields) != 1)} in place of {FIELDS[table]}"
+    return said, refusals.remedy(table, 27)
 
 
 def on_event(number: int, rows: list[Row], at: int, plan: Plan | None) -> tuple[str, str]:
-    """What is wrong with a row of an event list, and what would be right."""
+    """What is wrong with an event of four fields, and what would be right."""
     row = rows[at]
-    if number == 27:
-        return on_fields(row)
     if number == 28:
         return on_time(row.fields[0])
     if number == 29:
@@ -201,18 +213,42 @@ def on_event(number: int, rows: list[Row], at: int, plan: Plan | None) -> tuple[
     return on_target(plan, row.fields) if number == 31 else on_value(plan, row.fields)
 
 
+def on_case_name(rows: list[Row], at: int) -> tuple[str, str]:
+    """What is wrong with the name of a case (51), and what would be right."""
+    name, above = rows[at].fields[0], rows[at - 1]
+    if not name:
+        what = f'it has no case, and stands below a row of case "{above.fields[0]}", line {above.line}'
+        return what, "put events that are common to all above all cases, or name the case"
+    what, remedy = name_fault(name)
+    return f"the name of its case {what}", remedy
+
+
+def on_case(number: int, rows: list[Row], at: int, plan: Plan | None) -> tuple[str, str]:
+    """What is wrong with a row of five fields of a list of cases, and what would be right."""
+    if number == 51:
+        return on_case_name(rows, at)
+    if number == 52:
+        name = rows[at].fields[0]
+        last = [row for row in rows[1:at] if row.fields[0] == name][-1]
+        what = f'the case "{name}" stood above, up to line {last.line}, and other rows came between'
+        return what, refusals.remedy("cases", 52)
+    return on_event(number, [Row(row.line, row.fields[1:]) for row in rows[: at + 1]], at, plan)
+
+
 def of_events(document: Document, refusal: Refusal, plan: Plan | None) -> str:
-    """The sentence on a refused event list."""
-    number = refusal.number
+    """The sentence on a refused event list, or list of cases."""
+    table, number = refusal.table, refusal.number
     if number == 26:
-        return on_header(document, "events")
+        return on_header(document, table)
     rows = rows_of(document)
-    at = 100_001 if number == 33 else refusal.row
-    if at >= len(rows) or number not in range(27, 34):
-        says, remedy = refusals.says("events", number), refusals.remedy("events", number)
-        return f"{document.name}: row {at} {says}; {remedy}"
+    at = MOST_ROWS + 1 if number == 33 else refusal.row
+    if at >= len(rows) or not refusals.meaning(table, number):
+        return f"{document.name}: row {at} {refusals.says(table, number)}; {refusals.remedy(table, number)}"
     if number == 33:
-        what, remedy = f"the row {refusals.says('events', 33)}", refusals.remedy("events", 33)
+        what, remedy = f"the row {refusals.says(table, 33)}", refusals.remedy(table, 33)
+    elif number == 27:
+        what, remedy = on_fields(rows[at], table)
     else:
-        what, remedy = on_event(number, rows, at, plan)
-    return f"{document.place(rows[at].line)}{what}; {remedy}"
+        what, remedy = (on_case if table == "cases" else on_event)(number, rows, at, plan)
+    right = IN_CASES.get(number, remedy) if table == "cases" else remedy
+    return f"{document.place(rows[at].line)}{what}; {right}"

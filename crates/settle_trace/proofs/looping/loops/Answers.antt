@@ -22,7 +22,7 @@ returns-clause-exact c =
     (λ walks. AreLoops c.plan.result.now (taken_in_list c.as_slice.result.now) (map numbers walks))
     (λ walks. (all : List Event) → StandsFor net all net.next → AreLoops net.plan (taken_now net all) (map numbers walks))
     (λ walks is. loops-now net c.plan.result.now c.as_slice.result.now c.in_ok-taken.taken.items (map numbers walks)
-    c.plan.ensures c.as_slice.ensures.value c.in_ok-taken.ensures.now is)
+    c.plan.ensures c.as_slice.ensures.value (c.in_ok-taken.ensures.now c.requires.stepped) is)
     c.walks_of.ensures.loops
 
 pub returns-clause-facing : goal.returns-clause-facing
@@ -36,7 +36,7 @@ returns-clause-facing c =
     loops-facing net.plan (taken_now net all) (map numbers walks)
     (c.rising_law.ensures.obeying net.plan (signals_of net all) (out_of net all) rank well (c.history_law.ensures.obeys net.plan (signals_of net all) well) rising (now_of net)).pairs
     (loops-now net c.plan.result.now c.as_slice.result.now c.in_ok-taken.taken.items (map numbers walks)
-    c.plan.ensures c.as_slice.ensures.value c.in_ok-taken.ensures.now is all stands))
+    c.plan.ensures c.as_slice.ensures.value (c.in_ok-taken.ensures.now c.requires.stepped) is all stands))
     c.walks_of.ensures.loops
 
 pub returns-clause-of_plan : goal.returns-clause-of_plan

@@ -1,7 +1,8 @@
-use Rattle.std.proofs.Common.{ap, ◌∙◌}
+use Rattle.std.proofs.Common.{ap, subst, ◌∙◌}
 use Rattle.std.specs.Prelude.{option_and_then, slice_get}
 use Rattle.sync_topo.specs.Lines.{inputs_of}
 use Rattle.settle_trace.specs.Now.{signals_of, out_of}
+use Rattle.settle_trace.specs.Taking.{IsTaking}
 use Rattle.settle_trace.proofs.TakenLaws.{own-input, taken-now}
 use Rattle.settle_trace.proofs.taking.taken_input.Goals as goal
 
@@ -11,8 +12,19 @@ returns-clause-own c =
     (c.input_at.ensures ∙ ap (λ inputs. option_and_then (slice_get inputs) c.selected.result) (c.inputs.ensures.inputs ∙ ap (λ p. inputs_of p c.args.e) c.plan.ensures))
 
 pub returns-clause-now : goal.returns-clause-now
-returns-clause-now c = λ all stands.
+returns-clause-now c = λ stepped all stands.
     let net = c.args.net.now in
-    taken-now net.plan (signals_of net all) (out_of net all) c.args.e net.next c.element.result.now c.selected.result c.input_at.result c.requires.stepped
+    taken-now net.plan (signals_of net all) (out_of net all) c.args.e net.next c.element.result.now c.selected.result c.input_at.result stepped
     (c.element.ensures.stands all net.next stands) c.selected.ensures.selected
     (c.input_at.ensures ∙ ap (λ inputs. option_and_then (slice_get inputs) c.selected.result) (c.inputs.ensures.inputs ∙ ap (λ p. inputs_of p c.args.e) c.plan.ensures))
+
+pub returns-clause-taking : goal.returns-clause-taking
+returns-clause-taking c = λ other.
+    let net = c.args.net.now in
+    subst (λ element. IsTaking net.plan c.args.e element c.input_at.result) (c.element.ensures.element other)
+    (record {
+      is = λ past n stands in_time.
+          c.input_at.ensures
+          ∙ ap (λ inputs. option_and_then (slice_get inputs) c.selected.result) (c.inputs.ensures.inputs ∙ ap (λ p. inputs_of p c.args.e) c.plan.ensures)
+          ∙ ap (option_and_then (slice_get (inputs_of net.plan c.args.e))) (c.selected.ensures.selected past n stands in_time);
+    })

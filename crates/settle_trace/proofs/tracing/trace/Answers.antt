@@ -22,7 +22,7 @@ returns-clause-exact c =
     (λ (traced : Traced). IsTrace c.plan.result.now (taken_in_list c.as_slice.result.now) c.args.element (numbers traced.lines) (end_of traced.end))
     (λ (traced : Traced). (all : List Event) → StandsFor net all net.next → IsTrace net.plan (taken_now net all) c.args.element (numbers traced.lines) (end_of traced.end))
     (λ (traced : Traced) is. trace-now net c.plan.result.now c.as_slice.result.now c.in_ok-taken.taken.items c.args.element (numbers traced.lines) (end_of traced.end)
-    c.plan.ensures c.as_slice.ensures.value c.in_ok-taken.ensures.now is)
+    c.plan.ensures c.as_slice.ensures.value (c.in_ok-taken.ensures.now c.requires.stepped) is)
     c.trace_in.ensures.exact
 
 pub returns-clause-traced : goal.returns-clause-traced
@@ -37,5 +37,5 @@ returns-clause-traced c =
     (c.rising_law.ensures.obeying net.plan (signals_of net all) (out_of net all) rank well (c.history_law.ensures.obeys net.plan (signals_of net all) well) rising (now_of net)).traced
     settled c.args.element (numbers traced.lines) (end_of traced.end)
     (trace-now net c.plan.result.now c.as_slice.result.now c.in_ok-taken.taken.items c.args.element (numbers traced.lines) (end_of traced.end)
-    c.plan.ensures c.as_slice.ensures.value c.in_ok-taken.ensures.now is all stands))
+    c.plan.ensures c.as_slice.ensures.value (c.in_ok-taken.ensures.now c.requires.stepped) is all stands))
     c.trace_in.ensures.exact

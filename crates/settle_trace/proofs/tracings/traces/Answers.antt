@@ -25,7 +25,7 @@ returns-clause-exact c =
       ends.0,
       ends.1,
       trace-now net c.plan.result.now c.as_slice.result.now c.in_ok-taken.taken.items element ends.0 (end_of ending.end)
-          c.plan.ensures c.as_slice.ensures.value c.in_ok-taken.ensures.now ends.2 all stands,
+          c.plan.ensures c.as_slice.ensures.value (c.in_ok-taken.ensures.now c.requires.stepped) ends.2 all stands,
     ))
     c.endings_of.ensures.each
 

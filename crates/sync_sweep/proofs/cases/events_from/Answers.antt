@@ -1,7 +1,3 @@
-use Rattle.std.proofs.Common.{sym}
-use Rattle.std.proofs.Common.{subst, ◌≡◌}
-use Rattle.net_rules.specs.Signals.{events_at}
-use Rattle.event_times.specs.EventTimes.{AreWithin}
 use Rattle.sync_sweep.proofs.CaseLemmas.{later-same, later-within}
 use Rattle.sync_sweep.proofs.cases.events_from.Goals as goal
 

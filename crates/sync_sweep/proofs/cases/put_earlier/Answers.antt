@@ -1,5 +1,4 @@
-use Rattle.std.proofs.Common.{◌≡◌, ◌≤◌, ◌<◌, ◌++◌, ◌∷◌, ap, sym, subst, ◌∙◌, take, drop, arith}
-use Rattle.std.specs.Prelude.{slice_index_or}
+use Rattle.std.proofs.Common.{◌∷◌, sym, take, drop, arith}
 use Rattle.std.proofs.lemmas.List.{append_assoc}
 use Rattle.sync_sweep.proofs.Merging.{after-split}
 use Rattle.sync_sweep.proofs.cases.put_earlier.Goals as goal

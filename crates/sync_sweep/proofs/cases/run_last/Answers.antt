@@ -1,4 +1,4 @@
-use Rattle.std.proofs.Common.{◌≤◌, inl, inr, refl, arith}
+use Rattle.std.proofs.Common.{inl, inr, refl, arith}
 use Rattle.sync_sweep.proofs.CaseLemmas.{last-merged}
 use Rattle.sync_sweep.proofs.cases.run_last.Goals as goal
 

@@ -1,5 +1,5 @@
 use Rattle.std.proofs.Common.{◌≡◌, ◌++◌, take}
 use Rattle.sync_sweep.proofs.chunks.put_all.Given as goal
 
-abbrev pub invariant-loop-outcome : goal.invariant-loop-outcome
-invariant-loop-outcome l = l.outcomes ≡ l.fn.outcomes ++ take l.outcome-index l.more
+abbrev pub invariant-loop-one : goal.invariant-loop-one
+invariant-loop-one l = l.worked ≡ l.fn.worked ++ take l.one-index l.more

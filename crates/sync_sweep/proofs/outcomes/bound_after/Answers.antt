@@ -1,5 +1,4 @@
-use Rattle.std.specs.Prelude.{MatchOption}
-use Rattle.std.proofs.Common.{subst, sym, Option}
+use Rattle.std.proofs.Common.{subst}
 use Rattle.sync_sweep.specs.Outcomes.{IsBoundAfter}
 use Rattle.sync_sweep.proofs.ShiftLemmas.{earlier-bound, none-earlier}
 use Rattle.sync_sweep.proofs.outcomes.bound_after.Goals as goal

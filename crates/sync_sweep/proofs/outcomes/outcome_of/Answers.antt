@@ -1,4 +1,5 @@
-use Rattle.std.proofs.Common.{length, ap, arith}
+use Rattle.settle_trace.specs.Now.{now_of}
+use Rattle.sync_sweep.proofs.EarlierLemmas.{settled-by}
 use Rattle.sync_sweep.proofs.outcomes.outcome_of.Goals as goal
 
 pub loops_of-requires-clause-loop_free : goal.loops_of-requires-clause-loop_free
@@ -15,3 +16,9 @@ returns-clause-shown c = λ all stands.
       loops = c.in_ok-loops.ensures all stands;
       worst = c.tally_of-tally.ensures.worst all stands;
     }
+
+pub returns-clause-due : goal.returns-clause-due
+returns-clause-due c = λ all stands none.
+    let net = c.args.net.now in
+    settled-by net.plan c.args.last (now_of net) c.args.bound c.settled-settled.result c.requires.bound
+    (λ by is late. c.settled-settled.ensures.bound all c.args.last by stands none is late)

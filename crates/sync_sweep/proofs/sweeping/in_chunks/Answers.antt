@@ -3,13 +3,13 @@ use Rattle.std.specs.Prelude.{IfOk, Some}
 use Rattle.std.proofs.lemmas.Result.{IfOk-weaker}
 use Rattle.sync_sweep.specs.Cases.{merged}
 use Rattle.sync_sweep.specs.Chunks.{joined}
-use Rattle.sync_sweep.specs.Outcomes.{AreOutcomes, IsOutcome}
+use Rattle.sync_sweep.specs.Working.{AreWorked, IsWorked}
 use Rattle.sync_sweep.proofs.ChunkLemmas.{joined_whole, parts-enough, got}
 use Rattle.sync_sweep.proofs.sweeping.in_chunks.Goals as goal
 
 pub returns-in-Ok : goal.returns-in-Ok
 returns-in-Ok g c = record {
-  outcomes =
+  worked =
       let cases = c.args.cases.now in
       let common = c.args.common.now in
       let size : ℕ = c.chunk_size-size.result in
@@ -17,13 +17,13 @@ returns-in-Ok g c = record {
       let plan = c.args.base.now.net.plan in
       let some : 0 < size = c.chunk_size-size.ensures.some in
       let enough : length cases ≤ length parts * size = parts-enough (length cases) size (length parts) some (omega (arith, c.in-Ok.ensures.len, c.in-Ok.parts.ok)) in
-      IfOk-weaker c.join_outcomes.result (λ outcomes. joined c.as_slice.result.now ≡ Some outcomes) (AreOutcomes plan common c.args.until cases)
-      (λ outcomes is. joined_whole (λ case. IsOutcome plan (merged common case.events) c.args.until) size parts cases outcomes enough
+      IfOk-weaker c.join_worked.result (λ worked. joined c.as_slice.result.now ≡ Some worked) (AreWorked plan common c.args.until c.args.timed cases)
+      (λ worked is. joined_whole (λ case. IsWorked plan (merged common case.events) c.args.until c.args.timed) size parts cases worked enough
       (λ n part at.
       let there = got parts n (Ok part) (Ok part) at in
       let one = (c.in-Ok.ensures.each n (Ok part) there.0).1 in
-      subst (λ chunk. AreOutcomes plan common c.args.until chunk part) one.argument_is.value
-      (subst (λ r. IfOk r (AreOutcomes plan common c.args.until one.argument.now)) there.1 one.call))
-      (subst (λ ps. joined ps ≡ Some outcomes) c.as_slice.ensures.value is))
-      c.join_outcomes.ensures;
+      subst (λ chunk. AreWorked plan common c.args.until c.args.timed chunk part) one.argument_is.value
+      (subst (λ r. IfOk r (AreWorked plan common c.args.until c.args.timed one.argument.now)) there.1 one.call))
+      (subst (λ ps. joined ps ≡ Some worked) c.as_slice.ensures.value is))
+      c.join_worked.ensures;
 }

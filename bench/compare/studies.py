@@ -1,0 +1,94 @@
+"""Compares the rows of `study` with the reports of `sim`, a run of its own for each case.
+
+usage: python3 -m bench.compare.studies PROGRAM PLAN CASES UNTIL [--cases N] [--seed N]
+
+From the report of each case come whether the run is settled, the states and the worst level of the elements, the number
+of loops, and of the traces how many end at no source, the first of these and the longest that ends; the settling bound
+isn't in a report, and is left out, as are cases with more changes than a report has. With --cases so many of the cases are looked at, chosen at random. `sim` is run with
+the events of a case alone, put between those that are common to all. It needs Python 3.11 alone.
+"""
+
+import os
+import random
+import sys
+import tempfile
+
+from bench.levels import LEVELS
+from bench.program import answer, path, program_words, put_files
+from bench.readings.records import records
+from bench.reference.plan import Plan, read_plan
+
+PARTS = ("changes", "inputs", "traces", "loops")
+BOUND = 7  # the column of a row that no report has
+STOPPED = 11  # the status of a report that ends before its run
+
+
+def parts_of(report: str) -> dict[str, list[list[str]]]:
+    """The rows of each part of a report, and of its last line `settled`."""
+    parts: dict[str, list[list[str]]] = {}
+    for line in report.splitlines():
+        if line in PARTS:
+            rows = parts.setdefault(line, [])
+        elif line.startswith("settled "):
+            parts["settled"] = [[line.removeprefix("settled ")]]
+        else:
+            rows.append(line.split(","))
+    return parts
+
+
+def fields_of(plan: Plan, report: str) -> list[str]:
+    """The fields of a row but for the case and the bound, by a report."""
+    parts = parts_of(report)
+    ends = {element.name: ("freerun", element.own) for element in plan.elements}
+    ends.update((row[1], (row[5], row[4])) for row in parts["changes"])
+    states = [state for state, _ in ends.values()]
+    worst = max((level for _, level in ends.values()), key=LEVELS[plan.option].index)
+    lost = [row[0] for row in parts["traces"] if row[2] != "source"]
+    lengths = [int(row[1]) for row in parts["traces"] if row[2] != "loop"]
+    counts = [str(states.count(state)) for state in ("locked", "holdover", "freerun")]
+    first = lost[0] if lost else ""
+    loops = str(len(parts["loops"]))
+    return [parts["settled"][0][0], *counts, loops, worst, str(len(lost)), first, str(max(lengths, default=0))]
+
+
+def events_of(cases: list[list[str]], name: str) -> str:
+    """The event list of a case: the common events and its own, in order of time, the common ones first."""
+    rows = sorted((row for row in cases if row[0] in ("", name)), key=lambda row: (int(row[1]), row[0] != ""))
+    return "at,what,target,value\n" + "".join(",".join(row[1:]) + "\n" for row in rows)
+
+
+def main() -> int:
+    words = program_words(__doc__)
+    words.add_argument("plan", type=path)
+    words.add_argument("table", metavar="CASES", type=path)
+    words.add_argument("until", type=int)
+    words.add_argument("--cases", type=int, help="so many, chosen at random; all without it")
+    words.add_argument("--seed", type=int, default=1)
+    given = words.parse_args()
+    with open(given.plan, encoding="utf-8") as file:
+        plan = read_plan(file.read())
+    with open(given.table, "rb") as file:
+        cases = records(file.read())[1:]
+    status, text = answer(given.program, "study", given.plan, given.table, given.until)
+    if status:
+        print(f"status {status}: {text}", end="")
+        return 1
+    rows = [line.split(",") for line in text.splitlines()[1:]]
+    if given.cases is not None and given.cases < len(rows):
+        rows = random.Random(given.seed).sample(rows, given.cases)
+    differ = stopped = 0
+    with tempfile.TemporaryDirectory() as folder:
+        for row in rows:
+            put_files(folder, {"events": events_of(cases, row[0])})
+            status, report = answer(given.program, "sim", given.plan, os.path.join(folder, "events"), given.until)
+            stopped += status == STOPPED
+            wanted = fields_of(plan, report) if status == 0 else [f"status {status}"]
+            if status != STOPPED and [*row[1:BOUND], *row[BOUND + 1 :]] != wanted:
+                differ += 1
+                print(f"{row[0]}: {','.join(row)}, by sim {','.join(wanted)}")
+    print(f"{len(rows)} cases, {stopped} stopped, {differ} differ")
+    return 1 if differ else 0
+
+
+if __name__ == "__main__":
+    sys.exit(main())

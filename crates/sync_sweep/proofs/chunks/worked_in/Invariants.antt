@@ -1,0 +1,17 @@
+use Rattle.std.proofs.Common.{◌≡◌, take, is_some, IfSome}
+use Rattle.sync_sweep.specs.Branching.{IsBranch}
+use Rattle.sync_sweep.specs.ShownNow.{AreShown}
+use Rattle.sync_sweep.specs.Timed.{IsTimed}
+use Rattle.sync_sweep.specs.Working.{AreWorked}
+use Rattle.sync_sweep.proofs.chunks.worked_in.Given as goal
+
+-- the cases behind are worked, and the branch is where it began
+abbrev pub invariant-loop-case : goal.invariant-loop-case
+invariant-loop-case l = record {
+  worked : AreWorked l.base.net.plan l.common l.until l.fn.timed (take l.case-index l.cases) l.worked;
+  branch : IsBranch l.base.net l.branch.net l.branch.elements l.branch.lines;
+  same : l.branch.net ≡ l.base.net;
+  shown : AreShown l.base.net l.branch.shown;
+  asked : is_some l.timed ≡ l.fn.timed;
+  timed : IfSome l.timed (IsTimed l.base.net);
+}

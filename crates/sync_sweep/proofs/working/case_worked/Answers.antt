@@ -1,0 +1,118 @@
+use Rattle.std.proofs.Common.{◌≡◌, ◌≤◌, ◌+◌, ◌-◌, ℕ, suc, true, List, length, ap, sym, subst, ◌∙◌, arith}
+use Rattle.std.specs.Prelude.{is_some, IfSome}
+use Rattle.sync_topo.specs.declared.event.Event.{Event}
+use Rattle.sync_topo.specs.Topology.{Topology}
+use Rattle.sync_topo.specs.Events.{IsEventList}
+use Rattle.sync_topo.specs.WellFormed.{IsWellFormed}
+use Rattle.net_rules.specs.Signals.{events_before}
+use Rattle.event_times.specs.EventTimes.{AreTold, AreWithin}
+use Rattle.sync_net.specs.NetState.{NetState}
+use Rattle.sync_net.specs.Standing.{StandsFor}
+use Rattle.sync_sweep.specs.Base.{AreCommonBefore}
+use Rattle.sync_sweep.specs.Branching.{IsBranch}
+use Rattle.sync_sweep.specs.ShownNow.{AreAlikeBut}
+use Rattle.sync_sweep.proofs.TimedLemmas.{alike-but}
+use Rattle.sync_sweep.specs.Cases.{merged}
+use Rattle.sync_sweep.specs.Outcomes.{IsShown, IsBoundAfter}
+use Rattle.sync_sweep.specs.Working.{IsWorked}
+use Rattle.sync_sweep.proofs.CaseLemmas.{last-early}
+use Rattle.sync_sweep.proofs.EarlierLemmas.{told-before, common-before-end, none-late}
+use Rattle.sync_sweep.proofs.WorkLemmas.{case-elements, common-before, stood, timing-by}
+use Rattle.sync_sweep.proofs.working.case_worked.Goals as goal
+
+pub run_out-requires-clause-events : goal.run_out-requires-clause-events
+run_out-requires-clause-events c =
+    let plan = c.args.base.now.plan in
+    let own : IsEventList plan c.as_slice-own.result.now = subst (IsEventList plan) (sym c.as_slice-own.ensures) c.requires.case.list in
+    subst (λ (n : NetState). AreWithin n.plan c.args.from c.args.until c.as_slice.result.now) (sym c.requires.same)
+    (subst (AreWithin plan c.args.from c.args.until) (sym c.as_slice.ensures) (c.in_ok-told.ensures.within plan c.requires.common own))
+
+pub bound_after-bound-requires-clause-earlier : goal.bound_after-bound-requires-clause-earlier
+bound_after-bound-requires-clause-earlier c =
+    let plan = c.args.base.now.plan in
+    let own : IsEventList plan c.as_slice-own.result.now = subst (IsEventList plan) (sym c.as_slice-own.ensures) c.requires.case.list in
+    last-early (merged c.args.common.now c.as_slice-own.result.now) c.args.until c.run_last-last.result (c.run_last-last.ensures plan c.requires.common own)
+
+pub outcome_of-requires-clause-elements : goal.outcome_of-requires-clause-elements
+outcome_of-requires-clause-elements c =
+    let plan = c.args.base.now.plan in
+    let same : c.show.new.branch.net.plan ≡ plan = ap (λ n. n.plan) c.show.ensures.net ∙ c.run_out.ensures.plan ∙ ap (λ n. n.plan) c.requires.same in
+    let well : IsWellFormed plan = subst IsWellFormed c.plan.ensures c.elements-elements.ensures.well_formed in
+    omega (arith, case-elements plan c.args.case.now well c.requires.case, ap (λ p. length p.elements) same)
+
+pub outcome_of-requires-clause-some : goal.outcome_of-requires-clause-some
+outcome_of-requires-clause-some c =
+    let plan = c.args.base.now.plan in
+    let own_events = c.as_slice-own.result.now in
+    let all = merged c.args.common.now own_events in
+    let own : IsEventList plan own_events = subst (IsEventList plan) (sym c.as_slice-own.ensures) c.requires.case.list in
+    let told : AreTold plan all c.args.from c.args.until c.as_slice.result.now =
+    subst (AreTold plan all c.args.from c.args.until) (sym c.as_slice.ensures) (c.in_ok-told.ensures.told plan c.requires.common own) in
+    let before : AreCommonBefore plan c.args.common.now c.args.from all =
+    common-before plan c.args.common.now own_events c.args.from c.requires.common own (rw c.as_slice-own.ensures c.requires.later) in
+    let after = c.run_out.new.branch.net in
+    let stands : StandsFor after all (c.args.until + 1) =
+    stood c.args.base.now c.args.branch.now.net after c.args.common.now c.as_slice.result.now all c.args.from c.args.until c.requires.same c.requires.stands
+    c.in_ok-run_out.ensures.stands before told in
+    (all, subst (λ (n : NetState). StandsFor n all n.next) (sym c.show.ensures.net) (subst (StandsFor after all) (sym c.in_ok-run_out.ensures.next) stands))
+
+pub outcome_of-requires-clause-bound : goal.outcome_of-requires-clause-bound
+outcome_of-requires-clause-bound c =
+    let same : c.show.new.branch.net.plan ≡ c.args.base.now.plan = ap (λ n. n.plan) c.show.ensures.net ∙ c.run_out.ensures.plan ∙ ap (λ n. n.plan) c.requires.same in
+    c.bound_after-bound.ensures c.show.new.branch.net.plan (subst (λ (p : Topology). IsBoundAfter p c.args.until c.args.bound) (sym same) c.requires.bound)
+
+pub timing_if-requires-clause-elements : goal.timing_if-requires-clause-elements
+timing_if-requires-clause-elements c =
+    let plan = c.args.base.now.plan in
+    let same : c.show.new.branch.net.plan ≡ plan = ap (λ n. n.plan) c.show.ensures.net ∙ c.run_out.ensures.plan ∙ ap (λ n. n.plan) c.requires.same in
+    let well : IsWellFormed plan = subst IsWellFormed c.plan.ensures c.elements-elements.ensures.well_formed in
+    omega (arith, case-elements plan c.args.case.now well c.requires.case, ap (λ p. length p.elements) same)
+
+pub returns-clause-worked : goal.returns-clause-worked
+returns-clause-worked c =
+    let plan = c.args.base.now.plan in
+    let until : ℕ = c.args.until in
+    let own_events = c.as_slice-own.result.now in
+    let all = merged c.args.common.now own_events in
+    let own : IsEventList plan own_events = subst (IsEventList plan) (sym c.as_slice-own.ensures) c.requires.case.list in
+    let told : AreTold plan all c.args.from until c.as_slice.result.now =
+    subst (AreTold plan all c.args.from until) (sym c.as_slice.ensures) (c.in_ok-told.ensures.told plan c.requires.common own) in
+    let before : AreCommonBefore plan c.args.common.now c.args.from all =
+    common-before plan c.args.common.now own_events c.args.from c.requires.common own (rw c.as_slice-own.ensures c.requires.later) in
+    let after = c.run_out.new.branch.net in
+    let net = c.show.new.branch.net in
+    let stood_for : (list : List Event) → AreCommonBefore plan c.args.common.now c.args.from list → AreTold plan list c.args.from until c.as_slice.result.now → StandsFor net list net.next =
+    λ list first are. subst (λ (n : NetState). StandsFor n list n.next) (sym c.show.ensures.net) (subst (StandsFor after list) (sym c.in_ok-run_out.ensures.next)
+    (stood c.args.base.now c.args.branch.now.net after c.args.common.now c.as_slice.result.now list c.args.from until c.requires.same c.requires.stands
+    c.in_ok-run_out.ensures.stands first are)) in
+    let stands : StandsFor net all net.next = stood_for all before told in
+    let early = events_before (suc until) all in
+    let earlier : StandsFor net early net.next =
+    stood_for early (common-before-end plan c.args.common.now c.args.from until all c.requires.in_order before) (told-before plan all c.args.from until c.as_slice.result.now told) in
+    let same : net.plan ≡ plan = ap (λ n. n.plan) c.show.ensures.net ∙ c.run_out.ensures.plan ∙ ap (λ n. n.plan) c.requires.same in
+    let next : net.next ≡ until + 1 = ap (λ n. n.next) c.show.ensures.net ∙ c.in_ok-run_out.ensures.next in
+    let now : net.next - 1 ≡ until = omega (arith, next) in
+    let marked : IsBranch c.args.base.now net c.show.new.branch.elements c.show.new.branch.lines =
+    subst (λ n. IsBranch c.args.base.now n c.show.new.branch.elements c.show.new.branch.lines) (sym c.show.ensures.net)
+    (subst (λ marks. IsBranch c.args.base.now after marks c.show.new.branch.lines) (sym c.show.ensures.elements)
+    (subst (λ marks. IsBranch c.args.base.now after c.run_out.new.branch.elements marks) (sym c.show.ensures.lines)
+    (c.in_ok-run_out.ensures.branch c.args.base.now c.requires.branch))) in
+    let outcome = c.in_ok-outcome.outcome in
+    let last : ℕ = c.run_last-last.result in
+    let is_last = c.run_last-last.ensures plan c.requires.common own in
+    let shown : IsShown plan all until outcome =
+    subst (λ (p : Topology). IsShown p all until outcome) same (subst (λ t. IsShown net.plan all t outcome) now (c.in_ok-outcome.ensures.shown all stands)) in
+    subst (λ (events : List Event). IsWorked plan (merged c.args.common.now events) until (is_some c.args.timed.now) (record { outcome = outcome; timing = c.in_ok-timing.timing })) c.as_slice-own.ensures
+    (record {
+      outcome = record {
+        shown = shown;
+        last = last;
+        is_last = is_last;
+        bound = subst (IsBoundAfter plan last) (sym c.in_ok-outcome.ensures.bound) (c.bound_after-bound.ensures plan c.requires.bound);
+      };
+      due = subst (λ t. IfSome outcome.bound (λ bound. bound ≤ t → outcome.settled ≡ true)) now (c.in_ok-outcome.ensures.due early earlier (none-late all until last is_last));
+      asked = c.in_ok-timing.ensures.asked;
+      timing = timing-by c.args.base.now net plan all until c.args.timed.now c.listed.result.now c.in_ok-timing.timing same (sym same) now stands c.requires.timed
+          (subst (λ places. AreAlikeBut places net c.args.base.now) (sym c.listed.ensures.listed) (alike-but c.args.base.now net c.show.new.branch.elements c.show.new.branch.lines marked c.listed.ensures.all))
+          c.in_ok-timing.ensures.timing;
+    })

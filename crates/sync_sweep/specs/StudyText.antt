@@ -1,0 +1,34 @@
+-- The table of a study, as text. This project's own.
+use Rattle.std.specs.Prelude.{ℕ, List, [], ◌∷◌, ◌++◌, slice_get, codes, Option, None, Some}
+use Rattle.std.specs.Fmt.{decimal}
+use Rattle.std.specs.Option.{option_map_or}
+use Rattle.sync_topo.specs.declared.element.Element.{Element}
+use Rattle.sync_topo.specs.Topology.{Topology}
+use Rattle.sync_sweep.specs.declared.studying.StudyRow.{StudyRow}
+use Rattle.sync_sweep.specs.declared.timings.Timing.{Timing}
+use Rattle.sync_sweep.specs.SweepText.{results_text}
+
+-- the name of an element, or nothing
+abbrev pub first_word : Topology → Option ℕ → List ℕ
+first_word plan None = []
+first_word plan (Some element) = option_map_or (λ (e : Element). e.name) (slice_get plan.elements element) []
+
+-- whence the elements have their timing: lost,first,longest
+abbrev pub timing_text : Topology → Timing → List ℕ
+timing_text plan timing = decimal timing.lost ++ codes "," ++ first_word plan timing.first ++ codes "," ++ decimal timing.longest
+
+-- a row: case,settled,locked,holdover,freerun,loops,worst,bound,lost,first,longest
+abbrev pub case_text : Topology → List ℕ → StudyRow → List ℕ
+case_text plan name row = name ++ codes "," ++ results_text row.outcome ++ codes "," ++ timing_text plan row.timing ++ codes "\n"
+
+-- the rows of some cases, by their names
+abbrev pub cases_text : Topology → List (List ℕ) → List StudyRow → List ℕ
+cases_text plan [] rows = []
+cases_text plan (name ∷ names) [] = []
+cases_text plan (name ∷ names) (row ∷ rows) = case_text plan name row ++ cases_text plan names rows
+
+abbrev pub study_head : List ℕ
+study_head = codes "case,settled,locked,holdover,freerun,loops,worst,bound,lost,first,longest\n"
+
+abbrev pub study_text : Topology → List (List ℕ) → List StudyRow → List ℕ
+study_text plan names rows = study_head ++ cases_text plan names rows

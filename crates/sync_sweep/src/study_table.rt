@@ -1,0 +1,73 @@
+//! The table of a study.
+
+ghost use Rattle.std.specs.Prelude.{◌≡◌, ◌++◌, ◌<◌, length, IfOk, IfSome, OnOk};
+ghost use Rattle.std.specs.List.{All};
+ghost use Rattle.sync_sweep.specs.StudyText.{case_text, first_word, study_text, timing_text};
+
+use crate::studying::StudyRow;
+use crate::table::put_results;
+use crate::timings::Timing;
+use std::alloc::Global;
+use sync_text::{NoMemory, Text};
+use sync_topo::Plan;
+
+/// The rows of a study over a plan, as text: a head, and then a row for each case with its name, what
+/// a row of a sweep says of a network, how many elements have no timing from a source, the name of the
+/// first of these or nothing, and the lines of the longest trace that ends.
+///
+/// There are as many names as rows, and the elements are of this plan. `NoMemory` comes for want of
+/// memory alone. This project's own.
+pub fn study_text(
+    alloc: Global,
+    plan: &Plan,
+    names: &[Text],
+    rows: &[StudyRow],
+) -> Result<Text, NoMemory>
+    requires names { length names.now ≡ length rows.now }
+    requires of_plan { All (λ row. IfSome row.timing.first (λ element.
+        element < length plan.now.elements)) rows.now }
+    ensures text { IfOk result (λ text. text ≡ study_text plan.now names.now rows.now) }
+{
+    let mut text = Text::new(alloc);
+    text.put(b"case,settled,locked,holdover,freerun,loops,worst,bound,lost,first,longest\n")?;
+    for (place, row) in rows.iter().enumerate() {
+        put_case(&mut text, plan, &names[place], row)?;
+    }
+    Ok(text)
+}
+
+// Puts the row of a case.
+fn put_case(text: &mut Text, plan: &Plan, name: &Text, row: &StudyRow) -> Result<(), NoMemory>
+    requires of_plan { IfSome row.now.timing.first (λ element. element < length plan.now.elements) }
+    ensures put { OnOk result (text.new ≡ text.old ++ case_text plan.now name.now row.now) }
+{
+    text.put(name.bytes())?;
+    text.put(b",")?;
+    put_results(text, &row.outcome)?;
+    text.put(b",")?;
+    put_timing(text, plan, &row.timing)?;
+    text.put(b"\n")
+}
+
+// Puts whence the elements have their timing.
+fn put_timing(text: &mut Text, plan: &Plan, timing: &Timing) -> Result<(), NoMemory>
+    requires of_plan { IfSome timing.now.first (λ element. element < length plan.now.elements) }
+    ensures put { OnOk result (text.new ≡ text.old ++ timing_text plan.now timing.now) }
+{
+    text.put_number(u64::from(timing.lost))?;
+    text.put(b",")?;
+    put_first(text, plan, timing.first)?;
+    text.put(b",")?;
+    text.put_number(u64::from(timing.longest))
+}
+
+// Puts the name of an element, where there is one.
+fn put_first(text: &mut Text, plan: &Plan, first: Option<u32>) -> Result<(), NoMemory>
+    requires of_plan { IfSome first (λ element. element < length plan.now.elements) }
+    ensures put { OnOk result (text.new ≡ text.old ++ first_word plan.now first) }
+{
+    match first {
+        Some(element) => text.put(plan.element(element).name.bytes()),
+        None => Ok(()),
+    }
+}

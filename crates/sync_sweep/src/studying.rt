@@ -1,0 +1,88 @@
+//! A study: what becomes of a network in some cases.
+
+ghost use Rattle.std.specs.Prelude.{◌≡◌, ◌≤◌, ◌<◌, true, length, is_some, IfOk, IfSome};
+ghost use Rattle.std.specs.List.{All, AllZip};
+ghost use Rattle.sync_topo.specs.Events.{IsCase, IsEventList};
+ghost use Rattle.sync_sweep.specs.Rows.{IsStudyRowOf};
+ghost use Rattle.sync_sweep.specs.Study.{AreStudyRows};
+
+use crate::gate::Gate;
+use crate::outcomes::Outcome;
+use crate::sweeping::work_all;
+use crate::timings::Timing;
+use crate::working::Worked;
+use std::alloc::Global;
+use std::thread::Threads;
+use sync_ql::limits::LAST_MILLISECOND;
+use sync_text::{NoMemory, Rows};
+use sync_topo::{Case, Event, Plan};
+
+/// What becomes of a network in a case, and whence its elements have their timing then.
+///
+/// This project's own.
+#[derive(Clone, Copy, Debug, PartialEq, Eq, Drop)]
+pub struct StudyRow {
+    /// What becomes of the network.
+    pub outcome: Outcome,
+    /// Whence its elements have their timing.
+    pub timing: Timing,
+}
+
+/// What becomes of the plan's network at `until` in each case, in order, where the common events
+/// happen in all of them; in milliseconds from 0, and at most 86,400,000.
+///
+/// The run of a case has the common events and its own, in order of time, in one millisecond the
+/// common ones first. Events after `until` don't matter. The cases are cut into at most eight chunks
+/// of as many cases each, the last of which may have fewer; they run at once where there are
+/// processors, and each calls the gate once, before its first case. A row doesn't depend on which
+/// chunk it is worked in, nor on the other cases. Where a row has a settling bound that is not after
+/// `until`, it is settled.
+/// `NoMemory` comes for want of memory alone. This project's own.
+pub fn study<R: Threads + Sync, G: Gate + Sync>(
+    rt: &R,
+    alloc: Global,
+    plan: &Plan,
+    common: &[Event],
+    cases: &[Case],
+    until: u64,
+    gate: &G,
+) -> Result<Rows<StudyRow>, NoMemory>
+    requires common { IsEventList plan.now common.now }
+    requires cases { All (IsCase plan.now) cases.now }
+    requires in_range { until ≤ LAST_MILLISECOND }
+    ensures rows { IfOk result (AreStudyRows plan.now common.now until cases.now) }
+    ensures count { IfOk result (λ rows. length rows ≡ length cases.now) }
+    ensures of_plan { IfOk result (All (λ row. IfSome row.timing.first (λ element.
+        element < length plan.now.elements))) }
+    ensures bound { IfOk result (All (λ row. IfSome row.outcome.bound (λ bound. bound ≤ until →
+        row.outcome.settled ≡ true))) }
+{
+    let worked = work_all(rt, alloc, plan, common, cases, until, true, gate)?;
+    study_rows(alloc, worked.as_slice())
+}
+
+// The rows of cases that were timed.
+fn study_rows(alloc: Global, worked: &[Worked]) -> Result<Rows<StudyRow>, NoMemory>
+    requires timed { All (λ one. is_some one.timing ≡ true) worked.now }
+    ensures { IfOk result (AllZip IsStudyRowOf worked.now) }
+{
+    let mut rows = Rows::new(alloc);
+    for one in worked {
+        rows.push(study_row(*one))?;
+    }
+    Ok(rows)
+}
+
+// The row of a case that was timed.
+fn study_row(worked: Worked) -> StudyRow
+    requires timed { is_some worked.timing ≡ true }
+    ensures { IsStudyRowOf worked result }
+{
+    match worked.timing {
+        Some(timing) => StudyRow {
+            outcome: worked.outcome,
+            timing,
+        },
+        None => unreachable!(),
+    }
+}

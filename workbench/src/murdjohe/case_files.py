@@ -1,0 +1,154 @@
+"""Tables of cases of any length, plain or packed by gzip: read a row at a time, and more than once.
+
+Here is looked at what the program can't see in a part of a table: its header, how many fields a row has, and that the rows of
+a case stand together. What a row says the program looks at.
+"""
+
+from __future__ import annotations
+
+import csv
+import gzip
+import io
+import shutil
+import tempfile
+import zlib
+from array import array
+from collections.abc import Iterator
+from contextlib import contextmanager
+from itertools import groupby
+from typing import IO, cast
+
+from murdjohe import failures, inputs
+from murdjohe.capture_files import GZIP
+from murdjohe.case_lists import CaseList, CaseRows, Row, total_of
+from murdjohe.core import BAD_EVENTS, LONGEST_FILE
+from murdjohe.failures import COLUMNS, NAME
+from murdjohe.inputs import STDIN
+from murdjohe.sentences.records import MOST_ROWS
+from murdjohe.times import is_digits
+from murdjohe.wrong import Wrong, reason
+
+HEADER = ",".join(COLUMNS)
+
+
+@contextmanager
+def opened(path: str) -> Iterator[IO[str]]:
+    """The text of a file, unpacked where it is packed."""
+    with open(path, "rb") as file:
+        plain = gzip.GzipFile(fileobj=file) if file.peek(2)[:2] == GZIP else file
+        with io.TextIOWrapper(cast(IO[bytes], plain), "utf-8-sig", newline="") as text:
+            yield text
+
+
+def spooled(path: str) -> IO[bytes]:
+    """What can be read once alone, kept in a file without a name. Raises OSError."""
+    kept = tempfile.TemporaryFile()
+    with open(0 if path == STDIN else path, "rb", closefd=path != STDIN) as source:
+        shutil.copyfileobj(source, kept)
+    kept.flush()
+    return kept
+
+
+def repeated(hashes: array[int]) -> set[int]:
+    """Those that are there more than once."""
+    import numpy
+
+    ordered = numpy.sort(numpy.frombuffer(hashes, numpy.int64))
+    return set(ordered[1:][ordered[1:] == ordered[:-1]].tolist())
+
+
+class CaseFile:
+    """A table of cases, by the name that sentences have for it."""
+
+    def __init__(self, path: str) -> None:
+        self.name = "standard input" if path == STDIN else path
+        try:
+            self.kept = spooled(path) if path == STDIN or inputs.is_pipe(path) else None
+        except OSError as fault:
+            raise reason(self.name, fault) from None
+        self.path = f"/proc/self/fd/{self.kept.fileno()}" if self.kept else path
+
+    def wrong(self, row: Row, what: str) -> Wrong:
+        """That a row can't be taken, with its place and text."""
+        text = ",".join(row.fields)[:100]
+        return Wrong(f"{self.name}:{row.line}: `{text}`: {what}", status=BAD_EVENTS)
+
+    def records(self) -> Iterator[tuple[int, list[str]]]:
+        """The records that aren't blank, each with the line on which it begins. Raises Wrong."""
+        line = 1
+        csv.field_size_limit(LONGEST_FILE)
+        try:
+            with opened(self.path) as text:
+                reader = csv.reader(text)
+                for fields in reader:
+                    if fields:
+                        yield line, fields
+                    line = reader.line_num + 1
+        except (EOFError, gzip.BadGzipFile, zlib.error) as fault:
+            raise Wrong(f"{self.name}: it is packed by gzip, and damaged behind line {line}: {fault}") from None
+        except OSError as fault:
+            raise reason(self.name, fault) from None
+        except UnicodeDecodeError as fault:
+            raise Wrong(f"{self.name}: behind line {line} it is no text in UTF-8: {fault.reason}") from None
+        except (csv.Error, ValueError) as fault:  # (also a name with a zero octet)
+            raise Wrong(f"{self.name}:{line}: it is no CSV: {fault}; close each quote") from None
+
+    def rows(self) -> Iterator[Row]:
+        """The rows behind the header. Raises Wrong."""
+        records = self.records()
+        line, header = next(records, (1, []))
+        if tuple(header) != COLUMNS:
+            shown = f"`{','.join(header)[:100]}`: " if header else ""
+            raise Wrong(
+                f"{self.name}:{line}: {shown}no header of a table of cases; begin with `{HEADER}`, as `failures` does",
+                status=BAD_EVENTS,
+            )
+        for number, (line, fields) in enumerate(records, start=1):
+            yield Row(number, line, fields)
+
+    def has_case(self, row: Row, before: str) -> None:
+        """Raises Wrong where the case of a row can't be one, after a row of another case."""
+        name = row.fields[0]
+        if len(row.fields) != len(COLUMNS):
+            fields = f"{len(row.fields)} field{'s' * (len(row.fields) != 1)}"
+            raise self.wrong(row, f"it has {fields} in place of five; write {HEADER}, the value empty but for `level`")
+        if not name and before:
+            raise self.wrong(row, "rows without a case, which are common to all, come before all others; move it up")
+        if name and not NAME.fullmatch(name):
+            raise self.wrong(row, f"{name!r} is no name of a case; a name is 1 to 32 of A-Z a-z 0-9 _ -")
+
+    def told_apart(self, hashes: array[int]) -> None:
+        """Raises Wrong where a case stands at two places; the names are known by their hashes."""
+        doubtful, seen, before = repeated(hashes), dict[str, int](), ""
+        for row in self.rows() if doubtful else ():
+            name = row.fields[0]
+            if name != before and hash(name) in doubtful:
+                if name in seen:
+                    raise self.wrong(row, f"the case {name!r} has rows from line {seen[name]} on; put them together")
+                seen[name] = row.line
+            before = name
+
+    def listed(self, span: tuple[int, int | None]) -> CaseList:
+        """The cases from one number to another, once the whole table has been looked through. Raises Wrong."""
+        hashes, common, before, last = array("q"), list[Row](), "", 0
+        for row in self.rows():
+            name = row.fields[0]
+            self.has_case(row, before)
+            if not name and len(common) <= MOST_ROWS:
+                common.append(row)
+            if name != before:
+                hashes.append(hash(name))
+            if is_digits(row.fields[1]):
+                last = max(last, int(row.fields[1]))
+            before = name
+        self.told_apart(hashes)
+        rows = CaseRows("", failures.lines_of(row.fields for row in common).encode(), len(common), 1)
+        total = total_of(len(hashes), *span)
+        return CaseList(self.name, rows, total, last, lambda: failures.chosen(self.cases(), *span), self.rows)
+
+    def cases(self) -> Iterator[CaseRows]:
+        """The cases, each with its rows."""
+        for name, rows in groupby(self.rows(), key=lambda row: row.fields[0]):
+            its = list(rows)
+            if name:
+                yield CaseRows(name, failures.lines_of(row.fields for row in its).encode(), len(its), its[0].number)

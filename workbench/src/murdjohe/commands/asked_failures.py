@@ -1,0 +1,73 @@
+"""What is asked of `failures` and of `survey`: which failures of a plan, when, and with which common events."""
+
+from __future__ import annotations
+
+import re
+from collections.abc import Callable
+from typing import Any, TypeVar
+
+import click
+
+from murdjohe import failures, files, forms, runs
+from murdjohe.commands.common import Milliseconds
+from murdjohe.failures import KINDS, Failure
+from murdjohe.moments import Event
+from murdjohe.plan_file import PlanFile
+from murdjohe.wrong import Wrong
+
+CommandT = TypeVar("CommandT", bound=Callable[..., Any])
+OPTIONS = (
+    click.option("--links", is_flag=True, help="each link, also where nothing else is asked"),
+    click.option("--bundles", is_flag=True, help="each bundle, with all its links"),
+    click.option("--sources", is_flag=True, help="each source"),
+    click.option("--elements", is_flag=True, help="each element: its links and sources"),
+    click.option(
+        "--groups", type=click.Path(), help="links that fail together: a table `name,links`, blanks between links"
+    ),
+    click.option("--pairs", is_flag=True, help="also each two of these together"),
+    click.option("--at", type=Milliseconds(), default="10m", show_default=True, help="when what fails goes down"),
+    click.option("--during", type=click.Path(), help="an event list whose events are common to all cases"),
+    click.option("--cases", "span", metavar="FROM-TO", help="only these cases, by their numbers from 1 on"),
+)
+
+
+def options(command: CommandT) -> CommandT:
+    """The command with the options by which failures are asked for."""
+    for option in reversed(OPTIONS):
+        command = option(command)
+    return command
+
+
+def within_a_day(time: int | None, word: str) -> None:
+    """Raises Wrong where a time is longer than any run."""
+    if time is not None and time > forms.DAY_MS:
+        raise Wrong(f"{word}: at most a day, 24h")
+
+
+def span_of(words: str | None) -> tuple[int, int | None]:
+    """From which case to which, as `1-5000` says. Raises Wrong."""
+    if words is None:
+        return 1, None
+    found = re.fullmatch(r"([1-9][0-9]{0,9})-([1-9][0-9]{0,9})", words, re.ASCII)
+    if not found or int(found[2]) < int(found[1]):
+        raise Wrong(
+            f"--cases: {words!r} is no span of cases, as 1-5000; the first number isn't greater than the second"
+        )
+    return int(found[1]), int(found[2])
+
+
+def asked_of(taken: PlanFile, asked: dict[str, Any]) -> list[Failure]:
+    """The failures that are asked for. Raises Wrong where a table of groups has mistakes."""
+    groups = asked["groups"]
+    kinds = [kind for kind in KINDS if asked[kind]] or ([] if groups else [failures.LINKS])
+    found = failures.failures_of(taken.tables, kinds)
+    return found + (failures.groups_of(groups, files.text(groups), taken.tables) if groups else [])
+
+
+def common_of(taken: PlanFile, path: str | None) -> tuple[Event, ...]:
+    """The events that are common to all cases, where the program takes them. Raises Wrong with its status."""
+    if path is None:
+        return ()
+    file = runs.read_events(path)
+    runs.report_of(taken, file, 0)
+    return file.events

@@ -1,0 +1,71 @@
+"""`murdjohe why`: why an element takes what it takes in a millisecond."""
+
+from __future__ import annotations
+
+import click
+from click.shell_completion import CompletionItem
+
+from murdjohe import cli, core, forms, plain_json, plan_file, progress, runs, why_text, whys
+from murdjohe.commands.common import Milliseconds
+from murdjohe.inputs import STDIN
+from murdjohe.wrong import Wrong
+
+
+def completed(context: click.Context, _: click.Parameter, incomplete: str) -> list[CompletionItem]:
+    """The elements of the plan whose names begin so."""
+    return cli.names_in(context.params.get("plan") or "", incomplete)
+
+
+@click.command("why")
+@click.argument("plan", type=click.Path())
+@click.argument("events", type=click.Path())
+@click.argument("element", shell_complete=completed)
+@click.argument("at", type=Milliseconds())
+@click.option("--start", type=Milliseconds(), help="tells times of day, in a run that begins at this one, as 02:00:00")
+@click.option(
+    "--all", "has_all", is_flag=True, help=f"all that brought it about, not the last {whys.USUAL} things alone"
+)
+@click.option("--json", "as_json", is_flag=True, help="JSON: the same, with times in milliseconds")
+@click.pass_context
+def why(
+    context: click.Context,
+    plan: str,
+    events: str,
+    element: str,
+    at: int,
+    start: int | None,
+    has_all: bool,
+    as_json: bool,
+) -> int:
+    """Says why ELEMENT takes what it takes at AT, counted from the beginning of the run, and what brought that about.
+
+    First what it takes, at which level and since when; then of each other input why not; then the way up the trace to the
+    clock, line by line, or the loop. Below stands what led to all of this, in order of time: events, behind a star, hold-off and
+    wait-to-restore times that ran out, messages with when they were sent, and changes, of this element and of those from which
+    its timing or its other inputs come.
+
+    What is taken, levels, conditions and why an input isn't taken are the program's, by `inspect`, and changes by `sim`; which
+    message or time led to a change follows from these and from the published rules. The status is 11 where the program's report
+    ends before AT, since there are more than 200,000 changes: then nothing is told of what was before.
+
+    \b
+      $ murdjohe gen 5 > plan.toml
+      $ printf 'at,what,target,value\\n60000,down,S1,\\n' > events.csv
+      $ murdjohe why plan.toml events.csv E2 2m
+    """
+    if plan == STDIN and events == STDIN:
+        raise Wrong("standard input is one file: the plan or the events")
+    if at > forms.DAY_MS:
+        raise Wrong(f"AT: {at} ms is more than a day; at most {forms.DAY_MS}, or 24h")
+    taken = plan_file.read(plan)
+    file = runs.read_events(events)
+    with progress.watched("why"):
+        found = whys.answered(taken, file, whys.Asked(element, at, None if has_all else whys.USUAL))
+    if as_json or context.find_root().params["json"]:
+        context.obj.put(plain_json.text(why_text.as_data(found, start)))
+    else:
+        context.obj.put("".join(f"{line}\n" for line in why_text.text_of(found, start)).encode())
+    return core.DONE if found.stopped_at is None else core.STOPPED
+
+
+COMMAND = why

@@ -1,0 +1,171 @@
+"""A survey that goes: its parts are begun in order, some ahead of the one whose rows come next, and each is kept once it is
+worked. Who works them is a crew: threads here that wait for the program, or a cluster."""
+
+from __future__ import annotations
+
+import os
+import signal
+import time
+from collections import deque
+from collections.abc import Callable, Generator, Iterable, Iterator
+from concurrent.futures import FIRST_COMPLETED, Future, ThreadPoolExecutor, wait
+from contextlib import suppress
+from typing import Protocol
+
+from murdjohe import core, study_runs
+from murdjohe.core import Answer
+from murdjohe.finished import Finished
+from murdjohe.portions import Part
+from murdjohe.wrong import Wrong
+
+AHEAD = 3  # parts for each processor that are begun at once
+AGAIN_S = 0.2  # seconds after which it is looked again what another survey does
+
+
+class Crew(Protocol):
+    """Who works parts."""
+
+    @property
+    def ahead(self) -> int:
+        """How many parts may be begun at once."""
+
+    def begin(self, cases: bytes) -> Future[Answer]:
+        """Has a table of cases worked."""
+
+    def told(self, fault: Exception) -> Exception:
+        """What went wrong while a part was worked, as it is told."""
+
+    def stop(self) -> None:
+        """Ends what is still worked."""
+
+
+class Here:
+    """Threads of this process, each of which waits for the program."""
+
+    def __init__(self, plan: bytes, until: int, jobs: int) -> None:
+        self.plan = plan
+        self.until = until
+        self.pool = ThreadPoolExecutor(jobs)
+        self.ahead = AHEAD * jobs
+        self.running: set[int] = set()
+        self.begun: set[Future[Answer]] = set()
+
+    def begin(self, cases: bytes) -> Future[Answer]:
+        future = self.pool.submit(study_runs.studied, self.plan, cases, self.until, self.running)
+        self.begun.add(future)
+        future.add_done_callback(self.begun.discard)
+        return future
+
+    def told(self, fault: Exception) -> Exception:
+        return fault
+
+    def stop(self) -> None:
+        self.pool.shutdown(wait=False, cancel_futures=True)
+        while left := set(self.begun):
+            for child in list(self.running):
+                with suppress(ProcessLookupError):
+                    os.kill(child, signal.SIGTERM)
+            wait(left, AGAIN_S)
+
+
+class Slot:
+    """A part that was begun, with its rows once they are there; without a future another survey works it."""
+
+    def __init__(self, part: Part) -> None:
+        self.part = part
+        self.future: Future[Answer] | None = None
+        self.lines: list[str] | None = None
+
+
+class Survey:
+    """The parts that are begun, in order, how many cases were worked, and how many were finished before.
+
+    `refused` says what is wrong with a part that the program didn't take; `tell` is told of each number of cases that is done.
+    """
+
+    def __init__(
+        self, crew: Crew, finished: Finished, refused: Callable[[Part, Answer], Wrong], tell: Callable[[int], None]
+    ) -> None:
+        self.crew = crew
+        self.finished = finished
+        self.refused = refused
+        self.tell = tell
+        self.slots: deque[Slot] = deque()
+        self.worked = self.found = 0
+
+    def look(self, slot: Slot) -> None:
+        """Takes the rows of a part where it is finished; else has it worked, unless another survey does."""
+        slot.lines = self.finished.lines(slot.part)
+        if slot.lines is None and self.finished.claim(slot.part):
+            # (it may have been finished a moment ago, before the claim was given back)
+            slot.lines = self.finished.lines(slot.part)
+            if slot.lines is None:
+                slot.future = self.crew.begin(slot.part.data)
+            else:
+                self.finished.leave(slot.part)
+        if slot.lines is not None:
+            self.found += len(slot.lines)
+            self.tell(len(slot.lines))
+
+    def keep(self, slot: Slot, answer: Answer) -> None:
+        """Keeps what the program answered to a part. Raises Wrong where that is no row for each case."""
+        if answer.status != core.DONE:
+            raise self.refused(slot.part, answer)
+        try:
+            slot.lines = study_runs.lines_of(answer.text, slot.part.names)
+        except ValueError as fault:
+            raise Wrong(f"the program's answer to a part can't be read: {fault}") from None
+        self.finished.keep(slot.part, answer.text)
+        self.finished.leave(slot.part)
+        self.worked += len(slot.lines)
+        self.tell(len(slot.lines))
+
+    def wait(self) -> None:
+        """Waits until one more part is done, and keeps all that are."""
+        begun = [slot for slot in self.slots if slot.lines is None]
+        ours = [slot.future for slot in begun if slot.future is not None]
+        if ours:
+            wait(ours, None if len(ours) == len(begun) else AGAIN_S, FIRST_COMPLETED)
+        else:
+            time.sleep(AGAIN_S)
+        for slot in begun:
+            if slot.future is None:
+                self.look(slot)
+            elif slot.future.done():
+                try:
+                    answer = slot.future.result()
+                except Exception as fault:
+                    raise self.crew.told(fault) from None
+                self.keep(slot, answer)
+
+    def ready(self) -> Iterator[list[str]]:
+        """The rows of the parts that come next and are done."""
+        while self.slots and (lines := self.slots[0].lines) is not None:
+            self.slots.popleft()
+            yield lines
+
+    def rows(self, parts: Iterable[Part]) -> Generator[list[str], None, None]:
+        """The rows of all parts, in order. Whatever ends it, what is worked by then is kept."""
+        try:
+            for part in parts:
+                self.slots.append(Slot(part))
+                self.look(self.slots[-1])
+                yield from self.ready()
+                while len(self.slots) >= self.crew.ahead:
+                    self.wait()
+                    yield from self.ready()
+            while self.slots:
+                self.wait()
+                yield from self.ready()
+        finally:
+            self.end()
+
+    def end(self) -> None:
+        """Ends what is still worked, and keeps what was worked meanwhile."""
+        self.crew.stop()
+        for slot in self.slots:
+            future = slot.future if slot.lines is None else None
+            if future and future.done() and not future.cancelled() and future.exception() is None:
+                with suppress(Wrong):  # (what ends the survey is told, and not what comes of that)
+                    self.keep(slot, future.result())
+        self.finished.close()
