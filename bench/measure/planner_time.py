@@ -25,13 +25,17 @@ COMMANDS = [
     ["orders", "plan.toml"],
     ["orders", "plan.toml", "--from", "bare.toml"],
     ["diff", "bare.toml", "plan.toml"],
+    ["rehearse", "plan.toml", "events.csv", "--until", "10m"],
+    ["why", "plan.toml", "events.csv", "LAST", "1m"],
+    ["failures", "plan.toml", "--links"],
     ["repair", "both.toml", "-o", "mended.toml"],
 ]
-# Runs the program, and adds the nanoseconds that it took to a file.
+CUT = "at,what,target,value\n20000,down,R2,\n"  # the ladder's first rail, behind which all others take their timing
 
 
 def plans(folder: pathlib.Path, program: str, elements: int) -> None:
-    """The ladder, without priorities, and with each link nominated at both ends."""
+    """The ladder, without priorities, and with each link nominated at both ends; and a cut of it."""
+    (folder / "events.csv").write_text(CUT)
     ladder = answer(program, "gen", elements)[1]
     (folder / "plan.toml").write_text(ladder)
     (folder / "bare.toml").write_text(re.sub(r"^(priority_[ab]) = \d+", r"\1 = 0", ladder, flags=re.M))
@@ -50,7 +54,8 @@ def main() -> None:
         wrapper.write_text(programs.text("timed.sh"))
         wrapper.chmod(0o755)
         environment = {**os.environ, "MURDJOHE_CORE": str(wrapper), "PROGRAM": program, "TIMES": str(times)}
-        for command in COMMANDS:
+        last = f"E{given.elements - 1}"
+        for command in [[last if word == "LAST" else word for word in command] for command in COMMANDS]:
             times.write_text("")
             before = time.perf_counter()
             run = subprocess.run(

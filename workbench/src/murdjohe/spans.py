@@ -85,25 +85,23 @@ class Network:
     def refed(self, elements: list[str]) -> set[str]:
         """Finds out anew who follows a source after these have moved, and gives those for whom that is different.
 
-        Whoever takes his timing through an element follows a source just where that one does.
+        Whoever takes his timing through an element follows a source just where that one does; of whom none of these is on the
+        way up, nothing is different. So those alone are looked at who are behind them, each once.
         """
-        different: set[str] = set()
-        for name in elements:
-            is_fed = self.reaches_source(name)
-            if is_fed != (name in self.fed):
-                behind = self.behind([name])
-                others = behind - self.fed if is_fed else behind & self.fed
-                self.fed.symmetric_difference_update(others)
-                different |= others
+        behind = self.behind(elements)
+        known: dict[str, bool] = {}
+        for name in behind:
+            way, here = [], name
+            while here in behind and here not in known:
+                known[here] = False  # whoever comes here again goes round
+                way.append(here)
+                here = self.sender(here) or here
+            end = way[-1] if way else here
+            is_fed = end in self.taken if self.sender(end) is None else known.get(here, here in self.fed)
+            known.update((one, is_fed) for one in way)
+        different = {name for name, is_fed in known.items() if is_fed != (name in self.fed)}
+        self.fed ^= different
         return different
-
-    def reaches_source(self, element: str) -> bool:
-        """Whether what is taken leads from an element back to a source."""
-        met: set[str] = set()
-        while element not in met and (sender := self.sender(element)) is not None:
-            met.add(element)
-            element = sender
-        return element not in met and element in self.taken
 
 
 def walks_of(wiring: Wiring, changes: Iterable[Change]) -> list[Walk]:
@@ -119,7 +117,9 @@ def walks_of(wiring: Wiring, changes: Iterable[Change]) -> list[Walk]:
             for line in walk:
                 del on[wiring.lines[line].receiver]
         for name in moved:
-            if name not in on and (walk := moments.walk_through(wiring, network.taken, name) or ()):
+            # (whoever is on a closed walk has a taker on it)
+            takes_round = name not in on and network.takers[name]
+            if takes_round and (walk := moments.walk_through(wiring, network.taken, name) or ()):
                 since[walk] = at
                 on |= {wiring.lines[line].receiver: walk for line in walk}
     found += [Walk(walk, at, None, moments.is_pair(wiring, walk)) for walk, at in since.items()]
