@@ -4,8 +4,9 @@ usage: python3 -m bench.compare.studies PROGRAM PLAN CASES UNTIL [--cases N] [--
 
 From the report of each case come whether the run is settled, the states and the worst level of the elements, the number
 of loops, and of the traces how many end at no source, the first of these and the longest that ends; the settling bound
-isn't in a report, and is left out, as are cases with more changes than a report has. With --cases so many of the cases are looked at, chosen at random. `sim` is run with
-the events of a case alone, put between those that are common to all. It needs Python 3.11 alone.
+isn't in a report, and is left out, as are cases with more changes than a report has. With --cases so many of the cases
+are looked at, chosen at random. `sim` is run with the events of a case alone, put between those that are common to all.
+It needs Python 3.11 alone.
 """
 
 import os
