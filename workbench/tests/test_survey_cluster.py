@@ -7,7 +7,7 @@ import os
 import subprocess
 import time
 from collections.abc import Iterator
-from contextlib import contextmanager
+from contextlib import contextmanager, suppress
 from pathlib import Path
 
 import core_double
@@ -47,12 +47,13 @@ class Dask:
 
     @property
     def address(self) -> str:
-        """The address of the scheduler, once it has one."""
+        """The address of the scheduler, once it has one and its file is written whole."""
         end = time.monotonic() + PATIENCE_S
-        while not os.path.exists(self.file):
+        while True:
+            with suppress(FileNotFoundError, json.JSONDecodeError):
+                return str(json.loads(Path(self.file).read_text())["address"])
             assert time.monotonic() < end, (self.folder / "said").read_text()
             time.sleep(0.05)
-        return str(json.loads(Path(self.file).read_text())["address"])
 
     def wait_for(self, workers: int) -> None:
         """Waits until the scheduler has so many workers."""

@@ -14,6 +14,7 @@ pub mod CaseLemmas
 pub mod ShiftLemmas
 pub mod EarlierLemmas
 pub mod TimingLemmas
+pub mod EndsLemmas
 pub mod TimedLemmas
 pub mod WorkLemmas
 pub mod RowLemmas

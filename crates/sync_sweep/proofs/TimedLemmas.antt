@@ -1,5 +1,5 @@
 -- What is kept of what elements take, and whence they have their timing by it.
-use Rattle.std.proofs.Common.{◌≡◌, ◌≤◌, ◌<◌, ◌++◌, ℕ, zero, suc, Bool, true, false, List, [], ◌∷◌, length, map, take, drop, Option, None, Some, slice_index_or, refl, ap, sym, subst, ◌∙◌, arith}
+use Rattle.std.proofs.Common.{◌≡◌, ◌≤◌, ◌<◌, ◌++◌, ℕ, suc, Bool, true, false, List, [], ◌∷◌, length, map, take, drop, Option, None, Some, refl, ap, sym, subst, ◌∙◌, arith}
 use Rattle.std.specs.Prelude.{nat_eq}
 use Rattle.std.specs.List.{list_any}
 use Rattle.std.proofs.Math.Seq.{take-append_seam}
@@ -7,11 +7,9 @@ use Rattle.std.proofs.lemmas.List.{length-map, take_all}
 use Rattle.std.proofs.lemmas.Bool.{true≢false}
 use Rattle.shown_words.specs.Sameness.{is_same_taken}
 use Rattle.sync_topo.specs.declared.input.InputId.{InputId}
-use Rattle.sync_topo.specs.declared.event.Event.{Event}
 use Rattle.sync_topo.specs.Topology.{Topology}
 use Rattle.sync_topo.proofs.InputPlaces.{same-is}
 use Rattle.agenda.specs.Marked.{Marked, AreListed}
-use Rattle.sync_element.specs.ElementState.{ElementState}
 use Rattle.net_rules.specs.Walks.{Taken}
 use Rattle.closed_walks.specs.declared.traced.Ending.{Ending}
 use Rattle.closed_walks.specs.Taking.{taken_in_list}

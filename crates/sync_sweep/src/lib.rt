@@ -19,6 +19,7 @@ mod counted_levels;
 mod counted_states;
 mod counting;
 mod crossing;
+mod ends;
 mod gate;
 mod laws;
 mod outcomes;

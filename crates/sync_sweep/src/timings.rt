@@ -80,7 +80,7 @@ fn longest_with(longest: u32, ending: &Ending) -> u32
 }
 
 // Whether a trace doesn't end at a source.
-fn is_lost(ending: &Ending) -> bool
+pub fn is_lost(ending: &Ending) -> bool
     ensures { result ≡ is_lost ending.now }
 {
     match ending.end {

@@ -19,8 +19,7 @@ from itertools import groupby
 from typing import IO, cast
 
 from murdjohe import failures, inputs
-from murdjohe.capture_files import GZIP
-from murdjohe.case_lists import CaseList, CaseRows, Row, total_of
+from murdjohe.case_lists import CaseList, CommonRows, Row, total_of
 from murdjohe.core import BAD_EVENTS, LONGEST_FILE
 from murdjohe.failures import COLUMNS, NAME
 from murdjohe.inputs import STDIN
@@ -29,11 +28,14 @@ from murdjohe.times import is_digits
 from murdjohe.wrong import Wrong, reason
 
 HEADER = ",".join(COLUMNS)
+BUNCH = 1_000  # rows of the cases that are written at once
 
 
 @contextmanager
 def opened(path: str) -> Iterator[IO[str]]:
     """The text of a file, unpacked where it is packed."""
+    from murdjohe.capture_files import GZIP
+
     with open(path, "rb") as file:
         plain = gzip.GzipFile(fileobj=file) if file.peek(2)[:2] == GZIP else file
         with io.TextIOWrapper(cast(IO[bytes], plain), "utf-8-sig", newline="") as text:
@@ -55,6 +57,34 @@ def repeated(hashes: array[int]) -> set[int]:
 
     ordered = numpy.sort(numpy.frombuffer(hashes, numpy.int64))
     return set(ordered[1:][ordered[1:] == ordered[:-1]].tolist())
+
+
+class FileBunch:
+    """Cases of a table by their rows."""
+
+    def __init__(self, cases: list[list[Row]]) -> None:
+        self.cases = cases
+        self.names = [rows[0].fields[0] for rows in cases]
+
+    def row(self, start: int) -> int:
+        return self.cases[start][0].number
+
+    def table(self, start: int, end: int) -> tuple[bytes, int]:
+        rows = [row.fields for rows in self.cases[start:end] for row in rows]
+        return failures.lines_of(rows).encode(), len(rows)
+
+
+def bunches(cases: Iterator[list[Row]]) -> Iterator[FileBunch]:
+    """The cases in bunches, which end once they have so many rows as one is to have."""
+    held, count = list[list[Row]](), 0
+    for rows in cases:
+        held.append(rows)
+        count += len(rows)
+        if count >= BUNCH:
+            yield FileBunch(held)
+            held, count = [], 0
+    if held:
+        yield FileBunch(held)
 
 
 class CaseFile:
@@ -130,25 +160,26 @@ class CaseFile:
 
     def listed(self, span: tuple[int, int | None]) -> CaseList:
         """The cases from one number to another, once the whole table has been looked through. Raises Wrong."""
-        hashes, common, before, last = array("q"), list[Row](), "", 0
+        hashes, common, before, at, last = array("q"), list[Row](), "", "", 0
         for row in self.rows():
             name = row.fields[0]
-            self.has_case(row, before)
+            if name != before or len(row.fields) != len(COLUMNS):
+                self.has_case(row, before)
             if not name and len(common) <= MOST_ROWS:
                 common.append(row)
             if name != before:
                 hashes.append(hash(name))
-            if is_digits(row.fields[1]):
-                last = max(last, int(row.fields[1]))
+            if row.fields[1] != at and is_digits(row.fields[1]):
+                at = row.fields[1]
+                last = max(last, int(at))
             before = name
         self.told_apart(hashes)
-        rows = CaseRows("", failures.lines_of(row.fields for row in common).encode(), len(common), 1)
+        rows = CommonRows(failures.lines_of(row.fields for row in common).encode(), len(common))
         total = total_of(len(hashes), *span)
-        return CaseList(self.name, rows, total, last, lambda: failures.chosen(self.cases(), *span), self.rows)
+        return CaseList(self.name, rows, total, last, lambda: bunches(failures.chosen(self.cases(), *span)), self.rows)
 
-    def cases(self) -> Iterator[CaseRows]:
-        """The cases, each with its rows."""
+    def cases(self) -> Iterator[list[Row]]:
+        """The rows of each case."""
         for name, rows in groupby(self.rows(), key=lambda row: row.fields[0]):
-            its = list(rows)
             if name:
-                yield CaseRows(name, failures.lines_of(row.fields for row in its).encode(), len(its), its[0].number)
+                yield list(rows)

@@ -2,25 +2,36 @@
 
 from __future__ import annotations
 
-from collections.abc import Callable, Iterator
+from collections.abc import Callable, Iterator, Sequence
 from dataclasses import dataclass
-from typing import Any, NamedTuple
+from typing import Any, NamedTuple, Protocol
 
-from murdjohe import failures
+from murdjohe import failures, stretches
 from murdjohe.failures import Failure
 from murdjohe.moments import Event
+from murdjohe.stretch_rows import StretchRows
+from murdjohe.stretches import Named
 
 
-class CaseRows(NamedTuple):
-    """A case as a table has it: its name, its rows as they are written, how many they are, and the number of the first.
+class CommonRows(NamedTuple):
+    """Rows that are common to all cases, as they are written, and how many they are."""
 
-    Rows count from 1 behind the header; made cases need no such number.
-    """
-
-    name: str
     data: bytes
     length: int
-    row: int
+
+
+class Bunch(Protocol):
+    """Cases that follow one another."""
+
+    @property
+    def names(self) -> Sequence[str]:
+        """Their names."""
+
+    def row(self, start: int) -> int:
+        """The number of the first row of a case, from 1 on behind the header; made cases need no such number."""
+
+    def table(self, start: int, end: int) -> tuple[bytes, int]:
+        """The cases from one up to another as a table has them, and how many rows they have."""
 
 
 class Row(NamedTuple):
@@ -37,10 +48,10 @@ class CaseList:
     event is, and a way through all of them, which may be gone more than once; of a file also its rows."""
 
     name: str
-    common: CaseRows
+    common: CommonRows
     total: int
     last: int
-    each: Callable[[], Iterator[CaseRows]]
+    each: Callable[[], Iterator[Bunch]]
     rows: Callable[[], Iterator[Row]] | None = None
 
 
@@ -49,9 +60,25 @@ def total_of(count: int, first: int, last: int | None) -> int:
     return max(0, (count if last is None else min(last, count)) - first + 1)
 
 
-def common_rows(common: tuple[Event, ...]) -> CaseRows:
+def common_rows(common: tuple[Event, ...]) -> CommonRows:
     """Events that are common to all cases, as rows."""
-    return CaseRows("", failures.common_lines(common).encode(), len(common), 1)
+    return CommonRows(failures.common_lines(common).encode(), len(common))
+
+
+class MadeBunch:
+    """The cases of a stretch."""
+
+    def __init__(self, named: Named, rows: StretchRows) -> None:
+        self.named = named
+        self.names = named.names
+        self.rows = rows
+
+    def row(self, start: int) -> int:
+        return 0
+
+    def table(self, start: int, end: int) -> tuple[bytes, int]:
+        data = self.rows.of(self.named, start, end)
+        return data, data.count(b"\n")
 
 
 def of_failures(
@@ -65,9 +92,10 @@ def of_failures(
     """The cases in which these failures of a plan come at a millisecond, each alone, and each two together."""
     order = failures.in_order(tables)
 
-    def each() -> Iterator[CaseRows]:
-        for case in failures.chosen(failures.cases_of(found, has_pairs, order), *span):
-            yield CaseRows(case.name, failures.case_lines(case, at).encode(), len(case.down), 0)
+    def each() -> Iterator[Bunch]:
+        rows = StretchRows(found, order, at)
+        for named in stretches.named(found, has_pairs, span):
+            yield MadeBunch(named, rows)
 
     total = total_of(failures.count_of(found, has_pairs), *span)
     return CaseList("the failures", common_rows(common), total, max([at, *(event.at for event in common)]), each)

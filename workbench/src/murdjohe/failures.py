@@ -9,6 +9,7 @@ from collections import Counter
 from collections.abc import Collection, Iterable, Iterator
 from dataclasses import dataclass
 from itertools import combinations, islice
+from math import comb
 from typing import Any, TypeVar
 
 from murdjohe import documents, table_reader
@@ -155,9 +156,24 @@ def cases_of(failures: list[Failure], has_pairs: bool, order: dict[str, int]) ->
         yield Case(names.name_of(number, together), together, tuple(sorted(down, key=order.__getitem__)))
 
 
+def nested_behind(failures: list[Failure]) -> list[set[int]]:
+    """For each failure the places of those behind it with which it makes no pair, as `sets_of` has them."""
+    holders: dict[str, set[int]] = {}
+    for place, one in enumerate(failures):
+        for part in one.down:
+            holders.setdefault(part, set()).add(place)
+    found: list[set[int]] = [set() for _ in failures]
+    for place, one in enumerate(failures):
+        wider = set.intersection(*(holders[part] for part in one.down)) if one.down else set(range(len(failures)))
+        for other in wider - {place}:
+            found[min(place, other)].add(max(place, other))
+    return found
+
+
 def count_of(failures: list[Failure], has_pairs: bool) -> int:
     """How many cases there are."""
-    return sum(1 for _ in sets_of(failures, has_pairs))
+    pairs = comb(len(failures), 2) - sum(map(len, nested_behind(failures))) if has_pairs else 0
+    return len(failures) + pairs
 
 
 def chosen(cases: Iterable[CaseT], first: int, last: int | None) -> Iterator[CaseT]:

@@ -15,6 +15,7 @@ import zlib
 
 from murdjohe import files, study_runs
 from murdjohe.portions import Part
+from murdjohe.study_runs import Rows
 from murdjohe.wrong import Wrong, reason
 
 ENDING = ".csv.gz"
@@ -40,17 +41,17 @@ class Finished:
             raise Wrong(f"--parts: {fault}") from None
 
     def name(self, part: Part) -> str:
-        return f"{self.begin}-{checksum(part.data)[:32]}{ENDING}"
+        return f"{self.begin}-{part.checksum[:32]}{ENDING}"
 
     def path(self, part: Part) -> str:
         return os.path.join(self.folder, self.name(part))
 
-    def lines(self, part: Part) -> list[str] | None:
+    def rows(self, part: Part) -> Rows | None:
         """The rows of a part; None where it isn't finished, or what is there is damaged. Raises Wrong."""
         path = self.path(part)
         try:
             with gzip.open(path, "rb") as file:
-                return study_runs.lines_of(file.read(), part.names)
+                return study_runs.rows_of(file.read(), part.names)
         except (FileNotFoundError, EOFError, gzip.BadGzipFile, zlib.error, ValueError):
             return None
         except OSError as fault:

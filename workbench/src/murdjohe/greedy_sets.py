@@ -3,6 +3,7 @@
 from __future__ import annotations
 
 import time
+from collections.abc import Collection
 
 import networkx as nx
 
@@ -13,11 +14,11 @@ from murdjohe.rings import is_closed, ring_through
 class Choice:
     """The lines of a knot that are kept, over which no ring goes, and those that are taken away."""
 
-    def __init__(self, knot: nx.DiGraph, inputs: Inputs) -> None:
+    def __init__(self, knot: nx.DiGraph, inputs: Inputs, kept: Collection[str] = ()) -> None:
         self.knot = knot
         self.inputs = inputs
-        self.kept: set[str] = set()
-        self.removed: set[str] = set(knot)
+        self.kept: set[str] = set(kept)
+        self.removed: set[str] = set(knot).difference(kept)
 
     def weight(self, name: str) -> tuple[int, bool, int, str]:
         """What a line is worth: the last input of its element, then the last but one, a first choice, and how high its priority is."""
@@ -58,9 +59,12 @@ class Choice:
             self.keep()
 
 
-def greedy_set(knot: nx.DiGraph, inputs: Inputs, seconds: float) -> frozenset[str]:
-    """Lines of a knot without which no ring is left; the search for better ones ends after these seconds of processor time."""
-    choice = Choice(knot, inputs)
+def greedy_set(knot: nx.DiGraph, inputs: Inputs, seconds: float, kept: Collection[str] = ()) -> frozenset[str]:
+    """Lines of a knot without which no ring is left, found from some over which none goes and which are kept at first.
+
+    The search for better ones ends after these seconds of processor time.
+    """
+    choice = Choice(knot, inputs, kept)
     choice.keep()
     choice.better(time.process_time() + seconds)
     return frozenset(choice.removed)

@@ -2,16 +2,25 @@
 
 from __future__ import annotations
 
+import hashlib
+from bisect import bisect_left
 from collections.abc import Iterator
 from dataclasses import dataclass
+from functools import cached_property
 
 from murdjohe import core
 from murdjohe.case_files import HEADER
-from murdjohe.case_lists import CaseList, CaseRows
+from murdjohe.case_lists import Bunch, CaseList, CommonRows
 from murdjohe.sentences.records import MOST_ROWS
 from murdjohe.wrong import Wrong
 
-USUAL = 2_000  # cases of a part, where nothing else is asked
+LEAST, MOST = 2_000, 20_000  # cases of a part, where nothing else is asked
+SHARES = 8  # so many parts there are between these
+
+
+def usual(total: int) -> int:
+    """How many of so many cases a part has: more of many, since the program reads the plan anew for each part."""
+    return min(MOST, max(LEAST, -(-total // SHARES)))
 
 
 @dataclass(frozen=True)
@@ -23,45 +32,67 @@ class Part:
     common: int
     first: int
 
+    @cached_property
+    def checksum(self) -> str:
+        """The checksum of its table."""
+        return hashlib.sha256(self.data).hexdigest()
+
     def row_of(self, row: int) -> int:
         """The row of the whole table that a row of the part is; both count from 1."""
         return row if row <= self.common else row - self.common + self.first - 1
 
 
 class Held:
-    """The cases that are to be a part, and how large it is."""
+    """The cases that are to be a part, at most so many, and how large it is."""
 
-    def __init__(self, common: CaseRows) -> None:
-        self.head = f"{HEADER}\n".encode() + common.data
+    def __init__(self, common: CommonRows, size: int) -> None:
+        head = f"{HEADER}\n".encode() + common.data
         self.common = common.length
-        self.cases: list[CaseRows] = []
-        self.rows, self.octets = common.length, len(self.head)
+        self.size = size
+        self.names: list[str] = []
+        self.data = [head]
+        self.rows, self.octets, self.first = common.length, len(head), 0
 
-    def has_room(self, case: CaseRows) -> bool:
-        """Whether the program takes a table with this case too."""
-        return self.rows + case.length <= MOST_ROWS and self.octets + len(case.data) <= core.LONGEST_FILE
+    def has_room(self, data: bytes, rows: int) -> bool:
+        """Whether the program takes a table with these rows too."""
+        return self.rows + rows <= MOST_ROWS and self.octets + len(data) <= core.LONGEST_FILE
 
-    def add(self, case: CaseRows) -> None:
-        self.cases.append(case)
-        self.rows += case.length
-        self.octets += len(case.data)
+    def add(self, bunch: Bunch, start: int) -> int:
+        """Takes cases of a bunch from one on, as many as there is room for; says how many."""
+        end = min(len(bunch.names), start + self.size - len(self.names))
+        data, rows = bunch.table(start, end)
+        if not self.has_room(data, rows):
+            ends = range(start + 1, end + 1)
+            end = start + bisect_left(ends, True, key=lambda end: not self.has_room(*bunch.table(start, end)))
+            data, rows = bunch.table(start, end)
+        self.first = self.first if self.names else bunch.row(start)
+        self.names += bunch.names[start:end]
+        self.data.append(data)
+        self.rows += rows
+        self.octets += len(data)
+        return end - start
 
     def part(self) -> Part:
-        names = tuple(case.name for case in self.cases)
-        return Part(names, self.head + b"".join(case.data for case in self.cases), self.common, self.cases[0].row)
+        return Part(tuple(self.names), b"".join(self.data), self.common, self.first)
+
+
+def too_large(cases: CaseList, name: str, length: int) -> Wrong:
+    """That a case has more rows, or more octets, than the program takes."""
+    rows = f"the case {name!r} has {cases.common.length + length:,} rows with those common to all"
+    limit = f"{MOST_ROWS:,} rows and {core.LONGEST_FILE:,} octets"
+    return Wrong(f"{cases.name}: {rows}; the program takes {limit} at most", status=core.BAD_EVENTS)
 
 
 def parts_of(cases: CaseList, size: int) -> Iterator[Part]:
     """The cases in parts of so many, or of fewer where the program takes no larger table. Raises Wrong."""
-    held = Held(cases.common)
-    for case in cases.each():
-        if held.cases and (len(held.cases) == size or not held.has_room(case)):
+    held = Held(cases.common, size)
+    for bunch in cases.each():
+        start = held.add(bunch, 0)
+        while start < len(bunch.names):
+            if not held.names:
+                raise too_large(cases, bunch.names[start], bunch.table(start, start + 1)[1])
             yield held.part()
-            held = Held(cases.common)
-        if not held.has_room(case):
-            rows = f"the case {case.name!r} has {held.rows + case.length:,} rows with those common to all"
-            limit = f"{MOST_ROWS:,} rows and {core.LONGEST_FILE:,} octets"
-            raise Wrong(f"{cases.name}: {rows}; the program takes {limit} at most", status=core.BAD_EVENTS)
-        held.add(case)
-    if held.cases:
+            held = Held(cases.common, size)
+            start += held.add(bunch, start)
+    if held.names:
         yield held.part()

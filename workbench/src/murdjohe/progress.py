@@ -7,20 +7,14 @@ import threading
 from collections.abc import Callable, Iterator
 from contextlib import contextmanager
 
-from rich.console import Console
-from rich.progress import BarColumn, Progress, ProgressColumn, Task, TextColumn, TimeElapsedColumn, TimeRemainingColumn
-from rich.text import Text
-
 from murdjohe import core, streams
 
 
 def started(what: str) -> Callable[[], None]:
     """Shows a bar with the time that went by on standard error, and gives what takes it away again."""
-    columns = TextColumn("murdjohe {task.description}"), BarColumn(), TimeElapsedColumn()
-    bar = Progress(*columns, console=Console(stderr=True), transient=True)
-    bar.add_task(what, total=None)
-    bar.start()
-    return bar.stop
+    from murdjohe import bars
+
+    return bars.started(what)
 
 
 @contextmanager
@@ -41,13 +35,6 @@ def watched(what: str) -> Iterator[None]:
             stop()
 
 
-class Speed(ProgressColumn):
-    """How many a second, once that is known."""
-
-    def render(self, task: Task) -> Text:
-        return Text(f"{task.speed:,.0f} a second" if task.speed else "")
-
-
 @contextmanager
 def counted(what: str, total: int) -> Iterator[Callable[[int], None]]:
     """What is told of each number of things that are done; on a terminal it shows how many of all that is, how many a second,
@@ -55,14 +42,7 @@ def counted(what: str, total: int) -> Iterator[Callable[[int], None]]:
     if not os.isatty(streams.ERR):
         yield lambda count: None
         return
-    columns = (
-        TextColumn("murdjohe {task.description}"),
-        BarColumn(),
-        TextColumn("{task.completed:,.0f} of {task.total:,.0f}"),
-        Speed(),
-        TimeRemainingColumn(),
-    )
-    bar = Progress(*columns, console=Console(stderr=True), transient=True)
-    task = bar.add_task(what, total=total)
-    with bar:
-        yield lambda count: bar.advance(task, count)
+    from murdjohe import bars
+
+    with bars.counted(what, total) as tell:
+        yield tell

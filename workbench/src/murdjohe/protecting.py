@@ -1,8 +1,8 @@
-"""What is said beside an answer of `protect`: who wants a floor in the plan that was found, or why none was found."""
+"""What is said beside an answer of `protect`: who wants a floor in the plan that was found, or why none was found; and its lines."""
 
 from __future__ import annotations
 
-from murdjohe import findings
+from murdjohe import api, findings, nominated
 from murdjohe.documents import Document
 from murdjohe.plans import Plan
 from murdjohe.remarks import listed, plural
@@ -35,3 +35,13 @@ def on_none(text: str) -> list[str]:
         "have. A line comes after the sources of its element: give these smaller numbers, or nominate fewer of them (255 is "
         "the greatest number, and 64 inputs are the most at an element)"
     ]
+
+
+def lines_kept(data: bytes) -> frozenset[str]:
+    """The lines that `protect` nominates in a plan, over which no ring goes; none where it finds no plan."""
+    try:
+        text = api.protect(data).result.text
+    except api.Refused:
+        return frozenset()
+    plan = Plan(Document("the plan", (text or "").encode("utf-8")))
+    return frozenset() if plan.fault else frozenset(line.name for line in nominated.lines_of(plan.tables))

@@ -5,12 +5,13 @@ from __future__ import annotations
 import os
 import re
 import time
+from collections.abc import Collection
 from dataclasses import asdict, dataclass
 from typing import Any
 
 import networkx as nx
 
-from murdjohe import edits, greedy_sets, knots, least_sets, nominated
+from murdjohe import bettered, edits, first_sets, greedy_sets, knots, least_sets, nominated
 from murdjohe.edits import Wanted
 from murdjohe.knots import LARGE, Cost, Inputs
 from murdjohe.nominated import Line
@@ -18,8 +19,8 @@ from murdjohe.plans import Plan
 from murdjohe.reports import Gap
 
 SETS = 3  # sets that are told
-# of processor time (so that a busy machine finds the same) for all least sets together; as long again for one that isn't known to be
-SECONDS = 25.0
+SECONDS = 25.0  # of processor time, so that a busy machine finds the same, for all sets together
+FIRST = 0.4  # which part of it the first set may be bettered
 CONTEXT = 3  # lines around a change in a patch
 LINES = re.compile(rb"[^\n]*\n|[^\n]+")
 
@@ -41,27 +42,37 @@ class Repair:
     is_least: bool
 
 
-def greedy_of(parts: list[nx.DiGraph], inputs: Inputs, seconds: float) -> frozenset[str]:
-    """A set for these knots, sought one after the other; it is bettered while there is time."""
-    end = time.process_time() + seconds
-    found = [greedy_sets.greedy_set(part, inputs, end - time.process_time()) for part in parts]
-    return frozenset().union(*found)
+def near_least(
+    knot: nx.DiGraph, inputs: Inputs, first: frozenset[str], seconds: float
+) -> tuple[list[frozenset[str]], bool]:
+    """The best sets for a knot, from a first one on, and whether the least is known to be."""
+    search = least_sets.Search(knot, inputs, seconds)
+    if len(knot) > bettered.SIZE:
+        first = bettered.bettered(search, first, FIRST * seconds)
+    return least_sets.least_sets(search, SETS, first)
 
 
-def repair_of(tables: dict[str, Any], seconds: float = SECONDS) -> Repair:
-    """The repair of a plan; one without sets where no ring is left. The search takes twice these seconds at most, and little more."""
+def repair_of(tables: dict[str, Any], seconds: float = SECONDS, kept: Collection[str] = ()) -> Repair:
+    """The repair of a plan; one without sets where no ring is left. The search takes these seconds at most, and little more.
+
+    Lines that are `kept` by another plan of the network, in which no ring is left, may lead to a better set.
+    """
     lines = nominated.lines_of(tables)
     inputs = knots.inputs_of(tables, lines)
     parts = knots.knots_of(knots.graph_of(lines))
     if not parts:
         return Repair([], [], True)
     # (all knots together, since a failure may cut off more only where lines of several go)
-    best: list[frozenset[str]] = []
-    is_least = False
+    knot = nx.compose_all(parts)
+    end = time.process_time() + seconds
+    seeds = [kept, first_sets.forward(lines, first_sets.by_hops(tables))]
+    first, cost = first_sets.first_set(knot, inputs, seeds)
+    left = end - time.process_time()
     if all(len(part) <= LARGE for part in parts):
-        best, is_least = least_sets.least_sets(nx.compose_all(parts), inputs, SETS, seconds)
-    if not is_least:
-        best = [min((*best, greedy_of(parts, inputs, seconds)), key=lambda lines: (inputs.cost(lines), sorted(lines)))]
+        best, is_least = near_least(knot, inputs, first, left)
+    else:
+        other = greedy_sets.greedy_set(knot, inputs, left, set(knot) - first)
+        best, is_least = [min(first, other, key=lambda lines: (inputs.cost(lines), sorted(lines)))], False
     sets = [Found(tuple(line for line in lines if line.name in removed), inputs.cost(removed)) for removed in best]
     return Repair([(len(part), *knots.rings_in(part)) for part in parts], sets, is_least)
 

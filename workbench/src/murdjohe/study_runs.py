@@ -1,4 +1,4 @@
-"""Tables of cases that are worked by `study`: started here, and their answers taken apart as lines."""
+"""Tables of cases that are worked by `study`: started here, and their answers taken apart as rows."""
 
 from __future__ import annotations
 
@@ -6,6 +6,7 @@ import functools
 import hashlib
 import os
 from collections.abc import Sequence
+from typing import NamedTuple
 
 from murdjohe import api, core
 from murdjohe.core import Answer
@@ -14,14 +15,23 @@ COLUMNS = ("case", "settled", "locked", "holdover", "freerun", "loops", "worst",
 HEADER = ",".join(COLUMNS)
 
 
-def lines_of(answer: bytes, names: Sequence[str]) -> list[str]:
+class Rows(NamedTuple):
+    """The rows of some cases: the names of the cases, what each row says behind its name, and the rows as they are written."""
+
+    names: Sequence[str]
+    tails: Sequence[str]
+    data: bytes
+
+
+def rows_of(answer: bytes, names: Sequence[str]) -> Rows:
     """The rows of an answer, one for each of these cases in order. Raises ValueError where it has others, or is damaged."""
     head, *lines = answer.decode("ascii").split("\n")
     if head != HEADER or not lines or lines.pop():
         raise ValueError("it isn't a header and whole lines")
-    if [line.partition(",")[0] for line in lines] != list(names):
+    parted = [line.partition(",") for line in lines]
+    if [name for name, _, _ in parted] != list(names):
         raise ValueError("its rows aren't those of the cases")
-    return lines
+    return Rows(names, [tail for _, _, tail in parted], answer[len(HEADER) + 1 :])
 
 
 def studied(plan: bytes, cases: bytes, until: int, running: set[int] | None = None) -> Answer:

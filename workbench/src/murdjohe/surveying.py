@@ -16,6 +16,7 @@ from murdjohe import core, study_runs
 from murdjohe.core import Answer
 from murdjohe.finished import Finished
 from murdjohe.portions import Part
+from murdjohe.study_runs import Rows
 from murdjohe.wrong import Wrong
 
 AHEAD = 3  # parts for each processor that are begun at once
@@ -74,7 +75,7 @@ class Slot:
     def __init__(self, part: Part) -> None:
         self.part = part
         self.future: Future[Answer] | None = None
-        self.lines: list[str] | None = None
+        self.rows: Rows | None = None
 
 
 class Survey:
@@ -95,34 +96,34 @@ class Survey:
 
     def look(self, slot: Slot) -> None:
         """Takes the rows of a part where it is finished; else has it worked, unless another survey does."""
-        slot.lines = self.finished.lines(slot.part)
-        if slot.lines is None and self.finished.claim(slot.part):
+        slot.rows = self.finished.rows(slot.part)
+        if slot.rows is None and self.finished.claim(slot.part):
             # (it may have been finished a moment ago, before the claim was given back)
-            slot.lines = self.finished.lines(slot.part)
-            if slot.lines is None:
+            slot.rows = self.finished.rows(slot.part)
+            if slot.rows is None:
                 slot.future = self.crew.begin(slot.part.data)
             else:
                 self.finished.leave(slot.part)
-        if slot.lines is not None:
-            self.found += len(slot.lines)
-            self.tell(len(slot.lines))
+        if slot.rows is not None:
+            self.found += len(slot.part.names)
+            self.tell(len(slot.part.names))
 
     def keep(self, slot: Slot, answer: Answer) -> None:
         """Keeps what the program answered to a part. Raises Wrong where that is no row for each case."""
         if answer.status != core.DONE:
             raise self.refused(slot.part, answer)
         try:
-            slot.lines = study_runs.lines_of(answer.text, slot.part.names)
+            slot.rows = study_runs.rows_of(answer.text, slot.part.names)
         except ValueError as fault:
             raise Wrong(f"the program's answer to a part can't be read: {fault}") from None
         self.finished.keep(slot.part, answer.text)
         self.finished.leave(slot.part)
-        self.worked += len(slot.lines)
-        self.tell(len(slot.lines))
+        self.worked += len(slot.part.names)
+        self.tell(len(slot.part.names))
 
     def wait(self) -> None:
         """Waits until one more part is done, and keeps all that are."""
-        begun = [slot for slot in self.slots if slot.lines is None]
+        begun = [slot for slot in self.slots if slot.rows is None]
         ours = [slot.future for slot in begun if slot.future is not None]
         if ours:
             wait(ours, None if len(ours) == len(begun) else AGAIN_S, FIRST_COMPLETED)
@@ -138,13 +139,13 @@ class Survey:
                     raise self.crew.told(fault) from None
                 self.keep(slot, answer)
 
-    def ready(self) -> Iterator[list[str]]:
+    def ready(self) -> Iterator[Rows]:
         """The rows of the parts that come next and are done."""
-        while self.slots and (lines := self.slots[0].lines) is not None:
+        while self.slots and (rows := self.slots[0].rows) is not None:
             self.slots.popleft()
-            yield lines
+            yield rows
 
-    def rows(self, parts: Iterable[Part]) -> Generator[list[str], None, None]:
+    def rows(self, parts: Iterable[Part]) -> Generator[Rows, None, None]:
         """The rows of all parts, in order. Whatever ends it, what is worked by then is kept."""
         try:
             for part in parts:
@@ -164,7 +165,7 @@ class Survey:
         """Ends what is still worked, and keeps what was worked meanwhile."""
         self.crew.stop()
         for slot in self.slots:
-            future = slot.future if slot.lines is None else None
+            future = slot.future if slot.rows is None else None
             if future and future.done() and not future.cancelled() and future.exception() is None:
                 with suppress(Wrong):  # (what ends the survey is told, and not what comes of that)
                     self.keep(slot, future.result())

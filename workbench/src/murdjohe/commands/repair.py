@@ -4,7 +4,7 @@ from __future__ import annotations
 
 import click
 
-from murdjohe import core, files, plain_json, plan_file, progress, repairs, streams
+from murdjohe import core, files, plain_json, plan_file, progress, protecting, repairs, streams
 from murdjohe.inputs import STDIN
 from murdjohe.plan_file import PlanFile
 from murdjohe.remarks import plural
@@ -71,7 +71,8 @@ def repair_plan(context: click.Context, plan: str, patch: bool, as_json: bool, o
 
     All knots of lines are looked at, and how many rings they have. A set costs first the elements that lose their last input,
     then the gaps that arise: single failures that cut off more than before. Then come the first choices that it takes, and how
-    high its priorities are. It is told as least where that is known: up to 400 lines in a knot, and within 25 seconds of
+    high its priorities are. The search begins with the lines that `protect` would keep, betters that set part by part, and
+    then seeks what is cheaper. It is told as least where nothing is: up to 400 lines in a knot, and within 25 seconds of
     processor time; else as found, perhaps not least. Up to three sets are told. The plan without the first is put before the
     program, which says too whether it is protected. The status is 0 where the program accepts it, and where no ring was there.
 
@@ -87,7 +88,8 @@ def repair_plan(context: click.Context, plan: str, patch: bool, as_json: bool, o
     files.free([output] if output else [], force)
     taken = plan_file.read(plan)
     with progress.watched("repair"):
-        repair = repairs.repair_of(taken.tables)
+        kept = protecting.lines_kept(taken.data) if taken.ranking.ring else ()
+        repair = repairs.repair_of(taken.tables, kept=kept)
     data = repairs.mended(taken.plan, repair.sets[0]) if repair.sets else taken.data
     result = plan_file.taken("the repaired plan", data) if repair.sets else taken
     verdict, gaps = result.verdict(), result.gaps()

@@ -11,7 +11,7 @@ import click
 from click.core import ParameterSource
 
 from murdjohe import case_files, case_lists, case_refusals, core, files, forms, inputs, plain_json, plan_file
-from murdjohe import portions, progress, runs, streams, studies, study_runs, survey_report
+from murdjohe import portions, progress, runs, streams, study_runs, survey_report
 from murdjohe.case_lists import CaseList
 from murdjohe.commands import asked_failures
 from murdjohe.commands.common import Milliseconds
@@ -60,11 +60,10 @@ def gone_through(cases: CaseList, survey: Survey, size: int, most: int, output: 
         file = stack.enter_context(files.Growing(output)) if output else None
         if file:
             file.write(f"{study_runs.HEADER}\n".encode())
-        for lines in stack.enter_context(closing(survey.rows(portions.parts_of(cases, size)))):
+        for rows in stack.enter_context(closing(survey.rows(portions.parts_of(cases, size)))):
             if file:
-                file.write("".join(f"{line}\n" for line in lines).encode())
-            for line in lines:
-                tally.add(studies.case(line.split(",")))
+                file.write(rows.data)
+            tally.add_all(rows.names, rows.tails)
     return tally
 
 
@@ -78,7 +77,8 @@ def worked(
     with progress.counted("survey", cases.total) as tell:
         survey = Survey(crew, finished, refused, tell)
         try:
-            return gone_through(cases, survey, settings["size"], settings["worst"], output), survey
+            size = settings["size"] or portions.usual(cases.total)
+            return gone_through(cases, survey, size, settings["worst"], output), survey
         except (KeyboardInterrupt, core.Absent, core.Ended):
             done, of = survey.worked + survey.found, plural(cases.total, "case")
             streams.tell(
@@ -96,9 +96,7 @@ def worked(
 @click.option(
     "--size",
     type=click.IntRange(1, MOST_ROWS),
-    default=portions.USUAL,
-    show_default=True,
-    help="cases that the program is given at once",
+    help=f"cases that the program is given at once; an eighth of all, {portions.LEAST:,} to {portions.MOST:,}, without it",
 )
 @click.option("--jobs", type=click.IntRange(1, 1_000), help="programs that run at once; one a processor without it")
 @click.option(

@@ -1,9 +1,7 @@
-use Rattle.std.proofs.Common.{◌≡◌, ◌<◌, ℕ, List, map, length, take, ap, sym, subst, ◌∙◌, arith}
-use Rattle.std.specs.Prelude.{Some, slice_get, slice_index_or}
-use Rattle.std.proofs.lemmas.List.{length-take, length-map, take_all}
-use Rattle.closed_walks.specs.declared.traced.Ending.{Ending}
+use Rattle.std.proofs.Common.{◌≡◌, ◌<◌, ℕ, length, take, ap, arith}
+use Rattle.std.specs.Prelude.{Some, slice_get}
+use Rattle.std.proofs.lemmas.List.{length-take, length-map}
 use Rattle.closed_walks.proofs.KnownLaws.{find-known}
-use Rattle.sync_sweep.specs.Timing.{IsCounted}
 use Rattle.sync_sweep.proofs.TimingLemmas.{one-counted-more}
 use Rattle.sync_sweep.proofs.timings.counted.Goals as goal
 
