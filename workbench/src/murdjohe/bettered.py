@@ -16,12 +16,8 @@ from murdjohe.first_sets import put_back
 from murdjohe.least_sets import Search, Terms
 
 SIZE = 75  # how many lines are free at once, at first
-LEAST, MOST, LESS, MORE = (
-    20,
-    120,
-    0.75,
-    1.1,
-)  # and how few and how many, and how that changes where a part is late or isn't
+LEAST, MOST = 20, 120  # how few and how many that becomes
+LESS, MORE = 0.75, 1.1  # by what it changes after a part that is late, and after one that changes nothing
 MOMENT, PART = 1.0, 1.5  # seconds of processor time for what HiGHS is asked once, and after which a part is late
 IDLE = 12  # parts that change nothing, after which it ends
 OFTEN = 0.75  # how often a part is one around a first choice that goes, where there is any

@@ -45,7 +45,7 @@ class Repair:
 def near_least(
     knot: nx.DiGraph, inputs: Inputs, first: frozenset[str], seconds: float
 ) -> tuple[list[frozenset[str]], bool]:
-    """The best sets for a knot, from a first one on, and whether the least is known to be."""
+    """The best sets for a knot, from a first one on, and whether the first of them is known to be least."""
     search = least_sets.Search(knot, inputs, seconds)
     if len(knot) > bettered.SIZE:
         first = bettered.bettered(search, first, FIRST * seconds)
@@ -53,7 +53,8 @@ def near_least(
 
 
 def repair_of(tables: dict[str, Any], seconds: float = SECONDS, kept: Collection[str] = ()) -> Repair:
-    """The repair of a plan; one without sets where no ring is left. The search takes these seconds at most, and little more.
+    """The repair of a plan; one without sets where no ring is left. The search takes what the first set leaves of
+    these seconds, and little more.
 
     Lines that are `kept` by another plan of the network, in which no ring is left, may lead to a better set.
     """
