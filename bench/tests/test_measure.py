@@ -6,7 +6,7 @@ from pathlib import Path
 import pytest
 
 from bench import programs, repository
-from bench.measure import failing, faults, gate_time, headline, ladder, limits, swinging, times, works
+from bench.measure import failing, faults, gate_time, ladder, limits, swinging, times, works
 from bench.program import TOP
 from bench.reference.plan import ladder as reference_ladder, read_plan
 from bench.reference.runs_by_hand import CHAIN
@@ -103,14 +103,6 @@ def test_a_crate_brings_those_on_which_it_stands() -> None:
     crates = repository.dependencies("a: b c\nb: d toml\nc:\nd:\n# e: a\n")
     assert crates == {"a": ["b", "c"], "b": ["d", "toml"], "c": [], "d": []}
     assert sorted(repository.below(crates, "b")) == ["b", "d"]
-
-
-def test_a_file_of_definitions_has_them_with_their_lines(tmp_path: Path) -> None:
-    path = tmp_path / "Words.antt"
-    path.write_text("use Rattle.other.specs.Words.{one as first}\n\n-- what it is\npub two : ℕ\ntwo = first\n")
-    file = headline.File("crate", path)
-    assert file.definitions == {"two": ["pub two : ℕ", "two = first"]}
-    assert file.names == {"first": ("other", "Words", "one")}
 
 
 def test_files_at_the_limit_have_just_its_length() -> None:
