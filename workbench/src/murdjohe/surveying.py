@@ -10,7 +10,8 @@ from collections import deque
 from collections.abc import Callable, Generator, Iterable, Iterator
 from concurrent.futures import FIRST_COMPLETED, Future, ThreadPoolExecutor, wait
 from contextlib import suppress
-from typing import Protocol
+from functools import partial
+from typing import Any, Protocol, TypeVar
 
 from murdjohe import core, study_runs
 from murdjohe.core import Answer
@@ -19,8 +20,14 @@ from murdjohe.portions import Part
 from murdjohe.study_runs import Rows
 from murdjohe.wrong import Wrong
 
+ResultT = TypeVar("ResultT")
 AHEAD = 3  # parts for each processor that are begun at once
 AGAIN_S = 0.2  # seconds after which it is looked again what another survey does
+
+
+def processors() -> int:
+    """How many processors this process may use."""
+    return len(os.sched_getaffinity(0))
 
 
 class Crew(Protocol):
@@ -40,33 +47,48 @@ class Crew(Protocol):
         """Ends what is still worked."""
 
 
-class Here:
-    """Threads of this process, each of which waits for the program."""
+class Threads:
+    """Threads of this process, each of which waits for the program, whose processes are among those that are `running`."""
 
-    def __init__(self, plan: bytes, until: int, jobs: int) -> None:
-        self.plan = plan
-        self.until = until
+    def __init__(self, jobs: int) -> None:
         self.pool = ThreadPoolExecutor(jobs)
-        self.ahead = AHEAD * jobs
         self.running: set[int] = set()
-        self.begun: set[Future[Answer]] = set()
+        self.begun: set[Future[Any]] = set()
 
-    def begin(self, cases: bytes) -> Future[Answer]:
-        future = self.pool.submit(study_runs.studied, self.plan, cases, self.until, self.running)
+    def begin(self, work: Callable[[set[int]], ResultT]) -> Future[ResultT]:
+        """Has something worked, which is given the set of what is running."""
+        future = self.pool.submit(work, self.running)
         self.begun.add(future)
         future.add_done_callback(self.begun.discard)
         return future
 
-    def told(self, fault: Exception) -> Exception:
-        return fault
-
     def stop(self) -> None:
+        """Ends what is still worked."""
         self.pool.shutdown(wait=False, cancel_futures=True)
         while left := set(self.begun):
             for child in list(self.running):
                 with suppress(ProcessLookupError):
                     os.kill(child, signal.SIGTERM)
             wait(left, AGAIN_S)
+
+
+class Here:
+    """The threads of this process as a crew."""
+
+    def __init__(self, plan: bytes, until: int, jobs: int) -> None:
+        self.plan = plan
+        self.until = until
+        self.threads = Threads(jobs)
+        self.ahead = AHEAD * jobs
+
+    def begin(self, cases: bytes) -> Future[Answer]:
+        return self.threads.begin(partial(study_runs.studied, self.plan, cases, self.until))
+
+    def told(self, fault: Exception) -> Exception:
+        return fault
+
+    def stop(self) -> None:
+        self.threads.stop()
 
 
 class Slot:
