@@ -16,7 +16,7 @@ from murdjohe import core, study_runs
 from murdjohe.core import Answer
 from murdjohe.finished import Finished
 from murdjohe.portions import Part
-from murdjohe.study_runs import Rows
+from murdjohe.study_runs import Rows, Worked
 from murdjohe.wrong import Wrong
 
 AHEAD = 3  # parts for each processor that are begun at once
@@ -30,7 +30,7 @@ class Crew(Protocol):
     def ahead(self) -> int:
         """How many parts may be begun at once."""
 
-    def begin(self, cases: bytes) -> Future[Answer]:
+    def begin(self, cases: bytes) -> Future[Worked]:
         """Has a table of cases worked."""
 
     def told(self, fault: Exception) -> Exception:
@@ -49,9 +49,9 @@ class Here:
         self.pool = ThreadPoolExecutor(jobs)
         self.ahead = AHEAD * jobs
         self.running: set[int] = set()
-        self.begun: set[Future[Answer]] = set()
+        self.begun: set[Future[Worked]] = set()
 
-    def begin(self, cases: bytes) -> Future[Answer]:
+    def begin(self, cases: bytes) -> Future[Worked]:
         future = self.pool.submit(study_runs.studied, self.plan, cases, self.until, self.running)
         self.begun.add(future)
         future.add_done_callback(self.begun.discard)
@@ -74,7 +74,7 @@ class Slot:
 
     def __init__(self, part: Part) -> None:
         self.part = part
-        self.future: Future[Answer] | None = None
+        self.future: Future[Worked] | None = None
         self.rows: Rows | None = None
 
 
@@ -108,15 +108,16 @@ class Survey:
             self.found += len(slot.part.names)
             self.tell(len(slot.part.names))
 
-    def keep(self, slot: Slot, answer: Answer) -> None:
+    def keep(self, slot: Slot, worked: Worked) -> None:
         """Keeps what the program answered to a part. Raises Wrong where that is no row for each case."""
+        answer = worked.answer
         if answer.status != core.DONE:
             raise self.refused(slot.part, answer)
         try:
-            slot.rows = study_runs.rows_of(answer.text, slot.part.names)
+            slot.rows = study_runs.rows_of(answer.text, slot.part.names)._replace(packed=worked.packed)
         except ValueError as fault:
             raise Wrong(f"the program's answer to a part can't be read: {fault}") from None
-        self.finished.keep(slot.part, answer.text)
+        self.finished.keep(slot.part, slot.rows)
         self.finished.leave(slot.part)
         self.worked += len(slot.part.names)
         self.tell(len(slot.part.names))
@@ -134,10 +135,10 @@ class Survey:
                 self.look(slot)
             elif slot.future.done():
                 try:
-                    answer = slot.future.result()
+                    worked = slot.future.result()
                 except Exception as fault:
                     raise self.crew.told(fault) from None
-                self.keep(slot, answer)
+                self.keep(slot, worked)
 
     def ready(self) -> Iterator[Rows]:
         """The rows of the parts that come next and are done."""

@@ -59,10 +59,10 @@ def gone_through(cases: CaseList, survey: Survey, size: int, most: int, output: 
     with ExitStack() as stack:
         file = stack.enter_context(files.Growing(output)) if output else None
         if file:
-            file.write(f"{study_runs.HEADER}\n".encode())
+            file.write(study_runs.BEGIN)
         for rows in stack.enter_context(closing(survey.rows(portions.parts_of(cases, size)))):
             if file:
-                file.write(rows.data)
+                file.write(rows.data, rows.packed)
             tally.add_all(rows.names, rows.tails)
     return tally
 
