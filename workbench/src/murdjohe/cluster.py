@@ -43,7 +43,7 @@ def worked(plan: bytes, cases: bytes, until: int, program: str) -> Worked:
     try:
         if study_runs.core_sum() != program:
             raise core.Absent(f"it has another proved program than this command; {HOW}")
-        return study_runs.studied(plan, cases, until)
+        return study_runs.studied(plan, cases, until, set())
     except (core.Absent, core.Ended) as fault:
         raise type(fault)(f"{here()}: {fault}") from None
 

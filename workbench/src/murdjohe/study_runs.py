@@ -52,10 +52,11 @@ def file_of(rows: Rows) -> bytes:
     return packing.file_of([Piece(BEGIN, packing.packed(BEGIN)), Piece(rows.data, packed)])
 
 
-def studied(plan: bytes, cases: bytes, until: int, running: set[int] | None = None) -> Worked:
-    """What the program answers to a table of cases. Raises core.Absent and core.Ended."""
+def studied(plan: bytes, cases: bytes, until: int, running: set[int]) -> Worked:
+    """What the program answers to a table of cases; meanwhile its process is among those that are running. Raises core.Absent
+    and core.Ended."""
     with api.named([plan, cases]) as (plan_path, cases_path):
-        answer = core.run(["study", plan_path, cases_path, str(until)], running=running)
+        answer = core.run_kept(["study", plan_path, cases_path, str(until)], running)
     return Worked(answer, packing.packed(answer.text[len(BEGIN) :]))
 
 

@@ -5,6 +5,7 @@ from __future__ import annotations
 
 import os
 import signal
+import sys
 import time
 from collections import deque
 from collections.abc import Callable, Generator, Iterable, Iterator
@@ -21,6 +22,7 @@ from murdjohe.wrong import Wrong
 
 AHEAD = 3  # parts for each processor that are begun at once
 AGAIN_S = 0.2  # seconds after which it is looked again what another survey does
+TURN_S = 0.0005  # seconds after which a thread that waits has its turn: meanwhile a processor may have no work
 
 
 class Crew(Protocol):
@@ -50,6 +52,7 @@ class Here:
         self.ahead = AHEAD * jobs
         self.running: set[int] = set()
         self.begun: set[Future[Worked]] = set()
+        sys.setswitchinterval(TURN_S)
 
     def begin(self, cases: bytes) -> Future[Worked]:
         future = self.pool.submit(study_runs.studied, self.plan, cases, self.until, self.running)
