@@ -50,7 +50,8 @@ def answer_of(name: str, plan: PlanFile, events: EventFile, at: int, running: se
     with api.named([plan.data, events.data]) as (plan_path, events_path):
         files = [File(forms.PLAN, plan.name, plan_path), File(forms.EVENTS, events.name, events_path)]
         words = inputs.Words(form, [plan.name, events.name, str(at)], [], files)
-        answer = core.run([form.name, plan_path, events_path, str(at)], running=running)
+        given = [form.name, plan_path, events_path, str(at)]
+        answer = core.run(given) if running is None else core.run_kept(given, running)
         if answer.status not in reports.GOOD:
             from murdjohe.sentences import answers
 

@@ -5,6 +5,7 @@ from __future__ import annotations
 
 import os
 import signal
+import sys
 import time
 from collections import deque
 from collections.abc import Callable, Generator, Iterable, Iterator
@@ -17,12 +18,13 @@ from murdjohe import core, study_runs
 from murdjohe.core import Answer
 from murdjohe.finished import Finished
 from murdjohe.portions import Part
-from murdjohe.study_runs import Rows
+from murdjohe.study_runs import Rows, Worked
 from murdjohe.wrong import Wrong
 
 ResultT = TypeVar("ResultT")
 AHEAD = 3  # parts for each processor that are begun at once
 AGAIN_S = 0.2  # seconds after which it is looked again what another survey does
+TURN_S = 0.0005  # seconds after which a thread that waits has its turn: meanwhile a processor may have no work
 
 
 def processors() -> int:
@@ -37,7 +39,7 @@ class Crew(Protocol):
     def ahead(self) -> int:
         """How many parts may be begun at once."""
 
-    def begin(self, cases: bytes) -> Future[Answer]:
+    def begin(self, cases: bytes) -> Future[Worked]:
         """Has a table of cases worked."""
 
     def told(self, fault: Exception) -> Exception:
@@ -54,6 +56,7 @@ class Threads:
         self.pool = ThreadPoolExecutor(jobs)
         self.running: set[int] = set()
         self.begun: set[Future[Any]] = set()
+        sys.setswitchinterval(TURN_S)
 
     def begin(self, work: Callable[[set[int]], ResultT]) -> Future[ResultT]:
         """Has something worked, which is given the set of what is running."""
@@ -81,7 +84,7 @@ class Here:
         self.threads = Threads(jobs)
         self.ahead = AHEAD * jobs
 
-    def begin(self, cases: bytes) -> Future[Answer]:
+    def begin(self, cases: bytes) -> Future[Worked]:
         return self.threads.begin(partial(study_runs.studied, self.plan, cases, self.until))
 
     def told(self, fault: Exception) -> Exception:
@@ -96,7 +99,7 @@ class Slot:
 
     def __init__(self, part: Part) -> None:
         self.part = part
-        self.future: Future[Answer] | None = None
+        self.future: Future[Worked] | None = None
         self.rows: Rows | None = None
 
 
@@ -130,15 +133,16 @@ class Survey:
             self.found += len(slot.part.names)
             self.tell(len(slot.part.names))
 
-    def keep(self, slot: Slot, answer: Answer) -> None:
+    def keep(self, slot: Slot, worked: Worked) -> None:
         """Keeps what the program answered to a part. Raises Wrong where that is no row for each case."""
+        answer = worked.answer
         if answer.status != core.DONE:
             raise self.refused(slot.part, answer)
         try:
-            slot.rows = study_runs.rows_of(answer.text, slot.part.names)
+            slot.rows = study_runs.rows_of(answer.text, slot.part.names)._replace(packed=worked.packed)
         except ValueError as fault:
             raise Wrong(f"the program's answer to a part can't be read: {fault}") from None
-        self.finished.keep(slot.part, answer.text)
+        self.finished.keep(slot.part, slot.rows)
         self.finished.leave(slot.part)
         self.worked += len(slot.part.names)
         self.tell(len(slot.part.names))
@@ -156,10 +160,10 @@ class Survey:
                 self.look(slot)
             elif slot.future.done():
                 try:
-                    answer = slot.future.result()
+                    worked = slot.future.result()
                 except Exception as fault:
                     raise self.crew.told(fault) from None
-                self.keep(slot, answer)
+                self.keep(slot, worked)
 
     def ready(self) -> Iterator[Rows]:
         """The rows of the parts that come next and are done."""

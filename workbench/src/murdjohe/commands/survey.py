@@ -58,11 +58,11 @@ def gone_through(cases: CaseList, survey: Survey, size: int, most: int, file: Gr
     """Has all cases worked: their rows are counted, and written where there is a file for them. Raises Wrong."""
     tally = Tally(most)
     if file:
-        file.write(f"{study_runs.HEADER}\n".encode())
+        file.write(study_runs.BEGIN)
     with closing(survey.rows(portions.parts_of(cases, size))) as found:
         for rows in found:
             if file:
-                file.write(rows.data)
+                file.write(rows.data, rows.packed)
             tally.add_all(rows.names, rows.tails)
     return tally
 
