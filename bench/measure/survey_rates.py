@@ -3,10 +3,11 @@
 usage: python3 -m bench.measure.survey_rates PROGRAM [--elements N] [--processors N[,N..]] [--most CASES] [--repeats N]
 
 The plan is the ladder of N elements; the cases are its links and each two of them, or the first CASES of these. What one
-process of `study` works is told by a part from their middle, as large as a survey's of so many cases, on one processor.
-The surveys run on as many processors as are named, each in a fresh folder of parts, without rows and with rows.csv.gz.
-Of each the least time of --repeats runs counts, by the clock. A share is what the cases a second are of those of `study`
-times the processors: for the whole time, and for it without the start, which the same command takes for one case.
+process of `study` works, where as many run at once as there are processors, each on its own, is told by the first, the
+middle and the last part of the cases, as large as a survey's of so many. The surveys run on as many processors as are
+named, each in a fresh folder of parts, without rows and with rows.csv.gz. Of each the least time of --repeats runs
+counts, by the clock. A share is what the cases a second are of those of these processes of `study`: for the whole time,
+and for it without the start, which the same command takes for one case.
 It wants Debian's Python 3.11 with what the workbench needs, and a quiet machine.
 """
 
@@ -17,6 +18,7 @@ import sys
 import tempfile
 import time
 from collections.abc import Iterator
+from concurrent.futures import ThreadPoolExecutor
 from contextlib import contextmanager
 from typing import NamedTuple
 
@@ -29,7 +31,7 @@ from murdjohe import portions
 UNTIL = 1_800_000  # as a survey has it by itself: links fail at 600000
 FAILURES = ["--links", "--pairs"]
 ROWS: dict[str, list[str]] = {"none": [], "rows.csv.gz": ["-o", "rows.csv.gz"]}
-HEAD = "processors  rows           whole s    cases/s  share  without start s    cases/s  share"
+HEAD = "processors  one study  rows           whole s    cases/s  share  without start s    cases/s  share"
 
 
 class Survey(NamedTuple):
@@ -47,11 +49,11 @@ def cases_of(links: int, most: int | None) -> int:
     return every if most is None else min(every, most)
 
 
-def middle(total: int) -> tuple[int, int]:
-    """The numbers of the first and the last case of a usual part in the middle of so many cases."""
+def spans(total: int) -> list[tuple[int, int]]:
+    """The numbers of the first and the last case of a usual part at the beginning, in the middle and at the end of so many."""
     size = min(total, portions.usual(total))
-    first = (total - size) // 2 + 1
-    return first, first + size - 1
+    firsts = dict.fromkeys((1, (total - size) // 2 + 1, total - size + 1))
+    return [(first, first + size - 1) for first in firsts]
 
 
 def rated(cases: int, seconds: float, processors: int, rate: float) -> str:
@@ -65,7 +67,7 @@ def row(survey: Survey, cases: int, rate: float) -> str:
     """A row of the table under HEAD."""
     whole, rest = survey.whole, survey.whole - survey.start
     rates = [rated(cases, seconds, survey.processors, rate) for seconds in (whole, rest)]
-    return f"{survey.processors:10}  {survey.rows:11}  {whole:9.3f}  {rates[0]}  {rest:15.3f}  {rates[1]}"
+    return f"{survey.processors:10}  {rate:9.0f}  {survey.rows:11}  {whole:9.3f}  {rates[0]}  {rest:15.3f}  {rates[1]}"
 
 
 @contextmanager
@@ -98,14 +100,32 @@ def surveyed(folder: str, program: str, cases: int, rows: str, repeats: int) -> 
     return least([str(WORKBENCH), *words, *ROWS[rows], "--force"], folder, program, repeats)
 
 
-def studied(folder: str, program: str, total: int, repeats: int) -> float:
-    """How many cases a second one process of `study` works on one processor."""
-    first, last = middle(total)
-    words = ["failures", "plan.toml", *FAILURES, "--cases", f"{first}-{last}", "-o", "cases.csv"]
-    least([str(WORKBENCH), *words], folder, program, 1)
-    study = [program, "study", "plan.toml", "cases.csv", str(UNTIL)]
-    with bound(1):
-        return (last - first + 1) / least(study, folder, program, repeats)
+def tables(folder: str, program: str, total: int) -> list[list[str]]:
+    """What `study` is asked for the parts of so many cases, whose tables are made."""
+    asked = []
+    for first, last in spans(total):
+        name = f"{first}.csv"
+        words = ["failures", "plan.toml", *FAILURES, "--cases", f"{first}-{last}", "-o", name]
+        least([str(WORKBENCH), *words], folder, program, 1)
+        asked.append([program, "study", "plan.toml", name, str(UNTIL)])
+    return asked
+
+
+def studied(folder: str, asked: list[list[str]], processors: int, repeats: int) -> float:
+    """The least seconds in which as many processes as there are processors, each on its own, work all that is asked."""
+
+    def work(processor: int) -> None:
+        os.sched_setaffinity(0, {processor})  # (of this thread, and of what it starts)
+        for words in asked:
+            subprocess.run(words, cwd=folder, stdout=subprocess.DEVNULL, check=True)
+
+    times = []
+    for _ in range(repeats):
+        with ThreadPoolExecutor(processors) as pool:
+            before = time.perf_counter()
+            list(pool.map(work, sorted(os.sched_getaffinity(0))[:processors]))
+            times.append(time.perf_counter() - before)
+    return min(times)
 
 
 def count(text: str) -> int:
@@ -134,9 +154,11 @@ def main() -> None:
     cases = cases_of(plan.count("[[link]]"), given.most)
     with tempfile.TemporaryDirectory() as folder:
         put_files(folder, {"plan.toml": plan})
-        rate = studied(folder, given.program, cases, given.repeats)
-        print(f"{cases:,} cases; one `study` works {rate:.0f} a second\n{HEAD}")
+        asked = tables(folder, given.program, cases)
+        worked = sum(last - first + 1 for first, last in spans(cases))
+        print(f"{cases:,} cases\n{HEAD}")
         for processors in given.processors:
+            rate = worked / studied(folder, asked, processors, given.repeats)
             for rows in ROWS:
                 with bound(processors):
                     whole, start = (surveyed(folder, given.program, its, rows, given.repeats) for its in (cases, 1))

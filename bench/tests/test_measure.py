@@ -123,10 +123,11 @@ def test_each_program_is_there() -> None:
 
 def test_a_survey_is_rated_by_the_processors_that_it_has() -> None:
     assert [survey_rates.cases_of(397, most) for most in (None, 500, 80_000)] == [79_003, 500, 79_003]
-    assert survey_rates.middle(79_003) == (34_564, 44_439)
-    assert (survey_rates.middle(1), survey_rates.middle(10)) == ((1, 1), (1, 10))
+    assert survey_rates.spans(79_003) == [(1, 9_876), (34_564, 44_439), (69_128, 79_003)]
+    assert (survey_rates.spans(1), survey_rates.spans(10)) == ([(1, 1)], [(1, 10)])
     slow = survey_rates.Survey(2, "none", 2.0, 1.0)
-    assert survey_rates.row(slow, 1000, 500.0).split() == ["2", "none", "2.000", "500", "0.50", "1.000", "1000", "1.00"]
+    its = ["2", "500", "none", "2.000", "500", "0.50", "1.000", "1000", "1.00"]
+    assert survey_rates.row(slow, 1000, 500.0).split() == its
     assert survey_rates.row(slow._replace(start=2.5), 1000, 500.0).split()[-3:] == ["-0.500", "-", "-"]
     assert len(survey_rates.row(slow, 1000, 500.0)) == len(survey_rates.HEAD)
 
