@@ -1,12 +1,13 @@
 """What the measurements work out for themselves."""
 
+import os
 import tomllib
 from pathlib import Path
 
 import pytest
 
 from bench import programs, repository
-from bench.measure import failing, faults, gate_time, headline, ladder, limits, swinging, times, works
+from bench.measure import failing, faults, gate_time, ladder, limits, survey_rates, swinging, times, works
 from bench.program import TOP
 from bench.reference.plan import ladder as reference_ladder, read_plan
 from bench.reference.runs_by_hand import CHAIN
@@ -105,14 +106,6 @@ def test_a_crate_brings_those_on_which_it_stands() -> None:
     assert sorted(repository.below(crates, "b")) == ["b", "d"]
 
 
-def test_a_file_of_definitions_has_them_with_their_lines(tmp_path: Path) -> None:
-    path = tmp_path / "Words.antt"
-    path.write_text("use Rattle.other.specs.Words.{one as first}\n\n-- what it is\npub two : ℕ\ntwo = first\n")
-    file = headline.File("crate", path)
-    assert file.definitions == {"two": ["pub two : ℕ", "two = first"]}
-    assert file.names == {"first": ("other", "Words", "one")}
-
-
 def test_files_at_the_limit_have_just_its_length() -> None:
     assert limits.padded("ab", 5, "#") == "ab###"
     assert len(limits.capture_of(1000)) == 1000
@@ -126,3 +119,27 @@ def test_works_name_their_files() -> None:
 def test_each_program_is_there() -> None:
     names = ["element_histories", "line_histories", "network_steps", "network_sizes", "node_pieces"]
     assert all("fn " in programs.text(f"{name}.rt.txt") for name in names)
+
+
+def test_a_survey_is_rated_by_the_processors_that_it_has() -> None:
+    assert [survey_rates.cases_of(397, most) for most in (None, 500, 80_000)] == [79_003, 500, 79_003]
+    assert survey_rates.spans(79_003) == [(1, 9_876), (34_564, 44_439), (69_128, 79_003)]
+    assert (survey_rates.spans(1), survey_rates.spans(10)) == ([(1, 1)], [(1, 10)])
+    slow = survey_rates.Survey(2, "none", 2.0, 1.0)
+    its = ["2", "500", "none", "2.000", "500", "0.50", "1.000", "1000", "1.00"]
+    assert survey_rates.row(slow, 1000, 500.0).split() == its
+    assert survey_rates.row(slow._replace(start=2.5), 1000, 500.0).split()[-3:] == ["-0.500", "-", "-"]
+    assert len(survey_rates.row(slow, 1000, 500.0)) == len(survey_rates.HEAD)
+
+
+def test_a_process_is_bound_to_some_of_its_processors() -> None:
+    before = os.sched_getaffinity(0)
+    with survey_rates.bound(1):
+        assert os.sched_getaffinity(0) == {min(before)}
+    assert os.sched_getaffinity(0) == before
+
+
+@pytest.mark.parametrize("text", ["0", "1,0", "-1", "", "a"])
+def test_what_is_no_number_from_one_on_is_refused(text: str) -> None:
+    with pytest.raises(ValueError):
+        survey_rates.counts(text)

@@ -4,7 +4,8 @@
 As a program it stands in a folder with `settings.json` and writes a line for each `study` to `calls` there. The settings:
 `slow`, seconds that a study takes; `waits`, a case whose study goes on once there is a file `go`; `dies`, a case whose study a
 signal ends; `refuses`, a case whose first row is refused; `short`, a case whose row is left out;
-`model`, the top of the repository: rows are those of the model of studies in `bench`. A file `old` there: it has no `study`.
+`model`, the top of the repository: rows are those of the model of studies in `bench`; `stays`, seconds that a `sim` takes,
+which writes a line to `runs` then. A file `old` there: it has no `study`.
 """
 
 from __future__ import annotations
@@ -14,6 +15,7 @@ import json
 import os
 import sys
 import time
+from typing import Any
 
 HEADER = "case,settled,locked,holdover,freerun,loops,worst,bound,lost,first,longest"
 RUN = "changes\ninputs\ntraces\nloops\nsettled yes\n"
@@ -46,9 +48,24 @@ def rows_of(table: str, until: str) -> list[str]:
     return [row_of(common, own, until) for own in cases.values()]
 
 
-def study(folder: str, plan: str, path: str, until: str) -> int:
+def settings_of(folder: str) -> dict[str, Any]:
+    """The settings of the double in a folder."""
     with open(os.path.join(folder, "settings.json"), encoding="utf-8") as file:
-        settings = json.load(file)
+        return dict(json.load(file))
+
+
+def sim(folder: str) -> int:
+    settings = settings_of(folder)
+    if "stays" in settings:
+        with open(os.path.join(folder, "runs"), "a", encoding="utf-8") as runs:
+            runs.write("sim\n")
+        time.sleep(settings["stays"])
+    print(RUN, end="")
+    return 0
+
+
+def study(folder: str, plan: str, path: str, until: str) -> int:
+    settings = settings_of(folder)
     with open(path, encoding="utf-8") as file:
         table = file.read()
     names = list(cases_of(table)[1])
@@ -76,7 +93,7 @@ def main() -> int:
     if form == "rank":
         print("line,rank")
     elif form == "sim":
-        print(RUN, end="")
+        return sim(folder)
     elif form != "study" or os.path.exists(os.path.join(folder, "old")):
         print("usage")
         return 2

@@ -145,13 +145,13 @@ def test_parts_have_the_names_that_they_always_had() -> None:
 
 TAILS = st.sampled_from(
     [
-        "yes,9,0,0,0,QL-PRC,300,0,,3",
-        "yes,9,0,0,0,QL-PRC,300,0,,4",
-        "yes,7,2,0,0,QL-SEC,none,2,E4,3",
-        "yes,6,2,1,0,QL-SEC,none,2,E2,0",
-        "no,8,1,0,0,QL-DNU,none,1,E4,2",
-        "no,8,1,0,2,QL-DNU,none,1,E2,9",
-        "no,9,0,0,0,QL-PRC,none,0,,1",
+        ",yes,9,0,0,0,QL-PRC,300,0,,3",
+        ",yes,9,0,0,0,QL-PRC,300,0,,4",
+        ",yes,7,2,0,0,QL-SEC,none,2,E4,3",
+        ",yes,6,2,1,0,QL-SEC,none,2,E2,0",
+        ",no,8,1,0,0,QL-DNU,none,1,E4,2",
+        ",no,8,1,0,2,QL-DNU,none,1,E2,9",
+        ",no,9,0,0,0,QL-PRC,none,0,,1",
     ]
 )
 
@@ -163,7 +163,7 @@ def test_cases_counted_at_once_come_to_the_same(parts: list[list[str]], most: in
         names = [f"c{number + place}" for place in range(len(tails))]
         whole.add_all(names, tails)
         for name, tail in zip(names, tails):
-            single.add(studies.case([name, *tail.split(",")]))
+            single.add(studies.case(f"{name}{tail}".split(",")))
         number += len(tails)
     for one in ("lost", "chains", "restless"):
         assert getattr(whole, one).outcomes() == getattr(single, one).outcomes()
@@ -175,13 +175,16 @@ def test_cases_counted_at_once_come_to_the_same(parts: list[list[str]], most: in
 def test_an_answer_is_taken_apart_as_a_whole() -> None:
     rows = "a,yes,1\nab,no,2\n"
     found = study_runs.rows_of(f"{study_runs.HEADER}\n{rows}".encode(), ("a", "ab"))
-    assert (found.names, found.tails, found.data) == (("a", "ab"), ["yes,1", "no,2"], rows.encode())
+    assert (found.names, found.tails, found.data) == (("a", "ab"), [",yes,1", ",no,2"], rows.encode())
     for damaged in (
         "a,yes,1\nab,no,2",
         "a,yes,1\n",
         "ab,yes,1\na,no,2\n",
         "a,yes,1\nab,no,2\n\n",
         "a,1\naab,2\n",
+        "a,1\nab\n",
+        "a,1\n,2\n",
+        "a,1\nab,2\nab,2\n",
         "a,\xe9\nab,\n",
     ):
         with pytest.raises(ValueError):
@@ -192,7 +195,12 @@ def test_an_answer_is_taken_apart_as_a_whole() -> None:
 
 @pytest.mark.parametrize(
     ("total", "size"),
-    [(0, 2_000), (16_000, 2_000), (16_001, 2_001), (79_003, 9_876), (160_000, 20_000), (7_994_000, 20_000)],
+    [(0, 2_000), (16_000, 2_000), (16_001, 2_001), (79_003, 9_876), (160_000, 20_000), (7_994_000, 19_985)],
 )
 def test_a_part_has_more_of_many_cases(total: int, size: int) -> None:
     assert portions.usual(total) == size
+
+
+@pytest.mark.parametrize(("total", "parts"), [(160_001, 16), (200_000, 16), (320_000, 16), (320_001, 24)])
+def test_processors_have_as_many_parts_as_others(total: int, parts: int) -> None:
+    assert -(-total // portions.usual(total)) == parts

@@ -11,6 +11,8 @@ import pytest
 from conftest import EXAMPLES, LAUNCHER, TOP, murdjohe, started
 from surveys_made import RING, Double, rows_in, surveyed, table_of
 
+from murdjohe import core
+
 COMMON = [",5,lockout,L1>B,", ",1500,esmc-off,L2>C,"]
 UNTIL = "3000"
 
@@ -87,3 +89,10 @@ def test_the_program_names_the_row_that_it_refuses(
     ran = surveyed(capfd, str(RING), "cases.csv", "--size", "1")
     assert (ran.status, ran.out) == (5, b"")
     assert ran.err.startswith("murdjohe: cases.csv:5: `b,5,up,L1,`: its time is before 6, that of line 4")
+
+
+def test_an_answer_that_is_kept_is_that_which_is_read(has_study: str) -> None:
+    running = set[int]()
+    for words in list[list[str]]([["gen", "400"], ["study", "none.toml", "none.csv", "0"], []]):
+        read, kept = core.run(words), core.run_kept(words, running)
+        assert (kept.status, kept.text) == (read.status, read.text) and not running

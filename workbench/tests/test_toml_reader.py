@@ -37,6 +37,44 @@ def test_what_is_no_document_is_none(text: str) -> None:
         toml_reader.tables(text)
 
 
+LINES = st.sampled_from(
+    [
+        "[[a]]",
+        "[[b-1]]",
+        "[a]",
+        "[[ a ]]",
+        'x = "s"',
+        "y = 7",
+        "a = 1",
+        "",
+        " ",
+        "x = 0",
+        "x = 01",
+        "x = -1",
+        "# c",
+        "y=7",
+    ]
+    + ['x = "\u00e9 "', 'x = "\\n"', 'x = "\t"', "x = 's'", "x.y = 1", "x = 1 # c", "y = 7\r", 'x = "a"b"', "x = 1_0"]
+)
+PLAIN = st.sampled_from(
+    ["[[a]]", "[[b-1]]", 'x = "s"', "y = 7", "x = 0", "z = 123456789012345678", "", 'w = "\u00e9 "']
+)
+
+
+@given((st.lists(LINES, max_size=6) | st.lists(PLAIN, max_size=9)).map("\n".join))
+def test_a_plain_document_is_read_as_any_other(text: str) -> None:
+    found = toml_reader.plain(text)
+    assert found is None or found == tomllib.loads(text)
+
+
+def test_what_the_program_prints_is_plain() -> None:
+    ran = murdjohe("gen", "5")
+    assert toml_reader.plain(ran.out.decode()) == tomllib.loads(ran.out.decode())
+    assert toml_reader.plain('x = "a"\n[[b]]\nx = 1\n\n[[b]]\nx = 2') == {"x": "a", "b": [{"x": 1}, {"x": 2}]}
+    for other in ("x = 1\nx = 1", "a = 1\n[[a]]", "[a]\n[[a]]"):
+        assert toml_reader.plain(other) is None
+
+
 @given(st.text(alphabet="ab={}[],\"'#\n\\ex1 .", max_size=40))
 def test_no_text_breaks_it(text: str) -> None:
     assert len(toml_reader.masked(text)) == len(text)

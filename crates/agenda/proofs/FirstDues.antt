@@ -7,12 +7,13 @@ use Rattle.std.proofs.lemmas.Bool.Decides.{nat_tests}
 use Rattle.std.proofs.lemmas.List.{get_or-set_same, get_or-replicate, get_or_past, length-replicate}
 use Rattle.std.proofs.lemmas.List.Folds.{sum_by-replicate}
 use Rattle.std.proofs.lemmas.List.Sums.{get_or-le-sum_by, count_by-le-length, sum_by-set}
-use Rattle.agenda.specs.Tournament.{IsTournament, with_player}
+use Rattle.agenda.specs.private.Tournament.{IsTournament, with_player}
 use Rattle.agenda.proofs.Tournaments.{same_players, last_has}
 use Rattle.agenda.specs.declared.due_times.Due.{Due}
 use Rattle.agenda.specs.declared.due_times.TheConstants.{NEVER}
 use Rattle.agenda.specs.DueTimes.{due_in, due_count, IsFirst, AreLater}
-use Rattle.agenda.specs.EarlierDue.{number_at, times_by, IsListed}
+use Rattle.agenda.specs.EarlierDue.{times_by}
+use Rattle.agenda.specs.private.EarlierDue.{number_at, IsListed}
 use Rattle.agenda.proofs.KeptTimes.{length_times, times-new, times-set}
 
 -- 1 for an object that is due

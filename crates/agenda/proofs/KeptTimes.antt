@@ -4,10 +4,11 @@ use Rattle.std.specs.Prelude.{slice_index_or, if◌then◌else◌, min, unwrap_o
 use Rattle.std.proofs.lemmas.Bool.Decides.{nat_tests}
 use Rattle.std.proofs.lemmas.List.{ext_get_or, get_or_default, get_or-set_same, set-get_or, get_or-replicate, length-replicate}
 use Rattle.std.proofs.lemmas.List.FromFn.{length-map-range_with_len, get_or-map-range_with_len}
-use Rattle.agenda.specs.Tournament.{IsTournament, with_player}
+use Rattle.agenda.specs.private.Tournament.{IsTournament, with_player}
 use Rattle.agenda.specs.declared.due_times.TheConstants.{NEVER}
 use Rattle.agenda.specs.DueTimes.{due_in}
-use Rattle.agenda.specs.EarlierDue.{time_if, time_at, times_by, number_at}
+use Rattle.agenda.specs.EarlierDue.{time_if, time_at, times_by}
+use Rattle.agenda.specs.private.EarlierDue.{number_at}
 
 -- a time for each flag, and which
 pub length_times : (flags : List Bool) (rounds : List ℕ) → length (times_by flags rounds) ≡ length flags

@@ -4,7 +4,7 @@ use Rattle.std.specs.Prelude.{slice_index_or, if◌then◌else◌}
 use Rattle.std.proofs.Math.Decide.{dec_lt}
 use Rattle.std.proofs.lemmas.Bool.Decides.{nat_tests}
 use Rattle.std.proofs.lemmas.List.{get_or-set_same}
-use Rattle.agenda.specs.Tournament.{IsTournament, with_player}
+use Rattle.agenda.specs.private.Tournament.{IsTournament, with_player}
 
 -- only the players below their number count
 pub same_players : {A : Type 0} (winner : A → A → A) (nobody : A) (n : ℕ) (player other : ℕ → A) (rounds : List A) → ((i : ℕ) → i < n → player i ≡ other i) → IsTournament winner nobody n player rounds 0 → IsTournament winner nobody n other rounds 0

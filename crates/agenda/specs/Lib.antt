@@ -1,7 +1,7 @@
 pub mod DueTimes
 pub mod Marked
 pub mod Called
-pub mod Tournament
 pub mod EarlierDue
 pub mod DueTimesKept
 pub mod MarkedKept
+pub mod private

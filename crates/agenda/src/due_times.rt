@@ -1,9 +1,10 @@
 //! When each object is due, with the first of these times at hand.
 
 ghost use Rattle.std.specs.Prelude.{◌≡◌, ◌≤◌, ◌<◌, ◌+◌, ℕ, false, None, Option, IsNone, IfSome, IfOk, MatchOption, length, min, replicate, slice_index_or, slice_set};
-ghost use Rattle.agenda.specs.Tournament.{IsTournament, with_player};
+ghost use Rattle.agenda.specs.private.Tournament.{IsTournament, with_player};
 ghost use Rattle.agenda.specs.DueTimes.{due_in, due_count, IsFirst, IsTaken, AreLater};
-ghost use Rattle.agenda.specs.EarlierDue.{IsListed, time_at, times_by};
+ghost use Rattle.agenda.specs.EarlierDue.{time_at, times_by};
+ghost use Rattle.agenda.specs.private.EarlierDue.{IsListed};
 
 use crate::limits::MOST_PLACES;
 use std::alloc::Global;
@@ -41,7 +42,8 @@ impl Model for DueTimes {
 
     ghost Value = { List (Option ℕ) };
 
-    ghost use Rattle.agenda.specs.DueTimesKept.{times_in, IsKept};
+    ghost use Rattle.agenda.specs.DueTimesKept.{times_in};
+    ghost use Rattle.agenda.specs.private.DueTimesKept.{IsKept};
 
     ghost view = { times_in };
 
@@ -154,7 +156,7 @@ impl DueTimes {
     }
 }
 
-// When the object at a place is due: by its number, if it has a flag.
+/// When the object at a place is due: by its number, if it has a flag.
 fn time_at(flags: &[bool], rounds: &[u64], place: usize) -> Option<u64>
     requires few { length flags.now ≤ MOST_PLACES }
     requires room { length rounds.now ≡ length flags.now + length flags.now }
@@ -168,7 +170,7 @@ fn time_at(flags: &[bool], rounds: &[u64], place: usize) -> Option<u64>
     }
 }
 
-// The first object that is due, where none is due before the last number.
+/// The first object that is due, where none is due before the last number.
 fn any_due(flags: &[bool], rounds: &[u64]) -> Option<Due>
     requires few { length flags.now ≤ MOST_PLACES }
     requires room { length rounds.now ≡ length flags.now + length flags.now }
@@ -192,7 +194,7 @@ fn due_at(at: u64, place: u32) -> Due
     Due { at, place }
 }
 
-// The place of a player that stands by the number of the last winner.
+/// The place of a player that stands by the number of the last winner.
 fn place_of(rounds: &[u64], count: usize) -> u32
     requires room { length rounds.now ≡ count + count }
     requires few { count ≤ MOST_PLACES }
@@ -212,15 +214,15 @@ fn place_of(rounds: &[u64], count: usize) -> u32
     (round - count) as u32
 }
 
-// The earlier of two.
+/// The earlier of two.
 fn earlier(one: u64, other: u64) -> u64
     ensures { result ≡ min one other }
 {
     one.min(other)
 }
 
-// Another number comes to a place of a tournament, and its winners are found again, up to the first
-// that stays.
+/// Another number comes to a place of a tournament, and its winners are found again, up to the first
+/// that stays.
 fn renew(rounds: &mut [u64], count: usize, place: usize, player: u64)
     requires room { length rounds.old ≡ count + count }
     requires few { count ≤ MOST_PLACES }

@@ -23,7 +23,8 @@ impl Model for Marks {
 
     ghost Value = { Marked };
 
-    ghost use Rattle.agenda.specs.MarkedKept.{marked_in, IsKept};
+    ghost use Rattle.agenda.specs.MarkedKept.{marked_in};
+    ghost use Rattle.agenda.specs.private.MarkedKept.{IsKept};
 
     ghost view = { marked_in };
 
@@ -77,29 +78,29 @@ impl Marks {
     /// no memory.
     ///
     /// This project's own.
-    pub fn mark(&mut self, k: u32)
-        requires place { k < length self.old.flags }
-        ensures flags { self.new.flags ≡ slice_set self.old.flags k true }
+    pub fn mark(&mut self, object: u32)
+        requires place { object < length self.old.flags }
+        ensures flags { self.new.flags ≡ slice_set self.old.flags object true }
         ensures listed { self.new.listed ≡
-            (if slice_index_or self.old.flags k false then self.old.listed
-            else self.old.listed ++ k ∷ []) }
+            (if slice_index_or self.old.flags object false then self.old.listed
+            else self.old.listed ++ object ∷ []) }
         ensures all { AreListed self.new }
     {
-        if self.flags[k as usize] {
+        if self.flags[object as usize] {
             return;
         }
-        self.flags[k as usize] = true;
-        self.listed.push(k).unwrap();
+        self.flags[object as usize] = true;
+        self.listed.push(object).unwrap();
     }
 
     /// Whether a place is marked.
     ///
     /// This project's own.
-    pub fn is_marked(&self, k: u32) -> bool
-        requires place { k < length self.now.flags }
-        ensures { result ≡ slice_index_or self.now.flags k false }
+    pub fn is_marked(&self, object: u32) -> bool
+        requires place { object < length self.now.flags }
+        ensures { result ≡ slice_index_or self.now.flags object false }
     {
-        self.flags[k as usize]
+        self.flags[object as usize]
     }
 
     /// The marked places, in the order of marking.
@@ -123,7 +124,7 @@ impl Marks {
     }
 }
 
-// Takes the flags of these places away; no other place has one.
+/// Takes the flags of these places away; no other place has one.
 fn take_away(flags: &mut [bool], listed: &[u32])
     requires within { All (λ k. k < length flags.old) listed.now }
     requires only { (k : ℕ) → slice_index_or flags.old k false ≡ true →
@@ -135,7 +136,7 @@ fn take_away(flags: &mut [bool], listed: &[u32])
     }
 }
 
-// Gives a flag to each of these places; no place has one yet.
+/// Gives a flag to each of these places; no place has one yet.
 fn give(flags: &mut [bool], listed: &[u32])
     requires within { All (λ k. k < length flags.old) listed.now }
     requires none { flags.old ≡ replicate (length flags.old) false }

@@ -17,7 +17,7 @@ use Rattle.esmc_frame.specs.Frame.{version_and_flag, written_extended, written_f
 use Rattle.esmc_frame.specs.Reading.{reading_of}
 use Rattle.esmc_frame.proofs.Laws.{reading_of-written_frame}
 use Rattle.capture_text.specs.Reading.{IsRow, SayRow, SaysBehind, fields_of, enhanced_or_none, enhanced_named}
-use Rattle.capture_text.specs.Steps.{AreOctets}
+use Rattle.capture_text.specs.private.Steps.{AreOctets}
 
 IsBytes-append : (xs ys : List ℕ) → IsBytes xs → IsBytes ys → IsBytes (xs ++ ys)
 IsBytes-append [] ys front back i = back i

@@ -14,7 +14,7 @@ use Rattle.esmc_frame.specs.declared.error.FrameErr.TheVariants as wrong
 use Rattle.esmc_frame.specs.Reading.{reading_of}
 use Rattle.capture_text.specs.declared.error.CaptureErr.TheVariants as refusal
 use Rattle.capture_text.specs.Capture.{carried_at, value_at}
-use Rattle.capture_text.specs.Steps.{IsPut}
+use Rattle.capture_text.specs.private.Steps.{IsPut}
 
 -- into room for half as many octets a text is decoded as it is without bound
 pub half_sized : (text : List ℕ) → decode_sized text (length text / 2) ≡ decode_of text

@@ -8,7 +8,7 @@ use Rattle.std.specs.Str.{bytes_eq}
 use Rattle.std.proofs.lemmas.Slice.Eq.{bytes_eq-Decides}
 use Rattle.hex.specs.declared.error.FromHexError.{FromHexError}
 use Rattle.hex.specs.Hex.{◌>>=◌, pair_value, decode_pairs, decode_of, decode_sized, encode_with, encode_lower, lower_digits}
-use Rattle.capture_text.specs.Steps.{IsPut}
+use Rattle.capture_text.specs.private.Steps.{IsPut}
 use Rattle.capture_text.proofs.LongLines.{half_sized}
 
 abbrev pub padding : List ℕ

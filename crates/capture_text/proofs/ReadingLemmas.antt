@@ -23,7 +23,7 @@ use Rattle.esmc_frame.specs.declared.frame.Extended.{Extended}
 use Rattle.capture_text.specs.Row.{kind_text, level_text, name_or_number, enhanced_in, fields_behind, row_fields, row_of}
 use Rattle.capture_text.specs.Reading.{IsRow, SayRow, SaysFrame, SaysTlv, SaysBehind, as_named, tlv_as_named, HasNamedCode, enhanced_named, fields_of, ◌>>=◌, event_of, codes_of_text, octet, count_of, tlv_of, behind_of, said_by, pdu_of}
 use Rattle.capture_text.specs.Lines.{parts_left}
-use Rattle.capture_text.specs.Steps.{AreOctets}
+use Rattle.capture_text.specs.private.Steps.{AreOctets}
 use Rattle.capture_text.proofs.CodeLemmas.{codes_of_level_text, text_stands_for, alone_has_none, text_alone}
 use Rattle.capture_text.proofs.RowLemmas.{IsField, AreFields, fields_joined, field_tested, name_is_field, code_is_field, octet_is_field}
 

@@ -17,7 +17,7 @@ use Rattle.sync_ql.proofs.Tables.{at_each}
 use Rattle.esmc_frame.specs.declared.frame.Extended.{Extended}
 use Rattle.capture_text.specs.Row.{fields_behind}
 use Rattle.capture_text.specs.Reading.{fields_of}
-use Rattle.capture_text.specs.Steps.{with_commas}
+use Rattle.capture_text.specs.private.Steps.{with_commas}
 
 -- a number below 10 is one digit, one below 100 two, and one below 1000 three
 pub one_digit : (number : ℕ) → number < 10 → decimal number ≡ (48 + number) ∷ []

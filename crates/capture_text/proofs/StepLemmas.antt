@@ -14,7 +14,7 @@ use Rattle.sync_ql.specs.declared.levels.NetOption.{NetOption}
 use Rattle.esmc_frame.specs.declared.frame.Pdu.{Pdu}
 use Rattle.capture_text.specs.Row.{kind_text}
 use Rattle.capture_text.specs.Reading.{SayRow, fields_of, ◌>>=◌, codes_of_text, behind_of, said_by, pdu_of}
-use Rattle.capture_text.specs.Steps.{kind_and_rest}
+use Rattle.capture_text.specs.private.Steps.{kind_and_rest}
 use Rattle.capture_text.proofs.ReadingLemmas.{same_ok, event_of_kind, kind_is_field, digits_are_a_field, row_of_pdu}
 
 -- the value that a source, a kind and the fields behind them say

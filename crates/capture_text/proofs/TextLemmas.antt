@@ -4,8 +4,8 @@ use Rattle.capture_text.specs.declared.error.CaptureErr.{CaptureErr}
 use Rattle.capture_text.specs.declared.error.CaptureErr.TheVariants.{Hex, Frame, Row, NoMemory}
 use Rattle.sync_text.specs.Chain.{◌>>=◌}
 use Rattle.capture_text.specs.Capture.{text_of_lines}
-use Rattle.capture_text.specs.Gives.{Refuses}
-use Rattle.capture_text.specs.Steps.{with_front}
+use Rattle.capture_text.specs.private.Gives.{Refuses}
+use Rattle.capture_text.specs.private.Steps.{with_front}
 
 -- a text with nothing in front of it
 pub with_nothing : (text : Result (List ℕ) CaptureErr) → with_front [] text ≡ text

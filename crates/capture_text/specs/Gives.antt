@@ -1,6 +1,6 @@
 -- What a call answers that may refuse a line, or want memory.
 use Rattle.std.specs.Prelude.{Bool, true, false, Result}
-use Rattle.sync_text.specs.Gives.{GivesBut, RefusesBut}
+use Rattle.sync_text.specs.Gives.{GivesBut}
 use Rattle.capture_text.specs.declared.error.CaptureErr.{CaptureErr}
 use Rattle.capture_text.specs.declared.error.CaptureErr.TheVariants.{NoMemory}
 
@@ -8,10 +8,6 @@ use Rattle.capture_text.specs.declared.error.CaptureErr.TheVariants.{NoMemory}
 abbrev pub is_want : CaptureErr → Bool
 is_want NoMemory = true
 is_want refusal = false
-
--- the refusal is the definition's; want of memory says nothing
-abbrev pub Refuses : {A : Type 0} → CaptureErr → Result A CaptureErr → Type 0
-Refuses error answer = RefusesBut is_want error answer
 
 -- the answer is the definition's, value or refusal; want of memory says nothing
 abbrev pub Gives : {A : Type 0} → Result A CaptureErr → Result A CaptureErr → Type 0

@@ -4,5 +4,5 @@ pub mod Reading
 pub mod Capture
 pub mod Numbers
 pub mod Gives
-pub mod Examples
 pub mod Steps
+pub mod private

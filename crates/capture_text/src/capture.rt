@@ -6,7 +6,7 @@ ghost use Rattle.hex.specs.Hex.{decode_of, encode_lower, is_hex_digit};
 ghost use Rattle.capture_text.specs.Capture.{row_of_line, frame_of_line, decoded_text, encoded_text, rows_in_form, carried_at, as_line};
 ghost use Rattle.capture_text.specs.Row.{row_of};
 ghost use Rattle.capture_text.specs.Gives.{Gives};
-ghost use Rattle.capture_text.specs.Steps.{GivesThat, with_front, IsPut};
+ghost use Rattle.capture_text.specs.private.Steps.{GivesThat, with_front, IsPut};
 
 use crate::error::CaptureErr;
 use crate::lines::Lines;

@@ -24,7 +24,8 @@ pub struct Lines<'a> {
 impl<'a> Model for Lines<'a> {
     ghost use Rattle.std.specs.Prelude.{◌+◌, ◌^◌, ◌<◌};
     ghost use Rattle.capture_text.specs.Lines.{LinesLeft};
-    ghost use Rattle.capture_text.specs.Steps.{lines_left, size_left};
+    ghost use Rattle.capture_text.specs.Steps.{lines_left};
+    ghost use Rattle.capture_text.specs.private.Steps.{size_left};
 
     ghost Value = { LinesLeft };
 

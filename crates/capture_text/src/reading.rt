@@ -5,7 +5,7 @@ ghost use Rattle.std.specs.Fmt.{decimal};
 ghost use Rattle.sync_ql.specs.Level.{level_of_name};
 ghost use Rattle.esmc_frame.specs.declared.frame.Pdu.{Pdu};
 ghost use Rattle.capture_text.specs.Lines.{parts_left};
-ghost use Rattle.capture_text.specs.Steps.{kind_and_rest};
+ghost use Rattle.capture_text.specs.private.Steps.{kind_and_rest};
 ghost use Rattle.capture_text.specs.Reading.{IsRow, pdu_of, codes_of_text, code_of_number, codes_of_level, codes_of_code, count_of, tlv_of, behind_of, fields_of};
 
 use crate::cutting::cut_at;

@@ -5,7 +5,7 @@ ghost use Rattle.std.specs.Fmt.{decimal};
 ghost use Rattle.hex.specs.Hex.{IsBytes, encode_lower};
 ghost use Rattle.capture_text.specs.Row.{kind_text, level_text, enhanced_in, row_of};
 ghost use Rattle.capture_text.specs.Reading.{pdu_of, as_named, HasNamedCode};
-ghost use Rattle.capture_text.specs.Steps.{AreOctets, behind_text};
+ghost use Rattle.capture_text.specs.private.Steps.{AreOctets, behind_text};
 
 use esmc_frame::{Extended, Pdu};
 use std::marker::Model;

@@ -17,7 +17,8 @@ use Rattle.closed_walks.specs.declared.traced.End.TheVariants as end_as
 use Rattle.closed_walks.specs.declared.following.Next.{Next}
 use Rattle.closed_walks.specs.declared.following.Next.TheVariants.{On, Over}
 use Rattle.closed_walks.specs.Traces.{end_of}
-use Rattle.closed_walks.specs.Following.{next_of, Follows, IsPassed, is_met, AreMet, IsOnTrace}
+use Rattle.closed_walks.specs.Following.{next_of, Follows, IsPassed, is_met, AreMet}
+use Rattle.closed_walks.specs.private.Following.{IsOnTrace}
 
 pub follows-more : (plan : Topology) (taken : Taken) (element : ℕ) (lines : List LineId) (last : ℕ) (line : LineId)
     → Follows plan taken element (numbers lines) last → taken last ≡ Some (Line line)

@@ -28,7 +28,7 @@ use Rattle.closed_walks.specs.Traces.{end_of, EndsSo, AreFound}
 use Rattle.closed_walks.specs.declared.following.Next.{Next}
 use Rattle.closed_walks.specs.declared.following.Next.TheVariants.{On, Over}
 use Rattle.closed_walks.specs.Following.{next_of, Follows, IsPassed, is_met, AreMet}
-use Rattle.closed_walks.specs.Known.{known_at, IsKnown, AreKnown, IsOnLoop, IsEndAt, IsMoreKnown}
+use Rattle.closed_walks.specs.private.Known.{known_at, IsKnown, AreKnown, IsOnLoop, IsEndAt, IsMoreKnown}
 use Rattle.closed_walks.proofs.FollowLaws.{trace-begins, takes-on, ends-over}
 use Rattle.closed_walks.proofs.Rings.{comes-back, loop-ends, loop-next, loop-takes, rotated}
 

@@ -24,7 +24,7 @@ use Rattle.closed_walks.specs.declared.following.Next.TheVariants.{On, Over}
 use Rattle.closed_walks.specs.Traces.{end_of, EndsSo}
 use Rattle.closed_walks.specs.Following.{is_met, next_of}
 use Rattle.closed_walks.specs.Loops.{first_line, IsLoop, IsListed, AreInOrder}
-use Rattle.closed_walks.specs.Listing.{backwards, AreMarked, IsOfListed, AreListed}
+use Rattle.closed_walks.specs.private.Listing.{backwards, AreMarked, IsOfListed, AreListed}
 use Rattle.closed_walks.proofs.FollowLaws.{met-kept, met-here, met-still, numbers-then, takes-on}
 use Rattle.closed_walks.proofs.Rings.{rotated, comes-to, loop-takes, loop-next, each-before, walk-comes, comes-back, loop-ends}
 
@@ -298,14 +298,14 @@ module _ (plan : Topology) (taken : Taken) where
       from = λ element met. absurd (none element met);
     }
 
--- lines turned round
+-- lines reversed round
 backwards-push : (lines : List LineId) (line : LineId) → backwards (lines ++ line ∷ []) ≡ line.0 ∷ backwards lines
 backwards-push [] line = refl
 backwards-push (first ∷ rest) line = ap (λ ls. ls ++ first.0 ∷ []) (backwards-push rest line)
 
-pub turned-more : (walk walk_then items rest : List LineId) (line : LineId) (whole : List ℕ) → items ≡ rest ++ line ∷ [] → walk_then ≡ walk ++ line ∷ []
+pub reversed-more : (walk walk_then items rest : List LineId) (line : LineId) (whole : List ℕ) → items ≡ rest ++ line ∷ [] → walk_then ≡ walk ++ line ∷ []
     → numbers walk ++ backwards items ≡ whole → numbers walk_then ++ backwards rest ≡ whole
-turned-more walk walk_then items rest line whole is more so_far =
+reversed-more walk walk_then items rest line whole is more so_far =
     ap (λ ls. numbers ls ++ backwards rest) more ∙ sym (numbers-then walk line (backwards rest))
     ∙ ap (λ ls. numbers walk ++ ls) (sym (ap backwards is ∙ backwards-push rest line)) ∙ so_far
 

@@ -1,11 +1,10 @@
 -- Lines that are followed from an element on, and marks on the elements passed.
-use Rattle.std.specs.Prelude.{◌≡◌, ◌⊎◌, ℕ, Bool, true, false, List, [], ◌∷◌, ◌++◌, slice_index_or, Option, None, Some}
+use Rattle.std.specs.Prelude.{◌≡◌, ◌⊎◌, ℕ, Bool, true, false, List, [], ◌∷◌, slice_index_or, Option, None, Some}
 use Rattle.sync_topo.specs.declared.input.InputId.{InputId}
 use Rattle.sync_topo.specs.declared.input.InputId.TheVariants.{Line, Source}
-use Rattle.sync_topo.specs.declared.input.LineId.{LineId}
 use Rattle.sync_topo.specs.Topology.{Topology}
-use Rattle.sync_topo.specs.Lines.{line_input, sender_of, numbers}
-use Rattle.net_rules.specs.Walks.{Taken, IsOneOf, TraceEnd, IsTraceAfter}
+use Rattle.sync_topo.specs.Lines.{line_input, sender_of}
+use Rattle.net_rules.specs.Walks.{Taken, IsOneOf}
 use Rattle.closed_walks.specs.declared.traced.End.TheVariants as end
 use Rattle.closed_walks.specs.declared.following.Next.{Next}
 use Rattle.closed_walks.specs.declared.following.Next.TheVariants.{On, Over}
@@ -33,10 +32,3 @@ is_met met element = slice_index_or met element false
 -- just the elements of a list are marked
 abbrev pub AreMet : List Bool → List ℕ → Type 0
 AreMet met passed = (k : ℕ) → (is_met met k ≡ true → IsOneOf k passed) × (IsOneOf k passed → is_met met k ≡ true)
-
--- from an element on, with some passed before it, these lines were followed to another
-pub record IsOnTrace (plan : Topology) (taken : Taken) (before : List ℕ) (from : ℕ) (met : List Bool) (lines : List LineId) (at : ℕ) : Type 0 where
-  pub passed : List ℕ
-  pub marked : AreMet met passed
-  pub goes_on : (rest : List ℕ) (end : TraceEnd) → IsTraceAfter plan taken passed at rest end →
-      IsTraceAfter plan taken before from (numbers lines ++ rest) end

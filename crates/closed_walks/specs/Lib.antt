@@ -1,8 +1,7 @@
 pub mod Taking
 pub mod Traces
 pub mod Following
-pub mod Known
 pub mod Loops
-pub mod Listing
 pub mod Within
 pub mod WalkText
+pub mod private

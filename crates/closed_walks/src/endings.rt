@@ -9,7 +9,7 @@ ghost use Rattle.closed_walks.specs.declared.traced.Ending.{Ending};
 ghost use Rattle.closed_walks.specs.Taking.{taken_in_list, AreTaken};
 ghost use Rattle.closed_walks.specs.Traces.{EndsSo, AreFound};
 ghost use Rattle.closed_walks.specs.Following.{Follows, is_met};
-ghost use Rattle.closed_walks.specs.Known.{known_at, IsKnown, AreKnown, IsEndAt, IsMoreKnown};
+ghost use Rattle.closed_walks.specs.private.Known.{known_at, IsKnown, AreKnown, IsEndAt, IsMoreKnown};
 
 use crate::following::{Next, follow, next_of};
 use crate::traced::{End, Ending};
@@ -17,8 +17,8 @@ use std::alloc::Global;
 use sync_text::{NoMemory, Rows};
 use sync_topo::{InputId, LineId, Plan};
 
-// The element that an element takes its timing from over a line; the element itself where it takes
-// no line.
+/// The element that an element takes its timing from over a line; the element itself where it takes
+/// no line.
 fn taken_from(plan: &Plan, taken: &[Option<InputId>], element: u32) -> u32
     requires taken { AreTaken plan.now taken.now }
     requires element { element < length plan.now.elements }
@@ -32,7 +32,7 @@ fn taken_from(plan: &Plan, taken: &[Option<InputId>], element: u32) -> u32
     }
 }
 
-// How many lines lead from an element of a loop once round to it.
+/// How many lines lead from an element of a loop once round to it.
 fn lines_round(plan: &Plan, taken: &[Option<InputId>], element: u32) -> u32
     requires taken { AreTaken plan.now taken.now }
     requires element { element < length plan.now.elements }
@@ -49,7 +49,7 @@ fn lines_round(plan: &Plan, taken: &[Option<InputId>], element: u32) -> u32
     plan.elements()
 }
 
-// Notes how the elements of a loop trace: each comes to itself, once round.
+/// Notes how the elements of a loop trace: each comes to itself, once round.
 fn note_loop(
     plan: &Plan,
     taken: &[Option<InputId>],
@@ -76,7 +76,7 @@ fn note_loop(
     }
 }
 
-// Notes how the trace of the element ends to which was followed.
+/// Notes how the trace of the element ends to which was followed.
 fn note_end(
     plan: &Plan,
     taken: &[Option<InputId>],
@@ -100,8 +100,8 @@ fn note_end(
     }
 }
 
-// Notes how the trace of an element ends where it takes no line, or that of the one that it takes its
-// timing from is known.
+/// Notes how the trace of an element ends where it takes no line, or that of the one that it takes its
+/// timing from is known.
 fn note_next(plan: &Plan, taken: &[Option<InputId>], known: &mut [Option<Ending>], element: u32)
     requires taken { AreTaken plan.now taken.now }
     requires element { element < length plan.now.elements }
@@ -127,7 +127,7 @@ fn note_next(plan: &Plan, taken: &[Option<InputId>], known: &mut [Option<Ending>
     }
 }
 
-// Notes how the traces end of all that were followed, the last first.
+/// Notes how the traces end of all that were followed, the last first.
 fn note_back(
     plan: &Plan,
     taken: &[Option<InputId>],
@@ -149,7 +149,7 @@ fn note_back(
     }
 }
 
-// Follows what is taken from an element on, and notes how the traces end of all that are met.
+/// Follows what is taken from an element on, and notes how the traces end of all that are met.
 fn resolve(
     alloc: Global,
     plan: &Plan,
@@ -173,8 +173,8 @@ fn resolve(
     Ok(())
 }
 
-// Notes how the traces end of the elements of a list, one after another, as far as what comes before
-// them is known; those that are known are marked.
+/// Notes how the traces end of the elements of a list, one after another, as far as what comes before
+/// them is known; those that are known are marked.
 fn note_in_order(
     plan: &Plan,
     taken: &[Option<InputId>],
@@ -199,7 +199,7 @@ fn note_in_order(
     }
 }
 
-// So many elements, none of which is marked, and of none of which the ending is known.
+/// So many elements, none of which is marked, and of none of which the ending is known.
 fn forget(count: u32, met: &mut Vec<bool>, known: &mut Vec<Option<Ending>>) -> Result<(), NoMemory>
     ensures met { OnOk result (met.new.items ≡ replicate count false) }
     ensures known { OnOk result (known.new.items ≡ replicate count None) }
@@ -268,7 +268,7 @@ pub fn endings_of(
     all_known(alloc, known.as_slice())
 }
 
-// The endings, all of which are known.
+/// The endings, all of which are known.
 fn all_known(alloc: Global, known: &[Option<Ending>]) -> Result<Rows<Ending>, NoMemory>
     requires { (element : ℕ) → element < length known.now → IsKnown known.now element }
     ensures { IfOk result (λ endings. map Some endings ≡ known.now) }

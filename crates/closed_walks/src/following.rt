@@ -16,7 +16,7 @@ use sync_topo::{InputId, LineId, Plan};
 ///
 /// This project's own.
 #[derive(Debug, Drop)]
-pub struct Way {
+pub struct Followed {
     /// The lines, in the order in which they were followed.
     pub lines: Rows<LineId>,
     /// The element that they lead to.
@@ -59,7 +59,7 @@ pub fn follow(
     taken: &[Option<InputId>],
     met: &mut [bool],
     from: u32,
-) -> Result<Way, NoMemory>
+) -> Result<Followed, NoMemory>
     requires taken { AreTaken plan.now taken.now }
     requires marks { length met.old ≡ length plan.now.elements }
     requires element { from < length plan.now.elements }
@@ -81,7 +81,7 @@ pub fn follow(
                 at = plan.from(line);
             }
             Next::Over(end) => {
-                return Ok(Way {
+                return Ok(Followed {
                     lines,
                     last: at,
                     end,
@@ -89,7 +89,7 @@ pub fn follow(
             }
         }
     }
-    Ok(Way {
+    Ok(Followed {
         lines,
         last: at,
         end: End::Loop(at),

@@ -23,7 +23,7 @@ mod traced;
 mod walk_text;
 
 pub use endings::{endings_of, find_endings};
-pub use following::{Next, Way, follow, next_of, no_marks};
+pub use following::{Followed, Next, follow, next_of, no_marks};
 pub use listing::walks_of;
 pub use traced::{End, Ending, Traced, Walk};
 pub use walk_text::put_walks;

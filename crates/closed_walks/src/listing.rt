@@ -11,7 +11,7 @@ ghost use Rattle.closed_walks.specs.Taking.{taken_in_list, AreTaken};
 ghost use Rattle.closed_walks.specs.Traces.{EndsSo};
 ghost use Rattle.closed_walks.specs.Following.{is_met};
 ghost use Rattle.closed_walks.specs.Loops.{AreLoops};
-ghost use Rattle.closed_walks.specs.Listing.{backwards, AreMarked, AreListed};
+ghost use Rattle.closed_walks.specs.private.Listing.{backwards, AreMarked, AreListed};
 ghost use Rattle.closed_walks.specs.Within.{AreLinesOf};
 
 use crate::endings::endings_of;
@@ -21,8 +21,8 @@ use std::alloc::Global;
 use sync_text::{NoMemory, Rows};
 use sync_topo::{InputId, LineId, Plan};
 
-// The lines in the other order.
-fn turned(alloc: Global, lines: Vec<LineId>) -> Result<Walk, NoMemory>
+/// The lines in the other order.
+fn reversed(alloc: Global, lines: Vec<LineId>) -> Result<Walk, NoMemory>
     ensures { IfOk result (λ walk. numbers walk ≡ backwards lines.items) }
 {
     let mut lines = lines;
@@ -33,7 +33,7 @@ fn turned(alloc: Global, lines: Vec<LineId>) -> Result<Walk, NoMemory>
     Ok(walk)
 }
 
-// The closed walk that a line is of, from this line on, once round. Its elements are marked.
+/// The closed walk that a line is of, from this line on, once round. Its elements are marked.
 fn walk_from(
     alloc: Global,
     plan: &Plan,
@@ -62,10 +62,10 @@ fn walk_from(
             Next::Over(_) => unreachable!(),
         }
     }
-    turned(alloc, lines.into_vec())
+    reversed(alloc, lines.into_vec())
 }
 
-// How many lines the loop of an element has, by how its trace ends: none where it is on no loop.
+/// How many lines the loop of an element has, by how its trace ends: none where it is on no loop.
 fn loop_lines(ending: Ending, element: u32) -> Option<u32>
     ensures some { IfSome result (λ count. ending ≡ record { lines = count; end = End.Loop element }) }
     ensures none { IsNone result → (count : ℕ) → ending ≡ record { lines = count; end = End.Loop element } → ⊥ }
@@ -76,7 +76,7 @@ fn loop_lines(ending: Ending, element: u32) -> Option<u32>
     }
 }
 
-// How many lines the loop has that a line is of, if there is one that isn't listed.
+/// How many lines the loop has that a line is of, if there is one that isn't listed.
 fn begins(
     plan: &Plan,
     taken: &[Option<InputId>],
@@ -107,7 +107,7 @@ fn begins(
     }
 }
 
-// How many lines the loop of an element has, if it is on one.
+/// How many lines the loop of an element has, if it is on one.
 fn loop_of(endings: &[Ending], element: u32) -> Option<u32>
     requires { element < length endings.now }
     ensures some { IfSome result (λ count. slice_get endings.now element
@@ -119,7 +119,7 @@ fn loop_of(endings: &[Ending], element: u32) -> Option<u32>
     loop_lines(ending, element)
 }
 
-// Lists the closed walk from a line, if there is one that isn't listed.
+/// Lists the closed walk from a line, if there is one that isn't listed.
 fn list_from(
     alloc: Global,
     plan: &Plan,

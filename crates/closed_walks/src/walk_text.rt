@@ -30,7 +30,7 @@ pub fn put_walks(
     Ok(())
 }
 
-// Puts one closed walk.
+/// Puts one closed walk.
 fn put_walk(alloc: Global, text: &mut Text, plan: &Plan, lines: &[LineId]) -> Result<(), NoMemory>
     requires of_plan { AreLinesOf plan.now lines.now }
     ensures put { OnOk result (text.new ≡ text.old ++ walk_row plan.now (numbers lines.now)) }
@@ -42,7 +42,7 @@ fn put_walk(alloc: Global, text: &mut Text, plan: &Plan, lines: &[LineId]) -> Re
     text.put(b"\n")
 }
 
-// Puts the lines of a closed walk after its first.
+/// Puts the lines of a closed walk after its first.
 fn put_rest(alloc: Global, text: &mut Text, plan: &Plan, rest: &[LineId]) -> Result<(), NoMemory>
     requires of_plan { AreLinesOf plan.now rest.now }
     ensures put { OnOk result (text.new ≡ text.old ++ rest_text plan.now (numbers rest.now)) }
@@ -53,7 +53,7 @@ fn put_rest(alloc: Global, text: &mut Text, plan: &Plan, rest: &[LineId]) -> Res
     Ok(())
 }
 
-// Puts a blank and a line.
+/// Puts a blank and a line.
 fn put_line(alloc: Global, text: &mut Text, plan: &Plan, line: LineId) -> Result<(), NoMemory>
     requires of_plan { line.0 < line_count plan.now }
     ensures put { OnOk result (text.new ≡ text.old ++ (codes " " ++ line_name plan.now line.0)) }

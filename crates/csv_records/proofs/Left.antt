@@ -9,7 +9,8 @@ use Rattle.csv.specs.declared.parser.Config.{Config}
 use Rattle.csv.specs.declared.parser.State.{State}
 use Rattle.csv.specs.declared.parser.State.TheVariants as st
 use Rattle.csv_records.specs.Records.{records_of}
-use Rattle.csv_records.specs.Stream.{records_left, unread, IsReading}
+use Rattle.csv_records.specs.Stream.{records_left, unread}
+use Rattle.csv_records.specs.private.Stream.{IsReading}
 use Rattle.csv_records.proofs.OneRecord.{LeavesOff, takes_a_byte}
 
 -- any number of turns that goes beyond the bytes gives the same records

@@ -10,7 +10,7 @@ use Rattle.csv.specs.Writing.{default_writer, needs_byte, read_back, row_text, f
 use Rattle.csv.specs.declared.parser.State.TheVariants as st
 use Rattle.csv.proofs.RoundTrip.{read-write, rows_text}
 use Rattle.csv_records.specs.Records.{records_of}
-use Rattle.csv_records.specs.Written.{is_plain_byte, IsPlain, ArePlain, pair_line, pair_lines, pair_records}
+use Rattle.csv_records.specs.private.Written.{is_plain_byte, IsPlain, ArePlain, pair_line, pair_lines, pair_records}
 
 -- records are read back, however many turns are left
 written : (rows : List (List (List ℕ))) (turns : ℕ) → length rows < turns → records_from default_config turns st.StartRecord (rows_text rows) ≡ map read_back rows

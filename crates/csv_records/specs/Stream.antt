@@ -1,10 +1,8 @@
 -- The records of a text, taken one after another.
-use Rattle.std.specs.Prelude.{◌≡◌, ◌+◌, ℕ, Bool, true, false, List, [], length, Option, Some, unwrap_or, if◌then◌else◌}
-use Rattle.csv.specs.Machine.{ends_at_end}
-use Rattle.csv.specs.Reading.{Ready, default_config, is_flexible, records_from, source_of}
+use Rattle.std.specs.Prelude.{◌+◌, ℕ, Bool, List, [], length, Option, unwrap_or, if◌then◌else◌}
+use Rattle.csv.specs.Reading.{default_config, records_from, source_of}
 use Rattle.csv.specs.declared.parser.State.{State}
 use Rattle.csv.specs.declared.reader.Reader.{Reader}
-use Rattle.csv.specs.declared.reader.Trim.TheVariants as trim
 
 -- a reader of records: the record that it took last, the records that it has left, and whether it stopped for want of memory
 pub record Stream : Type 0 where
@@ -25,12 +23,3 @@ unread known reader = unwrap_or (source_of known reader) []
 -- the records that a reader has left; none once it came to the end
 abbrev pub left_of : {R : Type 0} → (R → Option (List ℕ)) → Reader R → Bool → List (List (List ℕ))
 left_of known reader ended = if ended then [] else records_left reader.state (unread known reader)
-
--- a reader of records of any length with a comma between fields, which stands between two records
-pub record IsReading {R : Type 0} (known : R → Option (List ℕ)) (reader : Reader R) : Type 0 where
-  pub trims : reader.trim ≡ trim.None
-  pub ready : Ready reader
-  pub flexible : is_flexible reader ≡ true
-  pub config : reader.config ≡ default_config
-  pub source : source_of known reader ≡ Some (unread known reader)
-  pub between : ends_at_end reader.state ≡ false

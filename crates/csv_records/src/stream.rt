@@ -28,7 +28,8 @@ impl<'a> Model for Records<'a> {
     ghost use Rattle.std.specs.Prelude.{◌≡◌, ℕ, false, List, Some};
     ghost use Rattle.std.proofs.Common.{Bor};
     ghost use Rattle.csv.specs.Reading.{has_failed};
-    ghost use Rattle.csv_records.specs.Stream.{Stream, IsReading, left_of};
+    ghost use Rattle.csv_records.specs.Stream.{Stream, left_of};
+    ghost use Rattle.csv_records.specs.private.Stream.{IsReading};
 
     ghost Value = { Stream };
 

@@ -5,14 +5,14 @@ use Rattle.std.proofs.lemmas.Bool.{cases_lt}
 use Rattle.sync_ql.specs.Level.{place_of}
 use Rattle.sync_ql.specs.Table.{levels_of}
 use Rattle.sync_topo.specs.declared.element.Element.{Element}
-use Rattle.sync_topo.specs.declared.returns.Returns.TheVariants.{BarredFromLast}
+use Rattle.sync_topo.specs.declared.returns.ReturnRule.TheVariants.{BarredFromLast}
 use Rattle.sync_topo.specs.Topology.{Topology}
 use Rattle.sync_topo.specs.Lines.{IsNominated}
 use Rattle.sync_topo.specs.Hops.{bears_on}
 use Rattle.sync_topo.proofs.HopLaws.{hop-meets}
 use Rattle.net_rules.specs.Settings.{own_level}
 use Rattle.reach_rules.specs.Agreement.{IsHighCount}
-use Rattle.cycle_plan.specs.Agreed.{IsHighBelow}
+use Rattle.cycle_plan.specs.private.Agreed.{IsHighBelow}
 
 -- one element more
 pub high-more : (plan : Topology) (n high : ℕ) (element : Element) → slice_get plan.elements n ≡ Some element → place_of element.own < length (levels_of plan.option)

@@ -11,29 +11,29 @@ use Rattle.sync_topo.specs.Lines.{line_count, is_nominated, IsNominated, sender_
 use Rattle.sync_topo.proofs.LineLaws.{IsNominated-within}
 use Rattle.rank_cert.specs.Ranks.{Ranks, rank_at}
 use Rattle.sync_topo.specs.declared.input.InputId.{InputId}
-use Rattle.sync_topo.specs.declared.returns.Returns.{Returns}
+use Rattle.sync_topo.specs.declared.returns.ReturnRule.{ReturnRule}
 use Rattle.sync_topo.specs.Hops.{HopsBy, hops_by}
-use Rattle.cycle_plan.specs.Numbers.{number_in, number_out}
-use Rattle.cycle_plan.specs.Inputs.{line_at, IsOpenLine, AreFirstOpen}
-use Rattle.cycle_plan.specs.Peeling.{IsPeeled}
-use Rattle.cycle_plan.specs.Rings.{IsLeft, HasRound}
+use Rattle.cycle_plan.specs.private.Numbers.{number_in, number_out}
+use Rattle.cycle_plan.specs.private.Inputs.{line_at, IsOpenLine, AreFirstOpen}
+use Rattle.cycle_plan.specs.private.Peeling.{IsPeeled}
+use Rattle.cycle_plan.specs.private.Rings.{IsLeft, HasRound}
 use Rattle.cycle_plan.proofs.Back.{comes_round}
-use Rattle.cycle_plan.specs.declared.inputs.Watch.{Watch}
+use Rattle.cycle_plan.specs.declared.inputs.OpenInputs.{OpenInputs}
 use Rattle.cycle_plan.proofs.HopFacts.{line_at_within, hop_parts, hop_from, input_is, inputs_rise}
 use Rattle.cycle_plan.proofs.Settling.{open_place}
 use Rattle.cycle_plan.proofs.WatchLemmas.{closed_line, line_at_open, past_end}
 use Rattle.cycle_plan.proofs.Walks.{endless, residue_unranked, residue_nominated}
 
 -- a plan in which all that can be ranked is ranked
-abbrev pub IsPeeledPlan : Returns → Topology → Ranks → Type 0
+abbrev pub IsPeeledPlan : ReturnRule → Topology → Ranks → Type 0
 IsPeeledPlan returns plan ranks = IsPeeled (hops_by returns plan) (is_nominated plan) (rank_at ranks)
 
 -- what is left over is the residue
-pub left_residue : (returns : Returns) (plan : Topology) (ranks : Ranks) (line : ℕ) → IsPeeledPlan returns plan ranks → IsLeft plan ranks line → IsResidue (hops_by returns plan) line
+pub left_residue : (returns : ReturnRule) (plan : Topology) (ranks : Ranks) (line : ℕ) → IsPeeledPlan returns plan ranks → IsLeft plan ranks line → IsResidue (hops_by returns plan) line
 left_residue returns plan ranks line peeled left =
     λ n. endless (hops_by returns plan) (is_nominated plan) (rank_at ranks) (λ from next hop. (hop_parts returns plan from next hop).0) peeled n line left.nominated left.unranked
 
-pub residue_left : (returns : Returns) (plan : Topology) (ranks : Ranks) (line : ℕ) → IsPeeledPlan returns plan ranks → IsResidue (hops_by returns plan) line → IsLeft plan ranks line
+pub residue_left : (returns : ReturnRule) (plan : Topology) (ranks : Ranks) (line : ℕ) → IsPeeledPlan returns plan ranks → IsResidue (hops_by returns plan) line → IsLeft plan ranks line
 residue_left returns plan ranks line peeled residue =
     let nominated : IsNominated plan line = residue_nominated (hops_by returns plan) (is_nominated plan) (λ from next hop. (hop_parts returns plan from next hop).1) line residue in
     record {
@@ -43,7 +43,7 @@ residue_left returns plan ranks line peeled residue =
     }
 
 -- a line without a rank that hops to the line is an open input of its sender, at or behind the first open place
-place_of_hop : (returns : Returns) (plan : Topology) (ranks : Ranks) (watch : Watch) (line from : ℕ)
+place_of_hop : (returns : ReturnRule) (plan : Topology) (ranks : Ranks) (watch : OpenInputs) (line from : ℕ)
     → AreFirstOpen returns plan ranks (inputs_of plan (sender_of plan line)) watch → HopsBy returns plan from line → rank_at ranks from ≡ None
     → (place : ℕ) × IsOpenLine ranks (inputs_of plan (sender_of plan line)) place from × (watch.first ≤ place)
 place_of_hop returns plan ranks watch line from places hop none =
@@ -56,7 +56,7 @@ place_of_hop returns plan ranks watch line from places hop none =
     ]
 
 -- where the first open input is of the line's bundle, it is at or behind the second
-place_behind : (returns : Returns) (plan : Topology) (ranks : Ranks) (watch : Watch) (line first from place : ℕ)
+place_behind : (returns : ReturnRule) (plan : Topology) (ranks : Ranks) (watch : OpenInputs) (line first from place : ℕ)
     → AreFirstOpen returns plan ranks (inputs_of plan (sender_of plan line)) watch → line_at (inputs_of plan (sender_of plan line)) watch.first ≡ Some first
     → number_in returns plan first ≡ number_out returns plan line → HopsBy returns plan from line → IsOpenLine ranks (inputs_of plan (sender_of plan line)) place from
     → watch.first ≤ place → watch.second ≤ place
@@ -80,7 +80,7 @@ in_order plan element place later one other order here there = elim (cases_eq pl
 ]
 
 -- the first open input is there
-pub first_there : (returns : Returns) (plan : Topology) (ranks : Ranks) (watch : Watch) (line : ℕ) → IsPeeledPlan returns plan ranks
+pub first_there : (returns : ReturnRule) (plan : Topology) (ranks : Ranks) (watch : OpenInputs) (line : ℕ) → IsPeeledPlan returns plan ranks
     → AreFirstOpen returns plan ranks (inputs_of plan (sender_of plan line)) watch → IsLeft plan ranks line → line_at (inputs_of plan (sender_of plan line)) watch.first ≡ None → ⊥
 first_there returns plan ranks watch line peeled places left none =
     let held = peeled.stuck line left.nominated left.unranked in
@@ -90,7 +90,7 @@ first_there returns plan ranks watch line peeled places left none =
     omega (arith, inside, end, at.2)
 
 -- one of another bundle is there where the first is of the line's own
-pub second_there : (returns : Returns) (plan : Topology) (ranks : Ranks) (watch : Watch) (line first : ℕ) → IsPeeledPlan returns plan ranks
+pub second_there : (returns : ReturnRule) (plan : Topology) (ranks : Ranks) (watch : OpenInputs) (line first : ℕ) → IsPeeledPlan returns plan ranks
     → AreFirstOpen returns plan ranks (inputs_of plan (sender_of plan line)) watch → IsLeft plan ranks line
     → line_at (inputs_of plan (sender_of plan line)) watch.first ≡ Some first → number_in returns plan first ≡ number_out returns plan line
     → line_at (inputs_of plan (sender_of plan line)) watch.second ≡ None → ⊥
@@ -107,14 +107,14 @@ left_at plan ranks line from place stands =
     let is = input_is plan (sender_of plan line) place from stands.here in
     record { nominated = is.0; within = IsNominated-within plan from is.0; unranked = stands.unranked }
 
-hops_at : (returns : Returns) (plan : Topology) (line from place : ℕ) → IsNominated plan line → line_at (inputs_of plan (sender_of plan line)) place ≡ Some from
+hops_at : (returns : ReturnRule) (plan : Topology) (line from place : ℕ) → IsNominated plan line → line_at (inputs_of plan (sender_of plan line)) place ≡ Some from
     → number_in returns plan from ≢ number_out returns plan line → HopsBy returns plan from line
 hops_at returns plan line from place nominated here apart =
     let is = input_is plan (sender_of plan line) place from here in
     hop_from returns plan from line is.0 nominated is.1 apart
 
 -- the first open input is before the line where it is of another bundle
-pub before_first : (returns : Returns) (plan : Topology) (ranks : Ranks) (watch : Watch) (line first : ℕ) → IsPeeledPlan returns plan ranks
+pub before_first : (returns : ReturnRule) (plan : Topology) (ranks : Ranks) (watch : OpenInputs) (line first : ℕ) → IsPeeledPlan returns plan ranks
     → AreFirstOpen returns plan ranks (inputs_of plan (sender_of plan line)) watch → IsLeft plan ranks line
     → line_at (inputs_of plan (sender_of plan line)) watch.first ≡ Some first → number_in returns plan first ≢ number_out returns plan line
     → IsLeft plan ranks first × IsBefore (hops_by returns plan) first line
@@ -133,7 +133,7 @@ before_first returns plan ranks watch line first peeled places left here apart =
     )
 
 -- and else the first open one of another bundle
-pub before_second : (returns : Returns) (plan : Topology) (ranks : Ranks) (watch : Watch) (line first second : ℕ) → IsPeeledPlan returns plan ranks
+pub before_second : (returns : ReturnRule) (plan : Topology) (ranks : Ranks) (watch : OpenInputs) (line first second : ℕ) → IsPeeledPlan returns plan ranks
     → AreFirstOpen returns plan ranks (inputs_of plan (sender_of plan line)) watch → IsLeft plan ranks line
     → line_at (inputs_of plan (sender_of plan line)) watch.first ≡ Some first → number_in returns plan first ≡ number_out returns plan line
     → line_at (inputs_of plan (sender_of plan line)) watch.second ≡ Some second
@@ -155,7 +155,7 @@ before_second returns plan ranks watch line first second peeled places left here
     )
 
 -- the lowest line that is left is the lowest of the residue
-pub lowest_left : (returns : Returns) (plan : Topology) (ranks : Ranks) (line : ℕ) → IsPeeledPlan returns plan ranks → IsLeft plan ranks line
+pub lowest_left : (returns : ReturnRule) (plan : Topology) (ranks : Ranks) (line : ℕ) → IsPeeledPlan returns plan ranks → IsLeft plan ranks line
     → ((other : ℕ) → IsLeft plan ranks other → line ≤ other) → IsLowestResidue (hops_by returns plan) line
 lowest_left returns plan ranks line peeled left low = record {
   residue = left_residue returns plan ranks line peeled left;
@@ -163,7 +163,7 @@ lowest_left returns plan ranks line peeled left low = record {
 }
 
 -- each line that is left has a line before it
-pub before_there : (returns : Returns) (plan : Topology) (ranks : Ranks) (line : ℕ) → IsPeeledPlan returns plan ranks → IsLeft plan ranks line
+pub before_there : (returns : ReturnRule) (plan : Topology) (ranks : Ranks) (line : ℕ) → IsPeeledPlan returns plan ranks → IsLeft plan ranks line
     → (before : ℕ) × IsBefore (hops_by returns plan) before line × IsLeft plan ranks before
 before_there returns plan ranks line peeled left = cases (find holds (range_with_len 0 (line_count plan))) refl
   where
@@ -205,7 +205,7 @@ before_there returns plan ranks line peeled left = cases (find holds (range_with
         )
 
 -- so one may go back for ever
-trail : (returns : Returns) (plan : Topology) (ranks : Ranks) (start : ℕ) → IsPeeledPlan returns plan ranks → IsLeft plan ranks start → (steps : ℕ)
+trail : (returns : ReturnRule) (plan : Topology) (ranks : Ranks) (start : ℕ) → IsPeeledPlan returns plan ranks → IsLeft plan ranks start → (steps : ℕ)
     → (line : ℕ) × StepsBack (hops_by returns plan) steps start line × IsLeft plan ranks line
 trail returns plan ranks start peeled left zero = (start, refl, left)
 trail returns plan ranks start peeled left (suc steps) =
@@ -214,7 +214,7 @@ trail returns plan ranks start peeled left (suc steps) =
     (next.0, (at.0, at.1, next.1), next.2)
 
 -- and after as many steps as there are lines one is on a ring
-pub round_there : (returns : Returns) (plan : Topology) (ranks : Ranks) (start on : ℕ) → IsPeeledPlan returns plan ranks → IsLeft plan ranks start
+pub round_there : (returns : ReturnRule) (plan : Topology) (ranks : Ranks) (start on : ℕ) → IsPeeledPlan returns plan ranks → IsLeft plan ranks start
     → StepsBack (hops_by returns plan) (line_count plan) start on → HasRound (hops_by returns plan) (line_count plan) on
 round_there returns plan ranks start on peeled left taken =
     comes_round (hops_by returns plan) (line_count plan) start on

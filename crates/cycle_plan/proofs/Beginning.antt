@@ -5,20 +5,20 @@ use Rattle.std.specs.List.{All}
 use Rattle.std.proofs.lemmas.Bool.{true≢false}
 use Rattle.std.proofs.lemmas.List.{length-replicate, get_or-replicate}
 use Rattle.std.proofs.lemmas.Option.{none-some, same_Some, slice_get_within, slice_get-get_or}
-use Rattle.sync_topo.specs.declared.returns.Returns.{Returns}
+use Rattle.sync_topo.specs.declared.returns.ReturnRule.{ReturnRule}
 use Rattle.sync_topo.specs.Topology.{Topology}
 use Rattle.sync_topo.specs.Lines.{line_count}
 use Rattle.rank_cert.specs.Ranks.{Ranks, rank_at}
-use Rattle.cycle_plan.specs.Peeling.{IsRanking, IsWatched, IsPeeling}
-use Rattle.cycle_plan.specs.declared.inputs.Watch.{Watch}
+use Rattle.cycle_plan.specs.private.Peeling.{IsRanking, IsWatched, IsPeeling}
+use Rattle.cycle_plan.specs.declared.inputs.OpenInputs.{OpenInputs}
 use Rattle.cycle_plan.specs.declared.ranking.Ranking.{Ranking}
 use Rattle.cycle_plan.proofs.OrderLemmas.{no_rank, nothing_ordered}
 
 -- the watch of an element that nobody has looked at
-abbrev pub unwatched : Watch
+abbrev pub unwatched : OpenInputs
 unwatched = record { first = 0; second = 0; back = false; done = false }
 
-new_watch : (returns : Returns) (plan : Topology) (ranks : Ranks) (element : ℕ) → IsWatched returns plan ranks element unwatched
+new_watch : (returns : ReturnRule) (plan : Topology) (ranks : Ranks) (element : ℕ) → IsWatched returns plan ranks element unwatched
 new_watch returns plan ranks element = record {
   watched = record {
     first_within = omega arith;
@@ -30,7 +30,7 @@ new_watch returns plan ranks element = record {
   done = λ never. absurd (true≢false (sym never));
 }
 
-no_ranks : (returns : Returns) (plan : Topology) (ranks : Ranks) → ranks ≡ replicate (line_count plan) None → IsRanking returns plan ranks
+no_ranks : (returns : ReturnRule) (plan : Topology) (ranks : Ranks) → ranks ≡ replicate (line_count plan) None → IsRanking returns plan ranks
 no_ranks returns plan ranks unranked = record {
   counted = ap length unranked ∙ length-replicate {A = Option ℕ} (line_count plan) None;
   exact = λ line rank ranked. absurd (never line rank ranked);
@@ -41,7 +41,7 @@ no_ranks returns plan ranks unranked = record {
     never : (line rank : ℕ) → rank_at ranks line ≡ Some rank → ⊥
     never line rank ranked = none-some rank (sym (ap (λ r. rank_at r line) unranked ∙ no_rank (line_count plan) line) ∙ ranked)
 
-pub peeling_new : (returns : Returns) (plan : Topology) (ranking : Ranking) → ranking.ranks ≡ replicate (line_count plan) None
+pub peeling_new : (returns : ReturnRule) (plan : Topology) (ranking : Ranking) → ranking.ranks ≡ replicate (line_count plan) None
     → ranking.watches.items ≡ replicate (length plan.elements) unwatched → All (λ element. element < length plan.elements) ranking.waiting.items
     → ranking.order.items ≡ [] → IsPeeling returns plan ranking
 peeling_new returns plan ranking unranked watches waiting order = record {

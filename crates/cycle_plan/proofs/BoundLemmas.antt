@@ -16,7 +16,7 @@ use Rattle.sync_topo.proofs.LineNames.{link_there}
 use Rattle.net_rules.specs.Settling.{IsRankOver, IsWait, IsGreatest}
 use Rattle.rank_cert.specs.Ranks.{Ranks, rank_at}
 use Rattle.cycle_plan.proofs.Walks.{one_least, residue_nominated}
-use Rattle.cycle_plan.specs.BoundParts.{IsRankBelow, IsWaitBelow}
+use Rattle.cycle_plan.specs.private.BoundParts.{IsRankBelow, IsWaitBelow}
 
 -- one line more
 pub rank-more : (plan : Topology) (ranks : Ranks) (n greatest : ℕ) → IsRankBelow plan ranks n greatest

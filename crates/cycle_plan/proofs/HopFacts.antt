@@ -13,14 +13,14 @@ use Rattle.sync_topo.specs.Lines.{line_count, is_nominated, IsNominated, receive
 use Rattle.sync_topo.proofs.LineLaws.{IsNominated-within}
 use Rattle.sync_topo.specs.declared.input.InputId.{InputId}
 use Rattle.sync_topo.specs.declared.input.InputId.TheVariants.{Source}
-use Rattle.sync_topo.specs.declared.returns.Returns.{Returns}
-use Rattle.sync_topo.specs.declared.returns.Returns.TheVariants.{Barred, Allowed, BarredFromLast}
+use Rattle.sync_topo.specs.declared.returns.ReturnRule.{ReturnRule}
+use Rattle.sync_topo.specs.declared.returns.ReturnRule.TheVariants.{Barred, Allowed, BarredFromLast}
 use Rattle.sync_topo.specs.Bundles.{line_bundle, are_bundled}
 use Rattle.sync_topo.specs.Hops.{hops_any, is_last_resort, HopsBy}
 use Rattle.sync_topo.proofs.HopLaws.{hop-meets, hop-any-from}
 use Rattle.sync_topo.proofs.KeptNumbers.{kept_in_range, kept_passes, kept_rises}
-use Rattle.cycle_plan.specs.Numbers.{number_in, number_out}
-use Rattle.cycle_plan.specs.Inputs.{line_of, line_at, AreWithin}
+use Rattle.cycle_plan.specs.private.Numbers.{number_in, number_out}
+use Rattle.cycle_plan.specs.private.Inputs.{line_of, line_at, AreWithin}
 
 -- the lines among inputs are those in front
 lines_in_front : (lines sources : List ℕ) (place : ℕ) → line_at (map line_input lines ++ map Source sources) place ≡ slice_get lines place
@@ -88,12 +88,12 @@ last_by true one other differ = rw (ne_eqb one other (λ same. differ (ap (λ n.
 last_by false one other differ = not_from_false (one == other && false) (and-false (one == other))
 
 -- what a hop says
-pub hop_parts : (returns : Returns) (plan : Topology) (line next : ℕ) → HopsBy returns plan line next
+pub hop_parts : (returns : ReturnRule) (plan : Topology) (line next : ℕ) → HopsBy returns plan line next
     → IsNominated plan line × IsNominated plan next × (receiver_of plan line ≡ sender_of plan next) × (number_in returns plan line ≢ number_out returns plan next)
 hop_parts returns plan line next hop =
     let meets = hop-meets returns plan line next hop in (meets.from, meets.to, meets.joined, apart returns hop)
   where
-    apart : (rule : Returns) → HopsBy rule plan line next → number_in rule plan line ≢ number_out rule plan next
+    apart : (rule : ReturnRule) → HopsBy rule plan line next → number_in rule plan line ≢ number_out rule plan next
     apart Barred over =
         let ends = and_parts (is_nominated plan line && is_nominated plan next && nat_eq (receiver_of plan line) (sender_of plan next)) (not (are_bundled plan line next)) over in
         eqb-false _ _ (not-true (line_bundle plan line == line_bundle plan next) ends.1)
@@ -102,14 +102,14 @@ hop_parts returns plan line next hop =
         last_apart (is_last_resort plan line) (line_bundle plan line) (line_bundle plan next)
         (and_parts (hops_any plan line next) (not (are_bundled plan line next && is_last_resort plan line)) over).1
 
-pub hop_from : (returns : Returns) (plan : Topology) (line next : ℕ) → IsNominated plan line → IsNominated plan next → receiver_of plan line ≡ sender_of plan next
+pub hop_from : (returns : ReturnRule) (plan : Topology) (line next : ℕ) → IsNominated plan line → IsNominated plan next → receiver_of plan line ≡ sender_of plan next
     → number_in returns plan line ≢ number_out returns plan next → HopsBy returns plan line next
 hop_from returns plan line next nominated next_nominated meets apart = by returns apart
   where
     meet : hops_any plan line next ≡ true
     meet = hop-any-from plan line next nominated next_nominated meets
 
-    by : (rule : Returns) → number_in rule plan line ≢ number_out rule plan next → HopsBy rule plan line next
+    by : (rule : ReturnRule) → number_in rule plan line ≢ number_out rule plan next → HopsBy rule plan line next
     by Barred differ =
         both_true {s = hops_any plan line next} {t = not (are_bundled plan line next)}
         meet (not_from_false (line_bundle plan line == line_bundle plan next) (ne_eqb _ _ differ))

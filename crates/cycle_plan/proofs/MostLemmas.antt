@@ -6,14 +6,14 @@ use Rattle.std.proofs.lemmas.Bool.{true≢false, cases_lt, leb-true, leb-false, 
 use Rattle.std.proofs.lemmas.Option.{none-some, same_Some}
 use Rattle.std.proofs.lemmas.List.Sums.{sum_by-cons}
 use Rattle.sync_topo.specs.declared.input.LineId.{LineId}
-use Rattle.sync_topo.specs.declared.returns.Returns.TheVariants.{Barred}
+use Rattle.sync_topo.specs.declared.returns.ReturnRule.TheVariants.{Barred}
 use Rattle.sync_topo.specs.Topology.{Topology}
 use Rattle.sync_topo.specs.Lines.{IsNominated, sender_of, receiver_of}
 use Rattle.sync_topo.specs.Bundles.{line_bundle}
 use Rattle.sync_topo.specs.Hops.{Hops}
 use Rattle.reach_rules.specs.Chains.{begins_at_filter, LeadTo, IsChain, since_of, clocks_of, IsGreatestOf}
-use Rattle.cycle_plan.specs.Peeling.{line_in, IsAmongFirst}
-use Rattle.cycle_plan.specs.Mosts.{is_most, most_but, raised_most, IsCounted, IsMost, links_step, since_step, clocks_step}
+use Rattle.cycle_plan.specs.private.Peeling.{line_in, IsAmongFirst}
+use Rattle.cycle_plan.specs.private.Mosts.{is_most, most_but, raised_most, IsCounted, IsMost, links_step, since_step, clocks_step}
 use Rattle.cycle_plan.specs.declared.most.Most.{Most}
 use Rattle.cycle_plan.proofs.HopFacts.{hop_parts, hop_from}
 

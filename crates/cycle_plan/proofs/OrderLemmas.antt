@@ -7,13 +7,13 @@ use Rattle.std.proofs.lemmas.Option.{none-some, same_Some, slice_get_past, slice
 use Rattle.std.proofs.lemmas.List.{length-replicate, get_or-replicate}
 use Rattle.std.proofs.lemmas.List.Sums.{count_by-le-length}
 use Rattle.sync_topo.specs.declared.input.LineId.{LineId}
-use Rattle.sync_topo.specs.declared.returns.Returns.{Returns}
+use Rattle.sync_topo.specs.declared.returns.ReturnRule.{ReturnRule}
 use Rattle.sync_topo.specs.Topology.{Topology}
 use Rattle.sync_topo.specs.Lines.{line_count, IsNominated}
 use Rattle.sync_topo.specs.Hops.{HopsBy, hops_by}
 use Rattle.sync_topo.proofs.Lists.{slice_get-push_before, slice_get-push_last}
 use Rattle.rank_cert.specs.Ranks.{Ranks, rank_at}
-use Rattle.cycle_plan.specs.Peeling.{IsNext, left_over, line_in, IsAmongFirst, IsOrder}
+use Rattle.cycle_plan.specs.private.Peeling.{IsNext, left_over, line_in, IsAmongFirst, IsOrder}
 
 abbrev number : LineId → ℕ
 number line = line.0
@@ -49,7 +49,7 @@ first-more order line n m other inside more first = record {
 }
 
 -- one line more that has a rank, to which only lines with ranks hop
-pub IsOrder-given : (returns : Returns) (plan : Topology) (before after : Ranks) (order : List LineId) (line : LineId) (rank : ℕ)
+pub IsOrder-given : (returns : ReturnRule) (plan : Topology) (before after : Ranks) (order : List LineId) (line : LineId) (rank : ℕ)
     → IsOrder returns plan before order → IsNominated plan line.0 → left_over after + 1 ≡ left_over before → IsNext (hops_by returns plan) (rank_at before) line.0 rank
     → ((other : ℕ) → (other ≡ line.0 → ⊥) → rank_at after other ≡ rank_at before other)
     → IsOrder returns plan after (order ++ line ∷ [])
@@ -86,7 +86,7 @@ no_rank n line = elim (cases_lt line n) [
 ]
 
 -- without ranks nothing is ordered
-pub nothing_ordered : (returns : Returns) (plan : Topology) (ranks : Ranks) (order : List LineId) → ranks ≡ replicate (line_count plan) None → order ≡ [] → IsOrder returns plan ranks order
+pub nothing_ordered : (returns : ReturnRule) (plan : Topology) (ranks : Ranks) (order : List LineId) → ranks ≡ replicate (line_count plan) None → order ≡ [] → IsOrder returns plan ranks order
 nothing_ordered returns plan ranks order unranked none = record {
   few = omega (arith, count_by-le-length is_none ranks, ap length unranked, length-replicate {A = Option ℕ} (line_count plan) None, ap length none);
   only = λ place line there. absurd (none-some line (ap (λ o. line_in o place) (sym none) ∙ there));

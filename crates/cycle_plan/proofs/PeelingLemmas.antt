@@ -13,11 +13,11 @@ use Rattle.sync_topo.specs.Ranks.{HopTest}
 use Rattle.sync_topo.specs.Lines.{line_count, line_id, IsNominated, receiver_of, sender_of, inputs_of}
 use Rattle.rank_cert.specs.Ranks.{Ranks, rank_at}
 use Rattle.sync_topo.specs.declared.input.InputId.{InputId}
-use Rattle.sync_topo.specs.declared.returns.Returns.{Returns}
+use Rattle.sync_topo.specs.declared.returns.ReturnRule.{ReturnRule}
 use Rattle.sync_topo.specs.Hops.{HopsBy, hops_by}
-use Rattle.cycle_plan.specs.Inputs.{line_at, is_open, IsOpenLine, IsWatch}
-use Rattle.cycle_plan.specs.Peeling.{IsOpenInto, IsNext, left_over, IsRanking, IsPeeling, IsMore}
-use Rattle.cycle_plan.specs.declared.inputs.Watch.{Watch}
+use Rattle.cycle_plan.specs.private.Inputs.{line_at, is_open, IsOpenLine, AreOpenInputs}
+use Rattle.cycle_plan.specs.private.Peeling.{IsOpenInto, IsNext, left_over, IsRanking, IsPeeling, IsMore}
+use Rattle.cycle_plan.specs.declared.inputs.OpenInputs.{OpenInputs}
 use Rattle.cycle_plan.specs.declared.ranking.Ranking.{Ranking}
 use Rattle.cycle_plan.proofs.HopFacts.{hop_parts}
 use Rattle.cycle_plan.proofs.OrderLemmas.{IsOrder-given}
@@ -79,9 +79,9 @@ pub IsOpenInto-grows : (plan : Topology) (before after : Ranks) (element line : 
 IsOpenInto-grows plan before after element line grows stands =
     record { nominated = stands.nominated; into = stands.into; unranked = fewer (rank_at before) (rank_at after) grows line stands.unranked }
 
-IsWatch-grows : (returns : Returns) (plan : Topology) (before after : Ranks) (inputs : List InputId) (watch : Watch) → Grows (rank_at before) (rank_at after)
-    → IsWatch returns plan before inputs watch → IsWatch returns plan after inputs watch
-IsWatch-grows returns plan before after inputs watch grows watched = record {
+AreOpenInputs-grows : (returns : ReturnRule) (plan : Topology) (before after : Ranks) (inputs : List InputId) (watch : OpenInputs) → Grows (rank_at before) (rank_at after)
+    → AreOpenInputs returns plan before inputs watch → AreOpenInputs returns plan after inputs watch
+AreOpenInputs-grows returns plan before after inputs watch grows watched = record {
   first_within = watched.first_within;
   second_within = watched.second_within;
   before = λ place low. closed-grows before after inputs place grows (watched.before place low);
@@ -105,14 +105,14 @@ Grows-given plan before after line rank none given other lower ranked = elim (ca
 ]
 
 -- a rank is below what is left of the lines
-below-given : (returns : Returns) (plan : Topology) (before : Ranks) (line rank left : ℕ) → IsRanking returns plan before → IsNext (hops_by returns plan) (rank_at before) line rank
+below-given : (returns : ReturnRule) (plan : Topology) (before : Ranks) (line rank left : ℕ) → IsRanking returns plan before → IsNext (hops_by returns plan) (rank_at before) line rank
     → left + 1 ≡ left_over before → rank + left < line_count plan
 below-given returns plan before line rank left ranking next less = elim next.reached [
   | inl zero_rank ↦ let all = count_by-le-length is_none before in omega (arith, zero_rank, all, less, ranking.counted)
   | inr some ↦ let low = ranking.below some.0 some.1 some.3 in omega (arith, some.4, low, less)
 ]
 
-IsRanking-given : (returns : Returns) (plan : Topology) (before after : Ranks) (line rank : ℕ) → IsRanking returns plan before → IsNominated plan line → line < line_count plan
+IsRanking-given : (returns : ReturnRule) (plan : Topology) (before after : Ranks) (line rank : ℕ) → IsRanking returns plan before → IsNominated plan line → line < line_count plan
     → rank_at before line ≡ None → IsNext (hops_by returns plan) (rank_at before) line rank → IsGiven plan before after line rank → IsRanking returns plan after
 IsRanking-given returns plan before after line rank ranking nominated within none next given =
     let grows = Grows-given plan before after line rank none given in
@@ -144,7 +144,7 @@ IsRanking-given returns plan before after line rank ranking nominated within non
     }
 
 -- one more line is ranked, and its receiver waits
-pub IsMore-given : (returns : Returns) (plan : Topology) (before after : Ranking) (line rank : ℕ) → IsPeeling returns plan before → IsNominated plan line → line < line_count plan
+pub IsMore-given : (returns : ReturnRule) (plan : Topology) (before after : Ranking) (line rank : ℕ) → IsPeeling returns plan before → IsNominated plan line → line < line_count plan
     → rank_at before.ranks line ≡ None → IsNext (hops_by returns plan) (rank_at before.ranks) line rank → IsGiven plan before.ranks after.ranks line rank
     → receiver_of plan line < length plan.elements → after.waiting.items ≡ before.waiting.items ++ receiver_of plan line ∷ [] → after.watches ≡ before.watches
     → after.order.items ≡ before.order.items ++ line_id line ∷ [] → IsMore returns plan before after
@@ -159,7 +159,7 @@ IsMore-given returns plan before after line rank peeling nominated within none n
         watched = λ element watch there.
             let was = peeling.watched element watch (subst (λ w. slice_get w.items element ≡ Some watch) watches there) in
             record {
-              watched = IsWatch-grows returns plan before.ranks after.ranks (inputs_of plan element) watch grows was.watched;
+              watched = AreOpenInputs-grows returns plan before.ranks after.ranks (inputs_of plan element) watch grows was.watched;
               back = λ is_back other from other_nominated sent stands bundles left.
                   was.back is_back other from other_nominated sent (IsOpenInto-grows plan before.ranks after.ranks element from grows stands) bundles
                   (fewer (rank_at before.ranks) (rank_at after.ranks) grows other left);

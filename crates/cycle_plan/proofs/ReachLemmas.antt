@@ -6,7 +6,7 @@ use Rattle.std.proofs.lemmas.Bool.{cases_eq}
 use Rattle.std.proofs.lemmas.List.{length-replicate, get_or-replicate, length-set, length-map}
 use Rattle.std.proofs.lemmas.Option.{none-some, same_Some, slice_get_within, slice_get-get_or, slice_get_read, slice_get-map}
 use Rattle.sync_topo.specs.declared.input.LineId.{LineId}
-use Rattle.sync_topo.specs.declared.returns.Returns.TheVariants.{Barred}
+use Rattle.sync_topo.specs.declared.returns.ReturnRule.TheVariants.{Barred}
 use Rattle.sync_topo.specs.Topology.{Topology}
 use Rattle.sync_topo.specs.Lines.{line_count, IsNominated, sender_of, receiver_of}
 use Rattle.sync_topo.specs.Bundles.{line_bundle}
@@ -17,8 +17,9 @@ use Rattle.sync_topo.proofs.Lists.{slice_get-set_same, slice_get-set_other}
 use Rattle.rank_cert.specs.Ranks.{Ranks, rank_at}
 use Rattle.reach_rules.specs.declared.chain.Chain.{Chain}
 use Rattle.reach_rules.specs.Chains.{is_filter, begins_at_filter, since_of, clocks_of, IsRow, AreRows}
-use Rattle.cycle_plan.specs.Peeling.{line_in, IsAmongFirst, IsOrder}
-use Rattle.cycle_plan.specs.Mosts.{no_most, no_reach, most_but, raised_most, IsMost, IsReach, AreReaches, links_step, since_step, clocks_step, over, raised_reach, row_of}
+use Rattle.cycle_plan.specs.private.Peeling.{line_in, IsAmongFirst, IsOrder}
+use Rattle.cycle_plan.specs.Mosts.{row_of}
+use Rattle.cycle_plan.specs.private.Mosts.{no_most, no_reach, most_but, raised_most, IsMost, IsReach, AreReaches, links_step, since_step, clocks_step, over, raised_reach}
 use Rattle.cycle_plan.specs.declared.most.Most.{Most}
 use Rattle.cycle_plan.specs.declared.reach.Reach.{Reach}
 use Rattle.cycle_plan.proofs.Walks.{some_rank}

@@ -7,7 +7,7 @@ use Rattle.std.proofs.lemmas.List.Elements.{All-cons}
 use Rattle.sync_topo.specs.declared.input.LineId.{LineId}
 use Rattle.sync_topo.specs.Ranks.{HopTest, IsBefore, StepsBack, IsLowestResidue, IsFirstCycleFrom}
 use Rattle.sync_topo.specs.Lines.{numbers}
-use Rattle.cycle_plan.specs.Rings.{HasRound, IsLowOn, IsLowest, IsWalked}
+use Rattle.cycle_plan.specs.private.Rings.{HasRound, IsLowOn, IsLowest, IsWalked}
 use Rattle.cycle_plan.proofs.Back.{back_same, back_at, back_add, back_rest, round_kept}
 
 -- one more step

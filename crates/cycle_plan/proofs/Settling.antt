@@ -3,9 +3,9 @@ use Rattle.std.proofs.Common.{◌≡◌, ℕ, zero, suc, ◌<◌, ◌≤◌, Boo
 use Rattle.std.specs.Prelude.{◌≢◌, slice_get, slice_set, if◌then◌else◌}
 use Rattle.std.specs.List.{Contains}
 use Rattle.std.proofs.lemmas.List.Elements.{Contains-append_cases}
-use Rattle.sync_topo.specs.declared.returns.Returns.{Returns}
+use Rattle.sync_topo.specs.declared.returns.ReturnRule.{ReturnRule}
 use Rattle.sync_topo.specs.Hops.{HopsBy, hops_by}
-use Rattle.cycle_plan.specs.Numbers.{number_in, number_out}
+use Rattle.cycle_plan.specs.private.Numbers.{number_in, number_out}
 use Rattle.std.proofs.lemmas.Bool.{cases_lt, cases_eq, eqb-true}
 use Rattle.std.proofs.lemmas.List.{get_or-set_same, get_or-set_other, length-set}
 use Rattle.std.proofs.lemmas.Option.{same_Some, slice_get-get_or, slice_get_within}
@@ -15,25 +15,25 @@ use Rattle.sync_topo.specs.Lines.{is_nominated, IsNominated, sender_of, inputs_o
 use Rattle.sync_topo.proofs.LineLaws.{IsNominated-within}
 use Rattle.rank_cert.specs.Ranks.{Ranks, rank_at}
 use Rattle.sync_topo.specs.declared.input.InputId.{InputId}
-use Rattle.cycle_plan.specs.Inputs.{line_at, IsOpenLine, AreFirstOpen}
-use Rattle.cycle_plan.specs.Tops.{AreSmall, IsRankedAt, IsTop, rank_after, is_top}
-use Rattle.cycle_plan.specs.Peeling.{IsNext, IsRanking, IsOpenInto, IsWatched, IsPeeling, IsHeld, AreKept, IsMore, IsSettled, IsAmong, AreFree, AreNext, IsTopOf, IsPeeled}
-use Rattle.cycle_plan.specs.declared.inputs.Watch.{Watch}
+use Rattle.cycle_plan.specs.private.Inputs.{line_at, IsOpenLine, AreFirstOpen}
+use Rattle.cycle_plan.specs.private.Tops.{AreSmall, IsRankedAt, IsTop, rank_after, is_top}
+use Rattle.cycle_plan.specs.private.Peeling.{IsNext, IsRanking, IsOpenInto, IsWatched, IsPeeling, IsHeld, AreKept, IsMore, IsSettled, IsAmong, AreFree, AreNext, IsTopOf, IsPeeled}
+use Rattle.cycle_plan.specs.declared.inputs.OpenInputs.{OpenInputs}
 use Rattle.cycle_plan.specs.declared.ranking.Ranking.{Ranking}
-use Rattle.cycle_plan.specs.declared.top.Top.{Top}
+use Rattle.cycle_plan.specs.declared.top.GreatestRanks.{GreatestRanks}
 use Rattle.cycle_plan.proofs.HopFacts.{line_at_within, hop_parts, hop_from, input_place, input_is, ends_apart}
 use Rattle.cycle_plan.proofs.PeelingLemmas.{Grows, fewer, IsNext-grows, IsOpenInto-grows}
 use Rattle.cycle_plan.proofs.TopLemmas.{is_top-Some, is_top-other}
 use Rattle.cycle_plan.proofs.WatchLemmas.{open_line, closed_line, line_at_open, past_end}
 
 -- ranks are below the number of lines
-pub small : (returns : Returns) (plan : Topology) (ranks : Ranks) → IsWellFormed plan → IsRanking returns plan ranks → AreSmall ranks
+pub small : (returns : ReturnRule) (plan : Topology) (ranks : Ranks) → IsWellFormed plan → IsRanking returns plan ranks → AreSmall ranks
 small returns plan ranks well_formed ranking line rank ranked =
     let below = ranking.below line rank ranked in
     omega (arith, below, well_formed.few_links)
 
 -- a line without a rank into an element holds each line out of it, but those of its own bundle
-held_by : (returns : Returns) (plan : Topology) (ranks : Ranks) (element line from : ℕ) → IsNominated plan line → sender_of plan line ≡ element
+held_by : (returns : ReturnRule) (plan : Topology) (ranks : Ranks) (element line from : ℕ) → IsNominated plan line → sender_of plan line ≡ element
     → IsOpenInto plan ranks element from → number_in returns plan from ≢ number_out returns plan line → IsHeld returns plan ranks line
 held_by returns plan ranks element line from nominated sent stands apart =
     (from, hop_from returns plan from line stands.nominated nominated (stands.into ∙ sym sent) apart, stands.unranked)
@@ -52,7 +52,7 @@ open_place plan ranks element line stands =
     (at.0, record { here = at.1; unranked = stands.unranked })
 
 -- two open inputs of two bundles hold every line out of the element
-pub settled_by_two : (returns : Returns) (plan : Topology) (ranks : Ranks) (element : ℕ) (watch : Watch) → AreFirstOpen returns plan ranks (inputs_of plan element) watch
+pub settled_by_two : (returns : ReturnRule) (plan : Topology) (ranks : Ranks) (element : ℕ) (watch : OpenInputs) → AreFirstOpen returns plan ranks (inputs_of plan element) watch
     → watch.second < length (inputs_of plan element) → IsSettled returns plan ranks element
 settled_by_two returns plan ranks element watch places two line nominated sent none =
     let inputs : List InputId = inputs_of plan element in
@@ -68,11 +68,11 @@ settled_by_two returns plan ranks element watch places two line nominated sent n
     ]
 
 -- an element that is done holds nothing
-pub settled_if_done : (returns : Returns) (plan : Topology) (ranks : Ranks) (element : ℕ) (watch : Watch) → IsWatched returns plan ranks element watch → watch.done ≡ true → IsSettled returns plan ranks element
+pub settled_if_done : (returns : ReturnRule) (plan : Topology) (ranks : Ranks) (element : ℕ) (watch : OpenInputs) → IsWatched returns plan ranks element watch → watch.done ≡ true → IsSettled returns plan ranks element
 settled_if_done returns plan ranks element watch watched done line nominated sent none = absurd (watched.done done line nominated sent none)
 
 -- where all open inputs are of one bundle, each line into the element without a rank is of it
-pub open_of_bundle : (returns : Returns) (plan : Topology) (ranks : Ranks) (element : ℕ) (watch : Watch) (last line : ℕ) → AreFirstOpen returns plan ranks (inputs_of plan element) watch
+pub open_of_bundle : (returns : ReturnRule) (plan : Topology) (ranks : Ranks) (element : ℕ) (watch : OpenInputs) (last line : ℕ) → AreFirstOpen returns plan ranks (inputs_of plan element) watch
     → length (inputs_of plan element) ≤ watch.second → line_at (inputs_of plan element) watch.first ≡ Some last → IsOpenInto plan ranks element line
     → number_in returns plan line ≡ number_in returns plan last
 open_of_bundle returns plan ranks element watch last line places one here stands =
@@ -88,7 +88,7 @@ open_of_bundle returns plan ranks element watch last line places one here stands
     ]
 
 -- with no open input, no line into the element is without a rank
-pub none_open : (returns : Returns) (plan : Topology) (ranks : Ranks) (element : ℕ) (watch : Watch) (line : ℕ) → AreFirstOpen returns plan ranks (inputs_of plan element) watch
+pub none_open : (returns : ReturnRule) (plan : Topology) (ranks : Ranks) (element : ℕ) (watch : OpenInputs) (line : ℕ) → AreFirstOpen returns plan ranks (inputs_of plan element) watch
     → line_at (inputs_of plan element) watch.first ≡ None → IsOpenInto plan ranks element line → ⊥
 none_open returns plan ranks element watch line places none stands =
     let inputs : List InputId = inputs_of plan element in
@@ -98,14 +98,14 @@ none_open returns plan ranks element watch line places none stands =
     closed_line ranks inputs at.0 line (places.watched.before at.0 (omega (arith, inside, end))) at.1
 
 -- then each line out of the element is free
-pub free_all : (returns : Returns) (plan : Topology) (ranks : Ranks) (element : ℕ) (watch : Watch) → AreFirstOpen returns plan ranks (inputs_of plan element) watch
+pub free_all : (returns : ReturnRule) (plan : Topology) (ranks : Ranks) (element : ℕ) (watch : OpenInputs) → AreFirstOpen returns plan ranks (inputs_of plan element) watch
     → line_at (inputs_of plan element) watch.first ≡ None → AreFree returns plan ranks element None
 free_all returns plan ranks element watch places none line from nominated sent among hop left =
     let parts = hop_parts returns plan from line hop in
     none_open returns plan ranks element watch from places none (record { nominated = parts.0; into = parts.2 ∙ sent; unranked = left })
 
 -- and where all open inputs are of one bundle, those of this bundle are
-pub free_of_bundle : (returns : Returns) (plan : Topology) (ranks : Ranks) (element : ℕ) (watch : Watch) (last : ℕ) → AreFirstOpen returns plan ranks (inputs_of plan element) watch
+pub free_of_bundle : (returns : ReturnRule) (plan : Topology) (ranks : Ranks) (element : ℕ) (watch : OpenInputs) (last : ℕ) → AreFirstOpen returns plan ranks (inputs_of plan element) watch
     → length (inputs_of plan element) ≤ watch.second → line_at (inputs_of plan element) watch.first ≡ Some last
     → AreFree returns plan ranks element (Some (number_in returns plan last))
 free_of_bundle returns plan ranks element watch last places one here line from nominated sent among hop left =
@@ -114,7 +114,7 @@ free_of_bundle returns plan ranks element watch last places one here line from n
     parts.3 (bundles ∙ sym (eqb-true _ _ among))
 
 -- once the lines out over the bundle of an open input have ranks, this input holds all others
-pub settled_by_one : (returns : Returns) (plan : Topology) (ranks : Ranks) (element last : ℕ) → IsOpenInto plan ranks element last
+pub settled_by_one : (returns : ReturnRule) (plan : Topology) (ranks : Ranks) (element last : ℕ) → IsOpenInto plan ranks element last
     → ((line : ℕ) → IsNominated plan line → sender_of plan line ≡ element → number_in returns plan last ≡ number_out returns plan line → rank_at ranks line ≢ None)
     → IsSettled returns plan ranks element
 settled_by_one returns plan ranks element last stands given line nominated sent left = elim (cases_eq (number_in returns plan last) (number_out returns plan line)) [
@@ -123,7 +123,7 @@ settled_by_one returns plan ranks element last stands given line nominated sent 
 ]
 
 -- the rank after the top is the next
-pub IsTopOf-from : (returns : Returns) (plan : Topology) (ranks : Ranks) (element : ℕ) (top : Top) → IsRanking returns plan ranks
+pub IsTopOf-from : (returns : ReturnRule) (plan : Topology) (ranks : Ranks) (element : ℕ) (top : GreatestRanks) → IsRanking returns plan ranks
     → IsTop returns plan ranks (inputs_of plan element) (length (inputs_of plan element)) top → IsTopOf returns plan ranks element top
 IsTopOf-from returns plan ranks element top ranking is_top_of line nominated sent ranked =
     cases (is_top top (number_out returns plan line)) refl
@@ -186,22 +186,22 @@ IsTopOf-from returns plan ranks element top ranking is_top_of line nominated sen
     }
 
 -- the lines that are meant come next after the top
-pub AreNext-top : (returns : Returns) (plan : Topology) (ranks : Ranks) (element : ℕ) (only : Option ℕ) (top : Top) → IsTopOf returns plan ranks element top → AreFree returns plan ranks element only
+pub AreNext-top : (returns : ReturnRule) (plan : Topology) (ranks : Ranks) (element : ℕ) (only : Option ℕ) (top : GreatestRanks) → IsTopOf returns plan ranks element top → AreFree returns plan ranks element only
     → AreNext returns plan ranks element only top
 AreNext-top returns plan ranks element only top is_top free line nominated sent among =
     is_top line nominated sent (λ from hop. free line from nominated sent among hop)
 
 -- what is said of the next ranks stays so
-pub AreNext-grows : (returns : Returns) (plan : Topology) (before after : Ranks) (element : ℕ) (only : Option ℕ) (top : Top) → Grows (rank_at before) (rank_at after)
+pub AreNext-grows : (returns : ReturnRule) (plan : Topology) (before after : Ranks) (element : ℕ) (only : Option ℕ) (top : GreatestRanks) → Grows (rank_at before) (rank_at after)
     → AreNext returns plan before element only top → AreNext returns plan after element only top
 AreNext-grows returns plan before after element only top grows next line nominated sent among =
     IsNext-grows (hops_by returns plan) (rank_at before) (rank_at after) line (rank_after top (number_out returns plan line)) grows (next line nominated sent among)
 
 -- more and yet more
-pub IsMore-same : (returns : Returns) (plan : Topology) (ranking : Ranking) → IsPeeling returns plan ranking → IsMore returns plan ranking ranking
+pub IsMore-same : (returns : ReturnRule) (plan : Topology) (ranking : Ranking) → IsPeeling returns plan ranking → IsMore returns plan ranking ranking
 IsMore-same returns plan ranking peeling = record { peeling = peeling; grows = λ line rank ranked. ranked; keeps = λ line kept. kept; work = omega arith }
 
-pub IsMore-trans : (returns : Returns) (plan : Topology) (one two three : Ranking) → IsMore returns plan one two → IsMore returns plan two three → IsMore returns plan one three
+pub IsMore-trans : (returns : ReturnRule) (plan : Topology) (one two three : Ranking) → IsMore returns plan one two → IsMore returns plan two three → IsMore returns plan one three
 IsMore-trans returns plan one two three first second = record {
   peeling = second.peeling;
   grows = λ line rank ranked. second.grows line rank (first.grows line rank ranked);
@@ -210,7 +210,7 @@ IsMore-trans returns plan one two three first second = record {
 }
 
 -- an element's watch is set
-pub IsMore-watch : (returns : Returns) (plan : Topology) (before after : Ranking) (element : ℕ) (watch : Watch) → IsPeeling returns plan before → element < length plan.elements
+pub IsMore-watch : (returns : ReturnRule) (plan : Topology) (before after : Ranking) (element : ℕ) (watch : OpenInputs) → IsPeeling returns plan before → element < length plan.elements
     → IsWatched returns plan before.ranks element watch → after.ranks ≡ before.ranks → after.waiting ≡ before.waiting
     → after.watches.items ≡ slice_set before.watches.items element watch → after.order ≡ before.order → IsMore returns plan before after
 IsMore-watch returns plan before after element watch peeling within watched ranks waiting watches order = record {
@@ -245,7 +245,7 @@ IsMore-watch returns plan before after element watch peeling within watched rank
 }
 
 -- what is known of an element's new watch
-pub IsWatched-new : (returns : Returns) (plan : Topology) (ranks : Ranks) (element : ℕ) (old new : Watch) → IsWatched returns plan ranks element old → AreFirstOpen returns plan ranks (inputs_of plan element) new
+pub IsWatched-new : (returns : ReturnRule) (plan : Topology) (ranks : Ranks) (element : ℕ) (old new : OpenInputs) → IsWatched returns plan ranks element old → AreFirstOpen returns plan ranks (inputs_of plan element) new
     → new.back ≡ old.back → new.done ≡ old.done → IsWatched returns plan ranks element new
 IsWatched-new returns plan ranks element old new was places back done = record {
   watched = places.watched;
@@ -254,7 +254,7 @@ IsWatched-new returns plan ranks element old new was places back done = record {
 }
 
 -- what is kept after an element was taken from the waiting ones and settled
-pub kept_after : (returns : Returns) (plan : Topology) (before taken after : Ranking) (element : ℕ) → AreKept returns plan before → taken.ranks ≡ before.ranks
+pub kept_after : (returns : ReturnRule) (plan : Topology) (before taken after : Ranking) (element : ℕ) → AreKept returns plan before → taken.ranks ≡ before.ranks
     → before.waiting.items ≡ taken.waiting.items ++ element ∷ [] → IsMore returns plan taken after → IsSettled returns plan after.ranks element → AreKept returns plan after
 kept_after returns plan before taken after element kept ranks waiting more settled line nominated left =
     let had : rank_at taken.ranks line ≡ None = fewer (rank_at taken.ranks) (rank_at after.ranks) more.grows line left in
@@ -271,7 +271,7 @@ kept_after returns plan before taken after element kept ranks waiting more settl
     only_one one other (suc place, low, is) = absurd (omega arith)
 
 -- once no element waits, all that can be ranked is ranked
-pub peeled_at_end : (returns : Returns) (plan : Topology) (ranking : Ranking) → IsPeeling returns plan ranking → AreKept returns plan ranking → length ranking.waiting.items ≡ 0
+pub peeled_at_end : (returns : ReturnRule) (plan : Topology) (ranking : Ranking) → IsPeeling returns plan ranking → AreKept returns plan ranking → length ranking.waiting.items ≡ 0
     → IsPeeled (hops_by returns plan) (is_nominated plan) (rank_at ranking.ranks)
 peeled_at_end returns plan ranking peeling kept none = record {
   exact = peeling.ranked.exact;
@@ -283,7 +283,7 @@ peeled_at_end returns plan ranking peeling kept none = record {
 }
 
 -- the line at the first open place has no rank
-pub first_line : (returns : Returns) (plan : Topology) (ranks : Ranks) (element : ℕ) (watch : Watch) (line : ℕ) → AreFirstOpen returns plan ranks (inputs_of plan element) watch
+pub first_line : (returns : ReturnRule) (plan : Topology) (ranks : Ranks) (element : ℕ) (watch : OpenInputs) (line : ℕ) → AreFirstOpen returns plan ranks (inputs_of plan element) watch
     → line_at (inputs_of plan element) watch.first ≡ Some line → IsOpenInto plan ranks element line
 first_line returns plan ranks element watch line places here =
     let inputs : List InputId = inputs_of plan element in
@@ -301,7 +301,7 @@ open_stays plan before after element line well stands others = record {
 }
 
 -- once the lines out of the element over the bundle of its open inputs have ranks, the ways back are done
-pub back_done : (returns : Returns) (plan : Topology) (before after : Ranks) (element : ℕ) (watch : Watch) (last : ℕ) → AreFirstOpen returns plan before (inputs_of plan element) watch
+pub back_done : (returns : ReturnRule) (plan : Topology) (before after : Ranks) (element : ℕ) (watch : OpenInputs) (last : ℕ) → AreFirstOpen returns plan before (inputs_of plan element) watch
     → length (inputs_of plan element) ≤ watch.second → line_at (inputs_of plan element) watch.first ≡ Some last → Grows (rank_at before) (rank_at after)
     → ((line : ℕ) → IsNominated plan line → sender_of plan line ≡ element → IsAmong returns plan (Some (number_in returns plan last)) line → rank_at after line ≢ None)
     → (line from : ℕ) → IsNominated plan line → sender_of plan line ≡ element → IsOpenInto plan after element from

@@ -7,11 +7,11 @@ use Rattle.std.proofs.lemmas.Option.{none-some, same_Some}
 use Rattle.sync_topo.specs.Topology.{Topology}
 use Rattle.rank_cert.specs.Ranks.{Ranks, rank_at}
 use Rattle.sync_topo.specs.declared.input.InputId.{InputId}
-use Rattle.sync_topo.specs.declared.returns.Returns.{Returns}
-use Rattle.cycle_plan.specs.Numbers.{number_in}
-use Rattle.cycle_plan.specs.Inputs.{line_at}
-use Rattle.cycle_plan.specs.Tops.{IsRankedAt, IsTop, is_top, raised}
-use Rattle.cycle_plan.specs.declared.top.Top.{Top}
+use Rattle.sync_topo.specs.declared.returns.ReturnRule.{ReturnRule}
+use Rattle.cycle_plan.specs.private.Numbers.{number_in}
+use Rattle.cycle_plan.specs.private.Inputs.{line_at}
+use Rattle.cycle_plan.specs.private.Tops.{IsRankedAt, IsTop, is_top, raised}
+use Rattle.cycle_plan.specs.declared.top.GreatestRanks.{GreatestRanks}
 
 -- what stands among the first n inputs stands among one more
 one_more : (ranks : Ranks) (inputs : List InputId) (n line rank : ℕ) → IsRankedAt ranks inputs n line rank → IsRankedAt ranks inputs (n + 1) line rank
@@ -28,14 +28,14 @@ one_less ranks inputs n line rank stands = elim (cases_lt stands.place n) [
 ]
 
 -- the bundle that has the greatest rank, and one that hasn't
-pub is_top-Some : (top : Top) (bundle : ℕ) → is_top top bundle ≡ true → top.bundle ≡ Some bundle
+pub is_top-Some : (top : GreatestRanks) (bundle : ℕ) → is_top top bundle ≡ true → top.bundle ≡ Some bundle
 is_top-Some top bundle is = cases top.bundle refl is
   where
     cases : (o : Option ℕ) → top.bundle ≡ o → option_map_or (λ number. nat_eq number bundle) o false ≡ true → o ≡ Some bundle
     cases None e none = absurd (true≢false (sym none))
     cases (Some number) e same = ap (λ n. Some n) (eqb-true number bundle same)
 
-pub is_top-other : (top : Top) (bundle : ℕ) → is_top top bundle ≡ false → top.bundle ≢ Some bundle
+pub is_top-other : (top : GreatestRanks) (bundle : ℕ) → is_top top bundle ≡ false → top.bundle ≢ Some bundle
 is_top-other top bundle never = cases top.bundle never
   where
     cases : (o : Option ℕ) → option_map_or (λ number. nat_eq number bundle) o false ≡ false → o ≢ Some bundle
@@ -43,7 +43,7 @@ is_top-other top bundle never = cases top.bundle never
     cases (Some number) e same = true≢false (sym (eq-eqb number bundle (same_Some number bundle same)) ∙ e)
 
 -- an input without a rank changes nothing
-pub IsTop-same : (returns : Returns) (plan : Topology) (ranks : Ranks) (inputs : List InputId) (n : ℕ) (top : Top) → ((line rank : ℕ) → line_at inputs n ≡ Some line → rank_at ranks line ≡ Some rank → ⊥)
+pub IsTop-same : (returns : ReturnRule) (plan : Topology) (ranks : Ranks) (inputs : List InputId) (n : ℕ) (top : GreatestRanks) → ((line rank : ℕ) → line_at inputs n ≡ Some line → rank_at ranks line ≡ Some rank → ⊥)
     → IsTop returns plan ranks inputs n top → IsTop returns plan ranks inputs (n + 1) top
 IsTop-same returns plan ranks inputs n top unranked before = record {
   above = λ line rank stands. elim (one_less ranks inputs n line rank stands) [
@@ -79,7 +79,7 @@ last_stands : (ranks : Ranks) (inputs : List InputId) (n line rank : ℕ) → Is
 last_stands ranks inputs n line rank is = record { place = n; low = omega arith; here = is.here; ranked = is.ranked }
 
 -- one more line of the bundle with the greatest rank
-more_of_top : (returns : Returns) (plan : Topology) (ranks : Ranks) (inputs : List InputId) (n : ℕ) (top : Top) (line rank : ℕ) → IsLast ranks inputs n line rank
+more_of_top : (returns : ReturnRule) (plan : Topology) (ranks : Ranks) (inputs : List InputId) (n : ℕ) (top : GreatestRanks) (line rank : ℕ) → IsLast ranks inputs n line rank
     → IsTop returns plan ranks inputs n top → top.bundle ≡ Some (number_in returns plan line)
     → IsTop returns plan ranks inputs (n + 1) (record { bundle = top.bundle; next = max top.next (rank + 1); next_without = top.next_without })
 more_of_top returns plan ranks inputs n top line rank last before same_bundle = record {
@@ -107,7 +107,7 @@ more_of_top returns plan ranks inputs n top line rank last before same_bundle = 
 }
 
 -- a greatest rank of another bundle: the one so far is now the greatest of the others
-new_top : (returns : Returns) (plan : Topology) (ranks : Ranks) (inputs : List InputId) (n : ℕ) (top : Top) (line rank : ℕ) → IsLast ranks inputs n line rank
+new_top : (returns : ReturnRule) (plan : Topology) (ranks : Ranks) (inputs : List InputId) (n : ℕ) (top : GreatestRanks) (line rank : ℕ) → IsLast ranks inputs n line rank
     → IsTop returns plan ranks inputs n top → top.bundle ≢ Some (number_in returns plan line) → top.next ≤ rank
     → IsTop returns plan ranks inputs (n + 1) (record { bundle = Some (number_in returns plan line); next = rank + 1; next_without = top.next })
 new_top returns plan ranks inputs n top line rank last before apart high = record {
@@ -135,7 +135,7 @@ new_top returns plan ranks inputs n top line rank last before apart high = recor
 }
 
 -- the greatest rank of the others
-new_second : (returns : Returns) (plan : Topology) (ranks : Ranks) (inputs : List InputId) (n : ℕ) (top : Top) (line rank : ℕ) → IsLast ranks inputs n line rank
+new_second : (returns : ReturnRule) (plan : Topology) (ranks : Ranks) (inputs : List InputId) (n : ℕ) (top : GreatestRanks) (line rank : ℕ) → IsLast ranks inputs n line rank
     → IsTop returns plan ranks inputs n top → top.bundle ≢ Some (number_in returns plan line) → rank < top.next → top.next_without ≤ rank
     → IsTop returns plan ranks inputs (n + 1) (record { bundle = top.bundle; next = top.next; next_without = rank + 1 })
 new_second returns plan ranks inputs n top line rank last before apart low high = record {
@@ -155,7 +155,7 @@ new_second returns plan ranks inputs n top line rank last before apart low high 
 }
 
 -- a rank below both
-no_top : (returns : Returns) (plan : Topology) (ranks : Ranks) (inputs : List InputId) (n : ℕ) (top : Top) (line rank : ℕ) → IsLast ranks inputs n line rank
+no_top : (returns : ReturnRule) (plan : Topology) (ranks : Ranks) (inputs : List InputId) (n : ℕ) (top : GreatestRanks) (line rank : ℕ) → IsLast ranks inputs n line rank
     → IsTop returns plan ranks inputs n top → rank < top.next → rank < top.next_without → IsTop returns plan ranks inputs (n + 1) top
 no_top returns plan ranks inputs n top line rank last before low lower = record {
   above = λ other least stands. elim (one_less ranks inputs n other least stands) [
@@ -177,7 +177,7 @@ no_top returns plan ranks inputs n top line rank last before low lower = record 
 }
 
 -- one more line
-pub IsTop-raised : (returns : Returns) (plan : Topology) (ranks : Ranks) (inputs : List InputId) (n : ℕ) (top : Top) (line rank : ℕ) → IsLast ranks inputs n line rank
+pub IsTop-raised : (returns : ReturnRule) (plan : Topology) (ranks : Ranks) (inputs : List InputId) (n : ℕ) (top : GreatestRanks) (line rank : ℕ) → IsLast ranks inputs n line rank
     → IsTop returns plan ranks inputs n top → IsTop returns plan ranks inputs (n + 1) (raised top (number_in returns plan line) rank)
 IsTop-raised returns plan ranks inputs n top line rank last before =
     cases (is_top top (number_in returns plan line)) (nat_le top.next rank) (nat_le top.next_without rank) refl refl refl

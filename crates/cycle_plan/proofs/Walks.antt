@@ -3,7 +3,7 @@ use Rattle.std.proofs.Common.{◌≡◌, ℕ, ◌≤◌, zero, suc, Bool, Option
 use Rattle.std.specs.Prelude.{◌≢◌, ◌⊎◌, IsTrue, unwrap_or}
 use Rattle.std.proofs.lemmas.Bool.{true≢false}
 use Rattle.sync_topo.specs.Ranks.{HopTest, Rises, HasWalk, IsLeastRank, AreLeastRanks, IsResidue}
-use Rattle.cycle_plan.specs.Peeling.{AreExact, IsPeeled}
+use Rattle.cycle_plan.specs.private.Peeling.{AreExact, IsPeeled}
 
 -- as many hops as the rank says lead to a line
 walk_of : (hop : HopTest) (rank_at : ℕ → Option ℕ) → AreExact hop rank_at → (rank line : ℕ) → rank_at line ≡ Some rank → HasWalk hop rank line

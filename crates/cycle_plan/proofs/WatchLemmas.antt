@@ -8,10 +8,10 @@ use Rattle.rank_cert.proofs.RuleLaws.{is_none-of}
 use Rattle.sync_topo.specs.Topology.{Topology}
 use Rattle.rank_cert.specs.Ranks.{Ranks, rank_at}
 use Rattle.sync_topo.specs.declared.input.InputId.{InputId}
-use Rattle.sync_topo.specs.declared.returns.Returns.{Returns}
-use Rattle.cycle_plan.specs.Numbers.{number_in}
-use Rattle.cycle_plan.specs.Inputs.{line_at, is_open, is_other, IsOpenLine, IsWatch, AreFirstOpen}
-use Rattle.cycle_plan.specs.declared.inputs.Watch.{Watch}
+use Rattle.sync_topo.specs.declared.returns.ReturnRule.{ReturnRule}
+use Rattle.cycle_plan.specs.private.Numbers.{number_in}
+use Rattle.cycle_plan.specs.private.Inputs.{line_at, is_open, is_of_another, IsOpenLine, AreOpenInputs, AreFirstOpen}
+use Rattle.cycle_plan.specs.declared.inputs.OpenInputs.{OpenInputs}
 use Rattle.cycle_plan.proofs.HopFacts.{line_at_within}
 
 -- an open input is a line without a rank
@@ -39,17 +39,17 @@ pub closed_line : (ranks : Ranks) (inputs : List InputId) (place line : ℕ) →
 closed_line ranks inputs place line closed stands = true≢false (sym (line_open ranks inputs place line stands) ∙ closed)
 
 -- an open input that isn't of another bundle is of this one
-same_bundle : (returns : Returns) (plan : Topology) (ranks : Ranks) (inputs : List InputId) (bundle place line : ℕ) → is_other returns plan ranks inputs bundle place ≡ false
+same_bundle : (returns : ReturnRule) (plan : Topology) (ranks : Ranks) (inputs : List InputId) (bundle place line : ℕ) → is_of_another returns plan ranks inputs bundle place ≡ false
     → IsOpenLine ranks inputs place line → number_in returns plan line ≡ bundle
 same_bundle returns plan ranks inputs bundle place line never stands = elim (cases_eq (number_in returns plan line) bundle) [
   | inl same ↦ same
   | inr apart ↦
-      let other : is_other returns plan ranks inputs bundle place ≡ true = rw (stands.here, stands.unranked, ne_eqb _ _ apart) refl in
+      let other : is_of_another returns plan ranks inputs bundle place ≡ true = rw (stands.here, stands.unranked, ne_eqb _ _ apart) refl in
       absurd (true≢false (sym other ∙ never))
 ]
 
 -- an open input of another bundle
-other_line : (returns : Returns) (plan : Topology) (ranks : Ranks) (inputs : List InputId) (bundle place : ℕ) → is_other returns plan ranks inputs bundle place ≡ true
+other_line : (returns : ReturnRule) (plan : Topology) (ranks : Ranks) (inputs : List InputId) (bundle place : ℕ) → is_of_another returns plan ranks inputs bundle place ≡ true
     → (line : ℕ) × IsOpenLine ranks inputs place line × (number_in returns plan line ≢ bundle)
 other_line returns plan ranks inputs bundle place is_it = cases (line_at inputs place) refl is_it
   where
@@ -79,7 +79,7 @@ pub record IsNextOpen (ranks : Ranks) (inputs : List InputId) (from found : ℕ)
   pub open_there : found < length inputs → is_open ranks inputs found ≡ true
 
 -- no place before the next open one is open
-closed_before : (returns : Returns) (plan : Topology) (ranks : Ranks) (inputs : List InputId) (watch : Watch) (first : ℕ) → IsWatch returns plan ranks inputs watch
+closed_before : (returns : ReturnRule) (plan : Topology) (ranks : Ranks) (inputs : List InputId) (watch : OpenInputs) (first : ℕ) → AreOpenInputs returns plan ranks inputs watch
     → IsNextOpen ranks inputs watch.first first → (place : ℕ) → place < first → is_open ranks inputs place ≡ false
 closed_before returns plan ranks inputs watch first was next place low = elim (cases_lt place watch.first) [
   | inl before ↦ was.before place before
@@ -87,7 +87,7 @@ closed_before returns plan ranks inputs watch first was next place low = elim (c
 ]
 
 -- where no line is left there, both places are the end
-pub AreFirstOpen-none : (returns : Returns) (plan : Topology) (ranks : Ranks) (inputs : List InputId) (watch : Watch) (first : ℕ) (back done : Bool) → IsWatch returns plan ranks inputs watch
+pub AreFirstOpen-none : (returns : ReturnRule) (plan : Topology) (ranks : Ranks) (inputs : List InputId) (watch : OpenInputs) (first : ℕ) (back done : Bool) → AreOpenInputs returns plan ranks inputs watch
     → IsNextOpen ranks inputs watch.first first → line_at inputs first ≡ None
     → AreFirstOpen returns plan ranks inputs (record { first = first; second = length inputs; back = back; done = done })
 AreFirstOpen-none returns plan ranks inputs watch first back done was next none =
@@ -106,14 +106,14 @@ AreFirstOpen-none returns plan ranks inputs watch first back done was next none 
     }
 
 -- what a search for the next open place of another bundle finds
-pub record IsNextOther (returns : Returns) (plan : Topology) (ranks : Ranks) (inputs : List InputId) (bundle from found : ℕ) : Type 0 where
+pub record IsNextOther (returns : ReturnRule) (plan : Topology) (ranks : Ranks) (inputs : List InputId) (bundle from found : ℕ) : Type 0 where
   pub within : found ≤ length inputs
   pub behind : found < length inputs → from ≤ found
-  pub closed : (place : ℕ) → from ≤ place → place < found → is_other returns plan ranks inputs bundle place ≡ false
-  pub other_there : found < length inputs → is_other returns plan ranks inputs bundle found ≡ true
+  pub closed : (place : ℕ) → from ≤ place → place < found → is_of_another returns plan ranks inputs bundle place ≡ false
+  pub other_there : found < length inputs → is_of_another returns plan ranks inputs bundle found ≡ true
 
 -- each open place from the first up to the second is of the first's bundle
-near : (returns : Returns) (plan : Topology) (ranks : Ranks) (inputs : List InputId) (watch : Watch) (first second from line : ℕ) → IsWatch returns plan ranks inputs watch
+near : (returns : ReturnRule) (plan : Topology) (ranks : Ranks) (inputs : List InputId) (watch : OpenInputs) (first second from line : ℕ) → AreOpenInputs returns plan ranks inputs watch
     → watch.first ≤ first → IsOpenLine ranks inputs first line → IsNextOther returns plan ranks inputs (number_in returns plan line) from second
     → first < from → (watch.second ≤ from) → ((watch.second ≡ from) ⊎ (from ≡ first + 1))
     → (place other : ℕ) → first ≤ place → place < second → IsOpenLine ranks inputs place other → number_in returns plan other ≡ number_in returns plan line
@@ -131,8 +131,8 @@ near returns plan ranks inputs watch first second from line was low here next af
 ]
 
 -- the first open place, and the first open one of another bundle
-pub AreFirstOpen-other : (returns : Returns) (plan : Topology) (ranks : Ranks) (inputs : List InputId) (watch : Watch) (first second from line : ℕ) (back done : Bool)
-    → IsWatch returns plan ranks inputs watch → IsNextOpen ranks inputs watch.first first → line_at inputs first ≡ Some line → first < length inputs
+pub AreFirstOpen-other : (returns : ReturnRule) (plan : Topology) (ranks : Ranks) (inputs : List InputId) (watch : OpenInputs) (first second from line : ℕ) (back done : Bool)
+    → AreOpenInputs returns plan ranks inputs watch → IsNextOpen ranks inputs watch.first first → line_at inputs first ≡ Some line → first < length inputs
     → IsNextOther returns plan ranks inputs (number_in returns plan line) from second → first < from → (watch.second ≤ from) → ((watch.second ≡ from) ⊎ (from ≡ first + 1))
     → AreFirstOpen returns plan ranks inputs (record { first = first; second = second; back = back; done = done })
 AreFirstOpen-other returns plan ranks inputs watch first second from line back done was next at inside other after bound is =

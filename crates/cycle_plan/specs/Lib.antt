@@ -1,11 +1,6 @@
-pub mod Numbers
 pub mod Ranked
 pub mod Repeats
-pub mod Inputs
-pub mod Tops
-pub mod Peeling
 pub mod Mosts
 pub mod Chained
-pub mod Rings
-pub mod BoundParts
 pub mod Agreed
+pub mod private

@@ -18,7 +18,7 @@ use std::alloc::Global;
 use sync_ql::NetOption;
 use sync_ql::limits::GREATEST_DELAY;
 use sync_text::{NoMemory, Rows};
-use sync_topo::{LineId, Plan, Returns};
+use sync_topo::{LineId, Plan, ReturnRule};
 
 /// What is found of a plan's priorities.
 ///
@@ -51,7 +51,7 @@ pub fn agree(alloc: Global, plan: &Plan) -> Result<Agreement, NoMemory>
     // So what clashes has no bound.
     ensures never { IfClash result (λ lines. (bound : ℕ) → ¬ IsAgreedBound plan.now bound) }
 {
-    match rank_with(alloc, Returns::BarredFromLast, plan)? {
+    match rank_with(alloc, ReturnRule::BarredFromLast, plan)? {
         Ranked::Cycle(lines) => Ok(Agreement::Clash(lines)),
         Ranked::Ranks(cert) => Ok(Agreement::Bound(agreed_bound(plan, &cert))),
     }

@@ -29,10 +29,10 @@ impl Chains {
     /// The longest chains into an element, by its number.
     ///
     /// This project's own.
-    pub fn of(&self, e: u32) -> Chain
-        requires { e < length self.now }
-        ensures { slice_get self.now e ≡ Some result }
+    pub fn of(&self, element: u32) -> Chain
+        requires { element < length self.now }
+        ensures { slice_get self.now element ≡ Some result }
     {
-        self.reaches[e as usize].row()
+        self.reaches[element as usize].row()
     }
 }

@@ -12,7 +12,7 @@ use crate::chain_rows::Chains;
 use crate::ranking::Ranking;
 use std::alloc::Global;
 use sync_text::{NoMemory, Rows};
-use sync_topo::{LineId, Plan, Returns};
+use sync_topo::{LineId, Plan, ReturnRule};
 
 /// What is found of a plan's chains.
 #[derive(Drop)]
@@ -56,11 +56,11 @@ pub fn chain_plan(alloc: Global, plan: &Plan) -> Result<Chained, NoMemory>
     ensures cycle { IfCycle result (IsCycle plan.now) }
     ensures within { IfCycle result (All (λ line. line < line_count plan.now)) }
 {
-    let ranking = Ranking::of(alloc, Returns::Barred, plan)?;
-    match ranking.first_left(Returns::Barred, plan) {
+    let ranking = Ranking::of(alloc, ReturnRule::Barred, plan)?;
+    match ranking.first_left(ReturnRule::Barred, plan) {
         Some(start) => Ok(Chained::Cycle(ranking.first_cycle(
             alloc,
-            Returns::Barred,
+            ReturnRule::Barred,
             plan,
             start,
         )?)),

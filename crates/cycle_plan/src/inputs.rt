@@ -2,15 +2,15 @@ ghost use Rattle.std.specs.Prelude.{◌≡◌, ◌<◌, ◌≤◌, ℕ, true, fa
 ghost use Rattle.std.specs.Option.{option_map};
 ghost use Rattle.sync_topo.specs.Lines.{line_count, inputs_of};
 ghost use Rattle.sync_topo.specs.WellFormed.{IsWellFormed};
-ghost use Rattle.cycle_plan.specs.Inputs.{line_at, AreWithin, is_open, is_other, IsWatch, AreFirstOpen};
+ghost use Rattle.cycle_plan.specs.private.Inputs.{line_at, AreWithin, is_open, is_of_another, AreOpenInputs, AreFirstOpen};
 
 use crate::numbers::number_in;
 use rank_cert::Cert;
-use sync_topo::{InputId, LineId, Plan, Returns};
+use sync_topo::{InputId, LineId, Plan, ReturnRule};
 
 /// How far an element's inputs are known to have ranks.
 #[derive(Clone, Copy, Debug, Drop)]
-pub(crate) struct Watch {
+pub(crate) struct OpenInputs {
     /// Each line before this place has a rank.
     pub(crate) first: usize,
     /// The lines without a rank from the first place up to this one are of one number, as ways in.
@@ -72,8 +72,8 @@ fn next_open(cert: &Cert, inputs: &[InputId], from: usize) -> usize
 }
 
 /// The input at a place is a line without a rank, of another number.
-fn is_other(
-    returns: Returns,
+fn is_of_another(
+    returns: ReturnRule,
     plan: &Plan,
     cert: &Cert,
     inputs: &[InputId],
@@ -82,7 +82,7 @@ fn is_other(
 ) -> bool
     requires counted { length cert.now ≡ line_count plan.now }
     requires within { AreWithin (length cert.now) inputs.now }
-    ensures { result ≡ is_other returns plan.now cert.now inputs.now bundle place }
+    ensures { result ≡ is_of_another returns plan.now cert.now inputs.now bundle place }
 {
     match line_at(inputs, place) {
         Some(line) => cert.rank(line).is_none() && number_in(returns, plan, line) != bundle,
@@ -93,7 +93,7 @@ fn is_other(
 /// The first place from this one on whose input is a line without a rank of another number, or the
 /// end.
 fn next_other(
-    returns: Returns,
+    returns: ReturnRule,
     plan: &Plan,
     cert: &Cert,
     inputs: &[InputId],
@@ -105,12 +105,12 @@ fn next_other(
     ensures within { result ≤ length inputs.now }
     ensures after { result < length inputs.now → from ≤ result }
     ensures closed { (place : ℕ) → from ≤ place → place < result
-        → is_other returns plan.now cert.now inputs.now bundle place ≡ false }
+        → is_of_another returns plan.now cert.now inputs.now bundle place ≡ false }
     ensures found { result < length inputs.now
-        → is_other returns plan.now cert.now inputs.now bundle result ≡ true }
+        → is_of_another returns plan.now cert.now inputs.now bundle result ≡ true }
 {
     for place in from..inputs.len() {
-        if is_other(returns, plan, cert, inputs, bundle, place) {
+        if is_of_another(returns, plan, cert, inputs, bundle, place) {
             return place;
         }
     }
@@ -120,22 +120,22 @@ fn next_other(
 /// The places of the first line without a rank, and of the first one of another number, from what
 /// is known of earlier ones.
 pub(crate) fn first_open(
-    returns: Returns,
+    returns: ReturnRule,
     plan: &Plan,
     cert: &Cert,
     inputs: &[InputId],
-    watch: Watch,
-) -> Watch
+    watch: OpenInputs,
+) -> OpenInputs
     requires counted { length cert.now ≡ line_count plan.now }
     requires within { AreWithin (length cert.now) inputs.now }
-    requires watch { IsWatch returns plan.now cert.now inputs.now watch }
+    requires watch { AreOpenInputs returns plan.now cert.now inputs.now watch }
     ensures places { AreFirstOpen returns plan.now cert.now inputs.now result }
     ensures back { result.back ≡ watch.back }
     ensures done { result.done ≡ watch.done }
 {
     let first = next_open(cert, inputs, watch.first);
     let Some(line) = line_at(inputs, first) else {
-        return Watch {
+        return OpenInputs {
             first,
             second: inputs.len(),
             back: watch.back,
@@ -151,7 +151,7 @@ pub(crate) fn first_open(
         bundle,
         watch.second.max(first + 1),
     );
-    Watch {
+    OpenInputs {
         first,
         second,
         back: watch.back,

@@ -2,7 +2,7 @@
 //! how long chains of timing in it may become.
 //!
 //! [`rank_plan`] is the planner, and [`rank_with`] the same where returns may be allowed
-//! ([`Returns`](sync_topo::Returns)); [`settling_bound`] says from when on a network of the plan
+//! ([`ReturnRule`](sync_topo::ReturnRule)); [`settling_bound`] says from when on a network of the plan
 //! is settled, and [`agree`] for how long it may change where links are nominated at both ends, or
 //! which lines clash. What a least rank and the first cycle are stands in sync_topo, `AreLeastRanks` and
 //! `IsFirstCycle`; [`first_cycle_law`] and [`least_rank_law`] say that there is one first cycle,

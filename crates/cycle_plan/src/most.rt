@@ -1,7 +1,7 @@
 // The greatest of one count over the chains into an element.
 
 ghost use Rattle.std.specs.Prelude.{◌≡◌};
-ghost use Rattle.cycle_plan.specs.Mosts.{no_most, most_but, raised_most};
+ghost use Rattle.cycle_plan.specs.private.Mosts.{no_most, most_but, raised_most};
 
 /// The greatest of one count over the chains into an element, and the greatest over those of them
 /// that come in by other bundles.

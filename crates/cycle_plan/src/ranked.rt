@@ -12,7 +12,7 @@ use crate::ranking::Ranking;
 use rank_cert::Cert;
 use std::alloc::Global;
 use sync_text::{NoMemory, Rows};
-use sync_topo::{LineId, Plan, Returns};
+use sync_topo::{LineId, Plan, ReturnRule};
 
 /// What the planner finds.
 #[derive(Debug, Drop)]
@@ -49,14 +49,14 @@ pub fn rank_plan(alloc: Global, plan: &Plan) -> Result<Ranked, NoMemory>
     ensures within { IfCycle result (All (λ line. line < line_count plan.now)) }
     ensures never { IfCycle result (λ lines. (rank : ℕ → ℕ) → IsRising plan.now rank → ⊥) }
 {
-    rank_with(alloc, Returns::Barred, plan)
+    rank_with(alloc, ReturnRule::Barred, plan)
 }
 
 /// The least ranks of a plan or, where no ranks rise, its first cycle, over hops by either rule of
 /// returns.
 ///
 /// It is [`rank_plan`] where returns are barred. This project's own.
-pub fn rank_with(alloc: Global, returns: Returns, plan: &Plan) -> Result<Ranked, NoMemory>
+pub fn rank_with(alloc: Global, returns: ReturnRule, plan: &Plan) -> Result<Ranked, NoMemory>
     ensures least { IfRanks result (λ ranks. AreLeastRanks (hops_by returns plan.now)
         (is_nominated plan.now) (rank_at ranks)) }
     ensures rising { IfRanks result (λ ranks. Rises (hops_by returns plan.now) (rank_of ranks)) }

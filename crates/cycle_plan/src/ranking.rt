@@ -3,19 +3,19 @@ ghost use Rattle.std.specs.List.{All, Contains};
 ghost use Rattle.sync_topo.specs.Lines.{line_count, is_nominated, IsNominated, sender_of, inputs_of};
 ghost use Rattle.rank_cert.specs.Ranks.{rank_at};
 ghost use Rattle.sync_topo.specs.Hops.{hops_by};
-ghost use Rattle.cycle_plan.specs.Numbers.{number_out};
-ghost use Rattle.cycle_plan.specs.Inputs.{AreFirstOpen};
-ghost use Rattle.cycle_plan.specs.Tops.{rank_after};
-ghost use Rattle.cycle_plan.specs.Rings.{IsDone};
-ghost use Rattle.cycle_plan.specs.Peeling.{IsRanking, IsPeeling, IsPeeled, IsMore, IsNext, IsSettled, AreKept, IsWatched, is_among, IsAmong, AreFree, IsTopOf};
+ghost use Rattle.cycle_plan.specs.private.Numbers.{number_out};
+ghost use Rattle.cycle_plan.specs.private.Inputs.{AreFirstOpen};
+ghost use Rattle.cycle_plan.specs.private.Tops.{rank_after};
+ghost use Rattle.cycle_plan.specs.private.Rings.{IsDone};
+ghost use Rattle.cycle_plan.specs.private.Peeling.{IsRanking, IsPeeling, IsPeeled, IsMore, IsNext, IsSettled, AreKept, IsWatched, is_among, IsAmong, AreFree, IsTopOf};
 
-use crate::inputs::{Watch, first_open, inputs_of, line_at};
+use crate::inputs::{OpenInputs, first_open, inputs_of, line_at};
 use crate::numbers::{number_in, number_out};
-use crate::top::{Top, top_of};
+use crate::top::{GreatestRanks, top_of};
 use rank_cert::Cert;
 use std::alloc::Global;
 use sync_text::NoMemory;
-use sync_topo::{InputId, LineId, Plan, Returns};
+use sync_topo::{InputId, LineId, Plan, ReturnRule};
 
 /// The ranks that are given so far.
 #[derive(Drop)]
@@ -23,7 +23,7 @@ pub(crate) struct Ranking {
     /// A rank for each line that has one.
     pub(crate) ranks: Cert,
     /// For each element how far its inputs have ranks.
-    pub(crate) watches: Vec<Watch>,
+    pub(crate) watches: Vec<OpenInputs>,
     /// The elements to look at, since a line into them was ranked.
     pub(crate) waiting: Vec<u32>,
     /// The lines that have ranks, each after all that hop to it.
@@ -32,7 +32,7 @@ pub(crate) struct Ranking {
 
 impl Ranking {
     /// All ranks that can be given.
-    pub(crate) fn of(alloc: Global, returns: Returns, plan: &Plan) -> Result<Ranking, NoMemory>
+    pub(crate) fn of(alloc: Global, returns: ReturnRule, plan: &Plan) -> Result<Ranking, NoMemory>
         ensures { IfOk result (IsDone returns plan.now) }
     {
         let mut ranking = Ranking::new(alloc, returns, plan)?;
@@ -41,12 +41,12 @@ impl Ranking {
     }
 
     /// No line has a rank, and each element waits to be looked at.
-    fn new(alloc: Global, returns: Returns, plan: &Plan) -> Result<Ranking, NoMemory>
+    fn new(alloc: Global, returns: ReturnRule, plan: &Plan) -> Result<Ranking, NoMemory>
         ensures peeling { IfOk result (IsPeeling returns plan.now) }
         ensures kept { IfOk result (AreKept returns plan.now) }
     {
         let ranks = Cert::new(alloc, plan)?;
-        let watch = Watch {
+        let watch = OpenInputs {
             first: 0,
             second: 0,
             back: false,
@@ -70,7 +70,7 @@ impl Ranking {
     /// Gives a line its rank.
     fn give(
         &mut self,
-        returns: Returns,
+        returns: ReturnRule,
         plan: &Plan,
         line: LineId,
         rank: u64,
@@ -109,11 +109,11 @@ impl Ranking {
     /// Gives a line its rank, where it is nominated, is one of those that are meant, and has none yet.
     fn give_next(
         &mut self,
-        returns: Returns,
+        returns: ReturnRule,
         plan: &Plan,
         only: Option<u32>,
         line: LineId,
-        top: Top,
+        top: GreatestRanks,
     ) -> Result<(), NoMemory>
         requires peeling { IsPeeling returns plan.now self.old }
         requires within { line.0 < line_count plan.now }
@@ -142,7 +142,7 @@ impl Ranking {
     }
 
     /// What the ranks of all inputs of an element come to.
-    fn top(&self, returns: Returns, plan: &Plan, element: u32) -> Top
+    fn top(&self, returns: ReturnRule, plan: &Plan, element: u32) -> GreatestRanks
         requires ranking { IsRanking returns plan.now self.now.ranks }
         requires within { element < length plan.now.elements }
         ensures { IsTopOf returns plan.now self.now.ranks element result }
@@ -154,7 +154,7 @@ impl Ranking {
     /// hops to one of them.
     fn give_all(
         &mut self,
-        returns: Returns,
+        returns: ReturnRule,
         plan: &Plan,
         element: u32,
         only: Option<u32>,
@@ -177,7 +177,7 @@ impl Ranking {
     }
 
     /// Finds out how far the inputs of an element have ranks by now.
-    fn watch(&mut self, returns: Returns, plan: &Plan, element: u32) -> Watch
+    fn watch(&mut self, returns: ReturnRule, plan: &Plan, element: u32) -> OpenInputs
         requires peeling { IsPeeling returns plan.now self.old }
         requires within { element < length plan.now.elements }
         ensures more { IsMore returns plan.now self.old self.new }
@@ -198,7 +198,12 @@ impl Ranking {
     }
 
     /// Ranks the lines out of an element that no line without a rank holds back.
-    fn settle(&mut self, returns: Returns, plan: &Plan, element: u32) -> Result<(), NoMemory>
+    fn rank_lines_out(
+        &mut self,
+        returns: ReturnRule,
+        plan: &Plan,
+        element: u32,
+    ) -> Result<(), NoMemory>
         requires peeling { IsPeeling returns plan.now self.old }
         requires within { element < length plan.now.elements }
         ensures more { OnOk result (IsMore returns plan.now self.old self.new) }
@@ -223,7 +228,7 @@ impl Ranking {
     }
 
     /// Ranks lines for as long as an element waits to be looked at.
-    fn peel(&mut self, returns: Returns, plan: &Plan) -> Result<(), NoMemory>
+    fn peel(&mut self, returns: ReturnRule, plan: &Plan) -> Result<(), NoMemory>
         requires peeling { IsPeeling returns plan.now self.old }
         requires kept { AreKept returns plan.now self.old }
         ensures peeling { OnOk result (IsPeeling returns plan.now self.new) }
@@ -231,14 +236,14 @@ impl Ranking {
             (IsPeeled (hops_by returns plan.now) (is_nominated plan.now) (rank_at self.new.ranks)) }
     {
         while let Some(element) = self.waiting.pop() {
-            self.settle(returns, plan, element)?;
+            self.rank_lines_out(returns, plan, element)?;
         }
         Ok(())
     }
 }
 
 /// The line is one of those that are meant: of the number as a way out, if one is given.
-fn is_among(returns: Returns, plan: &Plan, only: Option<u32>, line: LineId) -> bool
+fn is_among(returns: ReturnRule, plan: &Plan, only: Option<u32>, line: LineId) -> bool
     requires { line.0 < line_count plan.now }
     ensures { result ≡ is_among returns plan.now only line.0 }
 {

@@ -1,9 +1,10 @@
 // What is counted of the chains into an element.
 
 ghost use Rattle.std.specs.Prelude.{◌≡◌, ◌<◌, ◌≤◌, ◌+◌, ◌^◌, IfOk, length};
-ghost use Rattle.sync_topo.specs.declared.returns.Returns.{Returns};
-ghost use Rattle.cycle_plan.specs.Rings.{IsDone};
-ghost use Rattle.cycle_plan.specs.Mosts.{no_reach, AreReaches, since_step, clocks_step, over, raised_reach, row_of, most_but};
+ghost use Rattle.sync_topo.specs.declared.returns.ReturnRule.{ReturnRule};
+ghost use Rattle.cycle_plan.specs.private.Rings.{IsDone};
+ghost use Rattle.cycle_plan.specs.Mosts.{row_of};
+ghost use Rattle.cycle_plan.specs.private.Mosts.{no_reach, AreReaches, since_step, clocks_step, over, raised_reach, most_but};
 
 use crate::filters::is_filter;
 use crate::most::Most;
@@ -92,7 +93,7 @@ fn clocks_over(before: u32, filters: bool) -> u32
 impl Ranking {
     /// What is counted of the chains into each element, where no line is left over.
     pub(crate) fn reaches(&self, alloc: Global, plan: &Plan) -> Result<Vec<Reach>, NoMemory>
-        requires { IsDone Returns.Barred plan.now self.now }
+        requires { IsDone ReturnRule.Barred plan.now self.now }
         ensures { IfOk result (λ reaches. AreReaches plan.now self.now.order.items
             (length self.now.order.items) reaches.items) }
     {
@@ -107,7 +108,7 @@ impl Ranking {
 
     /// Extends the chains by the line at a place of the order.
     fn extend(&self, plan: &Plan, place: usize, reaches: &mut [Reach])
-        requires done { IsDone Returns.Barred plan.now self.now }
+        requires done { IsDone ReturnRule.Barred plan.now self.now }
         requires within { place < length self.now.order.items }
         requires before { AreReaches plan.now self.now.order.items place reaches.old }
         ensures after { AreReaches plan.now self.now.order.items (place + 1) reaches.new }

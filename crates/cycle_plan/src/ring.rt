@@ -3,18 +3,18 @@ ghost use Rattle.sync_topo.specs.Lines.{line_count, IsNominated, numbers};
 ghost use Rattle.sync_topo.specs.Ranks.{IsBefore, StepsBack, IsFirstCycle, IsLowestResidue};
 ghost use Rattle.rank_cert.specs.Ranks.{rank_at};
 ghost use Rattle.sync_topo.specs.Hops.{hops_by};
-ghost use Rattle.cycle_plan.specs.Rings.{IsLeft, IsDone, IsLowOn, HasRound, IsLowest, IsWalked};
+ghost use Rattle.cycle_plan.specs.private.Rings.{IsLeft, IsDone, IsLowOn, HasRound, IsLowest, IsWalked};
 
 use crate::inputs::{first_open, inputs_of, line_at};
 use crate::numbers::{number_in, number_out};
 use crate::ranking::Ranking;
 use std::alloc::Global;
 use sync_text::{NoMemory, Rows};
-use sync_topo::{LineId, Plan, Returns};
+use sync_topo::{LineId, Plan, ReturnRule};
 
 impl Ranking {
     /// The lowest-numbered nominated line without a rank.
-    pub(crate) fn first_left(&self, returns: Returns, plan: &Plan) -> Option<LineId>
+    pub(crate) fn first_left(&self, returns: ReturnRule, plan: &Plan) -> Option<LineId>
         requires { IsDone returns plan.now self.now }
         ensures none { IsNone result → (line : ℕ) → IsNominated plan.now line
             → rank_at self.now.ranks line ≢ None }
@@ -31,7 +31,7 @@ impl Ranking {
     }
 
     /// Of the lines without a rank that hop to one without a rank, the lowest-numbered.
-    fn before(&self, returns: Returns, plan: &Plan, line: LineId) -> LineId
+    fn before(&self, returns: ReturnRule, plan: &Plan, line: LineId) -> LineId
         requires done { IsDone returns plan.now self.now }
         requires left { IsLeft plan.now self.now.ranks line.0 }
         ensures before { IsBefore (hops_by returns plan.now) result.0 line.0 }
@@ -59,7 +59,7 @@ impl Ranking {
     }
 
     /// A line on the ring to which one comes by going back from this one.
-    fn come_round(&self, returns: Returns, plan: &Plan, start: LineId) -> LineId
+    fn come_round(&self, returns: ReturnRule, plan: &Plan, start: LineId) -> LineId
         requires done { IsDone returns plan.now self.now }
         requires left { IsLeft plan.now self.now.ranks start.0 }
         ensures back { StepsBack (hops_by returns plan.now) (line_count plan.now) start.0 result.0 }
@@ -73,7 +73,7 @@ impl Ranking {
     }
 
     /// The lowest-numbered line of the ring.
-    fn lowest_of_ring(&self, returns: Returns, plan: &Plan, on: LineId) -> LineId
+    fn lowest_of_ring(&self, returns: ReturnRule, plan: &Plan, on: LineId) -> LineId
         requires done { IsDone returns plan.now self.now }
         requires left { IsLeft plan.now self.now.ranks on.0 }
         ensures low { IsLowOn (hops_by returns plan.now) on.0 (line_count plan.now) result.0 }
@@ -92,7 +92,7 @@ impl Ranking {
     fn ring_behind(
         &self,
         alloc: Global,
-        returns: Returns,
+        returns: ReturnRule,
         plan: &Plan,
         low: LineId,
     ) -> Result<Vec<LineId>, NoMemory>
@@ -117,7 +117,7 @@ impl Ranking {
     pub(crate) fn first_cycle(
         &self,
         alloc: Global,
-        returns: Returns,
+        returns: ReturnRule,
         plan: &Plan,
         start: LineId,
     ) -> Result<Rows<LineId>, NoMemory>

@@ -1,17 +1,17 @@
 ghost use Rattle.std.specs.Prelude.{◌≡◌, ◌<◌, ◌+◌, ◌^◌, length, map};
 ghost use Rattle.sync_topo.specs.Lines.{line_count};
-ghost use Rattle.cycle_plan.specs.Inputs.{AreWithin};
-ghost use Rattle.cycle_plan.specs.Tops.{AreSmall, IsTop, raised, rank_after};
+ghost use Rattle.cycle_plan.specs.private.Inputs.{AreWithin};
+ghost use Rattle.cycle_plan.specs.private.Tops.{AreSmall, IsTop, raised, rank_after};
 
 use crate::inputs::line_at;
 use crate::numbers::number_in;
 use rank_cert::Cert;
-use sync_topo::{InputId, Plan, Returns};
+use sync_topo::{InputId, Plan, ReturnRule};
 
 /// The greatest rank among an element's inputs, and the greatest among those of other numbers, as ways
 /// in.
 #[derive(Clone, Copy, Debug, Drop)]
-pub(crate) struct Top {
+pub(crate) struct GreatestRanks {
     /// The number of a line with the greatest rank.
     pub(crate) bundle: Option<u32>,
     /// One more than the greatest rank, or 0 without any.
@@ -21,13 +21,18 @@ pub(crate) struct Top {
 }
 
 /// What the ranks of all inputs of an element come to.
-pub(crate) fn top_of(returns: Returns, plan: &Plan, cert: &Cert, inputs: &[InputId]) -> Top
+pub(crate) fn top_of(
+    returns: ReturnRule,
+    plan: &Plan,
+    cert: &Cert,
+    inputs: &[InputId],
+) -> GreatestRanks
     requires counted { length cert.now ≡ line_count plan.now }
     requires within { AreWithin (length cert.now) inputs.now }
     requires small { AreSmall cert.now }
     ensures { IsTop returns plan.now cert.now inputs.now (length inputs.now) result }
 {
-    let mut top = Top {
+    let mut top = GreatestRanks {
         bundle: None,
         next: 0,
         next_without: 0,
@@ -40,13 +45,13 @@ pub(crate) fn top_of(returns: Returns, plan: &Plan, cert: &Cert, inputs: &[Input
 
 /// What the ranks come to with one more input.
 fn raised_by(
-    returns: Returns,
+    returns: ReturnRule,
     plan: &Plan,
     cert: &Cert,
     inputs: &[InputId],
     place: usize,
-    top: Top,
-) -> Top
+    top: GreatestRanks,
+) -> GreatestRanks
     requires counted { length cert.now ≡ line_count plan.now }
     requires within { AreWithin (length cert.now) inputs.now }
     requires small { AreSmall cert.now }
@@ -63,24 +68,24 @@ fn raised_by(
 }
 
 /// What the ranks come to with one more line, of this number.
-fn raised(top: Top, bundle: u32, rank: u64) -> Top
+fn raised(top: GreatestRanks, bundle: u32, rank: u64) -> GreatestRanks
     requires { rank < 2 ^ 32 }
     ensures { result ≡ raised top bundle rank }
 {
     if top.bundle == Some(bundle) {
-        Top {
+        GreatestRanks {
             bundle: top.bundle,
             next: top.next.max(rank + 1),
             next_without: top.next_without,
         }
     } else if top.next <= rank {
-        Top {
+        GreatestRanks {
             bundle: Some(bundle),
             next: rank + 1,
             next_without: top.next,
         }
     } else if top.next_without <= rank {
-        Top {
+        GreatestRanks {
             bundle: top.bundle,
             next: top.next,
             next_without: rank + 1,
@@ -90,7 +95,7 @@ fn raised(top: Top, bundle: u32, rank: u64) -> Top
     }
 }
 
-impl Top {
+impl GreatestRanks {
     /// The rank of a line out of the element of this number, after all inputs but those of the same one.
     pub(crate) fn rank_of(self, bundle: u32) -> u64
         ensures { result ≡ rank_after self bundle }

@@ -1,7 +1,7 @@
 ghost use Rattle.std.specs.Prelude.{◌≡◌, ◌≤◌, ◌<◌, ◌+◌, ℕ, IsTrue, IfSome, IfOk, All, length};
 ghost use Rattle.sync_ql.specs.Moment.{Settings};
 ghost use Rattle.sync_ql.specs.Told.{IsOfOption, FitsElement};
-ghost use Rattle.sync_element.specs.Fitting.{FitsOption};
+ghost use Rattle.sync_element.specs.private.Fitting.{FitsOption};
 
 use std::alloc::{AllocError, Global};
 use std::marker::Brand;

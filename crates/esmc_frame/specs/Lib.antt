@@ -2,4 +2,4 @@ pub mod Parts
 pub mod Frame
 pub mod Reading
 pub mod Numbers
-pub mod Examples
+pub mod private

@@ -92,7 +92,7 @@ pub struct Part<const N: usize> {
 
 impl<const N: usize> Part<N> {
     /// Whether a frame has this part.
-    pub fn is_in(&self, frame: &[u8]) -> bool
+    pub(crate) fn is_in(&self, frame: &[u8]) -> bool
         requires { self.now.first + N ≤ length frame.now }
         ensures { let found = slice_range frame.now self.now.first (self.now.first + N)
             in result ≡ bytes_eq found self.now.octets }
@@ -101,7 +101,7 @@ impl<const N: usize> Part<N> {
     }
 
     /// Writes this part behind what was written so far.
-    pub fn put(&self, out: &mut [u8; FRAME])
+    pub(crate) fn put(&self, out: &mut [u8; FRAME])
         requires { self.now.first + N ≤ FRAME }
         ensures { let next = self.now.first + N
             in take next out.new ≡ take self.now.first out.old ++ self.now.octets }
@@ -111,7 +111,7 @@ impl<const N: usize> Part<N> {
 }
 
 /// Writes these octets from the first one on, behind what was written so far.
-pub fn put_at<const N: usize>(out: &mut [u8; FRAME], first: usize, octets: &[u8; N])
+pub(crate) fn put_at<const N: usize>(out: &mut [u8; FRAME], first: usize, octets: &[u8; N])
     requires { first + N ≤ FRAME }
     ensures { take (first + N) out.new ≡ take first out.old ++ octets.now }
 {

@@ -11,7 +11,8 @@ use Rattle.csv_records.specs.Fields.{five_of}
 use Rattle.sync_topo.specs.Names.{is_named}
 use Rattle.sync_topo.specs.declared.event.Event.{Event}
 use Rattle.sync_topo.specs.Topology.{Topology}
-use Rattle.event_file.specs.Rows.{Fields, event_row, event_in, time_in, event_limit, row_refusal}
+use Rattle.event_file.specs.Rows.{Fields, event_in, time_in, event_limit, row_refusal}
+use Rattle.event_file.specs.private.Rows.{event_row}
 use Rattle.event_file.specs.EventText.{events_in}
 use Rattle.event_file.specs.CaseRows.{case_in, event_fields, rows_of, time_after, may_follow, is_apart, case_refusal, case_refusal_at}
 use Rattle.event_file.specs.CaseText.{case_of}

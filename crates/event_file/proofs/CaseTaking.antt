@@ -17,12 +17,14 @@ use Rattle.event_file.specs.declared.case_file.Cases.{Cases}
 use Rattle.event_file.specs.declared.error.EventErr.{EventErr}
 use Rattle.event_file.specs.declared.error.EventErr.TheVariants as refusal
 use Rattle.event_file.specs.declared.progress.CasesSoFar.{CasesSoFar}
-use Rattle.event_file.specs.Refusal.{Refuses, is_want}
-use Rattle.event_file.specs.Rows.{Fields, event_row, event_in, time_in, event_limit, last_time, row_refusal}
+use Rattle.event_file.specs.Refusal.{is_want}
+use Rattle.event_file.specs.private.Refusal.{Refuses}
+use Rattle.event_file.specs.Rows.{Fields, event_in, time_in, event_limit, last_time, row_refusal}
+use Rattle.event_file.specs.private.Rows.{event_row}
 use Rattle.event_file.specs.EventText.{unless_refused}
 use Rattle.event_file.specs.CaseRows.{case_in, event_fields, case_before, may_follow, is_apart, rows_of, time_after, case_refusal, case_refusal_at}
 use Rattle.event_file.specs.CaseText.{names_of, case_of, cases_in, cases_of_rows, all_events}
-use Rattle.event_file.specs.CasesTaken.{with_current, with_event, AreSorted, AreTimely, IsTimely, AreCasesTaken, AreCasesLeft}
+use Rattle.event_file.specs.private.CasesTaken.{with_current, with_event, AreSorted, AreTimely, IsTimely, AreCasesTaken, AreCasesLeft}
 use Rattle.event_file.proofs.CaseRowLaws.{five_row, refusal-said, refusal-before, refusal-here}
 use Rattle.event_file.proofs.Sorting.{names-are, all-cases, all-timely, put-taken}
 

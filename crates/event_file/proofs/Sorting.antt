@@ -20,7 +20,7 @@ use Rattle.event_file.specs.Rows.{Fields, event_in, time_in, event_limit, last_t
 use Rattle.event_file.specs.EventText.{events_in}
 use Rattle.event_file.specs.CaseRows.{case_in, event_fields, is_common, rows_of, time_after, case_before, may_follow, is_apart, case_refusal, case_refusal_at}
 use Rattle.event_file.specs.CaseText.{names_of, case_of}
-use Rattle.event_file.specs.CasesTaken.{with_current, latest, with_event, with_event_in, AreTimely, IsTimely, names_with, IsLast, IsCurrent, AreSorted, AreCasesTaken}
+use Rattle.event_file.specs.private.CasesTaken.{with_current, latest, with_event, with_event_in, AreTimely, IsTimely, names_with, IsLast, IsCurrent, AreSorted, AreCasesTaken}
 use Rattle.event_file.proofs.Taking.{in_order_more}
 use Rattle.event_file.proofs.CaseNames.{itself, differ, apart, differ-sym, case_before-more, case_before-common, names_of-more, names_of-named}
 use Rattle.event_file.proofs.CaseRowLaws.{rows_of-here, rows_of-other, rows_of-none, events-here, cases-other, time_after-more, refusal-before, refusal-here}

@@ -12,10 +12,10 @@ use Rattle.sync_topo.specs.Events.{Fits, IsInOrder}
 use Rattle.csv_records.proofs.FirstRefusals.{first_refusal-some, first_refusal-none}
 use Rattle.event_file.specs.declared.error.EventErr.{EventErr}
 use Rattle.event_file.specs.declared.error.EventErr.TheVariants.{Header, Fields, Time, Order, What, Target, Value, Limit, Name, Apart, NoMemory}
-use Rattle.event_file.specs.Refusal.{Refuses}
+use Rattle.event_file.specs.private.Refusal.{Refuses}
 use Rattle.event_file.specs.Rows.{Fields as Row, event_in, time_in, time_before, row_refusal, refusal_at, event_limit, last_time}
 use Rattle.event_file.specs.EventText.{events_in, events_of_rows, unless_refused}
-use Rattle.event_file.specs.Taken.{AreTaken}
+use Rattle.event_file.specs.private.Taken.{AreTaken}
 
 -- what stands behind some rows
 pub at_seam : (done : List Row) (row : Row) (rest : List Row) → slice_get (done ++ row ∷ rest) (length done) ≡ Some row

@@ -4,7 +4,4 @@ pub mod EventText
 pub mod Refusal
 pub mod CaseRows
 pub mod CaseText
-pub mod Taken
-pub mod CasesTaken
-pub mod Examples
-pub mod CaseExamples
+pub mod private

@@ -1,6 +1,6 @@
 -- What a refusal of events or of cases is printed with, and what a call answers that may refuse.
 use Rattle.std.specs.Prelude.{ℕ, Bool, true, false, Option, Some, None, Result}
-use Rattle.sync_text.specs.Gives.{GivesBut, RefusesBut}
+use Rattle.sync_text.specs.Gives.{GivesBut}
 use Rattle.event_file.specs.declared.error.EventErr.{EventErr}
 use Rattle.event_file.specs.declared.error.EventErr.TheVariants.{Header, Fields, Time, Order, What, Target, Value, Limit, Name, Apart, NoMemory}
 
@@ -22,10 +22,6 @@ number_of NoMemory = None
 abbrev pub is_want : EventErr → Bool
 is_want NoMemory = true
 is_want refusal = false
-
--- the refusal is the definition's; want of memory says nothing
-abbrev pub Refuses : {A : Type 0} → EventErr → Result A EventErr → Type 0
-Refuses error answer = RefusesBut is_want error answer
 
 -- the answer is the definition's, value or refusal; want of memory says nothing
 abbrev pub Gives : {A : Type 0} → Result A EventErr → Result A EventErr → Type 0

@@ -1,5 +1,5 @@
 -- What a row of an event file says. This project's own.
-use Rattle.std.specs.Prelude.{ℕ, ◌+◌, zero, suc, nat_le, nat_lt, List, [], ◌∷◌, is_none, Option, Some, None, option_map, option_and_then, slice_get, unwrap_or, if◌then◌else◌}
+use Rattle.std.specs.Prelude.{ℕ, ◌+◌, zero, suc, nat_le, nat_lt, List, is_none, Option, Some, None, option_map, option_and_then, slice_get, unwrap_or, if◌then◌else◌}
 use Rattle.csv_records.specs.Fields.{four_of}
 use Rattle.sync_ql.specs.declared.limits.TheConstants.{LAST_MILLISECOND}
 use Rattle.sync_text.specs.Number.{number_of}
@@ -9,16 +9,12 @@ use Rattle.sync_topo.specs.Topology.{Topology}
 use Rattle.event_file.specs.declared.error.EventErr.{EventErr}
 use Rattle.event_file.specs.declared.error.EventErr.TheVariants as refusal
 use Rattle.event_file.specs.declared.word.Word.{Word}
-use Rattle.event_file.specs.declared.word.Said.{Said}
+use Rattle.event_file.specs.declared.word.WordTarget.{WordTarget}
 use Rattle.event_file.specs.Words.{word_of, said_of, what_of}
 
 -- a row's fields
 abbrev pub Fields : Type 0
 Fields = List (List ℕ)
-
--- a row of the four fields of an event
-abbrev pub event_row : List ℕ → List ℕ → List ℕ → List ℕ → Fields
-event_row at word target value = at ∷ word ∷ target ∷ value ∷ []
 
 -- the last millisecond at which an event may stand, and how many events there may be
 abbrev pub last_time : ℕ
@@ -40,7 +36,7 @@ abbrev pub word_in : Fields → Option Word
 word_in row = option_and_then (λ fields. word_of fields.1) (four_of row)
 
 -- what its word says of its target, which its third field names
-abbrev pub said_in : Topology → Fields → Option Said
+abbrev pub said_in : Topology → Fields → Option WordTarget
 said_in plan row =
     option_and_then (λ fields. option_and_then (λ word. said_of plan word fields.2) (word_of fields.1)) (four_of row)
 

@@ -15,8 +15,8 @@ use Rattle.sync_topo.specs.Lines.{line_of_name, input_of_name}
 use Rattle.sync_topo.specs.Events.{MayHappen}
 use Rattle.event_file.specs.declared.word.Word.{Word}
 use Rattle.event_file.specs.declared.word.Word.TheVariants as word
-use Rattle.event_file.specs.declared.word.Said.{Said}
-use Rattle.event_file.specs.declared.word.Said.TheVariants.{Happens, GetsLevel}
+use Rattle.event_file.specs.declared.word.WordTarget.{WordTarget}
+use Rattle.event_file.specs.declared.word.WordTarget.TheVariants.{Happens, GetsLevel}
 
 -- the word that some bytes are
 abbrev pub word_of : List ℕ → Option Word
@@ -46,7 +46,7 @@ part_of_name plan name =
 
 -- what a word says of the target of a name, if it is said of one: `down` and `up` of links, lines and sources; `esmc-off`
 -- and `esmc-on` of lines; `level` of sources; `clear` of elements; and the other words of lines and sources
-abbrev pub said_of : Topology → Word → List ℕ → Option Said
+abbrev pub said_of : Topology → Word → List ℕ → Option WordTarget
 said_of plan word.Down name = option_map (λ p. Happens (what.Down p)) (part_of_name plan name)
 said_of plan word.Up name = option_map (λ p. Happens (what.Up p)) (part_of_name plan name)
 said_of plan word.EsmcOff name = option_map (λ l. Happens (what.EsmcOff l)) (line_named plan name)
@@ -60,11 +60,11 @@ said_of plan word.Clear name = option_map (λ e. Happens (what.Clear e)) (place_
 said_of plan word.ClearWtr name = option_map (λ i. Happens (what.ClearWtr i)) (input_of_name plan name)
 
 -- what happens, by the value: it is empty, but for a level, which it names
-abbrev pub what_of : NetOption → Said → List ℕ → Option What
+abbrev pub what_of : NetOption → WordTarget → List ℕ → Option What
 what_of option (Happens happens) value = if bytes_eq value [] then Some happens else None
 what_of option (GetsLevel source) value = option_map (what.SourceLevel source) (level_of_name option value)
 
 -- what is said may happen to the plan, or is of one of its sources
-abbrev pub IsSaid : Topology → Said → Type 0
+abbrev pub IsSaid : Topology → WordTarget → Type 0
 IsSaid plan (Happens happens) = MayHappen plan happens
 IsSaid plan (GetsLevel source) = source < length plan.sources

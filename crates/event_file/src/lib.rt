@@ -6,7 +6,7 @@
 //! of a row) and `refusal_at` (the rule that the row at a place breaks). [`read_cases`] gives [`Cases`],
 //! which have a name and events each, and events in common; contracts see `cases_of`, `rows_of` (the
 //! rows of a case, as rows of an event file) and `case_refusal_at`. Rows are read one after another,
-//! and what is kept is their events and the names of cases alone. [`Word`] and [`Said`] are the words
+//! and what is kept is their events and the names of cases alone. [`Word`] and [`WordTarget`] are the words
 //! of a row, for other files that have the same.
 //!
 //! Only tested: the texts by which an error is printed, that memory is found, and that whole files
@@ -23,4 +23,4 @@ mod word;
 pub use case_file::{Cases, read_cases};
 pub use error::EventErr;
 pub use reading::read_events;
-pub use word::{Said, Word};
+pub use word::{Word, WordTarget};

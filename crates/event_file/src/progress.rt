@@ -7,7 +7,7 @@ ghost use Rattle.sync_topo.specs.Topology.{Topology};
 ghost use Rattle.event_file.specs.Refusal.{is_want};
 ghost use Rattle.event_file.specs.Rows.{Fields, event_limit};
 ghost use Rattle.event_file.specs.CaseRows.{may_follow, is_apart, case_refusal};
-ghost use Rattle.event_file.specs.CasesTaken.{with_current, with_event, AreSorted, AreCasesTaken};
+ghost use Rattle.event_file.specs.private.CasesTaken.{with_current, with_event, AreSorted, AreCasesTaken};
 
 use crate::case_file::Cases;
 use crate::error::EventErr;

@@ -5,7 +5,8 @@ ghost use Rattle.std.specs.List.{All};
 ghost use Rattle.sync_topo.specs.Events.{Fits, IsInOrder};
 ghost use Rattle.event_file.specs.EventText.{events_of, events_of_rows, is_header};
 ghost use Rattle.event_file.specs.Refusal.{Gives};
-ghost use Rattle.event_file.specs.Rows.{event_limit, event_row, last_time};
+ghost use Rattle.event_file.specs.Rows.{event_limit, last_time};
+ghost use Rattle.event_file.specs.private.Rows.{event_row};
 
 use crate::error::EventErr;
 use crate::row::event_of;

@@ -3,7 +3,8 @@
 ghost use Rattle.std.specs.Prelude.{◌≡◌, ◌≤◌, IfOk, IfErr, IfSome, Some, None, option_and_then};
 ghost use Rattle.sync_text.specs.Number.{number_of};
 ghost use Rattle.sync_topo.specs.Events.{Fits};
-ghost use Rattle.event_file.specs.Rows.{event_row, event_in, time_in, in_time, row_refusal, event_limit, last_time};
+ghost use Rattle.event_file.specs.Rows.{event_in, time_in, in_time, row_refusal, event_limit, last_time};
+ghost use Rattle.event_file.specs.private.Rows.{event_row};
 
 use crate::error::EventErr;
 use crate::word::Word;

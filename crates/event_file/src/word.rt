@@ -38,7 +38,7 @@ pub enum Word {
 
 /// What a word says of its target, before the value is looked at. This project's own.
 #[derive(Clone, Copy, Debug, PartialEq, Eq, Drop)]
-pub enum Said {
+pub enum WordTarget {
     /// This happens, and there is nothing more to say.
     Happens(What),
     /// The source of this number gets a level, which the value names.
@@ -80,7 +80,7 @@ impl Word {
     /// What the word says of the target of a name.
     ///
     /// `None` where the plan has nothing of this name that the word is said of. This project's own.
-    pub fn said_of(self, plan: &Plan, name: &[u8]) -> Option<Said>
+    pub fn said_of(self, plan: &Plan, name: &[u8]) -> Option<WordTarget>
         ensures said { result ≡ said_of plan.now self name.now }
         ensures fits { IfSome result (IsSaid plan.now) }
     {
@@ -89,7 +89,7 @@ impl Word {
             Word::Up => What::Up(part_of_name(plan, name)?),
             Word::EsmcOff => What::EsmcOff(plan.line_of_name(name)?),
             Word::EsmcOn => What::EsmcOn(plan.line_of_name(name)?),
-            Word::Level => return Some(Said::GetsLevel(plan.source_of_name(name)?)),
+            Word::Level => return Some(WordTarget::GetsLevel(plan.source_of_name(name)?)),
             Word::Lockout => What::Lockout(plan.input_of_name(name)?),
             Word::Unlock => What::Unlock(plan.input_of_name(name)?),
             Word::Forced => What::Forced(plan.input_of_name(name)?),
@@ -97,11 +97,11 @@ impl Word {
             Word::Clear => What::Clear(plan.element_of_name(name)?),
             Word::ClearWtr => What::ClearWtr(plan.input_of_name(name)?),
         };
-        Some(Said::Happens(what))
+        Some(WordTarget::Happens(what))
     }
 }
 
-impl Said {
+impl WordTarget {
     /// What happens, by the value: an empty one, or the name of a level of the option.
     ///
     /// `None` where the value is another. This project's own.
@@ -110,8 +110,8 @@ impl Said {
         ensures fits { (plan : Topology) → plan.option ≡ option → IsSaid plan self → IfSome result (MayHappen plan) }
     {
         match self {
-            Said::Happens(what) => { if value.is_empty() { Some(what) } else { None } }
-            Said::GetsLevel(source) => {
+            WordTarget::Happens(what) => { if value.is_empty() { Some(what) } else { None } }
+            WordTarget::GetsLevel(source) => {
                 let level = level_of_name(option, value)?;
                 Some(What::SourceLevel(source, level))
             }

@@ -21,7 +21,7 @@ use Rattle.sync_net.specs.NetState.{NetState}
 use Rattle.sync_net.specs.Evaluated.{AreAloneEvaluated}
 use Rattle.event_sim.specs.Bounds.{milliseconds, turns_in, active_times, active_pairs}
 use Rattle.event_times.specs.EventTimes.{IsNextTime}
-use Rattle.event_sim.specs.Running.{IsTurnBound, IsBound}
+use Rattle.event_sim.specs.private.Running.{IsTurnBound, IsBound}
 
 -- a range in two parts
 range-append : (from a b : ℕ) → range_with_len from (a + b) ≡ range_with_len from a ++ range_with_len (from + a) b

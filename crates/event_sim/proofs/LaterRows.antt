@@ -14,10 +14,10 @@ use Rattle.sync_ql.specs.declared.limits.TheConstants.{MOST_ROWS}
 use Rattle.event_sim.specs.declared.change.Change.{Change}
 use Rattle.event_sim.specs.declared.change.Watch.{Watch}
 use Rattle.event_sim.specs.declared.change.Watch.TheVariants.{Changes, Nothing}
-use Rattle.event_sim.specs.Rows.{is_other, shown_after, shown_by, has_changed, changed_in, row_of, rows_in, rows_until}
+use Rattle.event_sim.specs.Rows.{shows_other, shown_after, shown_by, has_changed, changed_in, row_of, rows_in, rows_until}
 use Rattle.event_sim.specs.Standing.{watched_rows}
 use Rattle.event_sim.specs.Answers.{IsLastFit, AreTooMany}
-use Rattle.event_sim.specs.Running.{IsCut}
+use Rattle.event_sim.specs.private.Running.{IsCut}
 use Rattle.sync_net.specs.NetState.{NetState}
 
 -- with what is shown, the rows are the same
@@ -27,8 +27,8 @@ rows-in-same : (plan : Topology) (events others : List Event) (t : ℕ)
 rows-in-same plan events others t same =
     let alike : changed_in plan others t ≡ changed_in plan events t =
     filter_range_agree (has_changed plan others t) (has_changed plan events t) (length plan.elements)
-    (λ place within. ap (λ was. is_other was (shown_by plan others place (suc t))) (same place t within (omega arith))
-    ∙ ap (is_other (shown_by plan events place t)) (same place (suc t) within (omega arith))) in
+    (λ place within. ap (λ was. shows_other was (shown_by plan others place (suc t))) (same place t within (omega arith))
+    ∙ ap (shows_other (shown_by plan events place t)) (same place (suc t) within (omega arith))) in
     let inside : Each (λ place. place < length plan.elements) (changed_in plan events t) =
     Each-map _ _ (λ place both. both.0) _
     (Each-filter (λ place. place < length plan.elements) (has_changed plan events t) (range_with_len 0 (length plan.elements))

@@ -21,8 +21,8 @@ use Rattle.sync_topo.specs.Topology.{Topology}
 use Rattle.sync_net.specs.NetState.{NetState}
 use Rattle.event_sim.specs.declared.shown.Shown.{Shown}
 use Rattle.event_sim.specs.declared.change.Change.{Change}
-use Rattle.event_sim.specs.Rows.{is_other, shown_after, row_of}
-use Rattle.event_sim.specs.Showing.{Shows, kept_in, AreSeen, AreRenewed, others_in}
+use Rattle.event_sim.specs.Rows.{shows_other, shown_after, row_of}
+use Rattle.event_sim.specs.private.Showing.{Shows, kept_in, AreSeen, AreRenewed, others_in}
 use Rattle.event_sim.proofs.RowLaws.{other-same}
 
 -- at first nothing was looked at
@@ -41,7 +41,7 @@ pub seen-more : (net : NetState) (done done_then : List ℕ) (was shown : List S
     → list_any (nat_eq place) done ≡ false → place < length shown
     → old ≡ slice_index_or shown place old
     → ((other : ElementState) → Shows net.plan place (slice_index_or net.elements place other) now)
-    → listed_then ≡ (if is_other old now then listed ++ place ∷ [] else listed)
+    → listed_then ≡ (if shows_other old now then listed ++ place ∷ [] else listed)
     → AreSeen net done was shown listed → AreSeen net done_then was (set shown place now) listed_then
 seen-more net done done_then was shown listed listed_then place old now more fresh within read shows lists seen = record {
   count = length-set shown place now ∙ seen.count;
@@ -58,7 +58,7 @@ seen-more net done done_then was shown listed listed_then place old now more fre
     | inl same ↦ absurd (true≢false (sym (or-right (list_any (nat_eq e) done) (nat_eq e place) same.0) ∙ sym (more e) ∙ none))
     | inr apart ↦ kept-there e apart.1 ∙ seen.left e (or-none (list_any (nat_eq e) done) (nat_eq e place) (sym (more e) ∙ none))
   ];
-  apart = subst (IsDistinct nat_eq) (sym lists) (distinct (is_other old now));
+  apart = subst (IsDistinct nat_eq) (sym lists) (distinct (shows_other old now));
   changed = λ e. ap (list_any (nat_eq e)) lists ∙ listed-then e (eqb_tells e place);
 }
   where
@@ -91,7 +91,7 @@ seen-more net done done_then was shown listed listed_then place old now more fre
     or-false false b is = is
 
     unlisted : list_any (nat_eq place) listed ≡ false
-    unlisted = seen.changed place ∙ ap (is_other (kept_in net.plan was place)) (seen.left place fresh) ∙ other-same (kept_in net.plan was place)
+    unlisted = seen.changed place ∙ ap (shows_other (kept_in net.plan was place)) (seen.left place fresh) ∙ other-same (kept_in net.plan was place)
 
     distinct : (told : Bool) → IsDistinct nat_eq (if told then listed ++ place ∷ [] else listed)
     distinct true = IsDistinct-push nat_eq_equiv listed place seen.apart unlisted
@@ -101,7 +101,7 @@ seen-more net done done_then was shown listed listed_then place old now more fre
     found e true = list_any-append (nat_eq e) listed (place ∷ [])
     found e false = refl
 
-    at-place : (told : Bool) → is_other old now ≡ told → nat_eq place place ≡ true
+    at-place : (told : Bool) → shows_other old now ≡ told → nat_eq place place ≡ true
         → (if told then list_any (nat_eq place) listed || (nat_eq place place || false) else list_any (nat_eq place) listed) ≡ told
     at-place true is same = or-right (list_any (nat_eq place) listed) (nat_eq place place || false) (ap (λ b. b || false) same)
     at-place false is same = unlisted
@@ -112,26 +112,26 @@ seen-more net done done_then was shown listed listed_then place old now more fre
     elsewhere e false apart = refl
 
     listed-then : (e : ℕ) → ((nat_eq e place ≡ true) × (e ≡ place)) ⊎ ((nat_eq e place ≡ false) × (e ≢ place))
-        → list_any (nat_eq e) (if is_other old now then listed ++ place ∷ [] else listed)
-        ≡ is_other (kept_in net.plan was e) (kept_in net.plan (set shown place now) e)
+        → list_any (nat_eq e) (if shows_other old now then listed ++ place ∷ [] else listed)
+        ≡ shows_other (kept_in net.plan was e) (kept_in net.plan (set shown place now) e)
     listed-then e (inl same) =
         let here : e ≡ place = same.1 in
-        subst (λ k. list_any (nat_eq k) (if is_other old now then listed ++ place ∷ [] else listed)
-        ≡ is_other (kept_in net.plan was k) (kept_in net.plan (set shown place now) k)) (sym here)
-        (found place (is_other old now)
-        ∙ at-place (is_other old now) refl (subst (λ k. nat_eq k place ≡ true) here same.0)
-        ∙ ap (λ shown. is_other shown now) old-was
-        ∙ ap (is_other (kept_in net.plan was place)) (sym kept-here))
+        subst (λ k. list_any (nat_eq k) (if shows_other old now then listed ++ place ∷ [] else listed)
+        ≡ shows_other (kept_in net.plan was k) (kept_in net.plan (set shown place now) k)) (sym here)
+        (found place (shows_other old now)
+        ∙ at-place (shows_other old now) refl (subst (λ k. nat_eq k place ≡ true) here same.0)
+        ∙ ap (λ shown. shows_other shown now) old-was
+        ∙ ap (shows_other (kept_in net.plan was place)) (sym kept-here))
     listed-then e (inr apart) =
-        found e (is_other old now) ∙ elsewhere e (is_other old now) apart.0 ∙ seen.changed e
-        ∙ ap (is_other (kept_in net.plan was e)) (sym (kept-there e apart.1))
+        found e (shows_other old now) ∙ elsewhere e (shows_other old now) apart.0 ∙ seen.changed e
+        ∙ ap (shows_other (kept_in net.plan was e)) (sym (kept-there e apart.1))
 
 -- where all that a step evaluated was looked at, and what changed was sorted
 pub seen-all : (net : NetState) (was now : List Shown) (listed sorted : List ℕ) → AreSeen net net.evaluated was now listed
     → length was ≡ length net.plan.elements → IsPermutation listed sorted → IsSorted nat_cmp sorted
     → sorted ≡ others_in net.plan was now
 seen-all net was now listed sorted seen count moved in_order =
-    sorted-kept (λ place. is_other (kept_in net.plan was place) (kept_in net.plan now place)) (length net.plan.elements) sorted in_order
+    sorted-kept (λ place. shows_other (kept_in net.plan was place) (kept_in net.plan now place)) (length net.plan.elements) sorted in_order
     (IsDistinct-IsPermutation nat_eq nat_eq_equiv.symm listed sorted moved seen.apart)
     (λ place. sym (list_any-IsPermutation (nat_eq place) listed sorted moved) ∙ seen.changed place)
     (λ place differs. elim (dec_lt place (length net.plan.elements)) [
@@ -139,8 +139,8 @@ seen-all net was now listed sorted seen count moved in_order =
       | no beyond ↦
           let before : kept_in net.plan was place ≡ shown_after net.plan place [] = get_or-eq_default was (shown_after net.plan place []) (omega (arith, beyond, count)) in
           let after : kept_in net.plan now place ≡ shown_after net.plan place [] = get_or-eq_default now (shown_after net.plan place []) (omega (arith, beyond, count, seen.count)) in
-          absurd (true≢false (sym differs ∙ ap (λ shown. is_other shown (kept_in net.plan now place)) before
-          ∙ ap (is_other (shown_after net.plan place [])) after ∙ other-same (shown_after net.plan place [])))
+          absurd (true≢false (sym differs ∙ ap (λ shown. shows_other shown (kept_in net.plan now place)) before
+          ∙ ap (shows_other (shown_after net.plan place [])) after ∙ other-same (shown_after net.plan place [])))
     ])
 
 pub seen-renewed : (net : NetState) (was now : List Shown) (listed : List ℕ) → AreSeen net net.evaluated was now listed → AreRenewed net was now
@@ -148,7 +148,7 @@ seen-renewed net was now listed seen = record { count = seen.count; seen = seen.
 
 -- the places that changed are places of the plan
 pub others-within : (plan : Topology) (was now : List Shown) (n : ℕ) → length plan.elements ≡ n → All (λ place. place < n) (others_in plan was now)
-others-within plan was now n same = All-filter (λ place. is_other (kept_in plan was place) (kept_in plan now place)) (λ place. place < n) (range_with_len 0 (length plan.elements))
+others-within plan was now n same = All-filter (λ place. shows_other (kept_in plan was place) (kept_in plan now place)) (λ place. place < n) (range_with_len 0 (length plan.elements))
     (λ k d inside.
     let low : k < length plan.elements = omega (arith, inside, length-range_with_len 0 (length plan.elements)) in
     let at : slice_index_or (range_with_len 0 (length plan.elements)) k d ≡ 0 + k = get_or-range_with_len 0 (length plan.elements) k d low in

@@ -26,11 +26,11 @@ use Rattle.sync_net.proofs.StageLaws.{same-place}
 use Rattle.shown_words.proofs.SameLaws.{same-mode, same-state, same-taken}
 use Rattle.sync_ql.specs.declared.limits.TheConstants.{MOST_ROWS}
 use Rattle.event_sim.specs.declared.shown.Shown.{Shown}
-use Rattle.event_sim.specs.Rows.{is_other, shown_after, shown_by, has_changed, changed_in, row_of, rows_in, rows_until}
-use Rattle.event_sim.specs.Showing.{Shows, kept_in, AreShown, AreRenewed, others_in, rows_between}
+use Rattle.event_sim.specs.Rows.{shows_other, shown_after, shown_by, has_changed, changed_in, row_of, rows_in, rows_until}
+use Rattle.event_sim.specs.private.Showing.{Shows, kept_in, AreShown, AreRenewed, others_in, rows_between}
 
-pub other-same : (shown : Shown) → is_other shown shown ≡ false
-unfolding is_other
+pub other-same : (shown : Shown) → shows_other shown shown ≡ false
+unfolding shows_other
 other-same shown = rw (same-mode shown.mode, same-taken shown.input, same_option shown.level.option, same-place shown.level.place, same-state shown.state) refl
 
 -- the law of sync_net on elements: one of a network stands for what the network stands for
@@ -60,8 +60,8 @@ quiet-millisecond : HasElements → (net : NetState) (shown : List Shown) (event
 quiet-millisecond law net shown events t are before after =
     let none : changed_in net.plan events t ≡ [] =
     filter_range_agree (has_changed net.plan events t) (λ (n : ℕ). false) (length net.plan.elements)
-    (λ place within. ap (λ was. is_other was (shown_by net.plan events place (suc t))) (shown-is law net shown events t place are before within)
-    ∙ ap (is_other (kept_in net.plan shown place)) (shown-is law net shown events (suc t) place are after within)
+    (λ place within. ap (λ was. shows_other was (shown_by net.plan events place (suc t))) (shown-is law net shown events t place are before within)
+    ∙ ap (shows_other (kept_in net.plan shown place)) (shown-is law net shown events (suc t) place are after within)
     ∙ other-same (kept_in net.plan shown place))
     ∙ none-passes (range_with_len 0 (length net.plan.elements)) in
     ap (map (λ place. row_of t place (shown_by net.plan events place (suc t)))) none
@@ -90,12 +90,12 @@ turn-rows law net net_then was now events t before after same is is_then =
     subst (λ (plan : Topology). (place : ℕ) → place < length plan.elements → shown_by plan events place (suc t) ≡ kept_in plan now place) same
     (λ place within. shown-is law net_then now events (suc t) place after is_then within) in
     let alike : changed_in net.plan events t ≡ others_in net.plan was now =
-    filter_range_agree (has_changed net.plan events t) (λ place. is_other (kept_in net.plan was place) (kept_in net.plan now place)) (length net.plan.elements)
-    (λ place within. ap (λ shown. is_other shown (shown_by net.plan events place (suc t))) (shown-is law net was events t place before is within)
-    ∙ ap (is_other (kept_in net.plan was place)) (now-is place within)) in
+    filter_range_agree (has_changed net.plan events t) (λ place. shows_other (kept_in net.plan was place) (kept_in net.plan now place)) (length net.plan.elements)
+    (λ place within. ap (λ shown. shows_other shown (shown_by net.plan events place (suc t))) (shown-is law net was events t place before is within)
+    ∙ ap (shows_other (kept_in net.plan was place)) (now-is place within)) in
     let inside : Each (λ place. place < length net.plan.elements) (others_in net.plan was now) =
     Each-map _ _ (λ place both. both.0) _
-    (Each-filter (λ place. place < length net.plan.elements) (λ place. is_other (kept_in net.plan was place) (kept_in net.plan now place))
+    (Each-filter (λ place. place < length net.plan.elements) (λ place. shows_other (kept_in net.plan was place) (kept_in net.plan now place))
     (range_with_len 0 (length net.plan.elements))
     (Each-range (λ place. place < length net.plan.elements) 0 (length net.plan.elements) (λ k low high. omega (arith, high)))) in
     ap (map (λ place. row_of t place (shown_by net.plan events place (suc t)))) alike

@@ -18,14 +18,15 @@ use Rattle.event_sim.specs.declared.change.Change.{Change}
 use Rattle.event_sim.specs.declared.change.Watch.{Watch}
 use Rattle.event_sim.specs.declared.change.Watch.TheVariants.{Changes, Nothing}
 use Rattle.event_sim.specs.declared.running.Run.{Run}
-use Rattle.event_sim.specs.Rows.{is_other, row_of, rows_in, rows_until}
+use Rattle.event_sim.specs.Rows.{shows_other, row_of, rows_in, rows_until}
 use Rattle.event_sim.specs.Changes.{IsChangeOf}
 use Rattle.sync_net.proofs.QuietGap.{some_element}
 use Rattle.event_sim.proofs.NotingLaws.{others-within}
 use Rattle.std.proofs.lemmas.List.Elements.{All-append, All-map}
-use Rattle.event_times.specs.EventTimes.{AreTold, AreHere, IsNextTime, AreParted}
-use Rattle.event_sim.specs.Showing.{AreShown, AreShownIf, AreNoted, kept_in, others_in, rows_between}
-use Rattle.event_sim.specs.Running.{IsKeptBy, RunStands, IsAfterTurn, IsTurnBound}
+use Rattle.event_times.specs.EventTimes.{AreTold, IsNextTime, AreParted}
+use Rattle.event_times.specs.private.EventTimes.{AreHere}
+use Rattle.event_sim.specs.private.Showing.{AreShown, AreShownIf, AreNoted, kept_in, others_in, rows_between}
+use Rattle.event_sim.specs.private.Running.{IsKeptBy, RunStands, IsAfterTurn, IsTurnBound}
 use Rattle.event_sim.proofs.RowLaws.{HasElements, quiet-rows, turn-rows}
 use Rattle.event_times.proofs.EventTimes.{sooner, none-until, are-here}
 use Rattle.event_sim.proofs.BoundLaws.{turn-bound, turn-counts}
@@ -175,7 +176,7 @@ pub turn-late : (plan : Topology) (t next : ℕ) (was now : List Shown) (before 
     → (next ≡ 0 → before ≡ []) → next ≤ t → MOST_ROWS < length (before ++ rows_between plan t was now) → 0 < t
 turn-late plan zero next was now before few first early many =
     let none : before ≡ [] = first (omega (arith, early)) in
-    let differs = λ (place : ℕ). is_other (kept_in plan was place) (kept_in plan now place) in
+    let differs = λ (place : ℕ). shows_other (kept_in plan was place) (kept_in plan now place) in
     absurd (omega (
       arith,
       many,

@@ -4,6 +4,5 @@ pub mod SimState
 pub mod Standing
 pub mod Answers
 pub mod Bounds
-pub mod Showing
-pub mod Running
 pub mod SimKept
+pub mod private

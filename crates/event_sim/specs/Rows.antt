@@ -15,8 +15,8 @@ use Rattle.event_sim.specs.declared.shown.Shown.{Shown}
 use Rattle.event_sim.specs.declared.change.Change.{Change}
 
 -- what is shown differs: the mode, the input that is taken, the level or the state
-unfoldable pub is_other : Shown → Shown → Bool
-is_other was now = not (is_same_mode was.mode now.mode && is_same_taken was.input now.input
+unfoldable pub shows_other : Shown → Shown → Bool
+shows_other was now = not (is_same_mode was.mode now.mode && is_same_taken was.input now.input
     && is_same_level (Some was.level) (Some now.level) && is_same_state was.state now.state)
 
 -- what an element shows after a past: its mode, the input that it takes, its level, and what its clock
@@ -38,7 +38,7 @@ shown_by plan events element n =
 -- an element shows in a millisecond something else than before it
 abbrev pub has_changed : Topology → List Event → ℕ → ℕ → Bool
 has_changed plan events t element =
-    is_other (shown_by plan events element t) (shown_by plan events element (suc t))
+    shows_other (shown_by plan events element t) (shown_by plan events element (suc t))
 
 -- the elements that do so, in their order
 abbrev pub changed_in : Topology → List Event → ℕ → List ℕ

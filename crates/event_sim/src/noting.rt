@@ -4,17 +4,17 @@ ghost use Rattle.std.specs.Prelude.{◌≡◌, ◌<◌, ◌≤◌, ◌∷◌, �
 ghost use Rattle.std.specs.List.{All, IsDistinct};
 ghost use Rattle.event_sim.specs.declared.shown.Shown.{Shown};
 ghost use Rattle.event_sim.specs.Rows.{row_of};
-ghost use Rattle.event_sim.specs.Showing.{AreShown, AreSeen, AreRenewed, AreNoted, others_in};
+ghost use Rattle.event_sim.specs.private.Showing.{AreShown, AreSeen, AreRenewed, AreNoted, others_in};
 
 use crate::change::Change;
-use crate::shown::{Shown, is_other, shown_of};
+use crate::shown::{Shown, shown_of, shows_other};
 use std::alloc::Global;
 use sync_net::Net;
 use sync_ql::limits::MOST_ROWS;
 use sync_text::NoMemory;
 
-// What each element of a network shows.
-pub fn first_shown(alloc: Global, net: &Net<'_>) -> Result<Vec<Shown>, NoMemory>
+/// What each element of a network shows.
+pub(crate) fn first_shown(alloc: Global, net: &Net<'_>) -> Result<Vec<Shown>, NoMemory>
     requires { net.now.spent ≡ false }
     ensures { IfOk result (λ shown. AreShown net.now shown.items) }
 {
@@ -22,8 +22,8 @@ pub fn first_shown(alloc: Global, net: &Net<'_>) -> Result<Vec<Shown>, NoMemory>
     let Ok(mut shown) = Vec::with_capacity(alloc, plan.elements() as usize) else {
         return Err(NoMemory);
     };
-    for place in 0..plan.elements() {
-        let now = shown_of(plan, place, net.element(place));
+    for element in 0..plan.elements() {
+        let now = shown_of(plan, element, net.element(element));
         if shown.push(now).is_err() {
             return Err(NoMemory);
         }
@@ -31,7 +31,7 @@ pub fn first_shown(alloc: Global, net: &Net<'_>) -> Result<Vec<Shown>, NoMemory>
     Ok(shown)
 }
 
-// Looks at the elements that the last step evaluated, and lists those that show something else.
+/// Looks at the elements that the last step evaluated, and lists those that show something else.
 fn look_at_evaluated(
     net: &Net<'_>,
     shown: &mut Vec<Shown>,
@@ -39,36 +39,36 @@ fn look_at_evaluated(
 ) -> Result<(), NoMemory>
     requires live { net.now.spent ≡ false }
     requires count { length shown.old.items ≡ length net.now.plan.elements }
-    requires within { All (λ place. place < length net.now.plan.elements) net.now.evaluated }
+    requires within { All (λ element. element < length net.now.plan.elements) net.now.evaluated }
     requires apart { IsDistinct nat_eq net.now.evaluated }
     requires empty { changed.old.items ≡ [] }
     ensures { OnOk result (AreSeen net.now net.now.evaluated
         shown.old.items shown.new.items changed.new.items) }
 {
-    for place in net.evaluated() {
-        let now = shown_of(net.plan(), *place, net.element(*place));
-        let was = shown[*place as usize];
-        shown[*place as usize] = now;
-        list_if(changed, *place, is_other(was, now))?;
+    for element in net.evaluated() {
+        let now = shown_of(net.plan(), *element, net.element(*element));
+        let was = shown[*element as usize];
+        shown[*element as usize] = now;
+        list_if(changed, *element, shows_other(was, now))?;
     }
     Ok(())
 }
 
-// Lists a place where it is told so.
-fn list_if(listed: &mut Vec<u32>, place: u32, told: bool) -> Result<(), NoMemory>
+/// Lists an element where it is told so.
+fn list_if(listed: &mut Vec<u32>, element: u32, told: bool) -> Result<(), NoMemory>
     ensures { OnOk result (listed.new.items ≡
-        (if told then listed.old.items ++ place ∷ [] else listed.old.items)) }
+        (if told then listed.old.items ++ element ∷ [] else listed.old.items)) }
 {
     if !told {
         return Ok(());
     }
-    match listed.push(place) {
+    match listed.push(element) {
         Ok(()) => Ok(()),
         Err(_) => Err(NoMemory),
     }
 }
 
-// The elements that show something else since the last step, in their order.
+/// The elements that show something else since the last step, in their order.
 fn find_changed(
     net: &Net<'_>,
     shown: &mut Vec<Shown>,
@@ -76,7 +76,7 @@ fn find_changed(
 ) -> Result<(), NoMemory>
     requires live { net.now.spent ≡ false }
     requires count { length shown.old.items ≡ length net.now.plan.elements }
-    requires within { All (λ place. place < length net.now.plan.elements) net.now.evaluated }
+    requires within { All (λ element. element < length net.now.plan.elements) net.now.evaluated }
     requires apart { IsDistinct nat_eq net.now.evaluated }
     ensures renewed { OnOk result (AreRenewed net.now shown.old.items shown.new.items) }
     ensures changed { OnOk result (changed.new.items
@@ -88,24 +88,24 @@ fn find_changed(
     Ok(())
 }
 
-// Adds the rows of some elements in a millisecond.
+/// Adds the rows of some elements in a millisecond.
 fn add_rows(
     changes: &mut Vec<Change>,
     now: u64,
     changed: &[u32],
     shown: &[Shown],
 ) -> Result<(), NoMemory>
-    requires within { All (λ place. place < length shown.now) changed.now }
+    requires within { All (λ element. element < length shown.now) changed.now }
     ensures { OnOk result ((other : ℕ → Shown) → changes.new.items ≡ changes.old.items ++ map
-        (λ place. row_of now place (slice_index_or shown.now place (other place))) changed.now) }
+        (λ element. row_of now element (slice_index_or shown.now element (other element))) changed.now) }
 {
-    for place in changed {
-        put(changes, row_of(now, *place, shown[*place as usize]))?;
+    for element in changed {
+        push_change(changes, row_of(now, *element, shown[*element as usize]))?;
     }
     Ok(())
 }
 
-// The row of an element that shows this from a millisecond on.
+/// The row of an element that shows this from a millisecond on.
 fn row_of(now: u64, element: u32, shown: Shown) -> Change
     ensures { result ≡ row_of now element shown }
 {
@@ -119,7 +119,7 @@ fn row_of(now: u64, element: u32, shown: Shown) -> Change
     }
 }
 
-fn put(changes: &mut Vec<Change>, change: Change) -> Result<(), NoMemory>
+fn push_change(changes: &mut Vec<Change>, change: Change) -> Result<(), NoMemory>
     ensures { OnOk result (changes.new.items ≡ changes.old.items ++ change ∷ []) }
 {
     match changes.push(change) {
@@ -128,8 +128,8 @@ fn put(changes: &mut Vec<Change>, change: Change) -> Result<(), NoMemory>
     }
 }
 
-// Notes what a step changed: true where the rows fit, and false where they are too many.
-pub fn note_changes(
+/// Notes what a step changed: true where the rows fit, and false where they are too many.
+pub(crate) fn note_changes(
     net: &Net<'_>,
     now: u64,
     shown: &mut Vec<Shown>,
@@ -138,7 +138,7 @@ pub fn note_changes(
 ) -> Result<bool, NoMemory>
     requires live { net.now.spent ≡ false }
     requires count { length shown.old.items ≡ length net.now.plan.elements }
-    requires within { All (λ place. place < length net.now.plan.elements) net.now.evaluated }
+    requires within { All (λ element. element < length net.now.plan.elements) net.now.evaluated }
     requires apart { IsDistinct nat_eq net.now.evaluated }
     requires few { length changes.old.items ≤ MOST_ROWS }
     ensures renewed { OnOk result (AreRenewed net.now shown.old.items shown.new.items) }

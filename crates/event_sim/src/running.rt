@@ -5,10 +5,11 @@ ghost use Rattle.sync_topo.specs.declared.event.Event.{Event};
 ghost use Rattle.sync_topo.specs.Events.{Fits};
 ghost use Rattle.sync_net.specs.NetState.{IsInTime};
 ghost use Rattle.sync_net.specs.Standing.{StandsFor};
-ghost use Rattle.event_times.specs.EventTimes.{AreTold, AreWithin, AreHere};
+ghost use Rattle.event_times.specs.EventTimes.{AreTold, AreWithin};
+ghost use Rattle.event_times.specs.private.EventTimes.{AreHere};
 ghost use Rattle.event_sim.specs.Changes.{IsChangeOf};
 ghost use Rattle.event_sim.specs.Answers.{OnUntil, IfStopped};
-ghost use Rattle.event_sim.specs.Running.{IsOpen, IsKeptBy, RunStands, IsCut, IsAfterTurn, IsTurnBound, IsBound};
+ghost use Rattle.event_sim.specs.private.Running.{IsOpen, IsKeptBy, RunStands, IsCut, IsAfterTurn, IsTurnBound, IsBound};
 
 use crate::change::{Change, Reach, Watch};
 use crate::noting::note_changes;
@@ -21,7 +22,7 @@ use sync_ql::limits::{LAST_MILLISECOND, MOST_ROWS};
 use sync_text::{NoMemory, Steps};
 use sync_topo::Event;
 
-// A network that is run, and what is noted of it.
+/// A network that is run, and what is noted of it.
 #[derive(Debug, Drop)]
 pub struct Run<'a> {
     pub net: Net<'a>,
@@ -34,8 +35,8 @@ pub struct Run<'a> {
 }
 
 impl<'a> Run<'a> {
-    // The same run once more.
-    pub fn try_clone(&self, alloc: Global) -> Result<Run<'a>, NoMemory>
+    /// The same run once more.
+    pub(crate) fn try_clone(&self, alloc: Global) -> Result<Run<'a>, NoMemory>
         ensures net { IfOk result (λ run. run.net ≡ self.now.net) }
         ensures watch { IfOk result (λ run. run.watch ≡ self.now.watch) }
         ensures shown { IfOk result (λ run. run.shown.items ≡ self.now.shown.items) }
@@ -73,7 +74,7 @@ fn copy_changes(alloc: Global, changes: &[Change]) -> Result<Vec<Change>, NoMemo
 }
 
 impl Run<'_> {
-    // Makes a step of the network, and notes what it changed: false where these rows are too many.
+    /// Makes a step of the network, and notes what it changed: false where these rows are too many.
     fn take_turn<L: Ledger>(
         &mut self,
         now: u64,
@@ -121,9 +122,9 @@ impl Run<'_> {
         }
     }
 
-    // Goes from one millisecond in which something happens to the next, up to the end, or until the
-    // changes are too many.
-    pub fn advance<L: Ledger>(
+    /// Goes from one millisecond in which something happens to the next, up to the end, or until the
+    /// changes are too many.
+    pub(crate) fn advance<L: Ledger>(
         &mut self,
         events: &[Event],
         until: u64,
@@ -170,7 +171,7 @@ impl Run<'_> {
         Ok(Reach::Until)
     }
 
-    // The first millisecond that the network wasn't told.
+    /// The first millisecond that the network wasn't told.
     fn next(&self) -> u64
         requires { self.now.net.next ≤ LAST_MILLISECOND + 1 }
         ensures { result ≡ self.now.net.next }

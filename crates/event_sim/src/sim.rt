@@ -42,7 +42,8 @@ impl<'a> Model for Sim<'a> {
 
     ghost Value = { SimState };
 
-    ghost use Rattle.event_sim.specs.SimKept.{sim_state, IsKept};
+    ghost use Rattle.event_sim.specs.SimKept.{sim_state};
+    ghost use Rattle.event_sim.specs.private.SimKept.{IsKept};
 
     ghost view = { sim_state };
 

@@ -13,7 +13,8 @@ use Rattle.sync_topo.specs.declared.event.Event.{Event}
 use Rattle.sync_topo.specs.Topology.{Topology}
 use Rattle.sync_topo.specs.Events.{Fits, IsInOrder}
 use Rattle.net_rules.specs.Signals.{events_at}
-use Rattle.event_times.specs.EventTimes.{AreWithin, AreTold, AreHere, IsNextTime, AreParted}
+use Rattle.event_times.specs.EventTimes.{AreWithin, AreTold, IsNextTime, AreParted}
+use Rattle.event_times.specs.private.EventTimes.{AreHere}
 
 -- an earlier one of a list in order is no later
 pub in-order : (events : List Event) → IsInOrder events → (i j : ℕ) (other : Event) → i ≤ j

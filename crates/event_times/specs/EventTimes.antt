@@ -19,11 +19,6 @@ pub record AreTold (plan : Topology) (all : List Event) (from until : ℕ) (told
   pub ordered : IsEventList plan all
   pub here : (t : ℕ) → from ≤ t → t ≤ until → events_at t all ≡ events_at t told
 
--- of all events, these stand at a millisecond
-pub record AreHere (plan : Topology) (all : List Event) (t : ℕ) (told : List Event) : Type 0 where
-  pub ordered : IsEventList plan all
-  pub here : events_at t all ≡ told
-
 -- the next millisecond in which something happens: none of these events, and nothing that is due,
 -- is earlier; and there is a cause for it
 pub record IsNextTime (next : ℕ) (rest : List Event) (due : Option ℕ) (until now : ℕ) : Type 0 where

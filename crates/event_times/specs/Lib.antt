@@ -1,1 +1,2 @@
 pub mod EventTimes
+pub mod private

@@ -7,7 +7,7 @@ use Rattle.sync_ql.specs.declared.rules.Cond.TheVariants.{Good, HoldOff, Failed,
 use Rattle.sync_ql.specs.Condition.{Signal, Timers, is_up, down_for, up_for, failed_at, left_at, condition_of, condition_at, quiet, after_quiet, continued, IsDue}
 use Rattle.input_monitor.specs.Monitored.{is_failed, up_of, end_of}
 use Rattle.input_monitor.specs.Ending.{later_by}
-use Rattle.input_monitor.specs.Running.{IsRunning}
+use Rattle.input_monitor.specs.private.Running.{IsRunning}
 use Rattle.input_monitor.proofs.Stepping.{next_condition}
 
 -- what is up is not down, and the other way round

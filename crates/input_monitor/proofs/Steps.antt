@@ -6,7 +6,7 @@ use Rattle.sync_ql.specs.Condition.{Signal, Timers, is_up, condition_at, continu
 use Rattle.input_monitor.specs.Monitored.{Monitored, is_failed, up_of, end_of}
 use Rattle.input_monitor.specs.Ending.{later_by}
 use Rattle.input_monitor.specs.StandsFor.{StandsFor}
-use Rattle.input_monitor.specs.Running.{IsRunning}
+use Rattle.input_monitor.specs.private.Running.{IsRunning}
 use Rattle.input_monitor.proofs.Stepping.{next_condition}
 use Rattle.input_monitor.proofs.Conditions.{Lasts, running, condition_at-cons, condition_at-after_quiet, is_failed-condition_at, length-continued, IsDue-end_of, up_of-condition_at}
 

@@ -1,5 +1,5 @@
 pub mod Monitored
 pub mod StandsFor
 pub mod Ending
-pub mod Running
+pub mod private
 pub use Rattle.sync_ql.specs.Condition

@@ -1,10 +1,8 @@
 -- What contracts see of a monitor.
-use Rattle.std.specs.Prelude.{◌≤◌, ℕ, ◌+◌, ◌-◌, Bool, true, false, Option, None, Some}
+use Rattle.std.specs.Prelude.{ℕ, ◌+◌, ◌-◌, Bool, true, false, Option, None, Some}
 use Rattle.sync_ql.specs.declared.rules.Cond.{Cond}
 use Rattle.sync_ql.specs.declared.rules.Cond.TheVariants.{Good, HoldOff, Failed, Restoring}
 use Rattle.sync_ql.specs.Condition.{Timers}
-use Rattle.input_monitor.specs.Running.{IsRunning, IsAtMost}
-use Rattle.sync_ql.specs.declared.limits.TheConstants.{LEAST_HOLDOFF, GREATEST_HOLDOFF, GREATEST_WTR, LAST_MILLISECOND}
 use Rattle.input_monitor.specs.declared.monitor.Monitor.TheInside.{Inside}
 
 -- the input's times, the first millisecond that no step has told of, the condition at the last
@@ -45,12 +43,3 @@ monitored m = record {
   failed = is_failed m.condition;
   due = end_of m.next m.condition;
 }
-
--- what is true of the fields
-pub record IsKept (m : Inside) : Type 0 where
-  pub holdoff_low : LEAST_HOLDOFF ≤ m.holdoff
-  pub holdoff_high : m.holdoff ≤ GREATEST_HOLDOFF
-  pub wtr_high : m.wtr ≤ GREATEST_WTR
-  pub in_range : m.next ≤ LAST_MILLISECOND + 1
-  pub running : IsRunning m.condition
-  pub at_most : IsAtMost GREATEST_WTR m.condition

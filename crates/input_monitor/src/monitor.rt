@@ -3,7 +3,7 @@ ghost use Rattle.sync_ql.specs.Condition.{Signal, is_up, condition_at, failed_at
 ghost use Rattle.input_monitor.specs.StandsFor.{StandsFor};
 ghost use Rattle.input_monitor.specs.Ending.{IsEnd, later_by};
 ghost use Rattle.input_monitor.specs.Monitored.{up_of};
-ghost use Rattle.input_monitor.specs.Running.{IsRunning, IsAtMost};
+ghost use Rattle.input_monitor.specs.private.Running.{IsRunning, IsAtMost};
 
 use std::marker::Model;
 use sync_ql::limits::{GREATEST_HOLDOFF, GREATEST_WTR, LAST_MILLISECOND, LEAST_HOLDOFF};
@@ -25,7 +25,8 @@ pub struct Monitor {
 }
 
 impl Model for Monitor {
-    ghost use Rattle.input_monitor.specs.Monitored.{Monitored, monitored, IsKept};
+    ghost use Rattle.input_monitor.specs.Monitored.{Monitored, monitored};
+    ghost use Rattle.input_monitor.specs.private.Monitored.{IsKept};
 
     ghost Value = { Monitored };
 
@@ -170,7 +171,7 @@ impl Monitor {
         }
     }
 
-    // The condition at the end of `now`, at which alone something is told.
+    /// The condition at the end of `now`, at which alone something is told.
     #[tactic(auto, using(crate::proofs::Steps::condition_step))]
     fn next_condition(&self, now: u64, up: bool, clear_wtr: bool) -> Cond
         requires later { self.now.next ≤ now }

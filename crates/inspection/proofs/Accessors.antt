@@ -15,7 +15,8 @@ use Rattle.sync_topo.specs.Topology.{Topology}
 use Rattle.net_rules.specs.Signals.{Signals}
 use Rattle.net_rules.specs.History.{Levels, settings_of, element_past}
 use Rattle.sync_net.specs.Standing.{ElementStands}
-use Rattle.inspection.specs.Verdict.{is_failed_in, is_place, verdict_of, verdict_at}
+use Rattle.inspection.specs.Verdict.{is_place, verdict_of, verdict_at}
+use Rattle.inspection.specs.private.Verdict.{is_failed_in}
 
 -- an answer over any past is that of the rules' history
 pub at-until : {A : Type 0} (f : Settings → List Moment → A) (plan : Topology) (signals : Signals) (out : Levels) (e until : ℕ) (element : ElementState) (answer : A)

@@ -20,7 +20,7 @@ use Rattle.net_rules.specs.History.{Levels, settings_of, heard, moment_at, eleme
 use Rattle.net_rules.proofs.NetLaws.{many-inputs}
 use Rattle.inspection.specs.declared.asked.Asked.{Asked}
 use Rattle.inspection.specs.Commands.{asked_of, command_row, is_taken, row_of, row_at, commands_among, applied_at, commands_part}
-use Rattle.inspection.specs.Tables.{table_after, table_at, commands_told}
+use Rattle.inspection.specs.private.Tables.{table_after, table_at, commands_told}
 use Rattle.event_times.proofs.Ascending.{Ascend, ascend-before}
 use Rattle.inspection.proofs.Ordered.{none-first, before-more, before-before, front-is}
 use Rattle.inspection.proofs.Bars.{SameBars, same-commands, same-taken, after-append}

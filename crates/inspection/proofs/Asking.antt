@@ -18,7 +18,7 @@ use Rattle.inspection.specs.declared.asked.Asked.{Asked}
 use Rattle.inspection.specs.declared.asked.Order.{Order}
 use Rattle.inspection.specs.declared.asked.Order.TheVariants.{Lockout, Unlock, Forced, Manual, Clear}
 use Rattle.inspection.specs.Commands.{asked_of, on_input}
-use Rattle.inspection.specs.Tables.{order_at, command_on, command_by, IsAskedIn}
+use Rattle.inspection.specs.private.Tables.{order_at, command_on, command_by, IsAskedIn}
 
 -- a command on an input is made by its place
 same-order : (order : Order) (make : ℕ → Cmd) → ((i : ℕ) → make i ≡ order_at order i) → (o : Option ℕ) → option_map make o ≡ option_map (order_at order) o

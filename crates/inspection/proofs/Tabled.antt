@@ -14,7 +14,7 @@ use Rattle.sync_topo.specs.Lines.{inputs_of}
 use Rattle.net_rules.specs.Signals.{command_to}
 use Rattle.inspection.specs.declared.asked.Asked.{Asked}
 use Rattle.inspection.specs.Commands.{asked_of, command_row, is_taken, row_of, row_at, commands_among}
-use Rattle.inspection.specs.Tables.{command_by, after_asked, table_after, AreTables, table_at}
+use Rattle.inspection.specs.private.Tables.{command_by, after_asked, table_after, AreTables, table_at}
 use Rattle.inspection.proofs.Applied.{table-append}
 use Rattle.inspection.proofs.Asking.{asked-here, asked-elsewhere, none-asked}
 use Rattle.inspection.proofs.Bars.{length-commands}

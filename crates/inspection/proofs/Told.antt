@@ -6,7 +6,7 @@ use Rattle.sync_topo.specs.Topology.{Topology}
 use Rattle.net_rules.specs.Signals.{events_before}
 use Rattle.event_times.specs.EventTimes.{AreTold, AreWithin}
 use Rattle.inspection.specs.Commands.{commands_part}
-use Rattle.inspection.specs.Tables.{commands_told}
+use Rattle.inspection.specs.private.Tables.{commands_told}
 use Rattle.event_times.proofs.Ascending.{ascend}
 use Rattle.inspection.proofs.Ordered.{all-before, before-same}
 use Rattle.inspection.proofs.Applied.{commands-same}

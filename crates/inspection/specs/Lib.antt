@@ -1,5 +1,4 @@
 pub mod Verdict
 pub mod Commands
 pub mod Inspection
-pub mod Tables
-pub mod Runs
+pub mod private

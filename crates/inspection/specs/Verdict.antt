@@ -1,9 +1,7 @@
 -- Why an element takes an input, or doesn't. After G.781, selection; the floor, and the order of
 -- the reasons, are this project's own.
-use Rattle.std.specs.Prelude.{ℕ, suc, Bool, true, false, nat_eq, if◌then◌else◌, List, Option, None, Some, codes, ⊤}
+use Rattle.std.specs.Prelude.{ℕ, suc, Bool, false, nat_eq, if◌then◌else◌, List, Option, None, Some, codes, ⊤}
 use Rattle.sync_ql.specs.declared.levels.Level.{Level}
-use Rattle.sync_ql.specs.declared.rules.Cond.{Cond}
-use Rattle.sync_ql.specs.declared.rules.Cond.TheVariants as condition
 use Rattle.sync_ql.specs.Condition.{failed_at}
 use Rattle.sync_ql.specs.Switches.{is_locked}
 use Rattle.sync_ql.specs.Selection.{is_above_do_not_use, is_better}
@@ -68,10 +66,3 @@ verdict_word Silent = codes "silent"
 verdict_word DoNotUse = codes "do-not-use"
 verdict_word BelowFloor = codes "below-floor"
 verdict_word Reserve = codes "reserve"
-
--- an input is failed in a condition
-abbrev pub is_failed_in : Cond → Bool
-is_failed_in condition.Good = false
-is_failed_in (condition.HoldOff left) = false
-is_failed_in condition.Failed = true
-is_failed_in (condition.Restoring left) = true

@@ -5,7 +5,7 @@ ghost use Rattle.sync_ql.specs.Switches.{NamesInput};
 ghost use Rattle.sync_topo.specs.Events.{MayHappen};
 ghost use Rattle.sync_topo.specs.Lines.{inputs_of, IsInput};
 ghost use Rattle.inspection.specs.Commands.{asked_of, on_input, order_word};
-ghost use Rattle.inspection.specs.Tables.{IsAskedIn, order_at, command_by};
+ghost use Rattle.inspection.specs.private.Tables.{IsAskedIn, order_at, command_by};
 
 use operator_cmds::Cmd;
 use sync_topo::{InputId, Plan, What};
@@ -36,8 +36,8 @@ pub struct Asked {
     pub input: Option<InputId>,
 }
 
-// The command that happens, where one does.
-pub fn asked_of(plan: &Plan, what: What) -> Option<Asked>
+/// The command that happens, where one does.
+pub(crate) fn asked_of(plan: &Plan, what: What) -> Option<Asked>
     requires may { MayHappen plan.now what }
     ensures asked { result ≡ asked_of plan.now what }
     ensures within { IfSome result (IsAskedIn plan.now) }
@@ -61,7 +61,7 @@ pub fn asked_of(plan: &Plan, what: What) -> Option<Asked>
     }
 }
 
-// A command on an input.
+/// A command on an input.
 fn on_input(plan: &Plan, order: Order, input: InputId) -> Asked
     requires input { IsInput plan.now input }
     ensures asked { result ≡ on_input plan.now order input }
@@ -74,8 +74,8 @@ fn on_input(plan: &Plan, order: Order, input: InputId) -> Asked
     }
 }
 
-// The command as the element gets it; one on an input that isn't nominated it doesn't get.
-pub fn command_by(plan: &Plan, asked: Asked) -> Option<Cmd>
+/// The command as the element gets it; one on an input that isn't nominated it doesn't get.
+pub(crate) fn command_by(plan: &Plan, asked: Asked) -> Option<Cmd>
     requires within { IsAskedIn plan.now asked }
     ensures command { result ≡ command_by plan.now asked }
     ensures place { IfSome result (NamesInput (length (inputs_of plan.now asked.element))) }
@@ -89,7 +89,7 @@ pub fn command_by(plan: &Plan, asked: Asked) -> Option<Cmd>
     }
 }
 
-// The command on the input at a place.
+/// The command on the input at a place.
 fn order_at(order: Order, place: u32) -> Cmd
     ensures { result ≡ order_at order place }
 {
@@ -102,8 +102,8 @@ fn order_at(order: Order, place: u32) -> Cmd
     }
 }
 
-// The word for what a command is about.
-pub fn order_word(order: Order) -> &'static [u8]
+/// The word for what a command is about.
+pub(crate) fn order_word(order: Order) -> &'static [u8]
     ensures { result.now ≡ order_word order }
 {
     match order {

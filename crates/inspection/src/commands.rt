@@ -5,7 +5,7 @@ ghost use Rattle.std.specs.List.{All};
 ghost use Rattle.sync_topo.specs.Events.{Fits};
 ghost use Rattle.sync_topo.specs.Lines.{IsInput};
 ghost use Rattle.inspection.specs.Commands.{answer_word, command_row, name_or_nothing, row_at};
-ghost use Rattle.inspection.specs.Tables.{AreTables, IsAskedIn, commands_told, table_at};
+ghost use Rattle.inspection.specs.private.Tables.{AreTables, IsAskedIn, commands_told, table_at};
 
 use crate::asked::{Asked, asked_of, command_by, order_word};
 use crate::tables::{apply, new_tables};
@@ -14,8 +14,8 @@ use std::alloc::Global;
 use sync_text::{NoMemory, Text};
 use sync_topo::{Event, InputId, Plan};
 
-// Puts the commands among some events.
-pub fn put_commands(
+/// Puts the commands among some events.
+pub(crate) fn put_commands(
     alloc: Global,
     text: &mut Text,
     plan: &Plan,
@@ -32,7 +32,7 @@ pub fn put_commands(
     Ok(())
 }
 
-// Puts the event at a place, where it is a command, and lets its element carry it out.
+/// Puts the event at a place, where it is a command, and lets its element carry it out.
 fn put_event(
     alloc: Global,
     text: &mut Text,
@@ -56,7 +56,7 @@ fn put_event(
     put_row(alloc, text, plan, event.at, asked, taken)
 }
 
-// Puts the row of a command.
+/// Puts the row of a command.
 fn put_row(
     alloc: Global,
     text: &mut Text,
@@ -80,7 +80,7 @@ fn put_row(
     text.put(b"\n")
 }
 
-// Puts the name of the input that a command names, if it names one.
+/// Puts the name of the input that a command names, if it names one.
 fn put_name(
     alloc: Global,
     text: &mut Text,
@@ -96,7 +96,7 @@ fn put_name(
     }
 }
 
-// The word for what became of a command.
+/// The word for what became of a command.
 fn answer_word(taken: bool) -> &'static [u8]
     ensures { result.now ≡ answer_word taken }
 {

@@ -35,8 +35,8 @@ pub struct InspectedElement {
     pub state: ClockState,
 }
 
-// Puts all elements, as they are in the millisecond of the last step.
-pub fn put_elements(
+/// Puts all elements, as they are in the millisecond of the last step.
+pub(crate) fn put_elements(
     alloc: Global,
     text: &mut Text,
     net: &Net<'_>,
@@ -55,7 +55,7 @@ pub fn put_elements(
     Ok(())
 }
 
-// What an element of a plan chose, from its last step up to but not at `due`, if nothing is told.
+/// What an element of a plan chose, from its last step up to but not at `due`, if nothing is told.
 #[tactic(auto, unfolding(crate::specs::Inspection::element_after))]
 fn inspected(plan: &Plan, e: u32, element: &Element) -> InspectedElement
     requires within { e < length plan.now.elements }
@@ -74,7 +74,7 @@ fn inspected(plan: &Plan, e: u32, element: &Element) -> InspectedElement
     }
 }
 
-// The input at a place of an element.
+/// The input at a place of an element.
 fn input_at(plan: &Plan, e: u32, place: Option<u32>) -> Option<InputId>
     requires within { e < length plan.now.elements }
     ensures input { result ≡ option_and_then (slice_get (inputs_of plan.now e)) place }
@@ -86,7 +86,7 @@ fn input_at(plan: &Plan, e: u32, place: Option<u32>) -> Option<InputId>
     }
 }
 
-// Puts the row of an element.
+/// Puts the row of an element.
 fn put_row(
     alloc: Global,
     text: &mut Text,
@@ -107,7 +107,7 @@ fn put_row(
     text.put(b"\n")
 }
 
-// Puts the level and what the clock follows.
+/// Puts the level and what the clock follows.
 fn put_clock(text: &mut Text, level: Level, state: ClockState) -> Result<(), NoMemory>
     ensures put { OnOk result (text.new ≡ text.old ++ clock_text level state) }
 {

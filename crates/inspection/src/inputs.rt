@@ -30,8 +30,13 @@ pub struct InspectedInput {
     pub verdict: Verdict,
 }
 
-// Puts the inputs of all elements, as they are in the millisecond of the last step.
-pub fn put_inputs(alloc: Global, text: &mut Text, net: &Net<'_>, until: u64) -> Result<(), NoMemory>
+/// Puts the inputs of all elements, as they are in the millisecond of the last step.
+pub(crate) fn put_inputs(
+    alloc: Global,
+    text: &mut Text,
+    net: &Net<'_>,
+    until: u64,
+) -> Result<(), NoMemory>
     requires live { net.now.spent ≡ false }
     ensures put { OnOk result ((all : List Event) → StandsFor net.now all (until + 1) →
         text.new ≡ text.old ++ inputs_part net.now.plan all until) }
@@ -44,7 +49,7 @@ pub fn put_inputs(alloc: Global, text: &mut Text, net: &Net<'_>, until: u64) -> 
     Ok(())
 }
 
-// Puts the inputs of an element.
+/// Puts the inputs of an element.
 fn put_element(
     alloc: Global,
     text: &mut Text,
@@ -73,7 +78,7 @@ fn put_element(
     Ok(())
 }
 
-// Puts the row of an input.
+/// Puts the row of an input.
 fn put_row(
     alloc: Global,
     text: &mut Text,
@@ -94,7 +99,7 @@ fn put_row(
     text.put(b"\n")
 }
 
-// The name of a level, or that there is none.
+/// The name of a level, or that there is none.
 fn level_word(level: Option<Level>) -> &'static [u8]
     ensures { result.now ≡ level_word level }
 {

@@ -6,7 +6,7 @@ ghost use Rattle.sync_topo.specs.Events.{IsEventList};
 ghost use Rattle.event_times.specs.EventTimes.{AreTold, AreWithin};
 ghost use Rattle.sync_net.specs.Standing.{StandsFor};
 ghost use Rattle.inspection.specs.Inspection.{inspection};
-ghost use Rattle.inspection.specs.Runs.{HasCome};
+ghost use Rattle.inspection.specs.private.Runs.{HasCome};
 
 use crate::commands::put_commands;
 use crate::elements::put_elements;
@@ -42,8 +42,8 @@ pub fn inspect(alloc: Global, plan: &Plan, events: &[Event], at: u64) -> Result<
     text_of(alloc, sim.net(), told, at)
 }
 
-// A simulator of a plan that was told the events up to a millisecond. Its steps are counted on a
-// ledger.
+/// A simulator of a plan that was told the events up to a millisecond. Its steps are counted on a
+/// ledger.
 fn run_counted<'a, L: Ledger>(
     alloc: Global,
     plan: &'a Plan,
@@ -67,7 +67,7 @@ fn run_counted<'a, L: Ledger>(
     }
 }
 
-// The text of a network after its last step, and of the events that it was told.
+/// The text of a network after its last step, and of the events that it was told.
 fn text_of(alloc: Global, net: &Net<'_>, told: &[Event], at: u64) -> Result<Text, NoMemory>
     requires live { net.now.spent ≡ false }
     requires within { AreWithin net.now.plan 0 at told.now }

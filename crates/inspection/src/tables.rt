@@ -3,15 +3,15 @@
 ghost use Rattle.std.specs.Prelude.{◌≡◌, ◌≢◌, ◌<◌, ℕ, [], IfOk, IfSome, length, slice_index_or};
 ghost use Rattle.sync_ql.specs.Switches.{Switches, NamesInput};
 ghost use Rattle.inspection.specs.Commands.{is_taken};
-ghost use Rattle.inspection.specs.Tables.{AreTables, after_asked, is_taken_by};
+ghost use Rattle.inspection.specs.private.Tables.{AreTables, after_asked, is_taken_by};
 
 use operator_cmds::{Applied, Cmd, Cmds};
 use std::alloc::Global;
 use sync_text::{NoMemory, Rows};
 use sync_topo::Plan;
 
-// The tables of the elements of a plan before any command.
-pub fn new_tables(alloc: Global, plan: &Plan) -> Result<Vec<Cmds>, NoMemory>
+/// The tables of the elements of a plan before any command.
+pub(crate) fn new_tables(alloc: Global, plan: &Plan) -> Result<Vec<Cmds>, NoMemory>
     ensures { IfOk result (λ tables. AreTables plan.now [] tables.items) }
 {
     let mut tables = Rows::with_capacity(alloc, plan.elements() as usize)?;
@@ -21,8 +21,8 @@ pub fn new_tables(alloc: Global, plan: &Plan) -> Result<Vec<Cmds>, NoMemory>
     Ok(tables.into_vec())
 }
 
-// Carries a command to an element out, or rejects it; no command is one that it rejects.
-pub fn apply(tables: &mut Vec<Cmds>, element: u32, command: Option<Cmd>) -> bool
+/// Carries a command to an element out, or rejects it; no command is one that it rejects.
+pub(crate) fn apply(tables: &mut Vec<Cmds>, element: u32, command: Option<Cmd>) -> bool
     requires element { element < length tables.old.items }
     requires place { (other : Switches) → IfSome command
         (NamesInput (length (slice_index_or tables.old.items element other).locked)) }

@@ -6,7 +6,8 @@ ghost use Rattle.sync_ql.specs.Moment.{Moment};
 ghost use Rattle.sync_ql.specs.Told.{moments_until};
 ghost use Rattle.sync_element.specs.ElementState.{inputs_of, IsInTime};
 ghost use Rattle.sync_element.specs.StandsFor.{StandsFor};
-ghost use Rattle.inspection.specs.Verdict.{is_place, is_failed_in, level_verdict, verdict_of, verdict_at, verdict_word};
+ghost use Rattle.inspection.specs.Verdict.{is_place, level_verdict, verdict_of, verdict_at, verdict_word};
+ghost use Rattle.inspection.specs.private.Verdict.{is_failed_in};
 
 use sync_element::Element;
 use sync_ql::rules::Cond;
@@ -34,8 +35,8 @@ pub enum Verdict {
     Reserve,
 }
 
-// The word for it.
-pub fn verdict_word(verdict: Verdict) -> &'static [u8]
+/// The word for it.
+pub(crate) fn verdict_word(verdict: Verdict) -> &'static [u8]
     ensures { result.now ≡ verdict_word verdict }
 {
     match verdict {
@@ -49,9 +50,9 @@ pub fn verdict_word(verdict: Verdict) -> &'static [u8]
     }
 }
 
-// Why an element takes the input at a place or doesn't, as from its last step up to but not at
-// `due`, if nothing is told.
-pub fn verdict_of(element: &Element, place: u32) -> Verdict
+/// Why an element takes the input at a place or doesn't, as from its last step up to but not at
+/// `due`, if nothing is told.
+pub(crate) fn verdict_of(element: &Element, place: u32) -> Verdict
     requires place { place < inputs_of element.now }
     ensures verdict { (past : List Moment) (n : ℕ) → StandsFor element.now past →
         IsInTime element.now n → 0 < n → result ≡ verdict_at element.now.settings
@@ -66,7 +67,7 @@ pub fn verdict_of(element: &Element, place: u32) -> Verdict
     )
 }
 
-// The first reason that holds.
+/// The first reason that holds.
 fn first_reason(
     taken: bool,
     locked: bool,
@@ -89,7 +90,7 @@ fn first_reason(
     level_verdict(floor, level)
 }
 
-// What its level says of an input that is free and good.
+/// What its level says of an input that is free and good.
 fn level_verdict(floor: Option<Level>, level: Option<Level>) -> Verdict
     requires options { SameOption floor level }
     ensures { result ≡ level_verdict floor level }
@@ -106,7 +107,7 @@ fn level_verdict(floor: Option<Level>, level: Option<Level>) -> Verdict
     }
 }
 
-// Whether a place is the one that is taken.
+/// Whether a place is the one that is taken.
 fn is_place(taken: Option<u32>, place: u32) -> bool
     ensures { result ≡ is_place taken place }
 {
@@ -116,7 +117,7 @@ fn is_place(taken: Option<u32>, place: u32) -> bool
     }
 }
 
-// Whether an input is failed in a condition.
+/// Whether an input is failed in a condition.
 fn is_failed_in(condition: Cond) -> bool
     ensures { result ≡ is_failed_in condition }
 {

@@ -4,9 +4,11 @@ use Rattle.sync_ql.specs.declared.levels.Level.{Level}
 use Rattle.sync_ql.specs.Messages.{LineMoment, arrives, came, said, unchanged, line_until}
 use Rattle.link_model.specs.declared.word.Word.{Word}
 use Rattle.link_model.specs.Busy.{news_arrives, IsBusyAt}
-use Rattle.link_model.specs.Kept.{Kept, loss_of, arrival_of, first_of, due_of, IsOrdered}
+use Rattle.link_model.specs.Kept.{Kept, loss_of, arrival_of, first_of, due_of}
+use Rattle.link_model.specs.private.Kept.{IsOrdered}
 use Rattle.link_model.specs.StandsFor.{IsOfPast, IsAfter}
-use Rattle.link_model.specs.Whole.{next_of, seen, IsWhole}
+use Rattle.link_model.specs.Whole.{next_of, seen}
+use Rattle.link_model.specs.private.Whole.{IsWhole}
 use Rattle.link_model.proofs.Times.{is_below}
 use Rattle.link_model.proofs.Ordering.{kept_words, all-coming, ordered-later}
 use Rattle.link_model.proofs.Steps.{kept, news-first, came-first}

@@ -10,9 +10,11 @@ use Rattle.sync_ql.specs.Messages.{LineMoment, said_in, said, is_same_level, is_
 use Rattle.sync_ql.proofs.Delivered.{same-is}
 use Rattle.link_model.specs.declared.word.Word.{Word}
 use Rattle.link_model.specs.Calls.{turned, with_up, with_esmc, with_level}
-use Rattle.link_model.specs.Kept.{WordsKept, Kept, all_words, taken_in, heard_of, lost, cut_at, said_from, ended, ended_arrived, new_word, arrival_of, loss_of, due_of, IsOrdered}
+use Rattle.link_model.specs.Kept.{WordsKept, Kept, all_words, heard_of, lost, cut_at, arrival_of, loss_of, due_of}
+use Rattle.link_model.specs.private.Kept.{taken_in, said_from, ended, ended_arrived, new_word, IsOrdered}
 use Rattle.link_model.specs.StandsFor.{IsOfPast, IsAfter, SaysTheSame, SaysTheSameIfUp}
-use Rattle.link_model.specs.Whole.{next_of, seen, IsWhole}
+use Rattle.link_model.specs.Whole.{next_of, seen}
+use Rattle.link_model.specs.private.Whole.{IsWhole}
 use Rattle.link_model.proofs.Times.{not_equal}
 use Rattle.link_model.proofs.Pasts.{said-unchanged, said-down, no-news, news-none}
 use Rattle.link_model.proofs.Ordering.{kept_words, Each-over, words_of-ended, ordered-lost, ordered-said, due-arrival}

@@ -14,9 +14,11 @@ use Rattle.sync_ql.specs.Messages.{LineMoment, heard_at, delivered, on_way_at, u
 use Rattle.link_model.specs.declared.word.Word.{Word}
 use Rattle.link_model.specs.Carried.{HasLevel}
 use Rattle.link_model.specs.Spoken.{is_before, says, spoken, end_before, second_before, last_of, last_sent, message_of}
-use Rattle.link_model.specs.Kept.{Kept, words_of, heard_of, lost_from, if_later, loss_of, arrival_of, first_of, due_of, IsWord, IsChain, IsOrdered}
+use Rattle.link_model.specs.Kept.{Kept, words_of, heard_of, lost_from, if_later, loss_of, arrival_of, first_of, due_of}
+use Rattle.link_model.specs.private.Kept.{IsWord, IsChain, IsOrdered}
 use Rattle.link_model.specs.StandsFor.{IsOfPast, IsAfter}
-use Rattle.link_model.specs.Whole.{next_of, seen, IsWhole}
+use Rattle.link_model.specs.Whole.{next_of, seen}
+use Rattle.link_model.specs.private.Whole.{IsWhole}
 use Rattle.link_model.proofs.Times.{below, within, not_within, is_below, is_not_below, is_within, is_not_within, last-near, end-over}
 use Rattle.link_model.proofs.Pasts.{delivered-early, delivered-more, delivered-first}
 use Rattle.link_model.proofs.Ordering.{kept_words, words_rest, chain_rest, later-than}

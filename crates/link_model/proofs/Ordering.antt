@@ -7,7 +7,8 @@ use Rattle.sync_text.specs.Each.{Each}
 use Rattle.sync_ql.specs.declared.levels.Level.{Level}
 use Rattle.link_model.specs.declared.word.Word.{Word}
 use Rattle.link_model.specs.Spoken.{end_before}
-use Rattle.link_model.specs.Kept.{WordsKept, words_of, all_words, taken_in, lost, ended_at, ended, ended_arrived, new_word, arrival_of, first_of, IsWord, EndsBy, IsChain, IsOrdered}
+use Rattle.link_model.specs.Kept.{WordsKept, words_of, all_words, lost, arrival_of, first_of}
+use Rattle.link_model.specs.private.Kept.{taken_in, ended_at, ended, ended_arrived, new_word, IsWord, EndsBy, IsChain, IsOrdered}
 use Rattle.link_model.proofs.Times.{is_equal, is_not_equal, not_equal, end-within}
 
 abbrev pub kept_words : Option Word → List Word → WordsKept

@@ -8,7 +8,8 @@ use Rattle.sync_ql.specs.Messages.{LineMoment}
 use Rattle.link_model.specs.declared.word.Word.{Word}
 use Rattle.link_model.specs.Kept.{WordsKept, Kept, all_words, due_of}
 use Rattle.link_model.specs.StandsFor.{IsAfter}
-use Rattle.link_model.specs.Whole.{next_of, seen, IsWhole}
+use Rattle.link_model.specs.Whole.{next_of, seen}
+use Rattle.link_model.specs.private.Whole.{IsWhole}
 use Rattle.link_model.proofs.Standing.{taken, each-taken, ready, said-later, whole-after, due-after}
 use Rattle.link_model.proofs.Called.{words_up, each-up, ordered-up, words_esmc, each-esmc, ordered-esmc, words_said, each-words_said, ordered-words_said}
 

@@ -6,9 +6,11 @@ use Rattle.sync_text.specs.Each.{Each}
 use Rattle.sync_ql.specs.declared.limits.TheConstants.{LAST_MILLISECOND}
 use Rattle.sync_ql.specs.Messages.{LineMoment, said, unchanged, after_unchanged, line_until}
 use Rattle.link_model.specs.declared.word.Word.{Word}
-use Rattle.link_model.specs.Kept.{WordsKept, Kept, words_of, all_words, taken_in, lost, lost_from, if_later, loss_of, cut_arrived, arrival_of, due_of, IsOrdered}
+use Rattle.link_model.specs.Kept.{WordsKept, Kept, words_of, all_words, lost, lost_from, if_later, loss_of, cut_arrived, arrival_of, due_of}
+use Rattle.link_model.specs.private.Kept.{taken_in, IsOrdered}
 use Rattle.link_model.specs.StandsFor.{IsOfPast, IsAfter, SaysTheSame, SaysTheSameIfUp}
-use Rattle.link_model.specs.Whole.{next_of, seen, IsWhole}
+use Rattle.link_model.specs.Whole.{next_of, seen}
+use Rattle.link_model.specs.private.Whole.{IsWhole}
 use Rattle.link_model.proofs.Times.{is_within, is_equal}
 use Rattle.link_model.proofs.Pasts.{length-after, unchanged-after, said-unchanged}
 use Rattle.link_model.proofs.Ordering.{kept_words, if_some, all-coming, ordered-later, ordered-taken, taken-same, due-arrival, next-later}

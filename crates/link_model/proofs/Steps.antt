@@ -10,7 +10,8 @@ use Rattle.sync_ql.specs.Pasts.{first_within}
 use Rattle.sync_ql.specs.Messages.{LineMoment, is_news, came, arrivals, delivered, news_since_down, on_way_at, unchanged, after_unchanged, second}
 use Rattle.link_model.specs.declared.word.Word.{Word}
 use Rattle.link_model.specs.Spoken.{is_before, said_by, spoken, last_of, last_sent, message_of}
-use Rattle.link_model.specs.Kept.{Kept, words_of, heard_of, IsWord, EndsBy, IsChain, IsOrdered}
+use Rattle.link_model.specs.Kept.{Kept, words_of, heard_of}
+use Rattle.link_model.specs.private.Kept.{IsWord, EndsBy, IsChain, IsOrdered}
 use Rattle.link_model.specs.StandsFor.{IsOfPast}
 use Rattle.link_model.proofs.Times.{within, not_within, below, not_below, is_below, said_by-early, said_by-over, said_by-now, last-over, last-again, last-first, last-within}
 use Rattle.link_model.proofs.Pasts.{length-after, unchanged-after, after-after, news-unchanged, Each-filter, IsPastNews, all-news, filter-later, filter-all, delivered-early, came-undelivered, came-news, came-again}

@@ -10,7 +10,8 @@ use Rattle.sync_ql.specs.Messages.{LineMoment, Message, said_in, said, is_same_l
 use Rattle.sync_ql.proofs.Delivered.{came-head}
 use Rattle.link_model.specs.declared.word.Word.{Word}
 use Rattle.link_model.specs.Spoken.{is_before, said_by, spoken, end_before, last_sent, message_of}
-use Rattle.link_model.specs.Kept.{Kept, words_of, heard_of, cut_at, cut_arrived, lost, ended_at, ended, ended_arrived, new_word, IsWord, IsOrdered}
+use Rattle.link_model.specs.Kept.{Kept, words_of, heard_of, cut_at, cut_arrived, lost}
+use Rattle.link_model.specs.private.Kept.{ended_at, ended, ended_arrived, new_word, IsWord, IsOrdered}
 use Rattle.link_model.specs.StandsFor.{IsOfPast}
 use Rattle.link_model.proofs.Times.{within, below, not_below, said_by-over, end-within, last-ended, last-cut}
 use Rattle.link_model.proofs.Pasts.{message_in-none, news-old, filter-append, delivered-now, delivered-head, delivered-down, delivered-silent, said-down, came-undelivered}

@@ -5,7 +5,7 @@ use Rattle.std.proofs.Math.Bool.{and-false}
 use Rattle.sync_ql.specs.Messages.{second}
 use Rattle.link_model.specs.declared.word.Word.{Word}
 use Rattle.link_model.specs.Spoken.{is_before, said_by, end_before, second_before, last_of}
-use Rattle.link_model.specs.Kept.{ended_at}
+use Rattle.link_model.specs.private.Kept.{ended_at}
 
 pub below : (a b : ℕ) → a < b → nat_lt a b ≡ true
 below a b less = grind (arith, nat_tests)

@@ -6,3 +6,4 @@ pub mod Carried
 pub mod StandsFor
 pub mod Whole
 pub mod Busy
+pub mod private

@@ -1,9 +1,7 @@
 -- Private to this crate: how a line is seen, and what is true of every one.
-use Rattle.std.specs.Prelude.{◌≤◌, ℕ, ◌+◌, ◌*◌, ◌/◌}
-use Rattle.sync_text.specs.Each.{Each}
-use Rattle.sync_ql.specs.declared.limits.TheConstants.{LEAST_DELAY, GREATEST_DELAY, LAST_MILLISECOND}
+use Rattle.std.specs.Prelude.{ℕ, ◌+◌, ◌/◌}
 use Rattle.link_model.specs.declared.line.Line.TheInside.{Inside}
-use Rattle.link_model.specs.Kept.{Kept, words_kept, all_words, due_of, IsOrdered}
+use Rattle.link_model.specs.Kept.{Kept, words_kept, due_of}
 use Rattle.link_model.specs.LineState.{LineState}
 
 -- the first millisecond that no call has told of
@@ -26,13 +24,3 @@ kept_in line = record {
 
 abbrev pub line_state : Inside → LineState
 line_state line = seen line.delay line.turn (kept_in line)
-
-pub record IsWhole (delay turn : ℕ) (kept : Kept) : Type 0 where
-  pub delay_low : LEAST_DELAY ≤ delay
-  pub delay_high : delay ≤ GREATEST_DELAY
-  pub turn_high : turn ≤ 4 * LAST_MILLISECOND + 4
-  pub ordered : IsOrdered delay (next_of turn) kept.words
-  pub said : Each (λ w. 4 * w.sent + 4 ≤ turn) (all_words kept.words)
-
-abbrev pub IsKept : Inside → Type 0
-IsKept line = IsWhole line.delay line.turn (kept_in line)

@@ -43,7 +43,8 @@ impl Model for Line {
 
     ghost Value = { LineState };
 
-    ghost use Rattle.link_model.specs.Whole.{line_state, IsKept};
+    ghost use Rattle.link_model.specs.Whole.{line_state};
+    ghost use Rattle.link_model.specs.private.Whole.{IsKept};
 
     ghost view = { line_state };
 
@@ -266,7 +267,7 @@ impl Line {
         self.words.on_way.as_slice()
     }
 
-    // Whether the line speaks, and says another level than this, or none.
+    /// Whether the line speaks, and says another level than this, or none.
     fn says_other(&self, level: Level) -> bool
         ensures { result ≡ ((self.now.kept.now.up && self.now.kept.now.esmc)
             && not (is_same_level (Some level) self.now.kept.now.level)) }
@@ -274,8 +275,8 @@ impl Line {
         self.up && self.esmc && is_other(level, self.level)
     }
 
-    // The level that the line has where it is up or down and its ESMC on or off: none yet where it
-    // speaks from now on.
+    /// The level that the line has where it is up or down and its ESMC on or off: none yet where it
+    /// speaks from now on.
     fn level_if(&self, up: bool, esmc: bool) -> Option<Level>
         ensures { result ≡ (turned self.now.kept.now up esmc).level }
     {

@@ -1,7 +1,8 @@
 ghost use Rattle.std.specs.Prelude.{◌≡◌, ◌≤◌, ◌+◌, ◌-◌, nat_eq};
 ghost use Rattle.sync_ql.specs.declared.limits.TheConstants.{LAST_MILLISECOND};
 ghost use Rattle.link_model.specs.Spoken.{end_before, second_before, last_sent};
-ghost use Rattle.link_model.specs.Kept.{ended, cut_at};
+ghost use Rattle.link_model.specs.Kept.{cut_at};
+ghost use Rattle.link_model.specs.private.Kept.{ended};
 
 use sync_ql::limits::SECOND;
 use sync_ql::{Level, NetOption, do_not_use};
@@ -21,7 +22,7 @@ pub struct Word {
 }
 
 impl Default for Word {
-    // What stands in a list's empty places.
+    /// What stands in a list's empty places.
     fn default() -> Word {
         Word {
             sent: 0,
@@ -32,14 +33,14 @@ impl Default for Word {
 }
 
 impl Word {
-    // Whether its first message arrives in a millisecond.
+    /// Whether its first message arrives in a millisecond.
     pub(crate) fn arrives(self, delay: u64, now: u64) -> bool
         ensures { result ≡ nat_eq (self.sent + delay) now }
     {
         delay <= now && self.sent == now - delay
     }
 
-    // The word, said no longer from now on.
+    /// The word, said no longer from now on.
     pub(crate) fn ended(self, now: u64) -> Word
         ensures { result ≡ ended now self }
     {
@@ -53,7 +54,7 @@ impl Word {
         }
     }
 
-    // The word, said no longer than until an end.
+    /// The word, said no longer than until an end.
     pub(crate) fn cut(self, end: u64) -> Word
         ensures { result ≡ cut_at end self }
     {
@@ -64,7 +65,7 @@ impl Word {
         }
     }
 
-    // The end of the word, or a millisecond if that is earlier.
+    /// The end of the word, or a millisecond if that is earlier.
     pub(crate) fn end_before(self, now: u64) -> u64
         ensures value { result ≡ end_before self.until now }
         ensures bound { result ≤ now }
@@ -75,7 +76,7 @@ impl Word {
         }
     }
 
-    // Of the milliseconds before `now` in which it was said, the last in which a message went out.
+    /// Of the milliseconds before `now` in which it was said, the last in which a message went out.
     pub(crate) fn last_sent(self, now: u64) -> u64
         requires low { self.sent ≤ LAST_MILLISECOND }
         requires in_range { now ≤ LAST_MILLISECOND + 1 }
@@ -91,7 +92,7 @@ impl Word {
     }
 }
 
-// The last whole second before a millisecond, or 0.
+/// The last whole second before a millisecond, or 0.
 fn second_before(now: u64) -> u64
     ensures value { result ≡ second_before now }
     ensures bound { result ≤ now }

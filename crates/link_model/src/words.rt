@@ -1,7 +1,8 @@
 ghost use Rattle.std.specs.Prelude.{◌≡◌, ◌≤◌, ◌<◌, ◌+◌, ◌-◌, ◌++◌, [], Some, None, IfSome, IfOk, OnOk, OnErr, map, take, drop, length, not, if◌then◌else◌};
 ghost use Rattle.sync_ql.specs.Messages.{is_same_level};
 ghost use Rattle.sync_ql.specs.declared.limits.TheConstants.{GREATEST_DELAY, LAST_MILLISECOND};
-ghost use Rattle.link_model.specs.Kept.{words_kept, taken_in, lost, ended, ended_arrived, cut_arrived, new_word, heard_of, arrival_of, loss_of, first_of, due_of, starts_in, IsInRange};
+ghost use Rattle.link_model.specs.Kept.{words_kept, lost, cut_arrived, heard_of, arrival_of, loss_of, first_of, due_of};
+ghost use Rattle.link_model.specs.private.Kept.{taken_in, ended, ended_arrived, new_word, starts_in, IsInRange};
 
 use crate::word::Word;
 use smallvec::SmallVec;
@@ -19,8 +20,8 @@ pub struct Words {
 }
 
 impl Words {
-    // No words.
-    pub fn new(alloc: Global) -> Words
+    /// No words.
+    pub(crate) fn new(alloc: Global) -> Words
         ensures { words_kept result ≡ record { arrived = None; on_way = [] } }
     {
         Words {
@@ -29,8 +30,8 @@ impl Words {
         }
     }
 
-    // The same words once more.
-    pub fn try_clone(&self, alloc: Global) -> Result<Words, NoMemory>
+    /// The same words once more.
+    pub(crate) fn try_clone(&self, alloc: Global) -> Result<Words, NoMemory>
         ensures { IfOk result (λ words. words_kept words ≡ words_kept self.now) }
     {
         match SmallVec::from_slice(alloc, self.on_way.as_slice()) {
@@ -42,8 +43,8 @@ impl Words {
         }
     }
 
-    // Takes in the first word on its way, if it arrives now.
-    pub fn take_in(&mut self, delay: u64, now: u64)
+    /// Takes in the first word on its way, if it arrives now.
+    pub(crate) fn take_in(&mut self, delay: u64, now: u64)
         ensures { words_kept self.new ≡ taken_in delay now self.old.arrived self.old.on_way.items }
     {
         if self.arrives(delay, now) {
@@ -51,8 +52,8 @@ impl Words {
         }
     }
 
-    // Whether the first word on its way arrives in a millisecond.
-    pub fn arrives(&self, delay: u64, now: u64) -> bool
+    /// Whether the first word on its way arrives in a millisecond.
+    pub(crate) fn arrives(&self, delay: u64, now: u64) -> bool
         ensures { result ≡ starts_in delay now self.now.on_way.items }
     {
         match self.on_way.as_slice().first() {
@@ -61,8 +62,8 @@ impl Words {
         }
     }
 
-    // The line is up at the end of a millisecond, or down.
-    pub fn pass(&mut self, delay: u64, now: u64, up: bool)
+    /// The line is up at the end of a millisecond, or down.
+    pub(crate) fn pass(&mut self, delay: u64, now: u64, up: bool)
         ensures { words_kept self.new ≡
             (if up then taken_in delay now self.old.arrived self.old.on_way.items
             else lost delay now (words_kept self.old)) }
@@ -75,8 +76,8 @@ impl Words {
         self.on_way.clear();
     }
 
-    // From now on nothing is said.
-    pub fn end(&mut self, now: u64)
+    /// From now on nothing is said.
+    pub(crate) fn end(&mut self, now: u64)
         ensures { words_kept self.new ≡ record {
           arrived = ended_arrived now self.old.arrived;
           on_way = map (ended now) self.old.on_way.items;
@@ -87,8 +88,8 @@ impl Words {
         self.arrived = end(self.arrived, now);
     }
 
-    // From now on nothing is said, where the ESMC is off.
-    pub fn end_unless(&mut self, on: bool, now: u64)
+    /// From now on nothing is said, where the ESMC is off.
+    pub(crate) fn end_unless(&mut self, on: bool, now: u64)
         ensures { words_kept self.new ≡ (if on then words_kept self.old else record {
           arrived = ended_arrived now self.old.arrived;
           on_way = map (ended now) self.old.on_way.items;
@@ -99,8 +100,14 @@ impl Words {
         }
     }
 
-    // Takes in what arrives now; and from now on another level is said, where that is news.
-    pub fn say_if(&mut self, news: bool, delay: u64, now: u64, level: Level) -> Result<(), NoMemory>
+    /// Takes in what arrives now; and from now on another level is said, where that is news.
+    pub(crate) fn say_if(
+        &mut self,
+        news: bool,
+        delay: u64,
+        now: u64,
+        level: Level,
+    ) -> Result<(), NoMemory>
         ensures ok { OnOk result (words_kept self.new ≡
             (if news then taken_in delay now (ended_arrived now self.old.arrived)
             (map (ended now) self.old.on_way.items ++ new_word now (Some level))
@@ -114,7 +121,7 @@ impl Words {
         Ok(())
     }
 
-    // From now on another level is said.
+    /// From now on another level is said.
     fn say(&mut self, now: u64, level: Level) -> Result<(), NoMemory>
         ensures ok { OnOk result (words_kept self.new ≡ record {
           arrived = ended_arrived now self.old.arrived;
@@ -136,9 +143,9 @@ impl Words {
         Ok(())
     }
 
-    // The level of the word that arrived last, if its last message arrived in the last so many
-    // milliseconds before `next`.
-    pub fn heard(&self, delay: u64, window: u64, next: u64) -> Option<Level>
+    /// The level of the word that arrived last, if its last message arrived in the last so many
+    /// milliseconds before `next`.
+    pub(crate) fn heard(&self, delay: u64, window: u64, next: u64) -> Option<Level>
         requires window { window ≤ HEARING_TIME }
         requires delay { delay ≤ GREATEST_DELAY }
         requires next { next ≤ LAST_MILLISECOND + 1 }
@@ -153,9 +160,9 @@ impl Words {
         }
     }
 
-    // The level of the word that arrived last, one that arrives in the millisecond included, if its
-    // last message arrived in the last so many milliseconds.
-    pub fn heard_in(&self, delay: u64, window: u64, now: u64) -> Option<Level>
+    /// The level of the word that arrived last, one that arrives in the millisecond included, if its
+    /// last message arrived in the last so many milliseconds.
+    pub(crate) fn heard_in(&self, delay: u64, window: u64, now: u64) -> Option<Level>
         requires window { 0 < window }
         requires short { window ≤ HEARING_TIME }
         requires delay { delay ≤ GREATEST_DELAY }
@@ -170,8 +177,8 @@ impl Words {
         }
     }
 
-    // The first millisecond from `next` on in which a word arrives or the level heard is lost.
-    pub fn due(&self, delay: u64, next: u64) -> Option<u64>
+    /// The first millisecond from `next` on in which a word arrives or the level heard is lost.
+    pub(crate) fn due(&self, delay: u64, next: u64) -> Option<u64>
         requires delay { delay ≤ GREATEST_DELAY }
         requires arrived { IfSome self.now.arrived IsInRange }
         requires coming { IfSome (arrival_of delay self.now.on_way.items)
@@ -203,7 +210,7 @@ impl Words {
     }
 }
 
-// The smaller of two, if there are.
+/// The smaller of two, if there are.
 fn first(one: Option<u64>, other: Option<u64>) -> Option<u64>
     ensures { result ≡ first_of one other }
 {
@@ -214,8 +221,8 @@ fn first(one: Option<u64>, other: Option<u64>) -> Option<u64>
     }
 }
 
-// Whether a level is another than the one that is said, or none is.
-pub fn is_other(level: Level, said: Option<Level>) -> bool
+/// Whether a level is another than the one that is said, or none is.
+pub(crate) fn is_other(level: Level, said: Option<Level>) -> bool
     ensures { result ≡ not (is_same_level (Some level) said) }
 {
     match said {
@@ -242,7 +249,7 @@ fn end(word: Option<Word>, now: u64) -> Option<Word>
     }
 }
 
-// Ends the first so many words.
+/// Ends the first so many words.
 fn end_words(words: &mut [Word], count: usize, now: u64)
     requires count { count ≤ length words.old }
     ensures { words.new ≡ map (ended now) (take count words.old) ++ drop count words.old }

@@ -2,7 +2,7 @@
 -- This project's own.
 use Rattle.std.specs.Prelude.{◌≡◌, ℕ, zero, suc, ◌+◌, ◌*◌, ◌<◌, Bool, false, not, ◌&&◌, ◌||◌, nat_eq, nat_lt, List, length, filter, drop, is_some}
 use Rattle.std.specs.List.{list_any, range_with_len}
-use Rattle.sync_text.specs.Tests.{is_other}
+use Rattle.sync_text.specs.Tests.{differs}
 use Rattle.sync_ql.specs.Pasts.{past_of}
 use Rattle.sync_ql.specs.Messages.{is_same_level, is_news, arrives}
 use Rattle.sync_topo.specs.declared.input.InputId.{InputId}
@@ -60,7 +60,7 @@ TouchAlike plan events others = (element : ℕ) → element < length plan.elemen
 abbrev pub failed_changes : Topology → Signals → InputId → ℕ → Bool
 failed_changes plan signals input zero = failed_by plan signals input 0
 failed_changes plan signals input (suc t) =
-    is_other (failed_by plan signals input (suc t)) (failed_by plan signals input t)
+    differs (failed_by plan signals input (suc t)) (failed_by plan signals input t)
 
 -- another level is heard on an input than in the millisecond before; before 0 none is heard
 abbrev pub heard_changes : Topology → Signals → Levels → InputId → ℕ → Bool

@@ -5,14 +5,13 @@
 use Rattle.std.specs.Prelude.{◌≡◌, ◌<◌, ℕ, zero, suc, ◌+◌, Bool, false, if◌then◌else◌, List, length, slice_get, Option, None, Some, option_and_then}
 use Rattle.sync_ql.specs.declared.levels.Level.{Level}
 use Rattle.sync_ql.specs.declared.rules.Cond.{Cond}
-use Rattle.sync_ql.specs.declared.rules.Mode.{Mode}
 use Rattle.sync_ql.specs.declared.rules.ClockState.{ClockState}
 use Rattle.sync_ql.specs.Level.{do_not_use_of}
 use Rattle.sync_ql.specs.Pasts.{past_of}
 use Rattle.sync_ql.specs.Condition.{failed_at, condition_at}
 use Rattle.sync_ql.specs.Messages.{LineMoment, heard_at}
 use Rattle.sync_ql.specs.Moment.{Moment, Settings}
-use Rattle.sync_ql.specs.Output.{clock_level_at, mode_at, state_at}
+use Rattle.sync_ql.specs.Output.{clock_level_at, state_at}
 use Rattle.sync_topo.specs.declared.element.Element.{Element}
 use Rattle.sync_topo.specs.declared.input.InputId.{InputId}
 use Rattle.sync_topo.specs.declared.input.InputId.TheVariants.{Line, Source}
@@ -86,11 +85,6 @@ taken_at plan signals out element t = taken_by plan element (element_past plan s
 unfoldable pub level_at : Topology → Signals → Levels → ℕ → ℕ → Level
 level_at plan signals out element t =
     clock_level_at (settings_of plan element) (element_past plan signals out element (suc t))
-
--- its mode and its state
-abbrev pub element_mode : Topology → Signals → Levels → ℕ → ℕ → Mode
-element_mode plan signals out element t =
-    mode_at (settings_of plan element) (element_past plan signals out element (suc t))
 
 abbrev pub element_state : Topology → Signals → Levels → ℕ → ℕ → ClockState
 element_state plan signals out element t =

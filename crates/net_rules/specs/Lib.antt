@@ -11,4 +11,4 @@ pub mod Facing
 pub mod Staying
 pub mod Activity
 pub mod Settling
-pub mod Examples
+pub mod private

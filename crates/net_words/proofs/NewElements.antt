@@ -30,7 +30,8 @@ use Rattle.net_rules.specs.Inputs.{IsInputOf}
 use Rattle.net_rules.proofs.InputLaws.{inputs-are}
 use Rattle.net_words.specs.declared.elements.Chooses.{Chooses}
 use Rattle.net_words.specs.declared.elements.Chooses.TheVariants.{ByLevel, ByPriority}
-use Rattle.net_words.specs.NewElements.{AreEach, config_by, one_level, setting_of}
+use Rattle.net_words.specs.NewElements.{AreEach, one_level, setting_of}
+use Rattle.net_words.specs.private.NewElements.{config_by}
 
 -- nothing holds of each of no items
 pub each-none : {A : Type 0} (P : ℕ → A → Type 0) → AreEach P 0 []

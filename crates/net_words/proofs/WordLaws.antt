@@ -26,8 +26,8 @@ use Rattle.sync_topo.specs.declared.event.Event.{Event}
 use Rattle.sync_topo.specs.Topology.{Topology}
 use Rattle.sync_topo.specs.Lines.{line_input, inputs_of, is_same_input, place_at}
 use Rattle.net_rules.specs.Signals.{last_word, is_of_part, command_to, says_up as says_input_up, clears as clears_input}
-use Rattle.net_words.specs.declared.saying.Saying.{Saying}
-use Rattle.net_words.specs.declared.saying.Saying.TheVariants.{IsUp, HasLevel, IsCleared, IsLocked, IsUnlocked, IsForced, IsManual}
+use Rattle.net_words.specs.declared.input_words.Saying.{Saying}
+use Rattle.net_words.specs.declared.input_words.Saying.TheVariants.{IsUp, HasLevel, IsCleared, IsLocked, IsUnlocked, IsForced, IsManual}
 use Rattle.net_words.specs.Words.{word_at, input_words, part_words, only_to, words_of, all_words}
 use Rattle.net_words.proofs.DistinctInputs.{place-at}
 use Rattle.sync_topo.proofs.InputPlaces.{same-is, same-self}

@@ -3,3 +3,4 @@ pub mod Before
 pub mod Words
 pub mod Tellings
 pub mod InputPlaces
+pub mod private

@@ -6,12 +6,9 @@ use Rattle.sync_ql.specs.declared.levels.NetOption.TheVariants.{I, II}
 use Rattle.sync_ql.specs.declared.levels.Level.{Level}
 use Rattle.sync_ql.specs.Moment.{Moment}
 use Rattle.sync_ql.specs.Quiet.{IsElementDue}
-use Rattle.sync_element.specs.declared.config.InputConfig.{InputConfig}
 use Rattle.sync_element.specs.ElementState.{ElementState}
 use Rattle.sync_element.specs.StandsFor as Element
-use Rattle.sync_topo.specs.declared.input.InputId.{InputId}
 use Rattle.sync_topo.specs.Topology.{Topology}
-use Rattle.sync_topo.specs.Lines.{input_priority}
 use Rattle.net_rules.specs.Settings.{Setting, settings_by}
 use Rattle.net_rules.specs.History.{by_levels}
 use Rattle.net_words.specs.declared.elements.Chooses.{Chooses}
@@ -39,14 +36,6 @@ by_priority plan = record {
 abbrev pub setting_of : Chooses → Topology → Setting
 setting_of ByLevel plan = by_levels plan
 setting_of ByPriority plan = by_priority plan
-
--- what an element is set to for an input
-abbrev pub config_by : Setting → Topology → InputId → InputConfig
-config_by setting plan input = record {
-  priority = input_priority plan input;
-  first = setting.first input;
-  bundle = setting.bundle input;
-}
 
 -- an element that was told nothing
 pub record IsNewElement (setting : Setting) (plan : Topology) (place : ℕ) (element : ElementState) : Type 0 where

@@ -21,10 +21,3 @@ pub record AreTold (words : ℕ → List InputEvent) (before now : Tellings) : T
   pub flags_count : length now.active.flags ≡ length before.active.flags
   pub list : (element : ℕ) → told_to now element ≡ told_to before element ++ words element
   pub flag : (element : ℕ) → is_active now element ≡ (is_active before element || is_something (words element))
-
--- the words that are left make of what is told now what all the words make of what was told before
-pub record AreToldSoFar (all left : ℕ → List InputEvent) (before now : Tellings) : Type 0 where
-  pub count : length now.changes.items ≡ length before.changes.items
-  pub flags_count : length now.active.flags ≡ length before.active.flags
-  pub list : (element : ℕ) → told_to now element ++ left element ≡ told_to before element ++ all element
-  pub flag : (element : ℕ) → (is_active now element || is_something (left element)) ≡ (is_active before element || is_something (all element))

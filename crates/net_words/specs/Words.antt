@@ -12,8 +12,8 @@ use Rattle.sync_topo.specs.declared.event.What.TheVariants.{Down, Up, EsmcOff, E
 use Rattle.sync_topo.specs.declared.event.Event.{Event}
 use Rattle.sync_topo.specs.Topology.{Topology}
 use Rattle.sync_topo.specs.Lines.{line_input, place_at}
-use Rattle.net_words.specs.declared.saying.Saying.{Saying}
-use Rattle.net_words.specs.declared.saying.Saying.TheVariants.{IsUp, HasLevel, IsCleared, IsLocked, IsUnlocked, IsForced, IsManual}
+use Rattle.net_words.specs.declared.input_words.Saying.{Saying}
+use Rattle.net_words.specs.declared.input_words.Saying.TheVariants.{IsUp, HasLevel, IsCleared, IsLocked, IsUnlocked, IsForced, IsManual}
 
 -- what is said of the input at a place
 abbrev pub said_as : Saying → ℕ → InputEvent

@@ -3,7 +3,8 @@
 ghost use Rattle.std.specs.Prelude.{◌≡◌, ◌<◌, ℕ, List, IfOk, length, map};
 ghost use Rattle.sync_ql.specs.Told.{IsOfOption};
 ghost use Rattle.sync_topo.specs.Lines.{inputs_of, IsInput};
-ghost use Rattle.net_words.specs.NewElements.{AreEach, IsNewElement, config_by, one_level, setting_of};
+ghost use Rattle.net_words.specs.NewElements.{AreEach, IsNewElement, one_level, setting_of};
+ghost use Rattle.net_words.specs.private.NewElements.{config_by};
 
 use std::alloc::Global;
 use sync_element::{Config, Element, InputConfig};

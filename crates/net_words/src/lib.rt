@@ -10,15 +10,15 @@
 #![tactic(auto)]
 
 mod elements;
+mod event_words;
+mod input_words;
 mod places;
-mod saying;
-mod taking;
+mod taken;
 mod tellings;
-mod wording;
 
 pub use elements::{Chooses, new_element, new_elements};
+pub use event_words::{tell_events, tell_input};
+pub use input_words::{Saying, said_as};
 pub use places::{InputPlace, input_place};
-pub use saying::{Saying, said_as};
-pub use taking::{step_alone, taken_of};
+pub use taken::{step_alone, taken_of};
 pub use tellings::{Tellings, new_tellings};
-pub use wording::{tell_events, tell_input};

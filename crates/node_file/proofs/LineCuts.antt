@@ -10,7 +10,7 @@ use Rattle.sync_ql.specs.declared.levels.NetOption.{NetOption}
 use Rattle.sync_topo.specs.declared.input.LineId.{LineId}
 use Rattle.esmc_frame.specs.Reading.{reading_of}
 use Rattle.hex.specs.declared.error.FromHexError.{FromHexError}
-use Rattle.capture_text.specs.Steps.{IsPut}
+use Rattle.capture_text.specs.private.Steps.{IsPut}
 use Rattle.node_file.specs.declared.error.NodeErr.TheVariants as refusal
 use Rattle.node_file.specs.NodeFile.{frame_said, octets_said}
 

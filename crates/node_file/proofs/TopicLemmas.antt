@@ -7,14 +7,14 @@ use Rattle.sync_ql.specs.Level.{level_of_name}
 use Rattle.sync_topo.specs.declared.event.What.{What}
 use Rattle.sync_topo.specs.declared.event.What.TheVariants as kind
 use Rattle.sync_topo.specs.Topology.{Topology}
-use Rattle.event_file.specs.declared.word.Said.{Said}
-use Rattle.event_file.specs.declared.word.Said.TheVariants.{Happens, GetsLevel}
+use Rattle.event_file.specs.declared.word.WordTarget.{WordTarget}
+use Rattle.event_file.specs.declared.word.WordTarget.TheVariants.{Happens, GetsLevel}
 use Rattle.event_file.specs.Words.{what_of}
 use Rattle.node_file.specs.NodeRow.{is_of_element}
 use Rattle.node_file.specs.Topic.{is_there}
 
 -- what is said of something at an element happens there
-pub happens_there : (plan : Topology) (element : ℕ) (option : NetOption) (said : Said) (value : List ℕ) (what : What)
+pub happens_there : (plan : Topology) (element : ℕ) (option : NetOption) (said : WordTarget) (value : List ℕ) (what : What)
     → is_there plan element said ≡ true → what_of option said value ≡ Some what → is_of_element plan element what ≡ true
 happens_there plan element option (Happens happens) value what there is = by (bytes_eq value []) refl
   where

@@ -3,3 +3,4 @@ pub mod Topic
 pub mod NodeFile
 pub mod Cutting
 pub mod Refusal
+pub mod private

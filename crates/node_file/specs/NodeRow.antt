@@ -1,10 +1,8 @@
 -- What one element is told and receives, a row for each: its past in a file. The words are those of event files; that a
 -- frame that comes is a row too is this project's own.
-use Rattle.std.specs.Prelude.{◌≡◌, ◌≤◌, if◌then◌else◌, ℕ, Bool, true, false, ◌&&◌, ◌||◌, nat_eq, nat_le, List, filter, Option, None, Some}
+use Rattle.std.specs.Prelude.{◌≡◌, ◌≤◌, if◌then◌else◌, ℕ, Bool, true, false, ◌&&◌, ◌||◌, nat_eq, List, filter, Option, None, Some}
 use Rattle.std.specs.List.{filter_map}
-use Rattle.sync_ql.specs.declared.levels.NetOption.{NetOption}
 use Rattle.sync_ql.specs.declared.levels.Level.{Level}
-use Rattle.sync_topo.specs.declared.input.LineId.{LineId}
 use Rattle.sync_topo.specs.declared.input.InputId.{InputId}
 use Rattle.sync_topo.specs.declared.input.InputId.TheVariants.{Line, Source}
 use Rattle.sync_topo.specs.declared.event.Part.{Part}
@@ -35,9 +33,6 @@ events_in rows = filter_map event_of rows
 -- the rows of one millisecond, and those up to one
 abbrev pub rows_at : ℕ → List NodeRow → List NodeRow
 rows_at t rows = filter (λ row. nat_eq row.at t) rows
-
-abbrev pub rows_until : ℕ → List NodeRow → List NodeRow
-rows_until until rows = filter (λ row. nat_le row.at until) rows
 
 -- what the frames on a line say, in order
 abbrev pub said_on : ℕ → NodeRow → Option (Option Level)
@@ -82,11 +77,6 @@ is_of_element plan element (ClearWtr input) = is_at plan element input
 -- a frame may come on a nominated line into it
 abbrev pub is_frame_line : Topology → ℕ → ℕ → Bool
 is_frame_line plan element line = is_nominated plan line && nat_eq (receiver_of plan line) element
-
--- a frame on a line says a level of an option, or none
-abbrev pub IsOnLine : NetOption → LineId → NodeWord → Type 0
-IsOnLine option line (Frame other level) = (other ≡ line) × IsOfOption option level
-IsOnLine option line (Happens what) = ⊥
 
 -- what comes or happens is of the element, and of what the plan has
 abbrev pub IsWordOf : Topology → ℕ → NodeWord → Type 0

@@ -1,10 +1,10 @@
 -- What the word of a line says of its target. This project's own.
-use Rattle.std.specs.Prelude.{◌≡◌, ℕ, Bool, true, ◌||◌, List, codes, Option, None, Some, is_some, option_map, option_and_then, if◌then◌else◌}
+use Rattle.std.specs.Prelude.{ℕ, Bool, ◌||◌, List, codes, Option, None, Some, is_some, option_map, option_and_then, if◌then◌else◌}
 use Rattle.std.specs.Str.{bytes_eq}
 use Rattle.sync_topo.specs.Topology.{Topology}
-use Rattle.event_file.specs.declared.word.Said.{Said}
-use Rattle.event_file.specs.declared.word.Said.TheVariants as said
-use Rattle.event_file.specs.Words.{word_of, line_named, said_of, IsSaid}
+use Rattle.event_file.specs.declared.word.WordTarget.{WordTarget}
+use Rattle.event_file.specs.declared.word.WordTarget.TheVariants as said
+use Rattle.event_file.specs.Words.{word_of, line_named, said_of}
 use Rattle.node_file.specs.declared.topic.Topic.{Topic}
 use Rattle.node_file.specs.declared.topic.Topic.TheVariants.{Comes, Says}
 use Rattle.node_file.specs.NodeRow.{is_of_element, is_at_source, is_frame_line}
@@ -22,7 +22,7 @@ only_where test None = None
 only_where test (Some value) = if test value then Some value else None
 
 -- what an event word says is of the element, or of what is there
-abbrev pub is_there : Topology → ℕ → Said → Bool
+abbrev pub is_there : Topology → ℕ → WordTarget → Bool
 is_there plan element (said.Happens what) = is_of_element plan element what
 is_there plan element (said.GetsLevel source) = is_at_source plan element source
 
@@ -32,8 +32,3 @@ abbrev pub topic_of : Topology → ℕ → List ℕ → List ℕ → Option Topi
 topic_of plan element word target =
     if says_frame word then option_map Comes (only_where (λ line. is_frame_line plan element line.0) (line_named plan target))
     else option_map Says (only_where (is_there plan element) (option_and_then (λ known. said_of plan known target) (word_of word)))
-
--- a topic of an element of a plan
-abbrev pub IsTopic : Topology → ℕ → Topic → Type 0
-IsTopic plan element (Comes line) = is_frame_line plan element line.0 ≡ true
-IsTopic plan element (Says told) = (is_there plan element told ≡ true) × IsSaid plan told

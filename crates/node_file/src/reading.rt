@@ -6,12 +6,14 @@ ghost use Rattle.sync_text.specs.Number.{number_of};
 ghost use Rattle.hex.specs.Hex.{decode_of};
 ghost use Rattle.event_file.specs.Rows.{in_time, last_time};
 ghost use Rattle.event_file.specs.Words.{what_of};
-ghost use Rattle.node_file.specs.NodeRow.{IsRowOf, IsWordOf, IsOnLine};
+ghost use Rattle.node_file.specs.NodeRow.{IsRowOf, IsWordOf};
+ghost use Rattle.node_file.specs.private.NodeRow.{IsOnLine};
 ghost use Rattle.sync_topo.specs.Topology.{Topology};
 ghost use Rattle.sync_ql.specs.Told.{IsOfOption};
 ghost use Rattle.esmc_frame.specs.Reading.{reading_of};
-ghost use Rattle.capture_text.specs.Steps.{IsPut};
-ghost use Rattle.node_file.specs.Topic.{IsTopic, is_word};
+ghost use Rattle.capture_text.specs.private.Steps.{IsPut};
+ghost use Rattle.node_file.specs.Topic.{is_word};
+ghost use Rattle.node_file.specs.private.Topic.{IsTopic};
 ghost use Rattle.node_file.specs.NodeFile.{is_blank, time_in, fields_of, level_carried, octets_said, frame_said, event_said, word_said, line_refusal, row_in};
 
 use crate::error::NodeErr;
@@ -19,7 +21,7 @@ use crate::row::{NodeRow, NodeWord};
 use crate::topic::{Topic, says_frame};
 use capture_text::cut_at;
 use esmc_frame::{Pdu, decode};
-use event_file::{Said, Word};
+use event_file::{Word, WordTarget};
 use sync_ql::limits::LAST_MILLISECOND;
 use sync_ql::{Level, NetOption, level_of_codes};
 use sync_text::read_number;
@@ -139,7 +141,12 @@ fn word_said(
 }
 
 /// What happens, by a value.
-fn event_said(number: u64, option: NetOption, said: Said, value: &[u8]) -> Result<NodeWord, NodeErr>
+fn event_said(
+    number: u64,
+    option: NetOption,
+    said: WordTarget,
+    value: &[u8],
+) -> Result<NodeWord, NodeErr>
     ensures said { result ≡ event_said number (what_of option said value.now) }
     ensures fits { (plan : Topology) (element : ℕ) → plan.option ≡ option → IsTopic plan element (Topic.Says said) →
         IfOk result (IsWordOf plan element) }

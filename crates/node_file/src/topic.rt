@@ -5,9 +5,10 @@ ghost use Rattle.sync_topo.specs.Lines.{line_count, IsInput};
 ghost use Rattle.sync_topo.specs.Events.{IsPart, MayHappen};
 ghost use Rattle.event_file.specs.Words.{IsSaid};
 ghost use Rattle.node_file.specs.NodeRow.{is_at_source, is_at, is_part_of, is_of_element, is_frame_line};
-ghost use Rattle.node_file.specs.Topic.{says_frame, is_there, topic_of, IsTopic};
+ghost use Rattle.node_file.specs.Topic.{says_frame, is_there, topic_of};
+ghost use Rattle.node_file.specs.private.Topic.{IsTopic};
 
-use event_file::{Said, Word};
+use event_file::{Word, WordTarget};
 use sync_topo::{InputId, LineId, Part, Plan, What};
 
 /// Of what a row is, before the value is looked at. This project's own.
@@ -16,7 +17,7 @@ pub enum Topic {
     /// A frame comes on a line.
     Comes(LineId),
     /// What a word of event files says.
-    Says(Said),
+    Says(WordTarget),
 }
 
 /// A word says that a frame comes.
@@ -60,13 +61,13 @@ fn is_frame_line(plan: &Plan, element: u32, line: LineId) -> bool
 }
 
 /// What is said is of the element, or of what is there.
-fn is_there(plan: &Plan, element: u32, said: Said) -> bool
+fn is_there(plan: &Plan, element: u32, said: WordTarget) -> bool
     requires { IsSaid plan.now said }
     ensures { result ≡ is_there plan.now element said }
 {
     match said {
-        Said::Happens(what) => is_of_element(plan, element, what),
-        Said::GetsLevel(source) => is_at_source(plan, element, source),
+        WordTarget::Happens(what) => is_of_element(plan, element, what),
+        WordTarget::GetsLevel(source) => is_at_source(plan, element, source),
     }
 }
 

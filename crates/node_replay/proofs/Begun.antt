@@ -20,20 +20,21 @@ use Rattle.net_rules.specs.History.{by_levels, settings_of, moment_at}
 use Rattle.net_words.proofs.SplitWords.{none-before-0}
 use Rattle.node_file.specs.declared.row.NodeRow.{NodeRow}
 use Rattle.node_file.specs.NodeRow.{events_in}
-use Rattle.node_replay.specs.declared.inputs.InputKept.{InputKept}
-use Rattle.node_replay.specs.declared.outs.OutKept.{OutKept}
+use Rattle.node_replay.specs.declared.inputs.InputNow.{InputNow}
+use Rattle.node_replay.specs.declared.outs.LineOut.{LineOut}
 use Rattle.node_replay.specs.declared.running.Run.{Run}
 use Rattle.node_rules.specs.Replay.{signals_in, heard_in}
 use Rattle.node_rules.specs.NodeText.{lines_out}
-use Rattle.node_replay.specs.Starting.{new_input, new_out}
+use Rattle.node_replay.specs.private.Starting.{new_input, new_out}
 use Rattle.net_words.specs.NewElements.{IsNewElement}
-use Rattle.node_replay.specs.Running.{Shows, IsOfPast, IsInputAt, IsOutAt, IsKeptOf, IsRun, RunStands}
+use Rattle.node_replay.specs.Running.{IsOfPast, IsInputAt, IsOutAt, RunStands}
+use Rattle.node_replay.specs.private.Running.{Shows, IsKeptOf, IsRun}
 
-ids-same : (plan : Topology) (xs : List InputId) → map (λ (input : InputKept). input.id) (map (new_input plan) xs) ≡ xs
+ids-same : (plan : Topology) (xs : List InputId) → map (λ (input : InputNow). input.id) (map (new_input plan) xs) ≡ xs
 ids-same plan [] = refl
 ids-same plan (x ∷ xs) = ap (λ ys. x ∷ ys) (ids-same plan xs)
 
-lines-same : (xs : List ℕ) → map (λ (out : OutKept). out.line.0) (map new_out xs) ≡ xs
+lines-same : (xs : List ℕ) → map (λ (out : LineOut). out.line.0) (map new_out xs) ≡ xs
 lines-same [] = refl
 lines-same (x ∷ xs) = ap (λ ys. x ∷ ys) (lines-same xs)
 
@@ -48,10 +49,10 @@ unfolding settings_of
 begun plan place run well new shows inputs outs next wake rows = record {
   well_formed = well;
   settings = new.settings;
-  ids = ap (map (λ (input : InputKept). input.id)) inputs ∙ ids-same plan (inputs_of plan place);
+  ids = ap (map (λ (input : InputNow). input.id)) inputs ∙ ids-same plan (inputs_of plan place);
   options = subst (Each (IsKeptOf plan.option)) (sym inputs)
       (Each-made (IsKeptOf plan.option) (new_input plan) (inputs_of plan place) (Each-any (λ input. IsKeptOf plan.option (new_input plan input)) (λ input. new-kept plan input well) (inputs_of plan place)));
-  lines = ap (map (λ (out : OutKept). out.line.0)) outs ∙ lines-same (lines_out plan place);
+  lines = ap (map (λ (out : LineOut). out.line.0)) outs ∙ lines-same (lines_out plan place);
   shows = shows;
   rows = omega (arith, rows);
   in_range = omega (arith, next);

@@ -11,7 +11,8 @@ use Rattle.net_rules.specs.History.{settings_of, moment_at, taken_by}
 use Rattle.node_file.specs.declared.row.NodeRow.{NodeRow}
 use Rattle.node_replay.specs.declared.shown.Shown.{Shown}
 use Rattle.node_rules.specs.Replay.{signals_in, heard_in, node_past}
-use Rattle.node_replay.specs.Running.{Shows, IsOfPast}
+use Rattle.node_replay.specs.Running.{IsOfPast}
+use Rattle.node_replay.specs.private.Running.{Shows}
 
 -- an element that made a step stands for one more millisecond
 pub stepped-past : (plan : Topology) (rows : List NodeRow) (place now : ℕ) (words : List InputEvent) (before after : ElementState)

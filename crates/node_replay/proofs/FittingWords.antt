@@ -24,9 +24,9 @@ use Rattle.net_rules.proofs.OwnLevels.{own-option}
 use Rattle.node_file.specs.declared.row.NodeWord.{NodeWord}
 use Rattle.node_file.specs.declared.row.NodeWord.TheVariants.{Frame, Happens}
 use Rattle.node_file.specs.declared.row.NodeRow.{NodeRow}
-use Rattle.node_replay.specs.declared.inputs.InputKept.{InputKept}
-use Rattle.node_replay.specs.Telling.{place_in, word_of, row_word, told_from, all_told}
-use Rattle.node_replay.specs.Running.{IsKeptOf}
+use Rattle.node_replay.specs.declared.inputs.InputNow.{InputNow}
+use Rattle.node_replay.specs.private.Telling.{place_in, word_of, row_word, told_from, all_told}
+use Rattle.node_replay.specs.private.Running.{IsKeptOf}
 
 -- a level of the plan's option is one of the element's own
 own-level : (plan : Topology) (element : ℕ) (level : Option Level) → IsWellFormed plan → element < length plan.elements
@@ -85,7 +85,7 @@ module _ (plan : Topology) (element : ℕ) (well : IsWellFormed plan) (within : 
   rows-fit (row ∷ rows) = front-fits (row_word (inputs_of plan element) element row) (filter_map (row_word (inputs_of plan element) element) rows)
       (row-fits row.at row.word) (rows-fit rows)
 
-  told-fits : (place : ℕ) (inputs : List InputKept) → place + length inputs ≤ length (settings_of plan element).priorities
+  told-fits : (place : ℕ) (inputs : List InputNow) → place + length inputs ≤ length (settings_of plan element).priorities
       → Each (IsKeptOf plan.option) inputs → Fit (told_from place inputs)
   unfolding Fit
   told-fits place [] room each = tt
@@ -93,7 +93,7 @@ module _ (plan : Topology) (element : ℕ) (well : IsWellFormed plan) (within : 
       let inside : place < length (settings_of plan element).priorities = omega (arith, room) in
       (inside, ((inside, own-level plan element input.level well within each.0.level), told-fits (place + 1) inputs (omega (arith, room)) each.1))
 
-  pub words-fit : (here : List NodeRow) (inputs : List InputKept) → map (λ input. input.id) inputs ≡ inputs_of plan element
+  pub words-fit : (here : List NodeRow) (inputs : List InputNow) → map (λ input. input.id) inputs ≡ inputs_of plan element
       → Each (IsKeptOf plan.option) inputs → All (FitsElement (settings_of plan element)) (all_told (inputs_of plan element) element here inputs)
   unfolding Fit
   words-fit here inputs ids each =

@@ -14,11 +14,11 @@ use Rattle.sync_topo.specs.Topology.{Topology}
 use Rattle.sync_topo.specs.Lines.{line_name}
 use Rattle.esmc_frame.specs.Frame.{written_frame}
 use Rattle.node_file.specs.declared.row.NodeRow.{NodeRow}
-use Rattle.node_replay.specs.declared.outs.OutKept.{OutKept}
+use Rattle.node_replay.specs.declared.outs.LineOut.{LineOut}
 use Rattle.node_replay.specs.declared.frames.Sent.{Sent}
 use Rattle.node_rules.specs.Replay.{node_out, out_moment, out_past, sends_frame}
 use Rattle.node_rules.specs.NodeText.{carried, frame_row, sending_at, lines_out}
-use Rattle.node_replay.specs.Keeping.{frame_for, frame_of, sent_row}
+use Rattle.node_replay.specs.private.Keeping.{frame_for, frame_of, sent_row}
 use Rattle.node_replay.proofs.OutSteps.{IsSaid}
 
 first-or-later : (t : ℕ) → nat_lt 1 (suc t) ≡ nat_lt 0 t
@@ -56,7 +56,7 @@ module _ (plan : Topology) (place t : ℕ) where
       then row line level (not (is_same_level (Some level) was) && nat_lt 1 (suc m)) ∷ [] else []) same)
 
 module _ (plan : Topology) (rows : List NodeRow) (place t : ℕ) where
-  frame-one : (out : OutKept) → IsSaid plan rows place t out → map (sent_row plan place t) (cons_option (frame_of t out) [])
+  frame-one : (out : LineOut) → IsSaid plan rows place t out → map (sent_row plan place t) (cons_option (frame_of t out) [])
       ≡ (if sends_frame plan rows place out.line.0 t then frame_row plan rows place t out.line.0 ∷ [] else [])
   unfolding frame_of row
   frame-one out is =
@@ -69,7 +69,7 @@ module _ (plan : Topology) (rows : List NodeRow) (place t : ℕ) where
   map-cons f None xs = refl
   map-cons f (Some x) xs = refl
 
-  pub frames-are : (outs : List OutKept) → Each (IsSaid plan rows place t) outs → map (sent_row plan place t) (filter_map (frame_of t) outs)
+  pub frames-are : (outs : List LineOut) → Each (IsSaid plan rows place t) outs → map (sent_row plan place t) (filter_map (frame_of t) outs)
       ≡ map (frame_row plan rows place t) (filter (λ line. sends_frame plan rows place line t) (map (λ out. out.line.0) outs))
   frames-are [] is = refl
   frames-are (out ∷ outs) is =
@@ -85,7 +85,7 @@ module _ (plan : Topology) (rows : List NodeRow) (place t : ℕ) where
       by true = refl
       by false = refl
 
-  pub sent-rows : (outs : List OutKept) → map (λ out. out.line.0) outs ≡ lines_out plan place → Each (IsSaid plan rows place t) outs
+  pub sent-rows : (outs : List LineOut) → map (λ out. out.line.0) outs ≡ lines_out plan place → Each (IsSaid plan rows place t) outs
       → map (sent_row plan place t) (filter_map (frame_of t) outs) ≡ map (frame_row plan rows place t) (sending_at plan rows place t)
   sent-rows outs lines is =
       frames-are outs is ∙ ap (λ ls. map (frame_row plan rows place t) (filter (λ line. sends_frame plan rows place line t) ls)) lines

@@ -17,15 +17,16 @@ use Rattle.sync_topo.specs.declared.input.InputId.TheVariants.{Line, Source}
 use Rattle.sync_topo.specs.Topology.{Topology}
 use Rattle.node_file.specs.declared.row.NodeRow.{NodeRow}
 use Rattle.node_file.specs.NodeRow.{rows_at}
-use Rattle.node_replay.specs.declared.inputs.LastWord.{LastWord}
-use Rattle.node_replay.specs.declared.inputs.InputKept.{InputKept}
-use Rattle.node_replay.specs.declared.outs.OutKept.{OutKept}
+use Rattle.node_replay.specs.declared.inputs.LastLevel.{LastLevel}
+use Rattle.node_replay.specs.declared.inputs.InputNow.{InputNow}
+use Rattle.node_replay.specs.declared.outs.LineOut.{LineOut}
 use Rattle.node_replay.specs.declared.shown.Shown.{Shown}
 use Rattle.node_replay.specs.declared.running.Run.{Run}
 use Rattle.node_rules.specs.NodeText.{frame_row, sending_at, rows_before}
 use Rattle.node_replay.specs.Rows.{IsRowList}
-use Rattle.node_replay.specs.Keeping.{last_after, level_after, input_after, said_by, out_after, frame_for, frame_of, sent_row}
-use Rattle.node_replay.specs.Running.{IsOfPast, IsInputAt, IsOutAt, AreSteady, AreGiven, IsRun, RunStands, AreAway}
+use Rattle.node_replay.specs.private.Keeping.{last_after, level_after, input_after, said_by, out_after, frame_for, frame_of, sent_row}
+use Rattle.node_replay.specs.Running.{IsOfPast, IsInputAt, IsOutAt, RunStands}
+use Rattle.node_replay.specs.private.Running.{AreSteady, AreGiven, IsRun, AreAway}
 use Rattle.node_replay.proofs.KeptLevels.{outs-lines}
 use Rattle.node_replay.proofs.InputSteps.{inputs-step, events-here}
 use Rattle.node_replay.proofs.MomentLaws.{moment-quiet}
@@ -35,18 +36,18 @@ use Rattle.node_replay.proofs.FrameRows.{sent-rows}
 use Rattle.node_replay.proofs.TurnLaws.{lines-after}
 
 -- no rows leave an input as it is, where its level stays
-last-same : (id : InputId) (up : Bool) (last : Option LastWord) (m : ℕ) → last_after id up last [] m ≡ last
+last-same : (id : InputId) (up : Bool) (last : Option LastLevel) (m : ℕ) → last_after id up last [] m ≡ last
 last-same (Line line) true last m = refl
 last-same (Line line) false last m = refl
 last-same (Source source) up last m = refl
 
-input-same : (m : ℕ) (input : InputKept) → level_after input.id input.up input.last input.level m ≡ input.level → input_after [] m input ≡ input
+input-same : (m : ℕ) (input : InputNow) → level_after input.id input.up input.last input.level m ≡ input.level → input_after [] m input ≡ input
 unfolding input_after
 input-same m input steady =
     ap (λ last. record { id = input.id; up = input.up; level = level_after input.id input.up last input.level m; last = last }) (last-same input.id input.up input.last m)
     ∙ ap (λ level. record { id = input.id; up = input.up; level = level; last = input.last }) steady
 
-inputs-same : (m : ℕ) (inputs : List InputKept) → AreSteady inputs m → map (input_after [] m) inputs ≡ inputs
+inputs-same : (m : ℕ) (inputs : List InputNow) → AreSteady inputs m → map (input_after [] m) inputs ≡ inputs
 inputs-same m [] steady = refl
 inputs-same m (input ∷ inputs) steady = rw (input-same m input steady.0, inputs-same m inputs steady.1) refl
 
@@ -59,26 +60,26 @@ no-frame : (t : ℕ) (line : LineId) (said : Option Level) → nat_eq (t % secon
 no-frame t line None rest = refl
 no-frame t line (Some level) rest = rw (same-level (Some level), rest) refl
 
-no-frame-of : (plan : Topology) (shown : Shown) (t : ℕ) (out : OutKept) → nat_eq (t % second) 0 ≡ false
+no-frame-of : (plan : Topology) (shown : Shown) (t : ℕ) (out : LineOut) → nat_eq (t % second) 0 ≡ false
     → out.said ≡ said_by plan shown out.line.0 (out.up && out.esmc) → frame_of t (out_after plan [] shown out) ≡ None
 unfolding frame_of out_after
 no-frame-of plan shown t out rest given =
     ap (λ was. frame_for t out.line (said_by plan shown out.line.0 (out.up && out.esmc)) (not (is_same_level (said_by plan shown out.line.0 (out.up && out.esmc)) was))) given
     ∙ no-frame t out.line (said_by plan shown out.line.0 (out.up && out.esmc)) rest
 
-no-frames : (plan : Topology) (shown : Shown) (t : ℕ) (outs : List OutKept) → nat_eq (t % second) 0 ≡ false → AreGiven plan shown outs
+no-frames : (plan : Topology) (shown : Shown) (t : ℕ) (outs : List LineOut) → nat_eq (t % second) 0 ≡ false → AreGiven plan shown outs
     → filter_map (frame_of t) (map (out_after plan [] shown) outs) ≡ []
 no-frames plan shown t [] rest given = refl
 no-frames plan shown t (out ∷ outs) rest given =
     ap (λ o. cons_option o (filter_map (frame_of t) (map (out_after plan [] shown) outs))) (no-frame-of plan shown t out rest given.0) ∙ no-frames plan shown t outs rest given.1
 
 -- the lines are as they were
-out-same : (plan : Topology) (rows : List NodeRow) (place n : ℕ) (shown : Shown) (out : OutKept) → out.said ≡ said_by plan shown out.line.0 (out.up && out.esmc)
+out-same : (plan : Topology) (rows : List NodeRow) (place n : ℕ) (shown : Shown) (out : LineOut) → out.said ≡ said_by plan shown out.line.0 (out.up && out.esmc)
     → IsOutAt plan rows place n (out_after plan [] shown out) → IsOutAt plan rows place n out
 unfolding out_after
 out-same plan rows place n shown out given is = record { up = is.up; esmc = is.esmc; said = given ∙ is.said }
 
-outs-same : (plan : Topology) (rows : List NodeRow) (place n t : ℕ) (shown : Shown) (outs : List OutKept) → AreGiven plan shown outs
+outs-same : (plan : Topology) (rows : List NodeRow) (place n t : ℕ) (shown : Shown) (outs : List LineOut) → AreGiven plan shown outs
     → Each (λ out. IsOutAt plan rows place n out × IsSaid plan rows place t out) (map (out_after plan [] shown) outs) → Each (IsOutAt plan rows place n) outs
 outs-same plan rows place n t shown [] given is = tt
 outs-same plan rows place n t shown (out ∷ outs) given is =

@@ -3,7 +3,8 @@ use Rattle.std.proofs.Common.{◌≡◌, ◌≤◌, ◌<◌, ℕ, List, [], Opti
 use Rattle.sync_topo.specs.Topology.{Topology}
 use Rattle.node_file.specs.declared.row.NodeRow.{NodeRow}
 use Rattle.node_replay.specs.declared.running.Run.{Run}
-use Rattle.node_replay.specs.Running.{RunStands, RunHolds, AreHere, AreAway}
+use Rattle.node_replay.specs.Running.{RunStands, RunHolds}
+use Rattle.node_replay.specs.private.Running.{AreHere, AreAway}
 
 -- a run that isn't stopped stands for its milliseconds
 pub going-stands : (plan : Topology) (place until n : ℕ) (rows : List NodeRow) (run : Run) → run.stopped ≡ None

@@ -17,11 +17,12 @@ use Rattle.net_words.specs.Before.{up_before, said_before}
 use Rattle.net_words.proofs.SplitWords.{word-until}
 use Rattle.node_file.specs.declared.row.NodeRow.{NodeRow}
 use Rattle.node_file.specs.NodeRow.{events_in, rows_at, frames_on}
-use Rattle.node_replay.specs.declared.inputs.LastWord.{LastWord}
-use Rattle.node_replay.specs.declared.inputs.InputKept.{InputKept}
+use Rattle.node_replay.specs.declared.inputs.LastLevel.{LastLevel}
+use Rattle.node_replay.specs.declared.inputs.InputNow.{InputNow}
 use Rattle.node_rules.specs.Replay.{last_of, counted}
 use Rattle.node_replay.specs.Rows.{AreInOrder}
-use Rattle.node_replay.specs.Keeping.{heard_of, word_or, said_or, said_in, last_after, level_after, up_then, last_then, input_after}
+use Rattle.node_replay.specs.Keeping.{word_or, said_in}
+use Rattle.node_replay.specs.private.Keeping.{heard_of, said_or, last_after, level_after, up_then, last_then, input_after}
 use Rattle.node_replay.specs.Running.{last_counted, level_before, IsLast, IsInputAt}
 use Rattle.node_replay.proofs.EventOrder.{events-at, events-in-order}
 
@@ -30,22 +31,22 @@ last-early : (plan : Topology) (rows : List NodeRow) (line n : ℕ) → IfSome (
 last-early plan rows line zero = tt
 last-early plan rows line (suc t) = by (counted plan rows line t) (last_counted plan rows line t) (last-early plan rows line t)
   where
-    by : (o : Option (Option Level)) (last : Option LastWord) → IfSome last (λ word. word.at < t) → IfSome (word_or o last t) (λ word. word.at < suc t)
+    by : (o : Option (Option Level)) (last : Option LastLevel) → IfSome last (λ word. word.at < t) → IfSome (word_or o last t) (λ word. word.at < suc t)
     by None None early = tt
     by None (Some word) early = omega (arith, early)
     by (Some level) last early = omega arith
 
 -- what a word says, if it is one of the last few milliseconds
-in_window : ℕ → ℕ → Option LastWord → Option (Option Level)
+in_window : ℕ → ℕ → Option LastLevel → Option (Option Level)
 in_window w n None = None
 in_window w n (Some word) = if nat_lt (n - suc word.at) w then Some word.level else None
 
-none-in-none : (n : ℕ) (last : Option LastWord) → None ≡ in_window 0 n last
+none-in-none : (n : ℕ) (last : Option LastLevel) → None ≡ in_window 0 n last
 unfolding in_window
 none-in-none n None = refl
 none-in-none n (Some word) = rw (le-ltb (n - suc word.at) 0 (omega arith)) refl
 
-wider : (w t : ℕ) (last : Option LastWord) → IfSome last (λ word. word.at < t) → in_window w t last ≡ in_window (suc w) (suc t) last
+wider : (w t : ℕ) (last : Option LastLevel) → IfSome last (λ word. word.at < t) → in_window w t last ≡ in_window (suc w) (suc t) last
 unfolding in_window
 wider w t None early = refl
 wider w t (Some word) early = elim (dec_lt (t - suc word.at) w) [
@@ -60,7 +61,7 @@ window plan rows line (suc w) zero = refl
 window plan rows line (suc w) (suc t) =
     by (counted plan rows line t) (last_counted plan rows line t) (last-early plan rows line t) (window plan rows line w t)
   where
-    by : (o : Option (Option Level)) (last : Option LastWord) → IfSome last (λ word. word.at < t)
+    by : (o : Option (Option Level)) (last : Option LastLevel) → IfSome last (λ word. word.at < t)
         → first_within w (past_of (counted plan rows line) t) ≡ in_window w t last
         → first_within (suc w) (o ∷ past_of (counted plan rows line) t) ≡ in_window (suc w) (suc t) (word_or o last t)
     by None last early rest = rest ∙ wider w t last early
@@ -72,7 +73,7 @@ pub heard-last : (plan : Topology) (rows : List NodeRow) (line t : ℕ)
 unfolding heard_of in_window
 heard-last plan rows line t = by (last_counted plan rows line (suc t)) ∙ sym (ap (option_and_then (λ level. level)) (window plan rows line hearing_time (suc t)))
   where
-    by : (last : Option LastWord) → heard_of last t ≡ option_and_then (λ level. level) (in_window hearing_time (suc t) last)
+    by : (last : Option LastLevel) → heard_of last t ≡ option_and_then (λ level. level) (in_window hearing_time (suc t) last)
     by None = refl
     by (Some word) =
         let age : suc t - suc word.at ≡ t - word.at = omega arith in
@@ -82,7 +83,7 @@ heard-last plan rows line t = by (last_counted plan rows line (suc t)) ∙ sym (
         same true = refl
         same false = refl
 
-said-in-or : (o : Option Level) (last : Option LastWord) (t : ℕ) (before : Level) → said_in last ≡ Some before → said_in (said_or o last t) ≡ Some (unwrap_or o before)
+said-in-or : (o : Option Level) (last : Option LastLevel) (t : ℕ) (before : Level) → said_in last ≡ Some before → said_in (said_or o last t) ≡ Some (unwrap_or o before)
 said-in-or None last t before is = is
 said-in-or (Some level) last t before is = refl
 
@@ -100,7 +101,7 @@ module _ (plan : Topology) (rows here : List NodeRow) (t : ℕ) (ordered : AreIn
       ap (unwrap_or (last_word (says_up id) (events_in here))) is
       ∙ sym (word-until (says_up id) true (events_in rows) (events_in here) t in-order events-here)
 
-  last-step : (id : InputId) (up : Bool) (last : Option LastWord) → up ≡ up_before (events_in rows) id (suc t) → IsLast plan rows t id last
+  last-step : (id : InputId) (up : Bool) (last : Option LastLevel) → up ≡ up_before (events_in rows) id (suc t) → IsLast plan rows t id last
       → IsLast plan rows (suc t) id (last_after id up last here t)
   unfolding up_at
   last-step (Line line) up last up_is is =
@@ -111,7 +112,7 @@ module _ (plan : Topology) (rows here : List NodeRow) (t : ℕ) (ordered : AreIn
       said-in-or (last_word (says_level source) (events_in here)) last t (said_before plan (events_in rows) source t) is
       ∙ sym (ap Some (word-until (says_level source) (planned_level plan source) (events_in rows) (events_in here) t in-order events-here))
 
-  level-step : (id : InputId) (up : Bool) (last : Option LastWord) (level : Option Level) → up ≡ up_before (events_in rows) id (suc t)
+  level-step : (id : InputId) (up : Bool) (last : Option LastLevel) (level : Option Level) → up ≡ up_before (events_in rows) id (suc t)
       → IsLast plan rows (suc t) id last → level ≡ level_before plan rows id t → level_after id up last level t ≡ level_before plan rows id (suc t)
   unfolding up_at said_at
   level-step (Line line) up last level up_is last_is is = ap (λ l. heard_of l t) last_is ∙ heard-last plan rows line.0 t
@@ -123,7 +124,7 @@ module _ (plan : Topology) (rows here : List NodeRow) (t : ℕ) (ordered : AreIn
       by true = last_is
       by false = is
 
-  pub input-step : (input : InputKept) → IsInputAt plan rows t input → IsInputAt plan rows (suc t) (input_after here t input)
+  pub input-step : (input : InputNow) → IsInputAt plan rows t input → IsInputAt plan rows (suc t) (input_after here t input)
   unfolding input_after
   input-step input is =
       let up : up_then here input ≡ up_before (events_in rows) input.id (suc t) = up-step input.id input.up is.up in
@@ -134,7 +135,7 @@ module _ (plan : Topology) (rows here : List NodeRow) (t : ℕ) (ordered : AreIn
         last = last;
       }
 
-  pub inputs-step : (inputs : List InputKept) → Each (IsInputAt plan rows t) inputs → Each (IsInputAt plan rows (suc t)) (map (input_after here t) inputs)
+  pub inputs-step : (inputs : List InputNow) → Each (IsInputAt plan rows t) inputs → Each (IsInputAt plan rows (suc t)) (map (input_after here t) inputs)
   inputs-step inputs is =
       Each-made (IsInputAt plan rows (suc t)) (input_after here t) inputs
       (Each-map (IsInputAt plan rows t) (λ input. IsInputAt plan rows (suc t) (input_after here t input)) input-step inputs is)

@@ -21,13 +21,14 @@ use Rattle.node_file.specs.declared.row.NodeWord.{NodeWord}
 use Rattle.node_file.specs.declared.row.NodeWord.TheVariants.{Frame, Happens}
 use Rattle.node_file.specs.declared.row.NodeRow.{NodeRow}
 use Rattle.node_file.specs.NodeRow.{IsRowOf, IsWordOf, events_in, frames_on}
-use Rattle.node_replay.specs.declared.inputs.LastWord.{LastWord}
-use Rattle.node_replay.specs.declared.inputs.InputKept.{InputKept}
-use Rattle.node_replay.specs.declared.outs.OutKept.{OutKept}
+use Rattle.node_replay.specs.declared.inputs.LastLevel.{LastLevel}
+use Rattle.node_replay.specs.declared.inputs.InputNow.{InputNow}
+use Rattle.node_replay.specs.declared.outs.LineOut.{LineOut}
 use Rattle.node_rules.specs.Replay.{last_of}
 use Rattle.node_rules.specs.NodeText.{lines_out}
-use Rattle.node_replay.specs.Keeping.{heard_of, word_or, said_or, said_in, last_after, level_after, up_then, last_then, input_after, row_says}
-use Rattle.node_replay.specs.Running.{IsKeptOf}
+use Rattle.node_replay.specs.Keeping.{word_or, said_in}
+use Rattle.node_replay.specs.private.Keeping.{heard_of, said_or, last_after, level_after, up_then, last_then, input_after, row_says}
+use Rattle.node_replay.specs.private.Running.{IsKeptOf}
 use Rattle.node_replay.proofs.RowWords.{word-more}
 
 -- the levels of frames, and those said of a source, are of the plan's option
@@ -85,17 +86,17 @@ said-fits plan element source (row ∷ rows) each =
     (said-fits plan element source rows each.1) (word-fits plan element source row.at row.word each.0.1))
 
 -- the word that is kept, and the level that is told
-word-or-fits : (option : NetOption) (word : Option (Option Level)) (last : Option LastWord) (t : ℕ) → IfSome word (IsOfOption option)
+word-or-fits : (option : NetOption) (word : Option (Option Level)) (last : Option LastLevel) (t : ℕ) → IfSome word (IsOfOption option)
     → IfSome last (λ w. IsOfOption option w.level) → IfSome (word_or word last t) (λ w. IsOfOption option w.level)
 word-or-fits option None last t word_is last_is = last_is
 word-or-fits option (Some level) last t word_is last_is = word_is
 
-said-or-fits : (option : NetOption) (said : Option Level) (last : Option LastWord) (t : ℕ) → IfSome said (λ level. level.option ≡ option)
+said-or-fits : (option : NetOption) (said : Option Level) (last : Option LastLevel) (t : ℕ) → IfSome said (λ level. level.option ≡ option)
     → IfSome last (λ w. IsOfOption option w.level) → IfSome (said_or said last t) (λ w. IsOfOption option w.level)
 said-or-fits option None last t said_is last_is = last_is
 said-or-fits option (Some level) last t said_is last_is = said_is
 
-heard-fits : (option : NetOption) (last : Option LastWord) (t : ℕ) → IfSome last (λ w. IsOfOption option w.level) → IsOfOption option (heard_of last t)
+heard-fits : (option : NetOption) (last : Option LastLevel) (t : ℕ) → IfSome last (λ w. IsOfOption option w.level) → IsOfOption option (heard_of last t)
 unfolding heard_of
 heard-fits option None t is = tt
 heard-fits option (Some word) t is = by (nat_lt (t - word.at) 5000)
@@ -104,17 +105,17 @@ heard-fits option (Some word) t is = by (nat_lt (t - word.at) 5000)
     by true = is
     by false = tt
 
-said-in-fits : (option : NetOption) (last : Option LastWord) → IfSome last (λ w. IsOfOption option w.level) → IsOfOption option (said_in last)
+said-in-fits : (option : NetOption) (last : Option LastLevel) → IfSome last (λ w. IsOfOption option w.level) → IsOfOption option (said_in last)
 said-in-fits option None is = tt
 said-in-fits option (Some word) is = is
 
-level-fits : (option : NetOption) (id : InputId) (up : Bool) (last : Option LastWord) (level : Option Level) (t : ℕ)
+level-fits : (option : NetOption) (id : InputId) (up : Bool) (last : Option LastLevel) (level : Option Level) (t : ℕ)
     → IfSome last (λ w. IsOfOption option w.level) → IsOfOption option level → IsOfOption option (level_after id up last level t)
 level-fits option (Line line) up last level t last_is level_is = heard-fits option last t last_is
 level-fits option (Source source) true last level t last_is level_is = said-in-fits option last last_is
 level-fits option (Source source) false last level t last_is level_is = level_is
 
-last-after-fits : (plan : Topology) (element : ℕ) (id : InputId) (up : Bool) (last : Option LastWord) (here : List NodeRow) (t : ℕ) → Each (IsRowOf plan element) here
+last-after-fits : (plan : Topology) (element : ℕ) (id : InputId) (up : Bool) (last : Option LastLevel) (here : List NodeRow) (t : ℕ) → Each (IsRowOf plan element) here
     → IfSome last (λ w. IsOfOption plan.option w.level) → IfSome (last_after id up last here t) (λ w. IsOfOption plan.option w.level)
 last-after-fits plan element (Line line) true last here t each is =
     word-or-fits plan.option (last_of (frames_on line.0 here)) last t (last-fits plan.option (frames_on line.0 here) (frames-fit plan element line.0 here each)) is
@@ -122,7 +123,7 @@ last-after-fits plan element (Line line) false last here t each is = is
 last-after-fits plan element (Source source) up last here t each is =
     said-or-fits plan.option (last_word (says_level source) (events_in here)) last t (said-fits plan element source here each) is
 
-kept-after : (plan : Topology) (element : ℕ) (here : List NodeRow) (t : ℕ) (input : InputKept) → Each (IsRowOf plan element) here
+kept-after : (plan : Topology) (element : ℕ) (here : List NodeRow) (t : ℕ) (input : InputNow) → Each (IsRowOf plan element) here
     → IsKeptOf plan.option input → IsKeptOf plan.option (input_after here t input)
 unfolding input_after
 kept-after plan element here t input each is =
@@ -131,18 +132,18 @@ kept-after plan element here t input each is =
       last = last;
     }
 
-pub kept-all : (plan : Topology) (element : ℕ) (here : List NodeRow) (t : ℕ) (inputs : List InputKept) → Each (IsRowOf plan element) here
+pub kept-all : (plan : Topology) (element : ℕ) (here : List NodeRow) (t : ℕ) (inputs : List InputNow) → Each (IsRowOf plan element) here
     → Each (IsKeptOf plan.option) inputs → Each (IsKeptOf plan.option) (map (input_after here t) inputs)
 kept-all plan element here t inputs each is =
     Each-made (IsKeptOf plan.option) (input_after here t) inputs
     (Each-map (IsKeptOf plan.option) (λ input. IsKeptOf plan.option (input_after here t input)) (λ input kept. kept-after plan element here t input each kept) inputs is)
 
 -- an input stays the one that it is
-id-after : (here : List NodeRow) (t : ℕ) (input : InputKept) → (input_after here t input).id ≡ input.id
+id-after : (here : List NodeRow) (t : ℕ) (input : InputNow) → (input_after here t input).id ≡ input.id
 unfolding input_after
 id-after here t input = refl
 
-pub ids-after : (here : List NodeRow) (t : ℕ) (inputs : List InputKept) → map (λ input. input.id) (map (input_after here t) inputs) ≡ map (λ input. input.id) inputs
+pub ids-after : (here : List NodeRow) (t : ℕ) (inputs : List InputNow) → map (λ input. input.id) (map (input_after here t) inputs) ≡ map (λ input. input.id) inputs
 ids-after here t [] = refl
 ids-after here t (input ∷ inputs) = rw (id-after here t input, ids-after here t inputs) refl
 
@@ -152,15 +153,15 @@ out-line plan place =
     Each-filter (λ line. line < line_count plan) (λ line. sender_of plan line == place) (range_with_len 0 (line_count plan))
     (Each-range (λ line. line < line_count plan) 0 (line_count plan) (λ k low high. omega (arith, high)))
 
-pub outs-lines : (plan : Topology) (place : ℕ) (outs : List OutKept) → map (λ out. out.line.0) outs ≡ lines_out plan place
-    → Each (λ (out : OutKept). (out.line.0 < line_count plan) × ((sender_of plan out.line.0 == place) ≡ true)) outs
+pub outs-lines : (plan : Topology) (place : ℕ) (outs : List LineOut) → map (λ out. out.line.0) outs ≡ lines_out plan place
+    → Each (λ (out : LineOut). (out.line.0 < line_count plan) × ((sender_of plan out.line.0 == place) ≡ true)) outs
 outs-lines plan place outs lines =
-    Each-unmade (λ line. (line < line_count plan) × ((sender_of plan line == place) ≡ true)) (λ (out : OutKept). out.line.0) outs
+    Each-unmade (λ line. (line < line_count plan) × ((sender_of plan line == place) ≡ true)) (λ (out : LineOut). out.line.0) outs
     (subst (Each (λ line. (line < line_count plan) × ((sender_of plan line == place) ≡ true))) (sym lines) (out-line plan place))
 
-pub lines-within : (plan : Topology) (place : ℕ) (outs : List OutKept) → map (λ out. out.line.0) outs ≡ lines_out plan place
-    → All (λ (out : OutKept). out.line.0 < line_count plan) outs
+pub lines-within : (plan : Topology) (place : ℕ) (outs : List LineOut) → map (λ out. out.line.0) outs ≡ lines_out plan place
+    → All (λ (out : LineOut). out.line.0 < line_count plan) outs
 lines-within plan place outs lines =
-    all-each (λ (out : OutKept). out.line.0 < line_count plan) outs
-    (Each-map (λ (out : OutKept). (out.line.0 < line_count plan) × ((sender_of plan out.line.0 == place) ≡ true)) (λ (out : OutKept). out.line.0 < line_count plan) (λ out is. is.0) outs
+    all-each (λ (out : LineOut). out.line.0 < line_count plan) outs
+    (Each-map (λ (out : LineOut). (out.line.0 < line_count plan) × ((sender_of plan out.line.0 == place) ≡ true)) (λ (out : LineOut). out.line.0 < line_count plan) (λ out is. is.0) outs
     (outs-lines plan place outs lines))

@@ -3,17 +3,17 @@ use Rattle.std.proofs.Common.{◌≡◌, ◌≤◌, ◌<◌, ◌+◌, ◌-◌, �
 use Rattle.std.specs.Prelude.{slice_index_or}
 use Rattle.std.proofs.Math.Decide.{dec_lt}
 use Rattle.std.proofs.lemmas.Bool.{le-ltb, lt-ltb}
-use Rattle.node_replay.specs.declared.inputs.LastWord.{LastWord}
-use Rattle.node_replay.specs.declared.inputs.InputKept.{InputKept}
-use Rattle.node_replay.specs.Keeping.{heard_of}
+use Rattle.node_replay.specs.declared.inputs.LastLevel.{LastLevel}
+use Rattle.node_replay.specs.declared.inputs.InputNow.{InputNow}
+use Rattle.node_replay.specs.private.Keeping.{heard_of}
 
-pub still-heard : (word : LastWord) (now m : ℕ) → now - word.at < 5000 → now ≤ m → m < now + (5000 - (now - word.at))
+pub still-heard : (word : LastLevel) (now m : ℕ) → now - word.at < 5000 → now ≤ m → m < now + (5000 - (now - word.at))
     → heard_of (Some word) m ≡ heard_of (Some word) now
 unfolding heard_of
 still-heard word now m young later early =
     rw (lt-ltb (m - word.at) 5000 (omega (arith, young, later, early)), lt-ltb (now - word.at) 5000 young) refl
 
-pub still-lost : (word : LastWord) (now m : ℕ) → 5000 ≤ now - word.at → now ≤ m → heard_of (Some word) m ≡ heard_of (Some word) now
+pub still-lost : (word : LastLevel) (now m : ℕ) → 5000 ≤ now - word.at → now ≤ m → heard_of (Some word) m ≡ heard_of (Some word) now
 unfolding heard_of
 still-lost word now m old later =
     rw (le-ltb (m - word.at) 5000 (omega (arith, old, later)), le-ltb (now - word.at) 5000 old) refl
@@ -34,12 +34,12 @@ get-any (x ∷ xs) zero d e within = refl
 get-any (x ∷ xs) (suc i) d e within = get-any xs i d e (omega (arith, within))
 
 -- one input more
-pub losses-more : (inputs : List InputKept) (i now first end : ℕ) (loss : Option ℕ) (input : InputKept) → i < length inputs → input ≡ slice_index_or inputs i input
-    → ((m : ℕ) → now ≤ m → m < first → (place : ℕ) (other : InputKept) → place < i
+pub losses-more : (inputs : List InputNow) (i now first end : ℕ) (loss : Option ℕ) (input : InputNow) → i < length inputs → input ≡ slice_index_or inputs i input
+    → ((m : ℕ) → now ≤ m → m < first → (place : ℕ) (other : InputNow) → place < i
     → heard_of (slice_index_or inputs place other).last m ≡ heard_of (slice_index_or inputs place other).last now)
     → ((m : ℕ) → now ≤ m → IfSome loss (λ l. m < l) → heard_of input.last m ≡ heard_of input.last now)
     → end ≤ first → IfSome loss (λ l. end ≤ l)
-    → (m : ℕ) → now ≤ m → m < end → (place : ℕ) (other : InputKept) → place < i + 1
+    → (m : ℕ) → now ≤ m → m < end → (place : ℕ) (other : InputNow) → place < i + 1
     → heard_of (slice_index_or inputs place other).last m ≡ heard_of (slice_index_or inputs place other).last now
 losses-more inputs i now first end loss input within at before one until until_loss m low high place other early = elim (dec_lt place i) [
   | yes behind ↦ before m low (omega (arith, high, until)) place other behind

@@ -27,7 +27,7 @@ use Rattle.net_rules.specs.Signals.{events_at, clears as clears_input, command_t
 use Rattle.net_rules.specs.History.{by_levels, settings_of, input_level, moment_at}
 use Rattle.net_rules.specs.Settings.{signal_at}
 use Rattle.net_rules.proofs.SettingLaws.{level_until, IsSaid, told-by}
-use Rattle.net_words.specs.declared.saying.Saying.TheVariants.{IsCleared}
+use Rattle.net_words.specs.declared.input_words.Saying.TheVariants.{IsCleared}
 use Rattle.net_words.specs.Words.{word_at}
 use Rattle.net_words.specs.Before.{up_before}
 use Rattle.net_words.proofs.SplitWords.{past-up}
@@ -36,50 +36,50 @@ use Rattle.node_file.specs.declared.row.NodeWord.{NodeWord}
 use Rattle.node_file.specs.declared.row.NodeWord.TheVariants.{Frame, Happens}
 use Rattle.node_file.specs.declared.row.NodeRow.{NodeRow}
 use Rattle.node_file.specs.NodeRow.{events_in}
-use Rattle.node_replay.specs.declared.inputs.InputKept.{InputKept}
+use Rattle.node_replay.specs.declared.inputs.InputNow.{InputNow}
 use Rattle.node_rules.specs.Replay.{signals_in, heard_in, node_past}
-use Rattle.node_replay.specs.Telling.{place_in, word_of, row_word, told_from, all_told}
+use Rattle.node_replay.specs.private.Telling.{place_in, word_of, row_word, told_from, all_told}
 use Rattle.node_replay.specs.Running.{level_before, IsInputAt}
 
 -- what stands at a place of a list that is made from another
-kept-at : (inputs : List InputKept) (i : ℕ) (id : InputId) → slice_get (map (λ input. input.id) inputs) i ≡ Some id
-    → (input : InputKept) × (slice_get inputs i ≡ Some input) × (input.id ≡ id)
+kept-at : (inputs : List InputNow) (i : ℕ) (id : InputId) → slice_get (map (λ input. input.id) inputs) i ≡ Some id
+    → (input : InputNow) × (slice_get inputs i ≡ Some input) × (input.id ≡ id)
 kept-at [] i id at = absurd (none-some id at)
 kept-at (input ∷ inputs) zero id at = (input, refl, same_Some input.id id at)
 kept-at (input ∷ inputs) (suc i) id at = kept-at inputs i id at
 
 -- what is told of all inputs says of each what is kept
-up-none : (place j : ℕ) (inputs : List InputKept) → j < place → last_said (says_up j) (told_from place inputs) ≡ None
+up-none : (place j : ℕ) (inputs : List InputNow) → j < place → last_said (says_up j) (told_from place inputs) ≡ None
 up-none place j [] before = refl
 up-none place j (input ∷ inputs) before =
     rw (up-none (place + 1) j inputs (omega (arith, before)), ne_eqb place j (λ same. omega (arith, same, before))) refl
 
-up-told : (place i j : ℕ) (inputs : List InputKept) (input : InputKept) → j ≡ place + i → slice_get inputs i ≡ Some input
+up-told : (place i j : ℕ) (inputs : List InputNow) (input : InputNow) → j ≡ place + i → slice_get inputs i ≡ Some input
     → last_said (says_up j) (told_from place inputs) ≡ Some input.up
 up-told place i j [] input is at = absurd (none-some input at)
 up-told place zero j (first ∷ inputs) input is at =
-    rw (up-none (place + 1) j inputs (omega (arith, is)), eq-eqb place j (omega (arith, is))) (ap (λ (k : InputKept). Some k.up) (same_Some first input at))
+    rw (up-none (place + 1) j inputs (omega (arith, is)), eq-eqb place j (omega (arith, is))) (ap (λ (k : InputNow). Some k.up) (same_Some first input at))
 up-told place (suc i) j (first ∷ inputs) input is at =
     rw (up-told (place + 1) i j inputs input (omega (arith, is)) at) refl
 
-level-none : (place j : ℕ) (inputs : List InputKept) → j < place → last_said (says_level j) (told_from place inputs) ≡ None
+level-none : (place j : ℕ) (inputs : List InputNow) → j < place → last_said (says_level j) (told_from place inputs) ≡ None
 level-none place j [] before = refl
 level-none place j (input ∷ inputs) before =
     rw (level-none (place + 1) j inputs (omega (arith, before)), ne_eqb place j (λ same. omega (arith, same, before))) refl
 
-level-told : (place i j : ℕ) (inputs : List InputKept) (input : InputKept) → j ≡ place + i → slice_get inputs i ≡ Some input
+level-told : (place i j : ℕ) (inputs : List InputNow) (input : InputNow) → j ≡ place + i → slice_get inputs i ≡ Some input
     → last_said (says_level j) (told_from place inputs) ≡ Some input.level
 level-told place i j [] input is at = absurd (none-some input at)
 level-told place zero j (first ∷ inputs) input is at =
-    rw (level-none (place + 1) j inputs (omega (arith, is)), eq-eqb place j (omega (arith, is))) (ap (λ (k : InputKept). Some k.level) (same_Some first input at))
+    rw (level-none (place + 1) j inputs (omega (arith, is)), eq-eqb place j (omega (arith, is))) (ap (λ (k : InputNow). Some k.level) (same_Some first input at))
 level-told place (suc i) j (first ∷ inputs) input is at =
     rw (level-told (place + 1) i j inputs input (omega (arith, is)) at) refl
 
-clears-none : (place j : ℕ) (inputs : List InputKept) → list_any (clears j) (told_from place inputs) ≡ false
+clears-none : (place j : ℕ) (inputs : List InputNow) → list_any (clears j) (told_from place inputs) ≡ false
 clears-none place j [] = refl
 clears-none place j (input ∷ inputs) = clears-none (place + 1) j inputs
 
-commands-none : (place : ℕ) (inputs : List InputKept) → commands_in (told_from place inputs) ≡ []
+commands-none : (place : ℕ) (inputs : List InputNow) → commands_in (told_from place inputs) ≡ []
 commands-none place [] = refl
 commands-none place (input ∷ inputs) = commands-none (place + 1) inputs
 
@@ -191,7 +191,7 @@ up-now : (events : List Event) (input : InputId) (t : ℕ) → up_at events inpu
 unfolding up_at
 up-now events input t = refl
 
-module _ (plan : Topology) (rows here : List NodeRow) (element t : ℕ) (inputs : List InputKept) (ids : map (λ input. input.id) inputs ≡ inputs_of plan element)
+module _ (plan : Topology) (rows here : List NodeRow) (element t : ℕ) (inputs : List InputNow) (ids : map (λ input. input.id) inputs ≡ inputs_of plan element)
     (is : Each (IsInputAt plan rows (suc t)) inputs) (events : events_at t (events_in rows) ≡ events_in here) where
   words : List InputEvent
   words = all_told (inputs_of plan element) element here inputs
@@ -236,7 +236,7 @@ module _ (plan : Topology) (rows here : List NodeRow) (element t : ℕ) (inputs 
       told-by (by_levels plan) plan (signals_in plan rows) (input_level (signals_in plan rows) (heard_in plan rows)) element t words input-told commands-told
 
 -- where nothing comes, and each input stays as it is
-module _ (plan : Topology) (rows : List NodeRow) (element t : ℕ) (inputs : List InputKept) (ids : map (λ input. input.id) inputs ≡ inputs_of plan element)
+module _ (plan : Topology) (rows : List NodeRow) (element t : ℕ) (inputs : List InputNow) (ids : map (λ input. input.id) inputs ≡ inputs_of plan element)
     (was : Each (IsInputAt plan rows (suc t)) inputs) (is : Each (IsInputAt plan rows (suc (suc t))) inputs) (events : events_at (suc t) (events_in rows) ≡ []) where
   input-quiet : (i : ℕ) (input : InputId) → slice_get (inputs_of plan element) i ≡ Some input
       → IsSaid (by_levels plan) (signals_in plan rows) (input_level (signals_in plan rows) (heard_in plan rows)) [] (suc t) i input

@@ -18,21 +18,21 @@ use Rattle.net_words.specs.Before.{up_before, esmc_before}
 use Rattle.net_words.proofs.SplitWords.{word-until}
 use Rattle.node_file.specs.declared.row.NodeRow.{NodeRow}
 use Rattle.node_file.specs.NodeRow.{events_in, rows_at}
-use Rattle.node_replay.specs.declared.outs.OutKept.{OutKept}
+use Rattle.node_replay.specs.declared.outs.LineOut.{LineOut}
 use Rattle.node_replay.specs.declared.shown.Shown.{Shown}
 use Rattle.node_rules.specs.Replay.{node_past, node_out, out_past}
 use Rattle.node_replay.specs.Rows.{AreInOrder}
-use Rattle.node_replay.specs.Keeping.{level_out, said_by, out_up, out_esmc, out_after}
+use Rattle.node_replay.specs.private.Keeping.{level_out, said_by, out_up, out_esmc, out_after}
 use Rattle.node_replay.specs.Running.{IsOutAt}
 use Rattle.node_replay.proofs.ElementPasts.{Gives}
 use Rattle.node_replay.proofs.InputSteps.{up-step, in-order, events-here}
 
 -- what the lines say in a millisecond and said in the one before
-pub record IsSaid (plan : Topology) (rows : List NodeRow) (place t : ℕ) (out : OutKept) : Type 0 where
+pub record IsSaid (plan : Topology) (rows : List NodeRow) (place t : ℕ) (out : LineOut) : Type 0 where
   pub now_is : out.said ≡ said (out_past plan rows place out.line.0 (suc t))
   pub was_is : out.was ≡ said (out_past plan rows place out.line.0 t)
 
-abbrev pub IsFrom : Topology → ℕ → OutKept → Type 0
+abbrev pub IsFrom : Topology → ℕ → LineOut → Type 0
 IsFrom plan place out = (out.line.0 < line_count plan) × ((sender_of plan out.line.0 == place) ≡ true)
 
 module _ (plan : Topology) (rows here : List NodeRow) (place t : ℕ) (shown : Shown) (ordered : AreInOrder rows) (at : rows_at t rows ≡ here)
@@ -53,7 +53,7 @@ module _ (plan : Topology) (rows here : List NodeRow) (place t : ℕ) (shown : S
       ∙ ap (λ e. if up_before (events_in rows) (Line line) (suc t) && e then Some (level_out plan shown line.0) else None) esmc_is
       ∙ ap (λ l. if up_before (events_in rows) (Line line) (suc t) && esmc_before (events_in rows) line.0 (suc t) then Some l else None) (sent line.0 from)
 
-  out-step : (out : OutKept) → IsOutAt plan rows place t out → IsFrom plan place out
+  out-step : (out : LineOut) → IsOutAt plan rows place t out → IsFrom plan place out
       → IsOutAt plan rows place (suc t) (out_after plan here shown out) × IsSaid plan rows place t (out_after plan here shown out)
   unfolding out_after
   out-step out is from =
@@ -65,7 +65,7 @@ module _ (plan : Topology) (rows here : List NodeRow) (place t : ℕ) (shown : S
       said-step out.line (out_up here out) (out_esmc here out) up esmc (eqb-true (sender_of plan out.line.0) place from.1) in
       (record { up = up; esmc = esmc; said = now }, record { now_is = now; was_is = is.said })
 
-  pub outs-step : (outs : List OutKept) → Each (IsOutAt plan rows place t) outs → Each (IsFrom plan place) outs
+  pub outs-step : (outs : List LineOut) → Each (IsOutAt plan rows place t) outs → Each (IsFrom plan place) outs
       → Each (λ out. IsOutAt plan rows place (suc t) out × IsSaid plan rows place t out) (map (out_after plan here shown) outs)
   outs-step outs is from =
       Each-made (λ out. IsOutAt plan rows place (suc t) out × IsSaid plan rows place t out) (out_after plan here shown) outs

@@ -15,10 +15,10 @@ use Rattle.node_file.specs.declared.row.NodeWord.{NodeWord}
 use Rattle.node_file.specs.declared.row.NodeWord.TheVariants.{Frame, Happens}
 use Rattle.node_file.specs.declared.row.NodeRow.{NodeRow}
 use Rattle.node_file.specs.NodeRow.{events_in, said_on, frames_on}
-use Rattle.node_replay.specs.declared.inputs.InputKept.{InputKept}
+use Rattle.node_replay.specs.declared.inputs.InputNow.{InputNow}
 use Rattle.node_rules.specs.Replay.{last_of}
-use Rattle.node_replay.specs.Keeping.{row_says}
-use Rattle.node_replay.specs.Telling.{told_from}
+use Rattle.node_replay.specs.private.Keeping.{row_says}
+use Rattle.node_replay.specs.private.Telling.{told_from}
 
 word-more-at : {A : Type 0} (says : What → Option A) (at : ℕ) (word : NodeWord) (rows : List NodeRow)
     → last_word says (events_in (record { at = at; word = word } ∷ rows)) ≡ option_or (last_word says (events_in rows)) (row_says says (record { at = at; word = word }))
@@ -132,7 +132,7 @@ pub end-put : {A : Type 0} (f : A → List ℕ) (xs : List A) (i : ℕ) (now who
 end-put f xs i now whole past is = sym (ap (λ rest. now ++ concat (map f rest)) (drop-end xs i past) ∙ append-nil now) ∙ is
 
 -- the inputs are told one after another
-pub step-told : (inputs : List InputKept) (i : ℕ) (input : InputKept) (before after whole : List InputEvent)
+pub step-told : (inputs : List InputNow) (i : ℕ) (input : InputNow) (before after whole : List InputEvent)
     → i < length inputs → input ≡ get_or inputs i input → before ++ told_from i (drop i inputs) ≡ whole
     → after ≡ before ++ told_from i (input ∷ []) → after ++ told_from (i + 1) (drop (i + 1) inputs) ≡ whole
 step-told inputs i input before after whole within at so_far is =
@@ -141,7 +141,7 @@ step-told inputs i input before after whole within at so_far is =
     ∙ ap (λ rest. before ++ told_from i rest) (sym (drop-at inputs i input within at))
     ∙ so_far
 
-pub end-told : (inputs : List InputKept) (i : ℕ) (now whole : List InputEvent) → length inputs ≤ i
+pub end-told : (inputs : List InputNow) (i : ℕ) (now whole : List InputEvent) → length inputs ≤ i
     → now ++ told_from i (drop i inputs) ≡ whole → now ≡ whole
 end-told inputs i now whole past is = sym (ap (λ rest. now ++ told_from i rest) (drop-end inputs i past) ∙ append-nil now) ∙ is
 

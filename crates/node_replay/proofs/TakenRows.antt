@@ -8,10 +8,12 @@ use Rattle.sync_topo.specs.Topology.{Topology}
 use Rattle.node_file.specs.declared.row.NodeRow.{NodeRow}
 use Rattle.node_file.specs.NodeRow.{rows_at}
 use Rattle.node_replay.specs.declared.running.Run.{Run}
-use Rattle.node_replay.specs.declared.parts.Parts.{Parts}
+use Rattle.node_replay.specs.declared.parts.Collected.{Collected}
 use Rattle.node_replay.specs.Rows.{AreInOrder, IsRowList}
-use Rattle.node_replay.specs.Running.{RunStands, RunHolds, AreHere, AreAway}
-use Rattle.node_replay.specs.Collecting.{IsWhole, StandsAt, IsAfter}
+use Rattle.node_replay.specs.Running.{RunStands, RunHolds}
+use Rattle.node_replay.specs.private.Running.{AreHere, AreAway}
+use Rattle.node_replay.specs.Collecting.{StandsAt, IsAfter}
+use Rattle.node_replay.specs.private.Collecting.{IsWhole}
 use Rattle.node_replay.proofs.EventOrder.{none-at, rows-at-append}
 use Rattle.node_replay.proofs.Going.{going-stands, came-to}
 
@@ -48,7 +50,7 @@ more-away t rows more none_in none_of = rows-at-append t rows more ∙ ap (λ fr
 
 module _ (plan : Topology) where
   -- a row that has no effect
-  pub taken-nothing : (parts : Parts) (rows : List NodeRow) (row : NodeRow) → IsWhole plan parts → (parts.run.stopped ≡ None → parts.until < row.at)
+  pub taken-nothing : (parts : Collected) (rows : List NodeRow) (row : NodeRow) → IsWhole plan parts → (parts.run.stopped ≡ None → parts.until < row.at)
       → IsAfter plan parts rows → IsRowList plan parts.element (rows ++ row ∷ []) → IsAfter plan parts (rows ++ row ∷ [])
   taken-nothing parts rows row whole late is list =
       let least = is.at_least row list in record {
@@ -72,7 +74,7 @@ module _ (plan : Topology) where
       }
 
   -- a row of the millisecond that is collected
-  pub taken-here : (parts after : Parts) (rows : List NodeRow) (row : NodeRow) → StandsAt plan parts rows → row.at ≡ parts.at
+  pub taken-here : (parts after : Collected) (rows : List NodeRow) (row : NodeRow) → StandsAt plan parts rows → row.at ≡ parts.at
       → IsRowList plan parts.element (rows ++ row ∷ []) → after.element ≡ parts.element → after.until ≡ parts.until → after.run ≡ parts.run → after.at ≡ parts.at
       → after.here ≡ parts.here ++ row ∷ [] → IsAfter plan after (rows ++ row ∷ [])
   taken-here parts after rows row is at list element until run time here = record {
@@ -103,7 +105,7 @@ module _ (plan : Topology) where
   }
 
   -- of all rows, those that are kept stand at their millisecond
-  all-here : (parts : Parts) (rows more : List NodeRow) → parts.run.stopped ≡ None → StandsAt plan parts rows → IsRowList plan parts.element (rows ++ more)
+  all-here : (parts : Collected) (rows more : List NodeRow) → parts.run.stopped ≡ None → StandsAt plan parts rows → IsRowList plan parts.element (rows ++ more)
       → Each (λ row. parts.at < row.at) more → AreHere plan parts.element parts.at parts.here (rows ++ more)
   all-here parts rows more going is list late = record {
     list = list;
@@ -112,7 +114,7 @@ module _ (plan : Topology) where
   }
 
   -- and none before it
-  all-away : (parts : Parts) (rows more : List NodeRow) → parts.run.stopped ≡ None → IsWhole plan parts → StandsAt plan parts rows → IsRowList plan parts.element (rows ++ more)
+  all-away : (parts : Collected) (rows more : List NodeRow) → parts.run.stopped ≡ None → IsWhole plan parts → StandsAt plan parts rows → IsRowList plan parts.element (rows ++ more)
       → Each (λ row. parts.at < row.at) more → AreAway plan parts.element parts.run.next parts.at (rows ++ more)
   all-away parts rows more going whole is list late = record {
     list = list;
@@ -123,7 +125,7 @@ module _ (plan : Topology) where
   }
 
   -- all milliseconds up to that of the rows that are kept were made
-  pub came-later : (parts after : Parts) (at : ℕ) (rows : List NodeRow) → IsWhole plan parts → parts.run.stopped ≡ None → parts.at < at → at ≤ parts.until
+  pub came-later : (parts after : Collected) (at : ℕ) (rows : List NodeRow) → IsWhole plan parts → parts.run.stopped ≡ None → parts.at < at → at ≤ parts.until
       → (after.run.stopped ≡ None → after.run.next ≡ parts.at + 1)
       → ((rows : List NodeRow) (until : ℕ) → AreAway plan parts.element parts.run.next parts.at rows → AreHere plan parts.element parts.at parts.here rows → parts.at ≤ until
       → RunStands plan rows parts.element parts.run.next parts.run → RunHolds plan rows parts.element until (suc parts.at) after.run after.run.stopped)
@@ -151,7 +153,7 @@ module _ (plan : Topology) where
   }
 
   -- the rest of the milliseconds was made
-  pub ran-out : (parts : Parts) (rows : List NodeRow) → IsWhole plan parts → parts.run.stopped ≡ None → IsAfter plan parts rows
+  pub ran-out : (parts : Collected) (rows : List NodeRow) → IsWhole plan parts → parts.run.stopped ≡ None → IsAfter plan parts rows
       → AreAway plan parts.element parts.run.next parts.at rows × AreHere plan parts.element parts.at parts.here rows
       × RunStands plan rows parts.element parts.run.next parts.run × AreAway plan parts.element (suc parts.at) (suc parts.until) rows
   ran-out parts rows whole going is =
@@ -169,7 +171,7 @@ module _ (plan : Topology) where
         },
       )
 
-  pub stopped-holds : (parts : Parts) (rows : List NodeRow) → (parts.run.stopped ≡ None → ⊥) → IsAfter plan parts rows
+  pub stopped-holds : (parts : Collected) (rows : List NodeRow) → (parts.run.stopped ≡ None → ⊥) → IsAfter plan parts rows
       → RunHolds plan rows parts.element parts.until (suc parts.until) parts.run parts.run.stopped
   stopped-holds parts rows ended is =
       let nothing : rows ++ [] ≡ rows = append-nil rows in

@@ -18,17 +18,18 @@ use Rattle.sync_topo.specs.WellFormed.{IsWellFormed}
 use Rattle.sync_topo.specs.Lines.{line_count, sender_of}
 use Rattle.node_file.specs.declared.row.NodeRow.{NodeRow}
 use Rattle.node_file.specs.NodeRow.{IsRowOf}
-use Rattle.node_replay.specs.declared.inputs.LastWord.{LastWord}
-use Rattle.node_replay.specs.declared.inputs.InputKept.{InputKept}
-use Rattle.node_replay.specs.declared.outs.OutKept.{OutKept}
+use Rattle.node_replay.specs.declared.inputs.LastLevel.{LastLevel}
+use Rattle.node_replay.specs.declared.inputs.InputNow.{InputNow}
+use Rattle.node_replay.specs.declared.outs.LineOut.{LineOut}
 use Rattle.node_replay.specs.declared.shown.Shown.{Shown}
 use Rattle.node_replay.specs.declared.frames.Sent.{Sent}
 use Rattle.node_replay.specs.declared.running.Run.{Run}
 use Rattle.sync_ql.specs.declared.limits.TheConstants.{MOST_ROWS}
 use Rattle.node_rules.specs.NodeText.{lines_out, frame_row, sending_at, rows_before}
-use Rattle.node_replay.specs.Keeping.{heard_of, level_after, up_then, last_then, input_after, out_after, frame_for, frame_of, sent_row}
-use Rattle.node_replay.specs.Running.{Shows, IsOfPast, IsInputAt, IsOutAt, IsKeptOf, AreSteady, AreGiven, IsRun, RunStands, RunHolds, AreHere}
-use Rattle.node_replay.specs.Turning.{IsTaken, IsWritten}
+use Rattle.node_replay.specs.private.Keeping.{heard_of, level_after, up_then, last_then, input_after, out_after, frame_for, frame_of, sent_row}
+use Rattle.node_replay.specs.Running.{IsOfPast, IsInputAt, IsOutAt, RunStands, RunHolds}
+use Rattle.node_replay.specs.private.Running.{Shows, IsKeptOf, AreSteady, AreGiven, IsRun, AreHere}
+use Rattle.node_replay.specs.private.Turning.{IsTaken, IsWritten}
 use Rattle.node_replay.proofs.KeptLevels.{kept-all, ids-after, outs-lines}
 use Rattle.node_replay.proofs.InputSteps.{inputs-step, events-here}
 use Rattle.node_replay.proofs.MomentLaws.{moment-told}
@@ -37,30 +38,30 @@ use Rattle.node_replay.proofs.OutSteps.{IsSaid, IsFrom, outs-step}
 use Rattle.node_replay.proofs.FrameRows.{sent-rows}
 
 -- the lines stay those that they are
-pub lines-after : (plan : Topology) (here : List NodeRow) (shown : Shown) (outs : List OutKept)
+pub lines-after : (plan : Topology) (here : List NodeRow) (shown : Shown) (outs : List LineOut)
     → map (λ out. out.line.0) (map (out_after plan here shown) outs) ≡ map (λ out. out.line.0) outs
 unfolding out_after
 lines-after plan here shown [] = refl
 lines-after plan here shown (out ∷ outs) = ap (λ ls. out.line.0 ∷ ls) (lines-after plan here shown outs)
 
 -- the level of an input stays while what is heard does
-level-stays : (id : InputId) (up : Bool) (last : Option LastWord) (level : Option Level) (now m : ℕ) → heard_of last m ≡ heard_of last now
+level-stays : (id : InputId) (up : Bool) (last : Option LastLevel) (level : Option Level) (now m : ℕ) → heard_of last m ≡ heard_of last now
     → level_after id up last (level_after id up last level now) m ≡ level_after id up last level now
 level-stays (Line line) up last level now m same = same
 level-stays (Source source) true last level now m same = refl
 level-stays (Source source) false last level now m same = refl
 
-steady-one : (here : List NodeRow) (now m : ℕ) (input : InputKept) → heard_of (input_after here now input).last m ≡ heard_of (input_after here now input).last now
+steady-one : (here : List NodeRow) (now m : ℕ) (input : InputNow) → heard_of (input_after here now input).last m ≡ heard_of (input_after here now input).last now
     → level_after (input_after here now input).id (input_after here now input).up (input_after here now input).last (input_after here now input).level m ≡ (input_after here now input).level
 unfolding input_after
 steady-one here now m input same = level-stays input.id (up_then here input) (last_then here now input) input.level now m same
 
-steady-after : (here : List NodeRow) (now m : ℕ) (inputs : List InputKept)
+steady-after : (here : List NodeRow) (now m : ℕ) (inputs : List InputNow)
     → Each (λ input. heard_of input.last m ≡ heard_of input.last now) (map (input_after here now) inputs) → AreSteady (map (input_after here now) inputs) m
 steady-after here now m [] same = tt
 steady-after here now m (input ∷ inputs) same = (steady-one here now m input same.0, steady-after here now m inputs same.1)
 
-given-after : (plan : Topology) (here : List NodeRow) (shown : Shown) (outs : List OutKept) → AreGiven plan shown (map (out_after plan here shown) outs)
+given-after : (plan : Topology) (here : List NodeRow) (shown : Shown) (outs : List LineOut) → AreGiven plan shown (map (out_after plan here shown) outs)
 unfolding out_after
 given-after plan here shown [] = tt
 given-after plan here shown (out ∷ outs) = (refl, given-after plan here shown outs)
@@ -71,9 +72,9 @@ pub taken-run : (plan : Topology) (place : ℕ) (here : List NodeRow) (before af
 taken-run plan place here before after run in_range rows taken = record {
   well_formed = run.well_formed;
   settings = taken.stepped.settings ∙ run.settings;
-  ids = ap (map (λ (input : InputKept). input.id)) taken.inputs ∙ ids-after here before.next before.inputs.items ∙ run.ids;
+  ids = ap (map (λ (input : InputNow). input.id)) taken.inputs ∙ ids-after here before.next before.inputs.items ∙ run.ids;
   options = subst (Each (IsKeptOf plan.option)) (sym taken.inputs) (kept-all plan place here before.next before.inputs.items rows run.options);
-  lines = ap (map (λ (out : OutKept). out.line.0)) taken.outs ∙ lines-after plan here after.shown before.outs.items ∙ run.lines;
+  lines = ap (map (λ (out : LineOut). out.line.0)) taken.outs ∙ lines-after plan here after.shown before.outs.items ∙ run.lines;
   shows = taken.shows;
   rows = subst (λ n. n ≤ MOST_ROWS) (sym taken.rows) run.rows;
   in_range = (let next = taken.next in omega (arith, next, in_range));
@@ -86,8 +87,8 @@ taken-run plan place here before after run in_range rows taken = record {
       let next = taken.next in
       subst (λ inputs. AreSteady inputs m) (sym taken.inputs)
       (steady-after here before.next m before.inputs.items
-      (subst (Each (λ (input : InputKept). heard_of input.last m ≡ heard_of input.last before.next)) taken.inputs
-      (each-all (λ (input : InputKept). heard_of input.last m ≡ heard_of input.last before.next) after.inputs.items
+      (subst (Each (λ (input : InputNow). heard_of input.last m ≡ heard_of input.last before.next)) taken.inputs
+      (each-all (λ (input : InputNow). heard_of input.last m ≡ heard_of input.last before.next) after.inputs.items
       (taken.wake.heard m (omega (arith, next, low)) high))));
   seconds = λ m low high. (let next = taken.next in taken.wake.seconds m (omega (arith, next, low)) high);
   given = λ some. subst (AreGiven plan after.shown) (sym taken.outs) (given-after plan here after.shown before.outs.items);
@@ -105,9 +106,9 @@ pub written-run : (plan : Topology) (place now : ℕ) (frames : List Sent) (befo
 written-run plan place now frames before after run written = record {
   well_formed = run.well_formed;
   settings = ap (λ (e : ElementState). e.settings) written.element ∙ run.settings;
-  ids = ap (map (λ (input : InputKept). input.id)) written.inputs ∙ run.ids;
+  ids = ap (map (λ (input : InputNow). input.id)) written.inputs ∙ run.ids;
   options = subst (Each (IsKeptOf plan.option)) (sym written.inputs) run.options;
-  lines = ap (map (λ (out : OutKept). out.line.0)) written.outs ∙ run.lines;
+  lines = ap (map (λ (out : LineOut). out.line.0)) written.outs ∙ run.lines;
   shows = subst (λ e. Shows plan place e after.shown) (sym written.element) (subst (Shows plan place before.element) (sym written.shown) run.shows);
   rows = elim (fits-or-not (before.rows + length frames) MOST_ROWS) [
     | inl fits ↦ (let is = (written.fits fits).0 in omega (arith, is, fits))
@@ -145,7 +146,7 @@ made-few {A = A} {B = B} f (x ∷ xs) = by (f x) (made-few f xs)
     by None rest = omega (arith, rest)
     by (Some y) rest = omega (arith, rest)
 
-few-frames : (plan : Topology) (place t : ℕ) (outs : List OutKept) → IsWellFormed plan → map (λ out. out.line.0) outs ≡ lines_out plan place
+few-frames : (plan : Topology) (place t : ℕ) (outs : List LineOut) → IsWellFormed plan → map (λ out. out.line.0) outs ≡ lines_out plan place
     → length (filter_map (frame_of t) outs) ≤ 8000
 few-frames plan place t outs well lines =
     let made = made-few (frame_of t) outs in
@@ -155,7 +156,7 @@ few-frames plan place t outs well lines =
     omega (arith, made, count, few, links)
 
 -- each frame is on one of the lines
-frames-lines : (P : ℕ → Type 0) (t : ℕ) (outs : List OutKept) → Each (λ (out : OutKept). P out.line.0) outs → Each (λ (sent : Sent). P sent.line.0) (filter_map (frame_of t) outs)
+frames-lines : (P : ℕ → Type 0) (t : ℕ) (outs : List LineOut) → Each (λ (out : LineOut). P out.line.0) outs → Each (λ (sent : Sent). P sent.line.0) (filter_map (frame_of t) outs)
 unfolding frame_of
 frames-lines P t [] each = tt
 frames-lines P t (out ∷ outs) each = by out.said (not (is_same_level out.said out.was)) (frames-lines P t outs each.1)
@@ -170,12 +171,12 @@ frames-lines P t (out ∷ outs) each = by out.said (not (is_same_level out.said 
     by None news rest = rest
     by (Some level) news rest = one (news || nat_eq (t % second) 0) level (news && nat_lt 0 t) rest
 
-pub frames-within : (plan : Topology) (place t : ℕ) (outs : List OutKept) → map (λ out. out.line.0) outs ≡ lines_out plan place
+pub frames-within : (plan : Topology) (place t : ℕ) (outs : List LineOut) → map (λ out. out.line.0) outs ≡ lines_out plan place
     → All (λ (sent : Sent). sent.line.0 < line_count plan) (filter_map (frame_of t) outs)
 frames-within plan place t outs lines =
     all-each (λ (sent : Sent). sent.line.0 < line_count plan) (filter_map (frame_of t) outs)
     (frames-lines (λ line. line < line_count plan) t outs
-    (Each-map (IsFrom plan place) (λ (out : OutKept). out.line.0 < line_count plan) (λ out from. from.0) outs (outs-lines plan place outs lines)))
+    (Each-map (IsFrom plan place) (λ (out : LineOut). out.line.0 < line_count plan) (λ out from. from.0) outs (outs-lines plan place outs lines)))
 
 -- a run stands for one millisecond more, or stops before it
 module _ (plan : Topology) (place : ℕ) (here rows : List NodeRow) (before mid after : Run) (run : IsRun plan place before) (taken : IsTaken plan place here before mid)

@@ -2,13 +2,11 @@ pub mod Rows
 pub mod Replayed
 pub mod ReplayState
 pub mod Keeping
-pub mod Telling
-pub mod Starting
 pub mod Running
-pub mod Turning
 pub mod Collecting
 pub mod ReplayKept
 pub mod Sent
 pub mod OfNetwork
 pub mod NodeState
 pub mod NodeKept
+pub mod private

@@ -2,7 +2,7 @@
 use Rattle.std.specs.Prelude.{ℕ, Bool, List}
 use Rattle.sync_topo.specs.Topology.{Topology}
 use Rattle.node_file.specs.declared.row.NodeRow.{NodeRow}
-use Rattle.node_replay.specs.declared.parts.Parts.{Parts}
+use Rattle.node_replay.specs.declared.parts.Collected.{Collected}
 use Rattle.node_replay.specs.Collecting.{IsAfter}
 
 -- the plan, the number of the element, the last millisecond, whether memory ran out, and what it keeps, into which no
@@ -12,7 +12,7 @@ pub record ReplayState : Type 0 where
   pub element : ℕ
   pub until : ℕ
   pub spent : Bool
-  pub kept : Parts
+  pub kept : Collected
 
 -- it stands for the rows that it took. What that says of what it keeps is known to this crate alone: others take it from
 -- one call to the next

@@ -7,9 +7,9 @@ ghost use Rattle.sync_ql.specs.Messages.{is_same_option, is_same_level};
 ghost use Rattle.sync_topo.specs.Lines.{line_count};
 ghost use Rattle.esmc_frame.specs.Frame.{written_frame};
 ghost use Rattle.node_rules.specs.NodeText.{address_of, extended_for, carried};
-ghost use Rattle.node_replay.specs.Keeping.{frame_of, sent_row};
+ghost use Rattle.node_replay.specs.private.Keeping.{frame_of, sent_row};
 
-use crate::outs::OutKept;
+use crate::outs::LineOut;
 use esmc_frame::{Extended, FRAME, Pdu, encode};
 use std::alloc::Global;
 use sync_ql::limits::SECOND;
@@ -27,8 +27,8 @@ pub(crate) struct Sent {
 }
 
 /// The frame that goes out on a line in a millisecond, if one does: with news, and each second.
-#[tactic(auto, unfolding(crate::specs::Keeping::frame_of))]
-pub(crate) fn frame_of(now: u64, out: OutKept) -> Option<Sent>
+#[tactic(auto, unfolding(crate::specs::private::Keeping::frame_of))]
+pub(crate) fn frame_of(now: u64, out: LineOut) -> Option<Sent>
     ensures { result ≡ frame_of now out }
 {
     let level = out.said?;
@@ -44,7 +44,7 @@ pub(crate) fn frame_of(now: u64, out: OutKept) -> Option<Sent>
 }
 
 /// The frames that go out in a millisecond, in order of lines.
-pub(crate) fn frames_of(alloc: Global, outs: &[OutKept], now: u64) -> Result<Rows<Sent>, NoMemory>
+pub(crate) fn frames_of(alloc: Global, outs: &[LineOut], now: u64) -> Result<Rows<Sent>, NoMemory>
     ensures { IfOk result (λ frames. frames ≡ filter_map (frame_of now) outs.now) }
 {
     let mut frames = Rows::new(alloc);

@@ -4,9 +4,10 @@ ghost use Rattle.std.specs.Prelude.{◌≡◌, ◌≤◌, ◌<◌, ℕ, map, IfS
 ghost use Rattle.std.specs.Prelude.{if◌then◌else◌, None, Some};
 ghost use Rattle.node_file.specs.NodeRow.{frames_on};
 ghost use Rattle.node_rules.specs.Replay.{last_of};
-ghost use Rattle.node_replay.specs.Keeping.{heard_of, word_or, said_or, said_in, last_after, level_after, input_after};
+ghost use Rattle.node_replay.specs.Keeping.{word_or, said_in};
+ghost use Rattle.node_replay.specs.private.Keeping.{heard_of, said_or, last_after, level_after, input_after};
 
-use crate::noting::{last_frame, level_said, up_after};
+use crate::last_rows::{last_frame, level_said, up_after};
 use node_file::NodeRow;
 use sync_ql::Level;
 use sync_ql::limits::{HEARING_TIME, LAST_MILLISECOND};
@@ -14,26 +15,26 @@ use sync_topo::{InputId, LineId};
 
 /// A level, or none, and the millisecond in which it was said.
 #[derive(Clone, Copy, Debug, Drop)]
-pub(crate) struct LastWord {
+pub(crate) struct LastLevel {
     pub(crate) at: u64,
     pub(crate) level: Option<Level>,
 }
 
 /// An input at the end of a millisecond.
 #[derive(Clone, Copy, Debug, Drop)]
-pub(crate) struct InputKept {
+pub(crate) struct InputNow {
     pub(crate) id: InputId,
     /// Whether it is up.
     pub(crate) up: bool,
     /// The level that it has: that which is heard, or the source's own.
     pub(crate) level: Option<Level>,
     /// The last frame that counts, or what was last said of the source.
-    pub(crate) last: Option<LastWord>,
+    pub(crate) last: Option<LastLevel>,
 }
 
 /// The level of a word, while it is heard.
-#[tactic(auto, unfolding(crate::specs::Keeping::heard_of))]
-fn heard_of(last: Option<LastWord>, now: u64) -> Option<Level>
+#[tactic(auto, unfolding(crate::specs::private::Keeping::heard_of))]
+fn heard_of(last: Option<LastLevel>, now: u64) -> Option<Level>
     ensures { result ≡ heard_of last now }
 {
     match last {
@@ -43,8 +44,8 @@ fn heard_of(last: Option<LastWord>, now: u64) -> Option<Level>
 }
 
 /// The first later millisecond in which a word that is heard is heard no more.
-#[tactic(auto, unfolding(crate::specs::Keeping::heard_of))]
-pub(crate) fn loss_of(last: Option<LastWord>, now: u64) -> Option<u64>
+#[tactic(auto, unfolding(crate::specs::private::Keeping::heard_of))]
+pub(crate) fn loss_of(last: Option<LastLevel>, now: u64) -> Option<u64>
     requires in_range { now ≤ LAST_MILLISECOND }
     ensures later { IfSome result (λ loss. now < loss) }
     ensures heard { (m : ℕ) → now ≤ m → IfSome result (λ loss. m < loss) →
@@ -56,7 +57,7 @@ pub(crate) fn loss_of(last: Option<LastWord>, now: u64) -> Option<u64>
     }
 }
 
-fn word_loss(word: LastWord, now: u64) -> Option<u64>
+fn word_loss(word: LastLevel, now: u64) -> Option<u64>
     requires in_range { now ≤ LAST_MILLISECOND }
     ensures later { IfSome result (λ loss. now < loss) }
     ensures heard { (m : ℕ) → now ≤ m → IfSome result (λ loss. m < loss) →
@@ -73,10 +74,10 @@ fn word_loss(word: LastWord, now: u64) -> Option<u64>
 fn last_after(
     id: InputId,
     up: bool,
-    last: Option<LastWord>,
+    last: Option<LastLevel>,
     here: &[NodeRow],
     now: u64,
-) -> Option<LastWord>
+) -> Option<LastLevel>
     ensures { result ≡ last_after id up last here.now now }
 {
     match id {
@@ -96,20 +97,20 @@ fn counted(line: LineId, up: bool, here: &[NodeRow]) -> Option<Option<Level>>
 }
 
 /// A word that comes now, or else the last one.
-fn word_or(word: Option<Option<Level>>, last: Option<LastWord>, now: u64) -> Option<LastWord>
+fn word_or(word: Option<Option<Level>>, last: Option<LastLevel>, now: u64) -> Option<LastLevel>
     ensures { result ≡ word_or word last now }
 {
     match word {
-        Some(level) => Some(LastWord { at: now, level }),
+        Some(level) => Some(LastLevel { at: now, level }),
         None => last,
     }
 }
 
-fn said_or(said: Option<Level>, last: Option<LastWord>, now: u64) -> Option<LastWord>
+fn said_or(said: Option<Level>, last: Option<LastLevel>, now: u64) -> Option<LastLevel>
     ensures { result ≡ said_or said last now }
 {
     match said {
-        Some(level) => Some(LastWord {
+        Some(level) => Some(LastLevel {
             at: now,
             level: Some(level),
         }),
@@ -121,7 +122,7 @@ fn said_or(said: Option<Level>, last: Option<LastWord>, now: u64) -> Option<Last
 fn level_after(
     id: InputId,
     up: bool,
-    last: Option<LastWord>,
+    last: Option<LastLevel>,
     level: Option<Level>,
     now: u64,
 ) -> Option<Level>
@@ -133,13 +134,13 @@ fn level_after(
     }
 }
 
-fn said_while(up: bool, last: Option<LastWord>, level: Option<Level>) -> Option<Level>
+fn said_while(up: bool, last: Option<LastLevel>, level: Option<Level>) -> Option<Level>
     ensures { result ≡ (if up then said_in last else level) }
 {
     if up { said_in(last) } else { level }
 }
 
-fn said_in(last: Option<LastWord>) -> Option<Level>
+fn said_in(last: Option<LastLevel>) -> Option<Level>
     ensures { result ≡ said_in last }
 {
     match last {
@@ -149,13 +150,13 @@ fn said_in(last: Option<LastWord>) -> Option<Level>
 }
 
 /// An input after the rows of a millisecond.
-#[tactic(auto, unfolding(crate::specs::Keeping::input_after))]
-fn input_after(here: &[NodeRow], now: u64, input: InputKept) -> InputKept
+#[tactic(auto, unfolding(crate::specs::private::Keeping::input_after))]
+fn input_after(here: &[NodeRow], now: u64, input: InputNow) -> InputNow
     ensures { result ≡ input_after here.now now input }
 {
     let up = up_after(input.id, input.up, here);
     let last = last_after(input.id, up, input.last, here, now);
-    InputKept {
+    InputNow {
         id: input.id,
         up,
         level: level_after(input.id, up, last, input.level, now),
@@ -164,7 +165,7 @@ fn input_after(here: &[NodeRow], now: u64, input: InputKept) -> InputKept
 }
 
 /// Takes in the rows of a millisecond.
-pub(crate) fn note_inputs(inputs: &mut [InputKept], here: &[NodeRow], now: u64)
+pub(crate) fn note_inputs(inputs: &mut [InputNow], here: &[NodeRow], now: u64)
     ensures { inputs.new ≡ map (input_after here.now now) inputs.old }
 {
     for input in inputs.iter_mut() {

@@ -21,9 +21,9 @@
 
 mod frames;
 mod inputs;
+mod last_rows;
 mod laws;
 mod node;
-mod noting;
 mod outs;
 mod parts;
 mod replayed;
@@ -31,7 +31,7 @@ mod replaying;
 mod running;
 mod shown;
 mod starting;
-mod telling;
+mod told;
 
 pub use laws::{one_text_law, until_law};
 pub use node::{Node, replay};

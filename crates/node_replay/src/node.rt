@@ -41,7 +41,8 @@ impl<'a> Model for Node<'a> {
 
     ghost Value = { NodeState };
 
-    ghost use Rattle.node_replay.specs.NodeKept.{node_state, IsKept};
+    ghost use Rattle.node_replay.specs.NodeKept.{node_state};
+    ghost use Rattle.node_replay.specs.private.NodeKept.{IsKept};
 
     ghost view = { node_state };
 

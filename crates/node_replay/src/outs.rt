@@ -2,9 +2,9 @@
 
 ghost use Rattle.std.specs.Prelude.{◌≡◌, ◌<◌, IfSome, All, map};
 ghost use Rattle.sync_topo.specs.Lines.{line_count, IsInput};
-ghost use Rattle.node_replay.specs.Keeping.{said_by, out_after};
+ghost use Rattle.node_replay.specs.private.Keeping.{said_by, out_after};
 
-use crate::noting::{esmc_after, up_after};
+use crate::last_rows::{esmc_after, up_after};
 use crate::shown::{Shown, level_out};
 use node_file::NodeRow;
 use sync_ql::Level;
@@ -12,7 +12,7 @@ use sync_topo::{InputId, LineId, Plan};
 
 /// A line out of the element at the end of a millisecond.
 #[derive(Clone, Copy, Debug, Drop)]
-pub(crate) struct OutKept {
+pub(crate) struct LineOut {
     pub(crate) line: LineId,
     /// Whether it is up.
     pub(crate) up: bool,
@@ -25,15 +25,15 @@ pub(crate) struct OutKept {
 }
 
 /// A line after the rows of a millisecond.
-#[tactic(auto, unfolding(crate::specs::Keeping::out_after))]
-fn out_after(plan: &Plan, here: &[NodeRow], shown: Shown, out: OutKept) -> OutKept
+#[tactic(auto, unfolding(crate::specs::private::Keeping::out_after))]
+fn out_after(plan: &Plan, here: &[NodeRow], shown: Shown, out: LineOut) -> LineOut
     requires input { IfSome shown.taken (IsInput plan.now) }
     requires line { out.line.0 < line_count plan.now }
     ensures { result ≡ out_after plan.now here.now shown out }
 {
     let up = up_after(InputId::Line(out.line), out.up, here);
     let esmc = esmc_after(out.line, out.esmc, here);
-    OutKept {
+    LineOut {
         line: out.line,
         up,
         esmc,
@@ -43,7 +43,7 @@ fn out_after(plan: &Plan, here: &[NodeRow], shown: Shown, out: OutKept) -> OutKe
 }
 
 /// What a line says, where it speaks.
-#[tactic(auto, unfolding(crate::specs::Keeping::said_by))]
+#[tactic(auto, unfolding(crate::specs::private::Keeping::said_by))]
 fn said_by(plan: &Plan, shown: Shown, line: LineId, speaks: bool) -> Option<Level>
     requires input { IfSome shown.taken (IsInput plan.now) }
     requires line { line.0 < line_count plan.now }
@@ -56,7 +56,7 @@ fn said_by(plan: &Plan, shown: Shown, line: LineId, speaks: bool) -> Option<Leve
 }
 
 /// Takes in the rows of a millisecond, and what the element gives in it.
-pub(crate) fn note_outs(plan: &Plan, outs: &mut [OutKept], here: &[NodeRow], shown: Shown)
+pub(crate) fn note_outs(plan: &Plan, outs: &mut [LineOut], here: &[NodeRow], shown: Shown)
     requires input { IfSome shown.taken (IsInput plan.now) }
     requires lines { All (λ out. out.line.0 < line_count plan.now) outs.old }
     ensures { outs.new ≡ map (out_after plan.now here.now shown) outs.old }

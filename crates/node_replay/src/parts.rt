@@ -7,7 +7,8 @@ ghost use Rattle.node_file.specs.declared.row.NodeRow.{NodeRow};
 ghost use Rattle.node_file.specs.NodeRow.{IsRowOf};
 ghost use Rattle.node_replay.specs.Rows.{IsRowList};
 ghost use Rattle.node_replay.specs.Running.{RunHolds};
-ghost use Rattle.node_replay.specs.Collecting.{IsWhole, StandsAt, IsAfter};
+ghost use Rattle.node_replay.specs.Collecting.{StandsAt, IsAfter};
+ghost use Rattle.node_replay.specs.private.Collecting.{IsWhole};
 ghost use Rattle.node_replay.specs.Replayed.{IsReplayed};
 
 use crate::replayed::{NodeEnd, Replayed};
@@ -21,7 +22,7 @@ use sync_topo::Plan;
 
 /// The run of an element up to a millisecond, and the rows of the one that is being collected.
 #[derive(Debug, Drop)]
-pub(crate) struct Parts {
+pub(crate) struct Collected {
     pub(crate) element: u32,
     pub(crate) until: u64,
     pub(crate) run: Run,
@@ -36,7 +37,7 @@ pub(crate) fn new_parts(
     plan: &Plan,
     element: u32,
     until: u64,
-) -> Result<Parts, NoMemory>
+) -> Result<Collected, NoMemory>
     requires element { element < length plan.now.elements }
     requires until { until ≤ LAST_MILLISECOND }
     ensures element { IfOk result (λ parts. parts.element ≡ element) }
@@ -45,7 +46,7 @@ pub(crate) fn new_parts(
     ensures stands { IfOk result (λ parts. IsAfter plan.now parts []) }
 {
     let run = new_run(alloc, plan, element)?;
-    Ok(Parts {
+    Ok(Collected {
         element,
         until,
         run,
@@ -54,7 +55,7 @@ pub(crate) fn new_parts(
     })
 }
 
-impl Parts {
+impl Collected {
     /// Takes a row; one after the end has no effect.
     pub(crate) fn take(&mut self, alloc: Global, plan: &Plan, row: NodeRow) -> Result<(), NoMemory>
         requires whole { IsWhole plan.now self.old }

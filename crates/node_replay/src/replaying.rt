@@ -7,7 +7,7 @@ ghost use Rattle.node_replay.specs.Rows.{IsRowList};
 ghost use Rattle.node_replay.specs.ReplayState.{StandsFor};
 ghost use Rattle.node_replay.specs.Replayed.{IsReplayed};
 
-use crate::parts::{Parts, new_parts};
+use crate::parts::{Collected, new_parts};
 use crate::replayed::Replayed;
 use node_file::NodeRow;
 use std::alloc::Global;
@@ -24,7 +24,7 @@ use sync_topo::Plan;
 pub struct Replay<'a> {
     alloc: Global,
     plan: &'a Plan,
-    parts: Parts,
+    parts: Collected,
     /// Whether memory ran out, after which nothing else is said.
     spent: bool,
 }
@@ -34,7 +34,8 @@ impl<'a> Model for Replay<'a> {
 
     ghost Value = { ReplayState };
 
-    ghost use Rattle.node_replay.specs.ReplayKept.{replay_state, IsKept};
+    ghost use Rattle.node_replay.specs.ReplayKept.{replay_state};
+    ghost use Rattle.node_replay.specs.private.ReplayKept.{IsKept};
 
     ghost view = { replay_state };
 

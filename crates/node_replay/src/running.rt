@@ -6,15 +6,16 @@ ghost use Rattle.sync_ql.specs.Messages.{second};
 ghost use Rattle.sync_topo.specs.Lines.{line_count};
 ghost use Rattle.node_file.specs.declared.row.NodeRow.{NodeRow};
 ghost use Rattle.node_file.specs.NodeRow.{IsRowOf};
-ghost use Rattle.node_replay.specs.Keeping.{heard_of};
-ghost use Rattle.node_replay.specs.Running.{IsRun, RunStands, RunHolds, AreHere, AreAway};
-ghost use Rattle.node_replay.specs.Turning.{IsWake, IsTaken, IsWritten};
+ghost use Rattle.node_replay.specs.private.Keeping.{heard_of};
+ghost use Rattle.node_replay.specs.Running.{RunStands, RunHolds};
+ghost use Rattle.node_replay.specs.private.Running.{IsRun, AreHere, AreAway};
+ghost use Rattle.node_replay.specs.private.Turning.{IsWake, IsTaken, IsWritten};
 
 use crate::frames::{Sent, frames_of, put_frames};
-use crate::inputs::{InputKept, loss_of, note_inputs};
-use crate::outs::{OutKept, note_outs};
+use crate::inputs::{InputNow, loss_of, note_inputs};
+use crate::outs::{LineOut, note_outs};
 use crate::shown::{Shown, shown_of};
-use crate::telling::tell_all;
+use crate::told::tell_all;
 use net_words::step_alone;
 use node_file::NodeRow;
 use std::alloc::Global;
@@ -29,8 +30,8 @@ use sync_topo::Plan;
 pub(crate) struct Run {
     pub(crate) element: Element,
     pub(crate) shown: Shown,
-    pub(crate) inputs: Vec<InputKept>,
-    pub(crate) outs: Vec<OutKept>,
+    pub(crate) inputs: Vec<InputNow>,
+    pub(crate) outs: Vec<LineOut>,
     /// What the element was told last, which keeps its room.
     pub(crate) told: Rows<InputEvent>,
     /// The first millisecond that isn't made.
@@ -56,7 +57,7 @@ fn earlier(due: Option<u64>, until: u64) -> u64
 }
 
 /// The first later millisecond in which a level that is heard is lost, or this one if it is earlier.
-fn first_loss(inputs: &[InputKept], now: u64, until: u64) -> u64
+fn first_loss(inputs: &[InputNow], now: u64, until: u64) -> u64
     requires in_range { now ≤ LAST_MILLISECOND }
     requires until { now < until }
     ensures up_to { result ≤ until }
@@ -81,7 +82,7 @@ fn next_second(now: u64) -> u64
 }
 
 /// When something changes next, if no row comes.
-fn next_wake(element: &Element, inputs: &[InputKept], now: u64) -> u64
+fn next_wake(element: &Element, inputs: &[InputNow], now: u64) -> u64
     requires in_range { now ≤ LAST_MILLISECOND }
     requires later { IfSome element.now.due (λ due. now < due) }
     ensures { IsWake now element.now.due inputs.now result }
@@ -92,19 +93,19 @@ fn next_wake(element: &Element, inputs: &[InputKept], now: u64) -> u64
 
 impl Run {
     /// Takes in the rows of the next millisecond, and lets the element make its step.
-    fn take_rows(&mut self, plan: &Plan, place: u32, here: &[NodeRow]) -> Result<(), NoMemory>
-        requires within { place < length plan.now.elements }
-        requires run { IsRun plan.now place self.old }
+    fn take_rows(&mut self, plan: &Plan, element: u32, here: &[NodeRow]) -> Result<(), NoMemory>
+        requires within { element < length plan.now.elements }
+        requires run { IsRun plan.now element self.old }
         requires in_range { self.old.next ≤ LAST_MILLISECOND }
-        requires here { Each (IsRowOf plan.now place) here.now }
-        ensures { OnOk result (IsTaken plan.now place here.now self.old self.new) }
+        requires here { Each (IsRowOf plan.now element) here.now }
+        ensures { OnOk result (IsTaken plan.now element here.now self.old self.new) }
     {
         let now = self.next;
         note_inputs(self.inputs.as_mut_slice(), here, now);
         let inputs = self.inputs.as_slice();
-        tell_all(&mut self.told, plan.inputs(place), place, here, inputs)?;
+        tell_all(&mut self.told, plan.inputs(element), element, here, inputs)?;
         step_alone(&mut self.element, now, self.told.as_slice());
-        let shown = shown_of(plan, place, &self.element);
+        let shown = shown_of(plan, element, &self.element);
         note_outs(plan, self.outs.as_mut_slice(), here, shown);
         self.shown = shown;
         self.wake = next_wake(&self.element, self.inputs.as_slice(), now);
@@ -117,25 +118,25 @@ impl Run {
         &mut self,
         alloc: Global,
         plan: &Plan,
-        place: u32,
+        element: u32,
         here: &[NodeRow],
     ) -> Result<(), NoMemory>
-        requires within { place < length plan.now.elements }
-        requires run { IsRun plan.now place self.old }
+        requires within { element < length plan.now.elements }
+        requires run { IsRun plan.now element self.old }
         requires going { self.old.stopped ≡ None }
         requires in_range { self.old.next ≤ LAST_MILLISECOND }
-        requires here { Each (IsRowOf plan.now place) here.now }
-        ensures run { OnOk result (IsRun plan.now place self.new) }
+        requires here { Each (IsRowOf plan.now element) here.now }
+        ensures run { OnOk result (IsRun plan.now element self.new) }
         ensures next { OnOk result (self.new.next ≡ self.old.next + 1) }
         ensures holds { OnOk result ((rows : List NodeRow) (until : ℕ) →
-            AreHere plan.now place self.old.next here.now rows → self.old.next ≤ until →
-            RunStands plan.now rows place self.old.next self.old →
-            RunHolds plan.now rows place until (suc self.old.next) self.new self.new.stopped) }
+            AreHere plan.now element self.old.next here.now rows → self.old.next ≤ until →
+            RunStands plan.now rows element self.old.next self.old →
+            RunHolds plan.now rows element until (suc self.old.next) self.new self.new.stopped) }
     {
         let now = self.next;
-        self.take_rows(plan, place, here)?;
+        self.take_rows(plan, element, here)?;
         let frames = frames_of(alloc, self.outs.as_slice(), now)?;
-        self.send(alloc, plan, place, now, frames.as_slice())?;
+        self.send(alloc, plan, element, now, frames.as_slice())?;
         Ok(())
     }
 
@@ -144,13 +145,13 @@ impl Run {
         &mut self,
         alloc: Global,
         plan: &Plan,
-        place: u32,
+        element: u32,
         now: u64,
         frames: &[Sent],
     ) -> Result<(), NoMemory>
         requires rows { self.old.rows ≤ MOST_ROWS }
         requires lines { All (λ sent. sent.line.0 < line_count plan.now) frames.now }
-        ensures { OnOk result (IsWritten plan.now place now frames.now self.old self.new) }
+        ensures { OnOk result (IsWritten plan.now element now frames.now self.old self.new) }
     {
         let rows = self.rows + frames.len() as u64;
         if (MOST_ROWS as u64) < rows {
@@ -158,47 +159,47 @@ impl Run {
             return Ok(());
         }
         self.rows = rows;
-        put_frames(alloc, &mut self.text, plan, place, now, frames)?;
+        put_frames(alloc, &mut self.text, plan, element, now, frames)?;
         Ok(())
     }
 
     /// Passes over the milliseconds up to this one, or up to the first in which something changes.
-    fn pass(&mut self, plan: &Plan, place: u32, to: u64)
-        requires run { IsRun plan.now place self.old }
+    fn pass(&mut self, plan: &Plan, element: u32, to: u64)
+        requires run { IsRun plan.now element self.old }
         requires quiet { self.old.next < self.old.wake }
         requires to { self.old.next < to }
         requires in_range { to ≤ LAST_MILLISECOND + 1 }
-        ensures run { IsRun plan.now place self.new }
+        ensures run { IsRun plan.now element self.new }
         ensures next { self.old.next < self.new.next }
         ensures up_to { self.new.next ≤ to }
         ensures stopped { self.new.stopped ≡ self.old.stopped }
-        ensures stands { (rows : List NodeRow) → AreAway plan.now place self.old.next to rows →
-            RunStands plan.now rows place self.old.next self.old →
-            RunStands plan.now rows place self.new.next self.new }
+        ensures stands { (rows : List NodeRow) → AreAway plan.now element self.old.next to rows →
+            RunStands plan.now rows element self.old.next self.old →
+            RunStands plan.now rows element self.new.next self.new }
     {
         self.next = earlier(Some(self.wake), to);
     }
 
     /// Passes over milliseconds in which nothing happens, or makes the next one; no rows come in them.
-    fn go_on(&mut self, alloc: Global, plan: &Plan, place: u32, to: u64) -> Result<(), NoMemory>
-        requires within { place < length plan.now.elements }
-        requires run { IsRun plan.now place self.old }
+    fn go_on(&mut self, alloc: Global, plan: &Plan, element: u32, to: u64) -> Result<(), NoMemory>
+        requires within { element < length plan.now.elements }
+        requires run { IsRun plan.now element self.old }
         requires going { self.old.stopped ≡ None }
         requires to { self.old.next < to }
         requires in_range { to ≤ LAST_MILLISECOND + 1 }
-        ensures run { OnOk result (IsRun plan.now place self.new) }
+        ensures run { OnOk result (IsRun plan.now element self.new) }
         ensures next { OnOk result (self.old.next < self.new.next) }
         ensures up_to { OnOk result (self.new.next ≤ to) }
         ensures holds { OnOk result ((rows : List NodeRow) (until : ℕ) →
-            AreAway plan.now place self.old.next to rows → to ≤ until + 1 →
-            RunStands plan.now rows place self.old.next self.old →
-            RunHolds plan.now rows place until self.new.next self.new self.new.stopped) }
+            AreAway plan.now element self.old.next to rows → to ≤ until + 1 →
+            RunStands plan.now rows element self.old.next self.old →
+            RunHolds plan.now rows element until self.new.next self.new self.new.stopped) }
     {
         if self.next < self.wake {
-            self.pass(plan, place, to);
+            self.pass(plan, element, to);
             return Ok(());
         }
-        self.turn(alloc, plan, place, &[])?;
+        self.turn(alloc, plan, element, &[])?;
         Ok(())
     }
 
@@ -207,24 +208,24 @@ impl Run {
         &mut self,
         alloc: Global,
         plan: &Plan,
-        place: u32,
+        element: u32,
         to: u64,
     ) -> Result<(), NoMemory>
-        requires within { place < length plan.now.elements }
-        requires run { IsRun plan.now place self.old }
+        requires within { element < length plan.now.elements }
+        requires run { IsRun plan.now element self.old }
         requires going { self.old.stopped ≡ None }
         requires to { self.old.next ≤ to }
         requires in_range { to ≤ LAST_MILLISECOND + 1 }
-        ensures run { OnOk result (IsRun plan.now place self.new) }
+        ensures run { OnOk result (IsRun plan.now element self.new) }
         ensures up_to { OnOk result (self.new.next ≤ to) }
         ensures next { OnOk result (self.new.stopped ≡ None → self.new.next ≡ to) }
         ensures holds { OnOk result ((rows : List NodeRow) (until : ℕ) →
-            AreAway plan.now place self.old.next to rows → to ≤ until + 1 →
-            RunStands plan.now rows place self.old.next self.old →
-            RunHolds plan.now rows place until to self.new self.new.stopped) }
+            AreAway plan.now element self.old.next to rows → to ≤ until + 1 →
+            RunStands plan.now rows element self.old.next self.old →
+            RunHolds plan.now rows element until to self.new self.new.stopped) }
     {
         while self.goes_on(to) {
-            self.go_on(alloc, plan, place, to)?;
+            self.go_on(alloc, plan, element, to)?;
         }
         Ok(())
     }
@@ -251,30 +252,30 @@ impl Run {
         &mut self,
         alloc: Global,
         plan: &Plan,
-        place: u32,
+        element: u32,
         at: u64,
         here: &[NodeRow],
     ) -> Result<(), NoMemory>
-        requires within { place < length plan.now.elements }
-        requires run { IsRun plan.now place self.old }
+        requires within { element < length plan.now.elements }
+        requires run { IsRun plan.now element self.old }
         requires going { self.old.stopped ≡ None }
         requires at { self.old.next ≤ at }
         requires in_range { at ≤ LAST_MILLISECOND }
-        requires here { Each (IsRowOf plan.now place) here.now }
-        ensures run { OnOk result (IsRun plan.now place self.new) }
+        requires here { Each (IsRowOf plan.now element) here.now }
+        ensures run { OnOk result (IsRun plan.now element self.new) }
         ensures up_to { OnOk result (self.new.next ≤ at + 1) }
         ensures next { OnOk result (self.new.stopped ≡ None → self.new.next ≡ at + 1) }
         ensures holds { OnOk result ((rows : List NodeRow) (until : ℕ) →
-            AreAway plan.now place self.old.next at rows →
-            AreHere plan.now place at here.now rows → at ≤ until →
-            RunStands plan.now rows place self.old.next self.old →
-            RunHolds plan.now rows place until (suc at) self.new self.new.stopped) }
+            AreAway plan.now element self.old.next at rows →
+            AreHere plan.now element at here.now rows → at ≤ until →
+            RunStands plan.now rows element self.old.next self.old →
+            RunHolds plan.now rows element until (suc at) self.new self.new.stopped) }
     {
-        self.advance(alloc, plan, place, at)?;
+        self.advance(alloc, plan, element, at)?;
         if !self.is_going() {
             return Ok(());
         }
-        self.turn(alloc, plan, place, here)?;
+        self.turn(alloc, plan, element, here)?;
         Ok(())
     }
 }

@@ -3,8 +3,8 @@
 ghost use Rattle.std.specs.Prelude.{◌≡◌, ◌<◌, IfSome, length};
 ghost use Rattle.sync_topo.specs.Lines.{line_count, IsInput};
 ghost use Rattle.net_rules.specs.History.{settings_of, is_way_back};
-ghost use Rattle.node_replay.specs.Keeping.{level_out};
-ghost use Rattle.node_replay.specs.Running.{Shows};
+ghost use Rattle.node_replay.specs.private.Keeping.{level_out};
+ghost use Rattle.node_replay.specs.private.Running.{Shows};
 
 use net_words::taken_of;
 use sync_element::Element;

@@ -5,11 +5,12 @@ ghost use Rattle.sync_topo.specs.Lines.{line_count, sender_of, inputs_of, IsInpu
 ghost use Rattle.net_rules.specs.History.{first_level};
 ghost use Rattle.node_file.specs.declared.row.NodeRow.{NodeRow};
 ghost use Rattle.node_rules.specs.NodeText.{lines_out};
-ghost use Rattle.node_replay.specs.Starting.{first_word, new_input, new_out};
-ghost use Rattle.node_replay.specs.Running.{IsRun, RunStands};
+ghost use Rattle.node_replay.specs.private.Starting.{first_word, new_input, new_out};
+ghost use Rattle.node_replay.specs.Running.{RunStands};
+ghost use Rattle.node_replay.specs.private.Running.{IsRun};
 
-use crate::inputs::{InputKept, LastWord};
-use crate::outs::OutKept;
+use crate::inputs::{InputNow, LastLevel};
+use crate::outs::LineOut;
 use crate::running::Run;
 use crate::shown::shown_of;
 use net_words::{Chooses, new_element};
@@ -46,7 +47,7 @@ pub(crate) fn new_run(alloc: Global, plan: &Plan, place: u32) -> Result<Run, NoM
 }
 
 /// The inputs, to which nothing happened.
-fn new_inputs(alloc: Global, plan: &Plan, place: u32) -> Result<Rows<InputKept>, NoMemory>
+fn new_inputs(alloc: Global, plan: &Plan, place: u32) -> Result<Rows<InputNow>, NoMemory>
     requires { place < length plan.now.elements }
     ensures { IfOk result (λ inputs. inputs ≡ map (new_input plan.now) (inputs_of plan.now place)) }
 {
@@ -58,12 +59,12 @@ fn new_inputs(alloc: Global, plan: &Plan, place: u32) -> Result<Rows<InputKept>,
 }
 
 /// An input to which nothing happened.
-fn new_input(plan: &Plan, input: InputId) -> InputKept
+fn new_input(plan: &Plan, input: InputId) -> InputNow
     requires { IsInput plan.now input }
     ensures { result ≡ new_input plan.now input }
 {
     let level = first_level(plan, input);
-    InputKept {
+    InputNow {
         id: input,
         up: true,
         level,
@@ -82,11 +83,11 @@ fn first_level(plan: &Plan, input: InputId) -> Option<Level>
     }
 }
 
-fn first_word(level: Option<Level>) -> Option<LastWord>
+fn first_word(level: Option<Level>) -> Option<LastLevel>
     ensures { result ≡ first_word level }
 {
     match level {
-        Some(level) => Some(LastWord {
+        Some(level) => Some(LastLevel {
             at: 0,
             level: Some(level),
         }),
@@ -95,7 +96,7 @@ fn first_word(level: Option<Level>) -> Option<LastWord>
 }
 
 /// The lines out of the element, which have said nothing.
-fn new_outs(alloc: Global, plan: &Plan, place: u32) -> Result<Rows<OutKept>, NoMemory>
+fn new_outs(alloc: Global, plan: &Plan, place: u32) -> Result<Rows<LineOut>, NoMemory>
     requires { place < length plan.now.elements }
     ensures { IfOk result (λ outs. outs ≡ map new_out (lines_out plan.now place)) }
 {
@@ -107,7 +108,7 @@ fn new_outs(alloc: Global, plan: &Plan, place: u32) -> Result<Rows<OutKept>, NoM
 }
 
 /// One line more, if it leads out of the element.
-fn add_out(plan: &Plan, place: u32, outs: &mut Rows<OutKept>, line: LineId) -> Result<(), NoMemory>
+fn add_out(plan: &Plan, place: u32, outs: &mut Rows<LineOut>, line: LineId) -> Result<(), NoMemory>
     requires { line.0 < line_count plan.now }
     ensures { OnOk result (outs.new ≡ outs.old
         ++ (if sender_of plan.now line.0 == place then new_out line.0 ∷ [] else [])) }
@@ -115,7 +116,7 @@ fn add_out(plan: &Plan, place: u32, outs: &mut Rows<OutKept>, line: LineId) -> R
     if plan.from(line) != place {
         return Ok(());
     }
-    outs.push(OutKept {
+    outs.push(LineOut {
         line,
         up: true,
         esmc: true,

@@ -3,4 +3,4 @@ pub mod NodeText
 pub mod FromNetwork
 pub mod Brought
 pub mod SentFrames
-pub mod Examples
+pub mod private

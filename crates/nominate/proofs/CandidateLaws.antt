@@ -10,7 +10,7 @@ use Rattle.net_rules.proofs.PlanLaws.{receiver-within}
 use Rattle.nominate.specs.HopCount.{Counts, count_at, AreHopCounts, is_one_less}
 use Rattle.nominate.specs.LocalFacts.{AreNear}
 use Rattle.nominate.specs.Nomination.{count_below, comes_before, stands_before, is_candidate, is_candidate_into, is_earlier, candidate_number, numbered_priority, new_priority}
-use Rattle.nominate.specs.Numbering.{is_level, leads, leads_into, IsNumbered, ArePriorities}
+use Rattle.nominate.specs.private.Numbering.{is_across, leads, leads_into, IsNumbered, ArePriorities}
 use Rattle.nominate.specs.declared.numbering.Numbering.{Numbering}
 use Rattle.nominate.proofs.BelowLemmas.{below-same, below-cut, below-or, below-le}
 use Rattle.nominate.proofs.HopLaws.{near-ends}
@@ -23,14 +23,14 @@ less-one_less one other near = elim (cases_lt one other) [
 ]
 
 -- a line is a candidate just where it leads on in one of the two ways
-candidate-kinds : (one other : Option ℕ) (s r : ℕ) → AreNear one other → comes_before one s other r ≡ (is_one_less one other || is_level one s other r)
+candidate-kinds : (one other : Option ℕ) (s r : ℕ) → AreNear one other → comes_before one s other r ≡ (is_one_less one other || is_across one s other r)
 candidate-kinds None None s r near = refl
 candidate-kinds None (Some other) s r near = absurd near
 candidate-kinds (Some one) None s r near = absurd near
 candidate-kinds (Some one) (Some other) s r near = ap (λ b. b || (one == other && nat_lt s r)) (less-one_less one other near.1)
 
 -- not in both
-kinds-apart : (one other : Option ℕ) (s r : ℕ) → is_one_less one other ≡ true → is_level one s other r ≡ false
+kinds-apart : (one other : Option ℕ) (s r : ℕ) → is_one_less one other ≡ true → is_across one s other r ≡ false
 kinds-apart None other s r is = absurd (true≢false (sym is))
 kinds-apart (Some one) None s r is = absurd (true≢false (sym is))
 kinds-apart (Some one) (Some other) s r is =
@@ -59,8 +59,8 @@ earlier-one_less (Some k) (Some n) (Some m) s e other line near also is =
     and-false false = refl
 
 -- and where it comes from one with the same count
-earlier-level : (this count further : Option ℕ) (s e t other line : ℕ) → AreNear this count → AreNear further count → is_level further t count e ≡ true
-    → (comes_before this s count e && comes_before this other further line) ≡ (is_one_less this count || (is_level this s count e && nat_lt other line))
+earlier-level : (this count further : Option ℕ) (s e t other line : ℕ) → AreNear this count → AreNear further count → is_across further t count e ≡ true
+    → (comes_before this s count e && comes_before this other further line) ≡ (is_one_less this count || (is_across this s count e && nat_lt other line))
 earlier-level None None further s e t other line near also is = refl
 earlier-level None (Some n) further s e t other line near also is = absurd near
 earlier-level (Some k) None further s e t other line near also is = absurd near

@@ -15,8 +15,8 @@ use Rattle.rank_cert.specs.declared.rising.Verdict.TheVariants.{Rising, Falls}
 use Rattle.rank_cert.specs.Ranks.{Ranks, rank_at, rank_of, IsRanked, RanksNoOther, Judges}
 use Rattle.nominate.specs.HopCount.{Counts, count_at, AreHopCounts}
 use Rattle.nominate.specs.Nomination.{order_place, new_priority, nominated_plan, IsNominatedPlan, order_rank, AreOrderRanks}
-use Rattle.nominate.specs.Numbering.{ArePriorities}
-use Rattle.nominate.specs.Placing.{ArePlaces, rank_by}
+use Rattle.nominate.specs.private.Numbering.{ArePriorities}
+use Rattle.nominate.specs.private.Placing.{ArePlaces, rank_by}
 use Rattle.nominate.proofs.HopLaws.{one-list}
 use Rattle.nominate.proofs.OrderLaws.{before-counted}
 use Rattle.nominate.proofs.PlanFacts.{lines-same, priority-is}

@@ -7,7 +7,8 @@ use Rattle.sync_topo.specs.declared.link.Link.{Link}
 use Rattle.sync_topo.specs.declared.rows.PlanRows.{PlanRows}
 use Rattle.sync_topo.specs.declared.error.PlanErr.{PlanErr}
 use Rattle.sync_topo.specs.declared.error.PlanErr.TheVariants.{NoMemory}
-use Rattle.sync_topo.specs.Gives.{is_want, Refuses}
+use Rattle.sync_topo.specs.Gives.{is_want}
+use Rattle.sync_topo.specs.private.Gives.{Refuses}
 use Rattle.sync_topo.specs.PlanRows.{plan_of_rows}
 use Rattle.sync_topo.specs.RowValues.{link_from, plan_from}
 use Rattle.sync_topo.specs.RowsOfPlan.{row_of_link, rows_of_plan}

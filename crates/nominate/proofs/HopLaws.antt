@@ -11,7 +11,7 @@ use Rattle.sync_topo.proofs.BundleLaws.{back-reverse, back-ends_where_begins}
 use Rattle.net_rules.proofs.PlanLaws.{receiver-within}
 use Rattle.nominate.specs.HopCount.{Counts, count_at, IsReachedIn, IsCountOf, AreHopCounts}
 use Rattle.nominate.specs.LocalFacts.{AreNear, HasNeighbour, AreLocallyRight}
-use Rattle.nominate.specs.Searching.{IsSearching, AreLed}
+use Rattle.nominate.specs.private.Searching.{IsSearching, AreLed}
 use Rattle.nominate.specs.declared.search.Search.{Search}
 use Rattle.nominate.proofs.CountLemmas.{count-within}
 use Rattle.nominate.proofs.SourceLemmas.{root-within}

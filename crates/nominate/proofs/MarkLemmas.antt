@@ -8,7 +8,7 @@ use Rattle.sync_topo.specs.Lines.{line_count, sender_of}
 use Rattle.sync_topo.specs.WellFormed.{IsWellFormed}
 use Rattle.nominate.specs.HopCount.{Counts, count_at, AreHopCounts, is_one_less}
 use Rattle.nominate.specs.LocalFacts.{HasNeighbour, HaveCloser, AreLocallyRight}
-use Rattle.nominate.specs.Marks.{is_above, IsMarked, AreMarks}
+use Rattle.nominate.specs.private.Marks.{is_above, IsMarked, AreMarks}
 use Rattle.nominate.proofs.HopLaws.{counts-by_facts, facts-by_counts}
 
 no_mark : (n element : ℕ) → slice_index_or (replicate n false) element false ≡ false

@@ -9,7 +9,7 @@ use Rattle.sync_topo.specs.declared.link.Link.{Link}
 use Rattle.sync_topo.specs.declared.rows.PlanRows.{PlanRows}
 use Rattle.sync_topo.specs.PlanRows.{plan_of_rows}
 use Rattle.sync_topo.specs.RowsOfPlan.{rows_of_plan}
-use Rattle.nominate.specs.Numbering.{ArePriorities}
+use Rattle.nominate.specs.private.Numbering.{ArePriorities}
 use Rattle.sync_topo.specs.Topology.{Topology}
 use Rattle.sync_topo.specs.Limits.{greatest_priority, input_limit}
 use Rattle.sync_topo.specs.Lines.{line_count, line_input, sender_of, receiver_of, priority_of, is_nominated, lines_into, sources_at, inputs_of}

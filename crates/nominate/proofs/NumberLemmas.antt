@@ -7,9 +7,9 @@ use Rattle.sync_topo.specs.Topology.{Topology}
 use Rattle.sync_topo.specs.Lines.{line_count, receiver_of}
 use Rattle.nominate.specs.HopCount.{Counts}
 use Rattle.nominate.specs.Nomination.{count_below, numbered_priority}
-use Rattle.nominate.specs.Numbering.{leads, leads_into, IsNumberedOne, IsNumbered}
+use Rattle.nominate.specs.private.Numbering.{leads, leads_into, IsNumberedOne, IsNumbered}
 use Rattle.nominate.specs.declared.numbering.Numbering.{Numbering}
-use Rattle.nominate.specs.Placing.{one_if}
+use Rattle.nominate.specs.private.Placing.{one_if}
 use Rattle.nominate.proofs.BelowLemmas.{below-none, below-more, below-le}
 
 -- what a write leaves, where it is made

@@ -7,9 +7,9 @@ use Rattle.sync_topo.specs.declared.input.InputId.{InputId}
 use Rattle.sync_topo.specs.declared.input.InputId.TheVariants.{Source}
 use Rattle.sync_topo.specs.Topology.{Topology}
 use Rattle.sync_topo.specs.Lines.{line_input, source_priority, lines_into, sources_at, inputs_of}
-use Rattle.nominate.specs.Searching.{is_source}
+use Rattle.nominate.specs.private.Searching.{is_source}
 use Rattle.nominate.specs.Nomination.{greatest_of, base_priority}
-use Rattle.nominate.specs.Numbering.{own_priority}
+use Rattle.nominate.specs.private.Numbering.{own_priority}
 
 greatest-inputs : (plan : Topology) (lines sources : List ℕ)
     → greatest_of (map (own_priority plan) (map line_input lines ++ map Source sources)) ≡ greatest_of (map (source_priority plan) sources)

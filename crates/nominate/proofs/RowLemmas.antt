@@ -4,7 +4,7 @@ use Rattle.std.proofs.lemmas.Option.{none-some, same_Some}
 use Rattle.sync_topo.specs.declared.link.Link.{Link}
 use Rattle.sync_topo.specs.declared.error.PlanErr.{PlanErr}
 use Rattle.sync_topo.specs.declared.error.PlanErr.TheVariants.{Limit, Name, Twice, NoElement, SelfLink, Range, Bundle, LevelName, NoMemory}
-use Rattle.sync_topo.specs.Gives.{Refuses}
+use Rattle.sync_topo.specs.private.Gives.{Refuses}
 use Rattle.std.specs.Prelude.{Result, Ok}
 use Rattle.nominate.specs.Nomination.{with_priorities}
 

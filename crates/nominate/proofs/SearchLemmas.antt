@@ -15,7 +15,7 @@ use Rattle.sync_topo.specs.WellFormed.{IsWellFormed}
 use Rattle.nominate.specs.HopCount.{Counts, count_at, IsRoot}
 use Rattle.sync_topo.specs.Held.{held}
 use Rattle.sync_topo.specs.Outputs.{AreOutputs}
-use Rattle.nominate.specs.Searching.{left_over, work, IsSearching, IsClose, IsLed, AreKept, AreKeptBut, IsMore}
+use Rattle.nominate.specs.private.Searching.{left_over, work, IsSearching, IsClose, IsLed, AreKept, AreKeptBut, IsMore}
 use Rattle.std.specs.declared.alloc.Global.{Global}
 use Rattle.std.specs.Prelude.{Vec}
 use Rattle.nominate.specs.declared.search.Search.{Search}

@@ -11,7 +11,7 @@ use Rattle.sync_topo.specs.Topology.{Topology}
 use Rattle.sync_topo.specs.Lines.{line_input, lines_into, sources_at, inputs_of, source_priority, element_of_source}
 use Rattle.sync_topo.specs.WellFormed.{IsWellFormed}
 use Rattle.nominate.specs.HopCount.{IsRoot}
-use Rattle.nominate.specs.Searching.{is_source}
+use Rattle.nominate.specs.private.Searching.{is_source}
 
 -- the last of some inputs is a source
 abbrev ends_in_source : List InputId → Bool

@@ -6,7 +6,7 @@ ghost use Rattle.net_rules.specs.Safety.{IsLoopFree};
 ghost use Rattle.rank_cert.specs.Ranks.{rank_of, IsRanked, RanksNoOther, Judges};
 ghost use Rattle.rank_cert.specs.declared.rising.Verdict.{Verdict};
 ghost use Rattle.nominate.specs.Nomination.{IsNominatedPlan, AreOrderRanks};
-ghost use Rattle.nominate.specs.Placing.{rank_by};
+ghost use Rattle.nominate.specs.private.Placing.{rank_by};
 
 use crate::hops::least_hops;
 use crate::numbering::new_priorities;

@@ -2,7 +2,7 @@ ghost use Rattle.std.specs.Prelude.{◌≡◌, ◌<◌, ◌+◌, ◌↔◌, fals
 ghost use Rattle.sync_topo.specs.Lines.{line_count};
 ghost use Rattle.nominate.specs.HopCount.{count_at, IsRoot, AreHopCounts, is_one_less};
 ghost use Rattle.nominate.specs.LocalFacts.{AreNear, AreRootsRight, AreEndsNear, HaveCloser, AreLocallyRight};
-ghost use Rattle.nominate.specs.Marks.{is_above, AreMarks};
+ghost use Rattle.nominate.specs.private.Marks.{is_above, AreMarks};
 
 use crate::hops::Hops;
 use crate::search::is_root;

@@ -29,11 +29,11 @@ impl Hops {
     /// nominated source, which has 0.
     ///
     /// `None` where no links lead from such an element to it. This project's own.
-    pub fn of(&self, e: u32) -> Option<u32>
-        requires { e < length self.now }
-        ensures count { result ≡ count_at self.now e }
+    pub fn of(&self, element: u32) -> Option<u32>
+        requires { element < length self.now }
+        ensures count { result ≡ count_at self.now element }
     {
-        self.counts[e as usize]
+        self.counts[element as usize]
     }
 }
 

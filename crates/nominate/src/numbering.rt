@@ -3,7 +3,7 @@ ghost use Rattle.sync_topo.specs.Lines.{line_count, receiver_of, sources_at, IsI
 ghost use Rattle.sync_topo.specs.WellFormed.{IsWellFormed};
 ghost use Rattle.nominate.specs.HopCount.{AreHopCounts};
 ghost use Rattle.nominate.specs.Nomination.{base_priority, numbered_priority, new_priority};
-ghost use Rattle.nominate.specs.Numbering.{is_level, leads, IsNumberedOne, IsNumbered, ArePriorities, own_priority};
+ghost use Rattle.nominate.specs.private.Numbering.{is_across, leads, IsNumberedOne, IsNumbered, ArePriorities, own_priority};
 
 use crate::facts::is_one_less;
 use crate::hops::Hops;
@@ -57,30 +57,30 @@ impl Numbering {
 
     /// Numbers the lines that lead to an element of the same count, or else those that lead to one
     /// with one more.
-    fn number_all(&mut self, plan: &Plan, hops: &Hops, level: bool)
+    fn number_all(&mut self, plan: &Plan, hops: &Hops, across: bool)
         requires counted { length hops.now ≡ length plan.now.elements }
         requires elements { length self.old.numbered.items ≡ length plan.now.elements }
         requires lines { length self.old.priorities.items ≡ line_count plan.now }
         requires small { (element : ℕ) → element < length plan.now.elements
             → slice_index self.old.numbered.items element ≤ line_count plan.now }
-        ensures { IsNumbered plan.now hops.now level (line_count plan.now) self.old self.new }
+        ensures { IsNumbered plan.now hops.now across (line_count plan.now) self.old self.new }
     {
         for number in 0..plan.lines() {
-            self.number(plan, hops, level, LineId(number));
+            self.number(plan, hops, across, LineId(number));
         }
     }
 
     /// Numbers the line, if it is of the kind.
-    fn number(&mut self, plan: &Plan, hops: &Hops, level: bool, line: LineId)
+    fn number(&mut self, plan: &Plan, hops: &Hops, across: bool, line: LineId)
         requires counted { length hops.now ≡ length plan.now.elements }
         requires elements { length self.old.numbered.items ≡ length plan.now.elements }
         requires lines { length self.old.priorities.items ≡ line_count plan.now }
         requires within { line.0 < line_count plan.now }
         requires small { slice_index self.old.numbered.items (receiver_of plan.now line.0)
             ≤ 2 * line_count plan.now }
-        ensures { IsNumberedOne plan.now hops.now level line.0 self.old self.new }
+        ensures { IsNumberedOne plan.now hops.now across line.0 self.old self.new }
     {
-        if !leads(plan, hops, level, line) {
+        if !leads(plan, hops, across, line) {
             return;
         }
         self.give(plan, line);
@@ -110,23 +110,23 @@ impl Numbering {
 }
 
 /// The line leads to an element of the same count, or else to one with one more.
-fn leads(plan: &Plan, hops: &Hops, level: bool, line: LineId) -> bool
+fn leads(plan: &Plan, hops: &Hops, across: bool, line: LineId) -> bool
     requires counted { length hops.now ≡ length plan.now.elements }
     requires within { line.0 < line_count plan.now }
-    ensures { result ≡ leads plan.now hops.now level line.0 }
+    ensures { result ≡ leads plan.now hops.now across line.0 }
 {
     let sender = plan.from(line);
     let receiver = plan.to(line);
-    if level {
-        is_level(hops.of(sender), sender, hops.of(receiver), receiver)
+    if across {
+        is_across(hops.of(sender), sender, hops.of(receiver), receiver)
     } else {
         is_one_less(hops.of(sender), hops.of(receiver))
     }
 }
 
 /// Both have the same count, and the first has the lower number.
-fn is_level(hops: Option<u32>, one: u32, further: Option<u32>, other: u32) -> bool
-    ensures { result ≡ is_level hops one further other }
+fn is_across(hops: Option<u32>, one: u32, further: Option<u32>, other: u32) -> bool
+    ensures { result ≡ is_across hops one further other }
 {
     match (hops, further) {
         (Some(hops), Some(further)) => hops == further && one < other,

@@ -4,7 +4,7 @@ ghost use Rattle.sync_topo.specs.Lines.{line_count, sender_of, receiver_of};
 ghost use Rattle.sync_topo.specs.WellFormed.{IsWellFormed};
 ghost use Rattle.nominate.specs.HopCount.{count_at, IsRoot};
 ghost use Rattle.sync_topo.specs.Outputs.{AreOutputs, IsOutput};
-ghost use Rattle.nominate.specs.Searching.{IsSearching, AreKept, AreLed, IsMore, IsClose, IsTakenOut, is_source};
+ghost use Rattle.nominate.specs.private.Searching.{IsSearching, AreKept, AreLed, IsMore, IsClose, IsTakenOut, is_source};
 
 use std::alloc::Global;
 use std::mem;

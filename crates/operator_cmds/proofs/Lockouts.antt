@@ -4,7 +4,7 @@ use Rattle.std.proofs.Math.Seq.{take-set-lt}
 use Rattle.std.proofs.lemmas.List.{take-replicate}
 use Rattle.std.proofs.lemmas.Bool.Decides.{nat_tests}
 use Rattle.sync_ql.specs.Switches.{Switches, unswitched, other_than}
-use Rattle.operator_cmds.specs.Switched.{IsFree}
+use Rattle.operator_cmds.specs.private.Switched.{IsFree}
 
 abbrev pub switches : List Bool → Option ℕ → Option ℕ → Switches
 switches locked forced manual = record { locked = locked; forced = forced; manual = manual }

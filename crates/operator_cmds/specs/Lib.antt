@@ -1,2 +1,3 @@
 pub mod Switched
+pub mod private
 pub use Rattle.sync_ql.specs.Switches

@@ -29,7 +29,7 @@ pub struct Cmds {
     switch: Switch,
 }
 
-// At most one switch stands at a time.
+/// At most one switch stands at a time.
 #[derive(Clone, Copy, Debug, PartialEq, Eq)]
 enum Switch {
     Off,
@@ -38,7 +38,7 @@ enum Switch {
 }
 
 impl Switch {
-    // What stays of a switch where an input is locked out.
+    /// What stays of a switch where an input is locked out.
     fn without_forced(self, i: u32) -> Switch
         ensures forced { forced_by result ≡ other_than i (forced_by self) }
         ensures manual { manual_by result ≡ manual_by self }
@@ -52,7 +52,8 @@ impl Switch {
 
 impl Model for Cmds {
     ghost use Rattle.sync_ql.specs.Switches.{Switches};
-    ghost use Rattle.operator_cmds.specs.Switched.{switched, IsKept};
+    ghost use Rattle.operator_cmds.specs.Switched.{switched};
+    ghost use Rattle.operator_cmds.specs.private.Switched.{IsKept};
 
     ghost Value = { Switches };
 
@@ -72,7 +73,7 @@ impl Cmds {
     {
         Cmds {
             inputs,
-            locked: all_free(),
+            locked: none_locked_out(),
             switch: Switch::Off,
         }
     }
@@ -121,11 +122,11 @@ impl Cmds {
     /// Whether an input is locked out.
     ///
     /// After G.781, lockout.
-    pub fn locked(&self, i: u32) -> bool
-        requires place { i < length self.now.locked }
-        ensures value { result ≡ is_locked self.now i }
+    pub fn locked(&self, input: u32) -> bool
+        requires place { input < length self.now.locked }
+        ensures value { result ≡ is_locked self.now input }
     {
-        self.locked[i as usize]
+        self.locked[input as usize]
     }
 
     /// The input of the forced switch.
@@ -170,7 +171,7 @@ impl Cmds {
         }
     }
 
-    // A lockout takes the forced switch away from its input, and leaves a manual one.
+    /// A lockout takes the forced switch away from its input, and leaves a manual one.
     #[tactic(auto, using(crate::proofs::Lockouts::free_of_others))]
     fn lock_out(&mut self, i: u32)
         requires place { i < length self.old.locked }
@@ -192,7 +193,7 @@ impl Cmds {
     }
 }
 
-fn all_free() -> [bool; MOST_INPUTS]
+fn none_locked_out() -> [bool; MOST_INPUTS]
     ensures { result ≡ replicate 64 false }
 {
     [false; MOST_INPUTS]

@@ -12,7 +12,8 @@ use Rattle.pcap_file.specs.declared.reading.ByteOrder.{ByteOrder}
 use Rattle.pcap_file.specs.declared.reading.ByteOrder.TheVariants.{Big, Little}
 use Rattle.pcap_file.specs.declared.error.PcapErr.{PcapErr}
 use Rattle.pcap_file.specs.declared.error.PcapErr.TheVariants as refusal
-use Rattle.pcap_file.specs.Pcap.{four_at, number_at, order_of, is_whole, packet_at, first_packet, with_packet, packets_from, packets_in_order, octets_of}
+use Rattle.pcap_file.specs.Pcap.{four_at, number_at, order_of, is_whole, packet_at, with_packet, packets_from, packets_in_order, octets_of}
+use Rattle.pcap_file.specs.private.Pcap.{first_packet}
 use Rattle.pcap_file.specs.Written.{record_head, written_record, written_packet, IsLittleCapture}
 use Rattle.pcap_file.proofs.Packets.{one_more}
 

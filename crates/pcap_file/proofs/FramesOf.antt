@@ -10,7 +10,7 @@ use Rattle.pcap_file.specs.Pcap.{octets_of}
 use Rattle.pcap_file.specs.Timed.{timed_by, timed_of}
 use Rattle.pcap_file.specs.Written.{written_head, record_head, written_record, written_packet, IsLittleCapture}
 use Rattle.pcap_file.specs.CaptureOf.{shown_in, shown_by, IsCaptureOf}
-use Rattle.pcap_file.specs.WrittenSoFar.{IsWrittenSoFar}
+use Rattle.pcap_file.specs.private.WrittenSoFar.{IsWrittenSoFar}
 use Rattle.pcap_file.proofs.Captures.{little_written, frame_there}
 
 -- the octets of a packet stay, whatever stands behind them

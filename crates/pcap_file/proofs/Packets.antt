@@ -6,8 +6,9 @@ use Rattle.pcap_file.specs.declared.reading.Packet.{Packet}
 use Rattle.pcap_file.specs.declared.reading.ByteOrder.{ByteOrder}
 use Rattle.pcap_file.specs.declared.error.PcapErr.{PcapErr}
 use Rattle.pcap_file.specs.declared.error.PcapErr.TheVariants as refusal
-use Rattle.pcap_file.specs.Pcap.{number_at, is_whole, packet_at, first_packet, with_packet, packets_from}
-use Rattle.pcap_file.specs.Steps.{with_packets}
+use Rattle.pcap_file.specs.Pcap.{number_at, is_whole, packet_at, with_packet, packets_from}
+use Rattle.pcap_file.specs.private.Pcap.{first_packet}
+use Rattle.pcap_file.specs.private.Steps.{with_packets}
 
 -- octets of a record that was taken are passed over
 pub passed_over : (order : ByteOrder) (n place skip : ℕ) (octets : List ℕ) → packets_from order n place skip octets ≡ packets_from order n (place + skip) 0 (drop skip octets)

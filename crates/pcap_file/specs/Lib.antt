@@ -3,6 +3,4 @@ pub mod Refusal
 pub mod Written
 pub mod Timed
 pub mod CaptureOf
-pub mod Steps
-pub mod WrittenSoFar
-pub mod Examples
+pub mod private

@@ -45,9 +45,6 @@ packet_at order place octets =
       original = number_at order octets 12;
     }
 
-unfoldable pub first_packet : ByteOrder → ℕ → List ℕ → Option Packet
-first_packet order place octets = if is_whole order octets then Some (packet_at order place octets) else None
-
 -- a packet, and those behind it
 abbrev pub with_packet : Packet → Result (List Packet) PcapErr → Result (List Packet) PcapErr
 with_packet packet (Ok packets) = Ok (packet ∷ packets)

@@ -1,6 +1,6 @@
 -- What a refusal of a capture is printed with, and what a call answers that may refuse.
 use Rattle.std.specs.Prelude.{ℕ, Bool, true, false, Option, Some, None, Result}
-use Rattle.sync_text.specs.Gives.{GivesBut, RefusesBut}
+use Rattle.sync_text.specs.Gives.{GivesBut}
 use Rattle.pcap_file.specs.declared.error.PcapErr.{PcapErr}
 use Rattle.pcap_file.specs.declared.error.PcapErr.TheVariants.{Header, Link, Record, NoMemory}
 
@@ -15,10 +15,6 @@ number_of NoMemory = None
 abbrev pub is_want : PcapErr → Bool
 is_want NoMemory = true
 is_want refusal = false
-
--- the refusal is the definition's; want of memory says nothing
-abbrev pub Refuses : {A : Type 0} → PcapErr → Result A PcapErr → Type 0
-Refuses error answer = RefusesBut is_want error answer
 
 -- the answer is the definition's, value or refusal; want of memory says nothing
 abbrev pub Gives : {A : Type 0} → Result A PcapErr → Result A PcapErr → Type 0

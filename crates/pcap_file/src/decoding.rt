@@ -4,7 +4,7 @@ ghost use Rattle.std.specs.Prelude.{◌≡◌, ◌+◌, ◌≤◌, ◌<◌, ◌+
 ghost use Rattle.std.specs.List.{All};
 ghost use Rattle.esmc_frame.specs.Reading.{reading_of};
 ghost use Rattle.pcap_file.specs.Timed.{row_of_reading, text_of_packets, decoded_pcap};
-ghost use Rattle.pcap_file.specs.Steps.{passed_of};
+ghost use Rattle.pcap_file.specs.private.Steps.{passed_of};
 ghost use Rattle.pcap_file.specs.Refusal.{Gives};
 
 use crate::error::PcapErr;

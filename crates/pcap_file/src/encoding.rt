@@ -3,11 +3,11 @@
 ghost use Rattle.std.specs.Prelude.{◌≡◌, ◌<◌, ◌++◌, List, [], IfOk, OnOk, IfSome};
 ghost use Rattle.std.specs.List.{cons_option};
 ghost use Rattle.capture_text.specs.Gives.{Gives};
-ghost use Rattle.capture_text.specs.Steps.{GivesThat, with_front};
+ghost use Rattle.capture_text.specs.private.Steps.{GivesThat, with_front};
 ghost use Rattle.pcap_file.specs.declared.encoding.Timed.{Timed};
 ghost use Rattle.pcap_file.specs.Timed.{word_of, timed_of, record_of_line, encoded_pcap};
 ghost use Rattle.pcap_file.specs.CaptureOf.{timed_rows, IsCaptureOf};
-ghost use Rattle.pcap_file.specs.WrittenSoFar.{IsWrittenSoFar};
+ghost use Rattle.pcap_file.specs.private.WrittenSoFar.{IsWrittenSoFar};
 
 use crate::writing::{put_head, put_packet};
 use capture_text::{CaptureErr, Lines, cut_at, read_row};

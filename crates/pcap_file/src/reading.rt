@@ -3,7 +3,8 @@
 ghost use Rattle.std.specs.Prelude.{◌≡◌, ◌+◌, ◌≤◌, ◌<◌, ◌^◌, length, drop, IfOk, IfSome};
 ghost use Rattle.std.specs.List.{All};
 ghost use Rattle.pcap_file.specs.declared.reading.Packet.{Packet};
-ghost use Rattle.pcap_file.specs.Pcap.{number_at, order_of, first_packet, packets_from, packets_of};
+ghost use Rattle.pcap_file.specs.Pcap.{number_at, order_of, packets_from, packets_of};
+ghost use Rattle.pcap_file.specs.private.Pcap.{first_packet};
 ghost use Rattle.pcap_file.specs.Refusal.{Gives};
 
 use crate::error::PcapErr;
@@ -120,7 +121,7 @@ fn read_records(alloc: Global, bytes: &[u8], order: ByteOrder) -> Result<Rows<Pa
 }
 
 /// The packet of the record that stands first in the octets, the first of which has this place.
-#[tactic(auto, unfolding(crate::specs::Pcap::first_packet))]
+#[tactic(auto, unfolding(crate::specs::private::Pcap::first_packet))]
 fn packet_of(octets: &[u8], place: usize, order: ByteOrder) -> Option<Packet>
     requires { place + length octets.now < 2 ^ 64 }
     ensures packet { result ≡ first_packet order place octets.now }

@@ -14,9 +14,10 @@ use Rattle.plan_file.specs.declared.version.Version.{Version}
 use Rattle.plan_file.specs.declared.version.Version.TheVariants.{One, Two}
 use Rattle.plan_file.specs.Format.{keys_of}
 use Rattle.plan_file.specs.Rules.{has_only, refusal_of}
-use Rattle.plan_file.specs.Rows.{element_row, link_row, source_row, row_at}
-use Rattle.plan_file.specs.Slots.{slots_of, said_by}
-use Rattle.plan_file.specs.Values.{element_said, link_said, source_said, of_version, table_in}
+use Rattle.plan_file.specs.Rows.{element_row, link_row, source_row}
+use Rattle.plan_file.specs.private.Rows.{row_at}
+use Rattle.plan_file.specs.private.Slots.{slots_of, said_by}
+use Rattle.plan_file.specs.private.Values.{element_said, link_said, source_said, of_version, table_in}
 use Rattle.plan_file.proofs.ValueFacts.{other_member, refusal_is}
 
 element_in_table : (n : ℕ) (fields : Members)

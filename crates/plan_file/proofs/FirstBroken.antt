@@ -10,7 +10,8 @@ use Rattle.plan_file.specs.declared.error.PlanFileErr.{PlanFileErr}
 use Rattle.plan_file.specs.Format.{version_of}
 use Rattle.plan_file.specs.declared.version.Version.{Version}
 use Rattle.plan_file.specs.Rules.{refusal_of, entries_of, refusal_at, order_of, IsBefore, IsFirstBroken, KeepsRules}
-use Rattle.plan_file.specs.Rows.{first_from, first_in, first_refusal}
+use Rattle.plan_file.specs.Rows.{first_from, first_in}
+use Rattle.plan_file.specs.private.Rows.{first_refusal}
 
 abbrev pub at : Section → ℕ → Place
 at section row = record { section = section; row = row }

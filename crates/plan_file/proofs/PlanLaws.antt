@@ -14,7 +14,8 @@ use Rattle.sync_text.specs.Chain.{◌>>=◌, found, unless}
 use Rattle.plan_file.specs.Format.{keys_of, version_of}
 use Rattle.plan_file.specs.declared.version.Version.{Version}
 use Rattle.plan_file.specs.Rules.{has_only, has_needed, keeps_kinds, refusal_of, refusal_at, value_at, IsFirstBroken, KeepsRules}
-use Rattle.plan_file.specs.Rows.{said_rows, first_refusal, rows_of_document}
+use Rattle.plan_file.specs.Rows.{said_rows, rows_of_document}
+use Rattle.plan_file.specs.private.Rows.{first_refusal}
 use Rattle.plan_file.specs.PlanText.{document_of, of_rows, rows_in_file, plan_of, OfDocument, GivesRows}
 use Rattle.plan_file.specs.Gives.{Gives, RefusesWhere}
 use Rattle.plan_file.proofs.FirstBroken.{keeps, some_at, is_first}

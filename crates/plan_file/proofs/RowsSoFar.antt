@@ -13,8 +13,8 @@ use Rattle.plan_file.specs.declared.error.PlanFileErr.{PlanFileErr}
 use Rattle.sync_text.specs.Chain.{◌>>=◌, unless}
 use Rattle.plan_file.specs.Rules.{refusal_of, entries_of}
 use Rattle.plan_file.specs.Rows.{first_from, element_row, link_row, source_row, said_rows, rows_of_document}
-use Rattle.plan_file.specs.Slots.{slots_of}
-use Rattle.plan_file.specs.Values.{rows_from, head_said, head_in}
+use Rattle.plan_file.specs.private.Slots.{slots_of}
+use Rattle.plan_file.specs.private.Values.{rows_from, head_said, head_in}
 use Rattle.plan_file.proofs.ValueFacts.{refusal_is}
 
 -- the rows before these, where there are these

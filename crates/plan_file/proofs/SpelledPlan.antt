@@ -21,7 +21,8 @@ use Rattle.sync_topo.specs.Names.{is_name, element_names, link_names, source_nam
 use Rattle.sync_topo.specs.Rules.{is_bad_bundle_name}
 use Rattle.sync_topo.specs.WellFormed.{IsWellFormed}
 use Rattle.plan_file.specs.IsPlanText.{IsPlanText}
-use Rattle.plan_file.specs.Writing.{option_name, with_floor, element_table, with_bundle, link_table, source_table, elements_data, links_data, sources_data, names_bundle, with_version, plan_document}
+use Rattle.plan_file.specs.Writing.{option_name, with_floor, element_table, with_bundle, link_table, source_table, names_bundle, with_version}
+use Rattle.plan_file.specs.private.Writing.{elements_data, links_data, sources_data, plan_document}
 use Rattle.plan_file.specs.Spelling.{fields_text, rows_text, with_none, head_fields, plan_text, plan_size}
 use Rattle.plan_file.proofs.NameText.{level_is_named, option_is_named}
 use Rattle.plan_file.proofs.SpelledLines.{ArePlain, RowsArePlain, count_of, field_lines, more_lines, lines_after, row_lines, pairs_with, section_with, with_none_plain, fields_ascii, rows_ascii, fields_short, rows_short, with_none_few}

@@ -20,7 +20,7 @@ use Rattle.plan_file.specs.declared.version.Version.{Version}
 use Rattle.plan_file.specs.declared.version.Version.TheVariants.{Two}
 use Rattle.plan_file.specs.Format.{Key, keys_of}
 use Rattle.plan_file.specs.Rules.{has_only, has_needed, keeps_kinds, refusal_of, data_of}
-use Rattle.plan_file.specs.Slots.{Slots, slots_of, no_slots, put_at, put, taken, lacks, fits, slots_refusal}
+use Rattle.plan_file.specs.private.Slots.{Slots, slots_of, no_slots, put_at, put, taken, lacks, fits, slots_refusal}
 
 -- the data of the items of some data
 pub data_of_items : (entries : List Data) → data_of (items_of entries) ≡ entries

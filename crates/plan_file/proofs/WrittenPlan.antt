@@ -25,10 +25,12 @@ use Rattle.sync_topo.proofs.RowsOfPlan.{plan_of_rows-rows_of_plan}
 use Rattle.plan_file.specs.declared.version.Version.{Version}
 use Rattle.plan_file.specs.declared.version.Version.TheVariants.{One, Two}
 use Rattle.plan_file.specs.Rules.{refusal_of, data_of}
-use Rattle.plan_file.specs.Rows.{element_row, link_row, source_row, network_option, said_rows, first_from, first_refusal, rows_of_document}
+use Rattle.plan_file.specs.Rows.{element_row, link_row, source_row, network_option, said_rows, first_from, rows_of_document}
+use Rattle.plan_file.specs.private.Rows.{first_refusal}
 use Rattle.plan_file.specs.PlanText.{plan_of}
 use Rattle.plan_file.specs.IsPlanText.{IsPlanText}
-use Rattle.plan_file.specs.Writing.{option_name, element_table, link_table, source_table, elements_data, links_data, sources_data, names_bundle, with_version, plan_document}
+use Rattle.plan_file.specs.Writing.{option_name, element_table, link_table, source_table, names_bundle, with_version}
+use Rattle.plan_file.specs.private.Writing.{elements_data, links_data, sources_data, plan_document}
 
 -- ---- lists
 

@@ -1,6 +1,6 @@
 -- What the reading of a plan file answers.
-use Rattle.std.specs.Prelude.{◌≡◌, ◌⊎◌, ◌↔◌, Bool, true, false, Result, Ok, Err}
-use Rattle.sync_text.specs.Gives.{GivesBut, RefusesBut}
+use Rattle.std.specs.Prelude.{◌≡◌, ◌⊎◌, ◌↔◌, Bool, true, false, Result, Err}
+use Rattle.sync_text.specs.Gives.{GivesBut}
 use Rattle.sync_topo.specs.declared.error.PlanErr.{PlanErr}
 use Rattle.sync_topo.specs.declared.error.PlanErr.TheVariants as rows
 use Rattle.plan_file.specs.declared.error.PlanFileErr.{PlanFileErr}
@@ -16,18 +16,9 @@ abbrev pub is_want : PlanFileErr → Bool
 is_want NoMemory = true
 is_want refusal = false
 
--- the refusal is the definition's; want of memory says nothing
-abbrev pub Refuses : {A : Type 0} → PlanFileErr → Result A PlanFileErr → Type 0
-Refuses error answer = RefusesBut is_want error answer
-
 -- the answer is the definition's, value or refusal; want of memory says nothing
 abbrev pub Gives : {A : Type 0} → Result A PlanFileErr → Result A PlanFileErr → Type 0
 Gives result answer = GivesBut is_want result answer
-
--- the same of a value that stands for what `see` makes of it
-abbrev pub GivesBy : {A B : Type 0} → (A → B) → Result A PlanFileErr → Result B PlanFileErr → Type 0
-GivesBy see (Ok value) answer = answer ≡ Ok (see value)
-GivesBy see (Err error) answer = Refuses error answer
 
 -- unless memory ran out, the answer is this refusal exactly where the fact holds
 abbrev pub RefusesWhere : {A : Type 0} → Result A PlanFileErr → PlanFileErr → Type 0 → Type 0

@@ -5,8 +5,6 @@ pub mod PlanText
 pub mod IsPlanText
 pub mod Refusal
 pub mod Gives
-pub mod Slots
-pub mod Values
 pub mod Writing
 pub mod Spelling
-pub mod Examples
+pub mod private

@@ -79,10 +79,6 @@ rows_said_in version document = record {
 abbrev pub said_rows : Members → PlanRows
 said_rows document = rows_said_in (version_of document) document
 
--- the row of the entry at a place, or the rule that it breaks
-abbrev pub row_at : {A : Type 0} → Version → (Data → A) → Section → ℕ → Data → Result A PlanFileErr
-row_at version row section n entry = unless (refusal_of version (record { section = section; row = n }) entry) (row entry)
-
 -- the first refusal of the entries of a section, the first of them at row n
 abbrev pub first_from : Version → Section → ℕ → List Data → Option PlanFileErr
 first_from version section n [] = None
@@ -97,9 +93,6 @@ abbrev pub first_refusal_in : Version → Members → Option PlanFileErr
 first_refusal_in version document =
     option_or (refusal_of version (record { section = Head; row = 0 }) (table document))
     (option_or (first_in version document Elements) (option_or (first_in version document Links) (first_in version document Sources)))
-
-abbrev pub first_refusal : Members → Option PlanFileErr
-first_refusal document = first_refusal_in (version_of document) document
 
 -- the rows of a document in this version, or the first refusal
 abbrev pub rows_in : Version → Members → Result PlanRows PlanFileErr

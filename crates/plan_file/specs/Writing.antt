@@ -1,8 +1,7 @@
 -- The document that is written for a plan: its tables, and the keys of each in the order of the alphabet.
-use Rattle.std.specs.Prelude.{ℕ, ◌/◌, pos, Bool, true, false, List, map, codes, Option, Some, None, is_some}
+use Rattle.std.specs.Prelude.{ℕ, ◌/◌, pos, Bool, true, false, List, codes, Option, Some, None, is_some}
 use Rattle.std.specs.List.{list_any}
-use Rattle.toml.specs.Data.{Data, string, integer, array, table, Members, no_members, member}
-use Rattle.toml.specs.View.{items_of}
+use Rattle.toml.specs.Data.{string, integer, Members, no_members, member}
 use Rattle.sync_ql.specs.declared.levels.NetOption.{NetOption}
 use Rattle.sync_ql.specs.declared.levels.NetOption.TheVariants.{I, II}
 use Rattle.sync_ql.specs.declared.levels.Level.{Level}
@@ -54,16 +53,6 @@ source_table plan source =
     (member (codes "name") (string source.name)
     (member (codes "priority") (integer (pos source.priority)) no_members)))
 
--- the tables of each section
-abbrev pub elements_data : Topology → List Data
-elements_data plan = map (λ element. table (element_table element)) plan.elements
-
-abbrev pub links_data : Topology → List Data
-links_data plan = map (λ link. table (link_table plan link)) plan.links
-
-abbrev pub sources_data : Topology → List Data
-sources_data plan = map (λ source. table (source_table plan source)) plan.sources
-
 -- a link of the plan names a bundle
 abbrev pub names_bundle : Topology → Bool
 names_bundle plan = list_any (λ link. is_some link.bundle) plan.links
@@ -72,11 +61,3 @@ names_bundle plan = list_any (λ link. is_some link.bundle) plan.links
 abbrev pub with_version : Bool → Members
 with_version true = member (codes "version") (integer (pos 2)) no_members
 with_version false = no_members
-
--- the document
-abbrev pub plan_document : Topology → Members
-plan_document plan =
-    member (codes "element") (array (items_of (elements_data plan)))
-    (member (codes "link") (array (items_of (links_data plan)))
-    (member (codes "option") (string (option_name plan.option))
-    (member (codes "source") (array (items_of (sources_data plan))) (with_version (names_bundle plan)))))

@@ -7,9 +7,9 @@ ghost use Rattle.toml.specs.View.{view, table_view};
 ghost use Rattle.sync_topo.specs.declared.place.Section.TheVariants as section;
 ghost use Rattle.plan_file.specs.declared.version.Version.TheVariants.{Two};
 ghost use Rattle.plan_file.specs.Format.{keys_of, is_version, is_option, option_of, version_said};
-ghost use Rattle.plan_file.specs.Slots.{seen, fits, said_by};
-ghost use Rattle.plan_file.specs.Values.{head_slots, head_said, head_seen, head_in, version_in, option_in};
-ghost use Rattle.plan_file.specs.Gives.{GivesBy};
+ghost use Rattle.plan_file.specs.private.Slots.{seen, fits, said_by};
+ghost use Rattle.plan_file.specs.private.Values.{head_slots, head_said, head_seen, head_in, version_in, option_in};
+ghost use Rattle.plan_file.specs.private.Gives.{GivesBy};
 
 use crate::error::PlanFileErr;
 use crate::kinds::{entries_in, fits_array};

@@ -6,9 +6,9 @@ ghost use Rattle.toml.specs.Data.{as_str, as_integer, as_array};
 ghost use Rattle.toml.specs.View.{view, table_view};
 ghost use Rattle.plan_file.specs.Format.{is_text, is_integer, is_array};
 ghost use Rattle.plan_file.specs.Rules.{data_of};
-ghost use Rattle.plan_file.specs.Slots.{seen, text_in, integer_in, name_in, entries_in};
-ghost use Rattle.plan_file.specs.Values.{table_in};
-ghost use Rattle.plan_file.specs.Gives.{GivesBy};
+ghost use Rattle.plan_file.specs.private.Slots.{seen, text_in, integer_in, name_in, entries_in};
+ghost use Rattle.plan_file.specs.private.Values.{table_in};
+ghost use Rattle.plan_file.specs.private.Gives.{GivesBy};
 
 use crate::error::PlanFileErr;
 use std::alloc::Global;

@@ -13,7 +13,8 @@ ghost use Rattle.plan_file.specs.Rows.{NamesNoBundle, rows_in};
 ghost use Rattle.sync_text.specs.Chain.{found};
 ghost use Rattle.plan_file.specs.Rules.{IsFirstBroken};
 ghost use Rattle.plan_file.specs.PlanText.{document_of, rows_in_file, plan_of, OfDocument, GivesRows};
-ghost use Rattle.plan_file.specs.Gives.{Gives, GivesBy, RefusesWhere};
+ghost use Rattle.plan_file.specs.Gives.{Gives, RefusesWhere};
+ghost use Rattle.plan_file.specs.private.Gives.{GivesBy};
 
 use crate::error::PlanFileErr;
 use crate::rows::rows_of;

@@ -5,9 +5,10 @@ ghost use Rattle.toml.specs.View.{view, table_view};
 ghost use Rattle.sync_topo.specs.declared.place.Section.TheVariants as section;
 ghost use Rattle.plan_file.specs.declared.version.Version.TheVariants.{One, Two};
 ghost use Rattle.plan_file.specs.Format.{keys_of};
-ghost use Rattle.plan_file.specs.Rows.{element_row, link_row, source_row, row_at, rows_of_document};
-ghost use Rattle.plan_file.specs.Slots.{lacks, fits, said_by};
-ghost use Rattle.plan_file.specs.Values.{element_slots, link_slots, source_slots, element_said, link_said, source_said, rows_from};
+ghost use Rattle.plan_file.specs.Rows.{element_row, link_row, source_row, rows_of_document};
+ghost use Rattle.plan_file.specs.private.Rows.{row_at};
+ghost use Rattle.plan_file.specs.private.Slots.{lacks, fits, said_by};
+ghost use Rattle.plan_file.specs.private.Values.{element_slots, link_slots, source_slots, element_said, link_said, source_said, rows_from};
 ghost use Rattle.plan_file.specs.Gives.{Gives};
 
 use crate::error::PlanFileErr;

@@ -7,8 +7,8 @@ ghost use Rattle.toml.specs.View.{view, table_view};
 ghost use Rattle.sync_topo.specs.declared.place.Section.TheVariants.{Head, Elements, Links, Sources};
 ghost use Rattle.plan_file.specs.declared.version.Version.TheVariants.{Two};
 ghost use Rattle.plan_file.specs.Format.{keys_of};
-ghost use Rattle.plan_file.specs.Slots.{put, slots_of, seen};
-ghost use Rattle.plan_file.specs.Values.{head_slots, element_slots, link_slots, source_slots, without_bundle, of_version};
+ghost use Rattle.plan_file.specs.private.Slots.{put, slots_of, seen};
+ghost use Rattle.plan_file.specs.private.Values.{head_slots, element_slots, link_slots, source_slots, without_bundle, of_version};
 
 use crate::version::Version;
 use toml::{Table, Value};

@@ -16,13 +16,13 @@ use Rattle.sync_topo.specs.Topology.{Topology}
 use Rattle.sync_topo.specs.Names.{is_named, element_names}
 use Rattle.sync_topo.specs.RowValues.{element_of_name, element_from, link_from, plan_from}
 use Rattle.sync_topo.specs.PlanRows.{plan_of_rows}
-use Rattle.sync_topo.specs.Gives.{Refuses}
+use Rattle.sync_topo.specs.private.Gives.{Refuses}
 use Rattle.sync_topo.specs.WellFormed.{IsWellFormed}
 use Rattle.sync_topo.proofs.RuleLemmas.{is_named-at}
 use Rattle.sync_topo.proofs.KeptRules.{ElementRowFits, LinkRowFits, RowsFit, plan_of_rows-kept}
 use Rattle.sync_topo.proofs.RowsOfPlan.{all-map, place_of-distinct}
 use Rattle.plan_gen.specs.Ladder.{numbered, link_up, links_up_to, ladder}
-use Rattle.plan_gen.specs.LadderRows.{element_row, link_row, step_row, rail_row, link_rows_up_to, ladder_rows}
+use Rattle.plan_gen.specs.private.LadderRows.{element_row, link_row, step_row, rail_row, link_rows_up_to, ladder_rows}
 use Rattle.sync_text.proofs.Ranges.{range_more}
 use Rattle.plan_gen.proofs.Ranges.{range_get}
 use Rattle.plan_gen.proofs.LadderPlan.{elements_by_name, IsWellFormed-ladder}

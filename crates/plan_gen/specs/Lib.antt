@@ -1,3 +1,2 @@
 pub mod Ladder
-pub mod Examples
-pub mod LadderRows
+pub mod private

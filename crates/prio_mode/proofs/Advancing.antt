@@ -7,12 +7,13 @@ use Rattle.sync_topo.specs.declared.event.Event.{Event}
 use Rattle.sync_topo.specs.Topology.{Topology}
 use Rattle.sync_topo.specs.Events.{IsEventList}
 use Rattle.net_rules.specs.Signals.{events_at}
-use Rattle.event_times.specs.EventTimes.{AreHere, IsNextTime, AreParted}
+use Rattle.event_times.specs.EventTimes.{IsNextTime, AreParted}
+use Rattle.event_times.specs.private.EventTimes.{AreHere}
 use Rattle.event_times.proofs.EventTimes.{sooner, none-until, are-here, later-told}
 use Rattle.net_words.specs.Words.{all_words}
 use Rattle.prio_mode.specs.declared.running.Run.{Run}
 use Rattle.prio_mode.specs.PriorityRows.{row_in, rows_until}
-use Rattle.prio_mode.specs.Running.{IsReady, IsRun, RunStands, HasRun, IsOnWay, kept_at}
+use Rattle.prio_mode.specs.private.Running.{IsReady, IsRun, RunStands, HasRun, IsOnWay, kept_at}
 use Rattle.prio_mode.proofs.Standing.{quiet-stands, no-row}
 use Rattle.prio_mode.proofs.Turning.{ready-later, row-is}
 

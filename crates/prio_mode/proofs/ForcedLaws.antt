@@ -33,7 +33,7 @@ use Rattle.net_rules.specs.Signals.{Signals, signals_by, events_at, last_word, s
 use Rattle.net_rules.specs.Settings.{input_by}
 use Rattle.net_rules.specs.Walks.{AreApart, IsOneOf, IsTaken}
 use Rattle.net_rules.proofs.SettingLaws.{input-by, priorities-by}
-use Rattle.sync_topo.specs.declared.returns.Returns.TheVariants.{Allowed}
+use Rattle.sync_topo.specs.declared.returns.ReturnRule.TheVariants.{Allowed}
 use Rattle.sync_topo.specs.Hops.{hops_any}
 use Rattle.sync_topo.proofs.HopLaws.{hop-meets}
 use Rattle.closed_walks.proofs.Rings.{each-one}

@@ -10,7 +10,7 @@ use Rattle.sync_text.specs.Each.{Each}
 use Rattle.csv.specs.Writing.{default_writer, row_text, fields_text, is_blank, read_back}
 use Rattle.csv.proofs.RoundTrip.{rows_text}
 use Rattle.csv_records.specs.Records.{records_of}
-use Rattle.csv_records.specs.Written.{IsPlain}
+use Rattle.csv_records.specs.private.Written.{IsPlain}
 use Rattle.csv_records.proofs.FirstRefusals.{first_refusal-none}
 use Rattle.csv_records.proofs.WrittenRecords.{plain_field, records-of-text}
 use Rattle.sync_text.specs.Number.{number_of}

@@ -11,7 +11,7 @@ use Rattle.net_rules.specs.Signals.{signals_by}
 use Rattle.net_words.specs.NewElements.{AreEach}
 use Rattle.prio_mode.specs.declared.running.Run.{Run}
 use Rattle.prio_mode.specs.PriorityAlone.{priority_settings, priority_moment}
-use Rattle.prio_mode.specs.Running.{IsNewSeen, IsRun, RunStands, kept_at, nobody}
+use Rattle.prio_mode.specs.private.Running.{IsNewSeen, IsRun, RunStands, kept_at, nobody}
 
 replicated : {A : Type 0} (n i : ℕ) (a : A) → slice_index_or (replicate n a) i a ≡ a
 replicated n i a = elim (cases_lt i n) [

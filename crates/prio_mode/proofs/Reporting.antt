@@ -26,7 +26,7 @@ use Rattle.prio_mode.specs.declared.running.Run.{Run}
 use Rattle.prio_mode.specs.PriorityAlone.{priority_settings, priority_past, priority_taken_at, priority_taken_in}
 use Rattle.prio_mode.specs.PriorityRows.{shown_after, rows_until}
 use Rattle.prio_mode.specs.PriorityReport.{IsPriorityReport}
-use Rattle.prio_mode.specs.Running.{IsRun, RunStands, inputs_shown, kept_at, nobody}
+use Rattle.prio_mode.specs.private.Running.{IsRun, RunStands, inputs_shown, kept_at, nobody}
 use Rattle.prio_mode.proofs.Standing.{shown-is}
 
 -- an input of the plan is of one of its elements

@@ -8,7 +8,7 @@ use Rattle.sync_topo.specs.Ranks.{HopTest, IsBefore, Leads, IsFirstCycleFrom}
 use Rattle.net_rules.specs.Walks.{AreApart, IsOneOf, Joins}
 use Rattle.closed_walks.proofs.Rings.{each-one}
 use Rattle.cycle_plan.proofs.Back.{before_same}
-use Rattle.sync_topo.specs.declared.returns.Returns.TheVariants.{Allowed}
+use Rattle.sync_topo.specs.declared.returns.ReturnRule.TheVariants.{Allowed}
 use Rattle.sync_topo.specs.Hops.{hops_any}
 use Rattle.sync_topo.proofs.HopLaws.{hop-meets, hop-any-from}
 

@@ -27,8 +27,8 @@ use Rattle.shown_words.proofs.SameLaws.{same-mode, same-state, same-taken}
 use Rattle.prio_mode.specs.declared.shown.Shown.{Shown}
 use Rattle.prio_mode.specs.PriorityAlone.{priority_levels, priority_settings, priority_moment, priority_past}
 use Rattle.net_words.specs.NewElements.{one_level, by_priority}
-use Rattle.prio_mode.specs.PriorityRows.{shown_after, is_other, shown_by, row_between, change_row}
-use Rattle.prio_mode.specs.Running.{Shows, IsOfPast}
+use Rattle.prio_mode.specs.PriorityRows.{shown_after, shows_other, shown_by, row_between, change_row}
+use Rattle.prio_mode.specs.private.Running.{Shows, IsOfPast}
 
 -- the one level is what each input had before a millisecond
 one-before : (plan : Topology) (input : InputId) (n : ℕ) → level_until (by_priority plan) (priority_levels plan) input n ≡ Some (one_level plan.option)
@@ -76,8 +76,8 @@ shown-is plan all place n element shown shows is =
     ∙ ap (λ past. shown_after plan place past) (sym is.quiet)
 
 -- nothing is other than itself
-not-other : (shown : Shown) → is_other shown shown ≡ false
-unfolding is_other
+not-other : (shown : Shown) → shows_other shown shown ≡ false
+unfolding shows_other
 not-other shown = rw (same-mode shown.mode, same-taken shown.input, same-state shown.state) refl
 
 pub no-row : (plan : Topology) (t place : ℕ) (was shown : Shown) → was ≡ shown → row_between plan t place was shown ≡ []

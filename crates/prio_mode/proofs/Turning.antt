@@ -18,15 +18,15 @@ use Rattle.sync_element.proofs.ElementSteps.{later-due, stepped-in_time, stands-
 use Rattle.sync_topo.specs.declared.event.Event.{Event}
 use Rattle.sync_topo.specs.Topology.{Topology}
 use Rattle.net_rules.specs.Signals.{signals_by}
-use Rattle.event_times.specs.EventTimes.{AreHere}
+use Rattle.event_times.specs.private.EventTimes.{AreHere}
 use Rattle.net_words.specs.Tellings.{is_active}
 use Rattle.net_words.specs.Words.{all_words}
 use Rattle.prio_mode.specs.declared.shown.Seen.{Seen}
 use Rattle.prio_mode.specs.declared.running.Run.{Run}
 use Rattle.prio_mode.specs.PriorityAlone.{priority_settings, priority_moment, priority_past}
 use Rattle.prio_mode.specs.PriorityRows.{shown_by, row_between, row_in, rows_in, rows_until}
-use Rattle.prio_mode.specs.Running.{Shows, Kept, IsReady, IsOfPast, IsRun, HasRun, kept_at}
-use Rattle.prio_mode.specs.Visiting.{IsCalled, AreCalled, IsVisited, AreVisited, row_of, IsAloneVisited}
+use Rattle.prio_mode.specs.private.Running.{Shows, Kept, IsReady, IsOfPast, IsRun, HasRun, kept_at}
+use Rattle.prio_mode.specs.private.Visiting.{IsCalled, AreCalled, IsVisited, AreVisited, row_of, IsAloneVisited}
 use Rattle.prio_mode.proofs.Standing.{told-moment, quiet-stands, shown-is, no-row}
 
 -- after some elements, one that isn't among them

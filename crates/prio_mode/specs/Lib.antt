@@ -6,5 +6,4 @@ pub mod ForcedLoop
 pub mod ForcedText
 pub mod PriorityRows
 pub mod PriorityReport
-pub mod Running
-pub mod Visiting
+pub mod private

@@ -2,11 +2,8 @@
 -- levels decide nothing. After G.781, selection, external commands, and hold-off and wait-to-restore times; the
 -- rest is this project's own.
 use Rattle.std.specs.Prelude.{ℕ, suc, List, Option, Some}
-use Rattle.sync_ql.specs.declared.rules.Mode.{Mode}
-use Rattle.sync_ql.specs.declared.rules.ClockState.{ClockState}
 use Rattle.sync_ql.specs.Pasts.{past_of}
 use Rattle.sync_ql.specs.Moment.{Moment, Settings}
-use Rattle.sync_ql.specs.Output.{mode_at, state_at}
 use Rattle.sync_topo.specs.declared.input.InputId.{InputId}
 use Rattle.sync_topo.specs.Topology.{Topology}
 use Rattle.net_rules.specs.Signals.{Signals}
@@ -41,10 +38,3 @@ priority_taken_at plan signals element t = priority_taken_by plan element (prior
 -- what each element takes in a millisecond
 abbrev pub priority_taken_in : Topology → Signals → ℕ → Taken
 priority_taken_in plan signals t element = priority_taken_at plan signals element t
-
--- an element's mode and its state in a millisecond
-abbrev pub priority_mode_at : Topology → Signals → ℕ → ℕ → Mode
-priority_mode_at plan signals element t = mode_at (priority_settings plan element) (priority_past plan signals element (suc t))
-
-abbrev pub priority_state_at : Topology → Signals → ℕ → ℕ → ClockState
-priority_state_at plan signals element t = state_at (priority_settings plan element) (priority_past plan signals element (suc t))

@@ -15,8 +15,8 @@ use Rattle.prio_mode.specs.declared.shown.Shown.{Shown}
 use Rattle.prio_mode.specs.PriorityAlone.{priority_settings, priority_past, priority_taken_by}
 
 -- what is shown differs: the mode, the input that is taken, or the state
-unfoldable pub is_other : Shown → Shown → Bool
-is_other was now = not (is_same_mode was.mode now.mode && is_same_taken was.input now.input && is_same_state was.state now.state)
+unfoldable pub shows_other : Shown → Shown → Bool
+shows_other was now = not (is_same_mode was.mode now.mode && is_same_taken was.input now.input && is_same_state was.state now.state)
 
 -- what an element shows after a past: its mode, the input that it takes, and what its clock follows. After
 -- none it selects automatically, takes no input, and runs free
@@ -39,7 +39,7 @@ change_row plan t element shown =
 
 -- the row of an element that shows something else now, and no row otherwise
 abbrev pub row_between : Topology → ℕ → ℕ → Shown → Shown → List ℕ
-row_between plan t element was now = if is_other was now then change_row plan t element now else []
+row_between plan t element was now = if shows_other was now then change_row plan t element now else []
 
 -- the row of an element in a millisecond, those of the first k elements in their order, those of all, and
 -- those of the first n milliseconds

@@ -8,18 +8,19 @@ ghost use Rattle.prio_mode.specs.PriorityHops.{Judges};
 ghost use Rattle.prio_mode.specs.PriorityLoops.{NeverLoops};
 
 use rank_cert::{Cert, Verdict, check_with};
-use sync_topo::{LineId, Plan, Returns};
+use sync_topo::{LineId, Plan, ReturnRule};
 
-/// What line `l` brings to an element may go on over line `m` where elements choose by priority alone:
-/// both are nominated, and `m` begins where `l` ends.
+/// What `line` brings to an element may go on over `next` where elements choose by priority alone: both
+/// are nominated, and `next` begins where `line` ends.
 ///
-/// Both are lines of the plan. The way back over `l`'s own link is such a hop too. This project's own.
-pub fn hop_any(plan: &Plan, l: LineId, m: LineId) -> bool
-    requires from { l.0 < line_count plan.now }
-    requires to { m.0 < line_count plan.now }
-    ensures { IsTrue result ↔ HopsAny plan.now l.0 m.0 }
+/// Both are lines of the plan. The way back over `line`'s own link is such a hop too. This project's
+/// own.
+pub fn hop_any(plan: &Plan, line: LineId, next: LineId) -> bool
+    requires from { line.0 < line_count plan.now }
+    requires to { next.0 < line_count plan.now }
+    ensures { IsTrue result ↔ HopsAny plan.now line.0 next.0 }
 {
-    plan.hop_by(Returns::Allowed, l, m)
+    plan.hop_by(ReturnRule::Allowed, line, next)
 }
 
 /// Tests that the rank is greater after every hop, where elements choose by priority alone.
@@ -33,5 +34,5 @@ pub fn prio_check(plan: &Plan, cert: &Cert) -> Verdict
     // With rising ranks no timing loop can form in any millisecond, whatever happens.
     ensures never_loops { result ≡ Verdict.Rising → NeverLoops plan.now }
 {
-    check_with(Returns::Allowed, plan, cert)
+    check_with(ReturnRule::Allowed, plan, cert)
 }

@@ -4,7 +4,7 @@ ghost use Rattle.std.specs.Prelude.{◌≡◌, ◌++◌, ℕ, List, IfOk, OnOk};
 ghost use Rattle.closed_walks.specs.Taking.{taken_in_list, AreTaken};
 ghost use Rattle.closed_walks.specs.Loops.{AreLoops};
 ghost use Rattle.closed_walks.specs.WalkText.{walk_rows};
-ghost use Rattle.prio_mode.specs.Running.{inputs_shown};
+ghost use Rattle.prio_mode.specs.private.Running.{inputs_shown};
 
 use crate::shown::Seen;
 use closed_walks::{put_walks, walks_of};

@@ -15,7 +15,7 @@ use cycle_plan::{Ranked, rank_with};
 use rank_cert::Cert;
 use std::alloc::Global;
 use sync_text::{NoMemory, Rows};
-use sync_topo::{LineId, Plan, Returns};
+use sync_topo::{LineId, Plan, ReturnRule};
 
 /// What the planner finds where elements choose by priority alone.
 #[derive(Debug, Drop)]
@@ -49,7 +49,7 @@ pub fn prio_plan(alloc: Global, plan: &Plan) -> Result<PrioRanked, NoMemory>
     ensures forced { IfLoop result (IsForcedLoop plan.now) }
     ensures never { IfLoop result (λ lines. (rank : ℕ → ℕ) → Rises (hops_any plan.now) rank → ⊥) }
 {
-    match rank_with(alloc, Returns::Allowed, plan)? {
+    match rank_with(alloc, ReturnRule::Allowed, plan)? {
         Ranked::Ranks(ranks) => Ok(PrioRanked::Ranks(ranks)),
         Ranked::Cycle(lines) => Ok(PrioRanked::Loop(lines)),
     }

@@ -4,7 +4,7 @@ ghost use Rattle.std.specs.Prelude.{◌≡◌, ◌++◌, ◌<◌, length, IfSome
 ghost use Rattle.sync_topo.specs.Lines.{IsInput};
 ghost use Rattle.prio_mode.specs.PriorityRows.{change_row, row_between};
 
-use crate::shown::{Shown, is_other};
+use crate::shown::{Shown, shows_other};
 use shown_words::{put_choice, state_word};
 use std::alloc::Global;
 use sync_text::{NoMemory, Text};
@@ -24,7 +24,7 @@ pub(crate) fn put_if_other(
     requires input { IfSome shown.input (IsInput plan.now) }
     ensures put { OnOk result (text.new ≡ text.old ++ row_between plan.now now place was shown) }
 {
-    if !is_other(was, shown) {
+    if !shows_other(was, shown) {
         return Ok(());
     }
     put_change(alloc, text, plan, now, place, shown)

@@ -5,9 +5,10 @@ ghost use Rattle.std.specs.List.{IsDistinct};
 ghost use Rattle.agenda.specs.Called.{is_marked};
 ghost use Rattle.sync_topo.specs.declared.event.Event.{Event};
 ghost use Rattle.sync_topo.specs.Events.{Fits};
-ghost use Rattle.event_times.specs.EventTimes.{AreHere, AreTold, AreWithin};
-ghost use Rattle.prio_mode.specs.Running.{AreCounted, IsRun, RunStands, HasRun, kept_at};
-ghost use Rattle.prio_mode.specs.Visiting.{CanStep, IsAloneVisited, AreVisited, AreCalled};
+ghost use Rattle.event_times.specs.EventTimes.{AreTold, AreWithin};
+ghost use Rattle.event_times.specs.private.EventTimes.{AreHere};
+ghost use Rattle.prio_mode.specs.private.Running.{AreCounted, IsRun, RunStands, HasRun, kept_at};
+ghost use Rattle.prio_mode.specs.private.Visiting.{CanStep, IsAloneVisited, AreVisited, AreCalled};
 
 use crate::rows::put_if_other;
 use crate::shown::Seen;

@@ -2,8 +2,8 @@
 
 ghost use Rattle.std.specs.Prelude.{◌≡◌, ◌<◌, length};
 ghost use Rattle.prio_mode.specs.PriorityAlone.{priority_settings};
-ghost use Rattle.prio_mode.specs.PriorityRows.{is_other};
-ghost use Rattle.prio_mode.specs.Running.{Shows};
+ghost use Rattle.prio_mode.specs.PriorityRows.{shows_other};
+ghost use Rattle.prio_mode.specs.private.Running.{Shows};
 
 use net_words::taken_of;
 use shown_words::{is_same_mode, is_same_state, is_same_taken};
@@ -41,9 +41,9 @@ pub(crate) fn shown_of(plan: &Plan, place: u32, element: &Element) -> Shown
 }
 
 /// Whether something else is shown now than was.
-#[tactic(auto, unfolding(crate::specs::PriorityRows::is_other))]
-pub(crate) fn is_other(was: Shown, now: Shown) -> bool
-    ensures { result ≡ is_other was now }
+#[tactic(auto, unfolding(crate::specs::PriorityRows::shows_other))]
+pub(crate) fn shows_other(was: Shown, now: Shown) -> bool
+    ensures { result ≡ shows_other was now }
 {
     !(is_same_mode(was.mode, now.mode)
         && is_same_taken(was.input, now.input)

@@ -3,7 +3,7 @@
 ghost use Rattle.std.specs.Prelude.{◌<◌, ℕ, List, IfOk, length};
 ghost use Rattle.sync_topo.specs.declared.event.Event.{Event};
 ghost use Rattle.net_words.specs.NewElements.{AreEach};
-ghost use Rattle.prio_mode.specs.Running.{IsNewSeen, IsRun, RunStands};
+ghost use Rattle.prio_mode.specs.private.Running.{IsNewSeen, IsRun, RunStands};
 
 use crate::running::Run;
 use crate::shown::{Seen, shown_of};

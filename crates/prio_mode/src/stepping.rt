@@ -5,7 +5,7 @@ ghost use Rattle.sync_ql.specs.Told.{FitsElement};
 ghost use Rattle.sync_element.specs.ElementState.{IsInTime};
 ghost use Rattle.sync_element.specs.StandsAfter.{IsStepped};
 ghost use Rattle.prio_mode.specs.PriorityAlone.{priority_settings};
-ghost use Rattle.prio_mode.specs.Running.{Shows};
+ghost use Rattle.prio_mode.specs.private.Running.{Shows};
 
 use crate::shown::{Seen, Shown, shown_of};
 use net_words::step_alone;

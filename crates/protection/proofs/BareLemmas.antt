@@ -5,7 +5,7 @@ use Rattle.std.specs.List.{range_with_len}
 use Rattle.std.proofs.lemmas.Bool.{true≢false, false_from_ne_true}
 use Rattle.std.proofs.lemmas.List.{length-map, get_or-replicate}
 use Rattle.sync_topo.specs.declared.input.InputId.TheVariants.{Source}
-use Rattle.sync_topo.specs.declared.returns.Returns.TheVariants.{Barred, BarredFromLast}
+use Rattle.sync_topo.specs.declared.returns.ReturnRule.TheVariants.{Barred, BarredFromLast}
 use Rattle.sync_topo.specs.declared.link.Link.{Link}
 use Rattle.sync_topo.specs.Topology.{Topology}
 use Rattle.sync_topo.specs.Limits.{greatest_priority, input_limit}

@@ -17,7 +17,7 @@ use Rattle.nominate.proofs.PlanFacts.{with-long, with-get}
 use Rattle.protection.specs.declared.gap.Gap.{Gap}
 use Rattle.protection.specs.Gaps.{IsGapIn}
 use Rattle.protection.specs.Orderly.{IsOfTwoBundles, IsFound}
-use Rattle.protection.specs.Trying.{bundle_at}
+use Rattle.protection.specs.private.Trying.{bundle_at}
 
 -- two bundles of each element's, by two lists
 pub two-from : (plan : Topology) (firsts seconds : List (Option ℕ))

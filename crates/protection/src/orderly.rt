@@ -7,7 +7,7 @@ ghost use Rattle.sync_topo.specs.Hops.{IsRising};
 ghost use Rattle.reach_rules.specs.Agreement.{IsAgreedBound};
 ghost use Rattle.nominate.specs.HopCount.{count_at, is_one_less};
 ghost use Rattle.protection.specs.Orderly.{is_apart, stands_apart, is_first_choice, ComesByFewest, IsOrderly};
-ghost use Rattle.protection.specs.Trying.{bundle_at};
+ghost use Rattle.protection.specs.private.Trying.{bundle_at};
 
 use cycle_plan::{Agreement, Ranked, agree, rank_plan};
 use nominate::{Hops, is_one_less, least_hops};

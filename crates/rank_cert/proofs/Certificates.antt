@@ -17,7 +17,7 @@ use Rattle.rank_cert.specs.declared.error.CertErr.TheVariants.{Missing}
 use Rattle.rank_cert.specs.Ranks.{Ranks, rank_at, IsRanked, RanksNoOther}
 use Rattle.rank_cert.specs.Rows.{Fields, line_in_row, if_nominated, is_row_of, rank_by_rows, ranks_by_rows}
 use Rattle.rank_cert.specs.CertificateText.{is_header, refusal_at, first_without, certificate_of_records}
-use Rattle.rank_cert.specs.RowsTaken.{AreRanksBy}
+use Rattle.rank_cert.specs.private.RowsTaken.{AreRanksBy}
 
 -- no line has a rank before the first row
 pub AreRanksBy-none : (plan : Topology) (ranks : Ranks) → ranks ≡ replicate (line_count plan) None → length ranks ≡ line_count plan → AreRanksBy plan [] ranks

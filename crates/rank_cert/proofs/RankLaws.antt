@@ -8,25 +8,26 @@ use Rattle.sync_text.proofs.Ranges.{find_range-Some, find_range-None}
 use Rattle.sync_topo.specs.Topology.{Topology}
 use Rattle.sync_topo.specs.declared.input.LineId.{LineId}
 use Rattle.sync_topo.specs.Lines.{line_count}
-use Rattle.sync_topo.specs.Hops.{hops_by, HopsBy, IsRising, IsWalk, IsCycle}
+use Rattle.sync_topo.specs.Hops.{hops_by, HopsBy, IsRising, IsCycle}
+use Rattle.sync_topo.specs.private.Hops.{IsWalk}
 use Rattle.sync_topo.specs.Ranks.{Rises}
-use Rattle.sync_topo.specs.declared.returns.Returns.{Returns}
+use Rattle.sync_topo.specs.declared.returns.ReturnRule.{ReturnRule}
 use Rattle.sync_topo.proofs.HopLaws.{lines-of-hop}
 use Rattle.rank_cert.specs.Ranks.{Ranks, rank_of, IsFirstFallOver}
-use Rattle.rank_cert.specs.FirstFall.{falls, first_to, earlier, IsFirstBelow}
+use Rattle.rank_cert.specs.private.FirstFall.{falls, first_to, earlier, IsFirstBelow}
 
 -- a fall is a hop over which the rank doesn't rise
-pub fall_parts : (returns : Returns) (plan : Topology) (ranks : Ranks) (line next : ℕ) → falls returns plan ranks line next ≡ true → HopsBy returns plan line next × (rank_of ranks next ≤ rank_of ranks line)
+pub fall_parts : (returns : ReturnRule) (plan : Topology) (ranks : Ranks) (line next : ℕ) → falls returns plan ranks line next ≡ true → HopsBy returns plan line next × (rank_of ranks next ≤ rank_of ranks line)
 fall_parts returns plan ranks line next fall =
     let parts = and_parts (hops_by returns plan line next) (nat_le (rank_of ranks next) (rank_of ranks line)) fall in
     (parts.0, leb-true _ _ parts.1)
 
-pub fall_from : (returns : Returns) (plan : Topology) (ranks : Ranks) (line next : ℕ) → HopsBy returns plan line next → rank_of ranks next ≤ rank_of ranks line → falls returns plan ranks line next ≡ true
+pub fall_from : (returns : ReturnRule) (plan : Topology) (ranks : Ranks) (line next : ℕ) → HopsBy returns plan line next → rank_of ranks next ≤ rank_of ranks line → falls returns plan ranks line next ≡ true
 fall_from returns plan ranks line next hop low =
     both_true {s = hops_by returns plan line next} {t = nat_le (rank_of ranks next) (rank_of ranks line)} hop (le-leb _ _ low)
 
 -- the first line whose hop falls comes before every other
-pub first_to-Some : (returns : Returns) (plan : Topology) (ranks : Ranks) (next line : ℕ) → first_to returns plan ranks next ≡ Some line
+pub first_to-Some : (returns : ReturnRule) (plan : Topology) (ranks : Ranks) (next line : ℕ) → first_to returns plan ranks next ≡ Some line
     → (falls returns plan ranks line next ≡ true) × ((other : ℕ) → falls returns plan ranks other next ≡ true → line ≤ other)
 first_to-Some returns plan ranks next line found =
     let facts = find_range-Some (λ l. falls returns plan ranks l next) 0 (line_count plan) line found in (
@@ -37,7 +38,7 @@ first_to-Some returns plan ranks next line found =
       ],
     )
 
-pub first_to-None : (returns : Returns) (plan : Topology) (ranks : Ranks) (next other : ℕ) → first_to returns plan ranks next ≡ None → falls returns plan ranks other next ≡ true → ⊥
+pub first_to-None : (returns : ReturnRule) (plan : Topology) (ranks : Ranks) (next other : ℕ) → first_to returns plan ranks next ≡ None → falls returns plan ranks other next ≡ true → ⊥
 first_to-None returns plan ranks next other found fall =
     let inside = (lines-of-hop returns plan other next (fall_parts returns plan ranks other next fall).0).0 in
     true≢false (sym fall ∙ find_range-None (λ l. falls returns plan ranks l next) 0 (line_count plan) found other (omega arith) (omega arith))
@@ -50,7 +51,7 @@ not_before line other next after from to = elim (cases_lt line other) [
 ]
 
 -- one line more
-pub IsFirstBelow-more : (returns : Returns) (plan : Topology) (ranks : Ranks) (first : Option (LineId × LineId)) (line : Option LineId) (next : LineId)
+pub IsFirstBelow-more : (returns : ReturnRule) (plan : Topology) (ranks : Ranks) (first : Option (LineId × LineId)) (line : Option LineId) (next : LineId)
     → IsFirstBelow returns plan ranks next.0 first → option_map (λ l. l.0) line ≡ first_to returns plan ranks next.0
     → IsFirstBelow returns plan ranks (next.0 + 1) (earlier first line next)
 IsFirstBelow-more returns plan ranks None None next before found =
@@ -120,7 +121,7 @@ IsFirstBelow-more returns plan ranks (Some fall) (Some line) next before found =
     )
 
 -- with no fall to any line, ranks rise over every hop
-pub IsRising-from : (returns : Returns) (plan : Topology) (ranks : Ranks) (bound : ℕ) → line_count plan ≤ bound → IsFirstBelow returns plan ranks bound None → Rises (hops_by returns plan) (rank_of ranks)
+pub IsRising-from : (returns : ReturnRule) (plan : Topology) (ranks : Ranks) (bound : ℕ) → line_count plan ≤ bound → IsFirstBelow returns plan ranks bound None → Rises (hops_by returns plan) (rank_of ranks)
 IsRising-from returns plan ranks bound all none line next hop =
     elim (cases_lt (rank_of ranks line) (rank_of ranks next)) [
       | inl rises ↦ rises
@@ -131,7 +132,7 @@ IsRising-from returns plan ranks bound all none line next hop =
     ]
 
 -- the first fall to any line is the first of all
-pub IsFirstFall-from : (returns : Returns) (plan : Topology) (ranks : Ranks) (bound : ℕ) (line next : LineId) → line_count plan ≤ bound → IsFirstBelow returns plan ranks bound (Some (line, next))
+pub IsFirstFall-from : (returns : ReturnRule) (plan : Topology) (ranks : Ranks) (bound : ℕ) (line next : LineId) → line_count plan ≤ bound → IsFirstBelow returns plan ranks bound (Some (line, next))
     → IsFirstFallOver (hops_by returns plan) ranks line.0 next.0
 IsFirstFall-from returns plan ranks bound line next all found =
     let parts = fall_parts returns plan ranks line.0 next.0 found.0 in

@@ -8,10 +8,11 @@ use Rattle.sync_topo.specs.Topology.{Topology}
 use Rattle.rank_cert.specs.Ranks.{Ranks}
 use Rattle.sync_text.specs.Gives.{UnlessWanting}
 use Rattle.rank_cert.specs.declared.error.CertErr.{CertErr}
-use Rattle.rank_cert.specs.Refusal.{is_want, Refuses}
+use Rattle.rank_cert.specs.Refusal.{is_want}
+use Rattle.rank_cert.specs.private.Refusal.{Refuses}
 use Rattle.rank_cert.specs.Rows.{Fields, rank_in_row, line_in_row, rank_for, rank_by_rows}
 use Rattle.rank_cert.specs.CertificateText.{row_refusal, refusal_at, unless}
-use Rattle.rank_cert.specs.RowsTaken.{refusal_after, AreRanksAfter, AreRanksBy, AreTaken}
+use Rattle.rank_cert.specs.private.RowsTaken.{refusal_after, AreRanksAfter, AreRanksBy, AreTaken}
 
 -- one item more from the front
 take-push : {A : Type 0} (xs : List A) (i : ℕ) (x : A) → slice_get xs i ≡ Some x → take (i + 1) xs ≡ take i xs ++ x ∷ []

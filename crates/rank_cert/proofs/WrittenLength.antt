@@ -13,7 +13,7 @@ use Rattle.sync_topo.specs.Names.{is_name}
 use Rattle.sync_topo.specs.WellFormed.{IsWellFormed}
 use Rattle.rank_cert.specs.Ranks.{Ranks, rank_at, rank_of, IsRanked}
 use Rattle.rank_cert.specs.CertificateText.{row_text, row_size, certificate_size}
-use Rattle.rank_cert.specs.Written.{AreWritten}
+use Rattle.rank_cert.specs.private.Written.{AreWritten}
 use Rattle.rank_cert.proofs.OwnNames.{passes_at, element_named, has-named-link}
 
 -- rows of the numbers in a range that pass, each at most so long

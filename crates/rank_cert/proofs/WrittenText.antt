@@ -14,7 +14,7 @@ use Rattle.std.proofs.lemmas.Option.{none-some, same_Some, slice_get-map}
 use Rattle.sync_text.proofs.Ranges.{find_range-none}
 use Rattle.csv_records.proofs.FirstRefusals.{first_refusal-none}
 use Rattle.csv_records.specs.Records.{records_of}
-use Rattle.csv_records.specs.Written.{is_plain_byte, IsPlain, ArePlain, pair_line, pair_lines, pair_records}
+use Rattle.csv_records.specs.private.Written.{is_plain_byte, IsPlain, ArePlain, pair_line, pair_lines, pair_records}
 use Rattle.csv_records.proofs.WrittenRecords.{records-of-lines}
 use Rattle.sync_text.proofs.Decimals.{number_of_decimal, number_of_some}
 use Rattle.sync_topo.specs.Topology.{Topology}
@@ -26,8 +26,8 @@ use Rattle.sync_topo.proofs.LineLaws.{IsNominated-within}
 use Rattle.rank_cert.specs.Ranks.{Ranks, rank_at, rank_of, IsRanked, RanksNoOther}
 use Rattle.rank_cert.specs.Rows.{Fields, rank_in_row, line_in_row, rank_by_rows}
 use Rattle.rank_cert.specs.CertificateText.{row_text, nominated_lines, certificate_text, certificate_of, refusal_at, first_without}
-use Rattle.rank_cert.specs.RowsTaken.{AreRanksBy}
-use Rattle.rank_cert.specs.Written.{line_text, AreWritten}
+use Rattle.rank_cert.specs.private.RowsTaken.{AreRanksBy}
+use Rattle.rank_cert.specs.private.Written.{line_text, AreWritten}
 use Rattle.rank_cert.proofs.Certificates.{certificate-of}
 use Rattle.rank_cert.proofs.OwnNames.{own-name, line_name-all, all-weaker}
 use Rattle.rank_cert.proofs.RuleLaws.{from_take}

@@ -2,8 +2,5 @@ pub mod Ranks
 pub mod Refusal
 pub mod Rows
 pub mod CertificateText
-pub mod FirstFall
-pub mod RowsTaken
-pub mod Written
 pub mod Rules
-pub mod Examples
+pub mod private

@@ -41,9 +41,5 @@ abbrev pub JudgesOver : HopTest → Ranks → Verdict → Type 0
 JudgesOver hop ranks Rising = Rises hop (rank_of ranks)
 JudgesOver hop ranks (Falls line next) = IsFirstFallOver hop ranks line.0 next.0
 
--- both over the hops of networks with quality levels
-abbrev pub IsFirstFall : Topology → Ranks → ℕ → ℕ → Type 0
-IsFirstFall plan ranks line next = IsFirstFallOver (hops plan) ranks line next
-
 abbrev pub Judges : Topology → Ranks → Verdict → Type 0
 Judges plan ranks verdict = JudgesOver (hops plan) ranks verdict

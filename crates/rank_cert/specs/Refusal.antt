@@ -1,6 +1,6 @@
 -- What a refusal of a certificate is printed with, and what a call answers that may refuse.
 use Rattle.std.specs.Prelude.{ℕ, Bool, true, false, Option, Some, None, Result}
-use Rattle.sync_text.specs.Gives.{GivesBut, RefusesBut}
+use Rattle.sync_text.specs.Gives.{GivesBut}
 use Rattle.rank_cert.specs.declared.error.CertErr.{CertErr}
 use Rattle.rank_cert.specs.declared.error.CertErr.TheVariants.{Header, Row, Line, Twice, Missing, NoMemory}
 
@@ -17,10 +17,6 @@ refusal_number NoMemory = None
 abbrev pub is_want : CertErr → Bool
 is_want NoMemory = true
 is_want refusal = false
-
--- the refusal is the definition's; want of memory says nothing
-abbrev pub Refuses : {A : Type 0} → CertErr → Result A CertErr → Type 0
-Refuses error answer = RefusesBut is_want error answer
 
 -- the answer is the definition's, value or refusal; want of memory says nothing
 abbrev pub Gives : {A : Type 0} → Result A CertErr → Result A CertErr → Type 0

@@ -43,23 +43,23 @@ impl Cert {
     /// Gives a line this rank, from 0 to 2^64 - 1, or none. Every other line stays as it was.
     ///
     /// This project's own.
-    pub fn set(&mut self, l: LineId, rank: Option<u64>)
-        requires { l.0 < length self.old }
-        ensures set { self.new ≡ slice_set self.old l.0 rank }
+    pub fn set(&mut self, line: LineId, rank: Option<u64>)
+        requires { line.0 < length self.old }
+        ensures set { self.new ≡ slice_set self.old line.0 rank }
         ensures counted { length self.new ≡ length self.old }
-        ensures here { rank_at self.new l.0 ≡ rank }
-        ensures others { (line : ℕ) → line ≢ l.0 → rank_at self.new line ≡ rank_at self.old line }
+        ensures here { rank_at self.new line.0 ≡ rank }
+        ensures others { (other : ℕ) → other ≢ line.0 → rank_at self.new other ≡ rank_at self.old other }
     {
-        self.ranks[l.0 as usize] = rank;
+        self.ranks[line.0 as usize] = rank;
     }
 
     /// A line's rank, from 0 to 2^64 - 1, if it has one.
     ///
     /// This project's own.
-    pub fn rank(&self, l: LineId) -> Option<u64>
-        requires { l.0 < length self.now }
-        ensures rank { result ≡ rank_at self.now l.0 }
+    pub fn rank(&self, line: LineId) -> Option<u64>
+        requires { line.0 < length self.now }
+        ensures rank { result ≡ rank_at self.now line.0 }
     {
-        self.ranks[l.0 as usize]
+        self.ranks[line.0 as usize]
     }
 }

@@ -8,8 +8,9 @@ ghost use Rattle.rank_cert.specs.Rows.{rank_in_row, line_in_row};
 ghost use Rattle.rank_cert.specs.CertificateText.{certificate_of, certificate_of_records, refusal_at, first_without, is_header, unless};
 ghost use Rattle.csv_records.specs.Records.{records_of};
 ghost use Rattle.rank_cert.specs.Rules.{IsFirstBroken, NamesLine, IsCertificateOf};
-ghost use Rattle.rank_cert.specs.RowsTaken.{refusal_after, AreRanksAfter, AreRanksBy};
-ghost use Rattle.rank_cert.specs.Refusal.{Gives, Refuses};
+ghost use Rattle.rank_cert.specs.private.RowsTaken.{refusal_after, AreRanksAfter, AreRanksBy};
+ghost use Rattle.rank_cert.specs.Refusal.{Gives};
+ghost use Rattle.rank_cert.specs.private.Refusal.{Refuses};
 
 use crate::cert::Cert;
 use crate::error::CertErr;
@@ -98,7 +99,7 @@ fn take_rows(cert: &mut Cert, plan: &Plan, records: &mut Records<'_>) -> Result<
 }
 
 /// Takes the rank of a row of this number, counted from 1.
-#[tactic(auto, unfolding(crate::specs::RowsTaken::refusal_after))]
+#[tactic(auto, unfolding(crate::specs::private::RowsTaken::refusal_after))]
 fn take_row(cert: &mut Cert, plan: &Plan, row: &Record, number: u64) -> Result<(), CertErr>
     requires { length cert.old ≡ line_count plan.now }
     ensures sound { OnOk result (refusal_after plan.now cert.old number row.now ≡ None) }

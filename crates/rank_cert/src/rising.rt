@@ -5,10 +5,10 @@ ghost use Rattle.sync_topo.specs.Lines.{line_count, IsInput};
 ghost use Rattle.sync_topo.specs.Hops.{hops_by, IsCycle};
 ghost use Rattle.net_rules.specs.Safety.{IsLoopFree};
 ghost use Rattle.rank_cert.specs.Ranks.{IsRanked, Judges, JudgesOver};
-ghost use Rattle.rank_cert.specs.FirstFall.{falls, fall_from, first_to, earlier};
+ghost use Rattle.rank_cert.specs.private.FirstFall.{falls, fall_from, first_to, earlier};
 
 use crate::cert::Cert;
-use sync_topo::{InputId, LineId, Plan, Returns};
+use sync_topo::{InputId, LineId, Plan, ReturnRule};
 
 /// What the test of ranks finds.
 ///
@@ -36,14 +36,14 @@ pub fn check(plan: &Plan, cert: &Cert) -> Verdict
 {
     // Every plan keeps the rules.
     let _lines = plan.lines();
-    check_with(Returns::Barred, plan, cert)
+    check_with(ReturnRule::Barred, plan, cert)
 }
 
 /// Tests that the rank is greater after every hop by a rule of returns.
 ///
 /// It looks at each hop once, and takes no memory. What falls first is named by its first line and
 /// then by its second. This project's own.
-pub fn check_with(returns: Returns, plan: &Plan, cert: &Cert) -> Verdict
+pub fn check_with(returns: ReturnRule, plan: &Plan, cert: &Cert) -> Verdict
     requires ranked { IsRanked plan.now cert.now }
     ensures verdict { JudgesOver (hops_by returns plan.now) cert.now result }
 {
@@ -74,7 +74,7 @@ fn earlier(
 }
 
 /// The first line whose hop to this one doesn't rise.
-fn first_to(returns: Returns, plan: &Plan, cert: &Cert, next: LineId) -> Option<LineId>
+fn first_to(returns: ReturnRule, plan: &Plan, cert: &Cert, next: LineId) -> Option<LineId>
     requires ranked { IsRanked plan.now cert.now }
     requires within { next.0 < line_count plan.now }
     ensures { option_map (λ line. line.0) result ≡ first_to returns plan.now cert.now next.0 }
@@ -90,7 +90,7 @@ fn first_to(returns: Returns, plan: &Plan, cert: &Cert, next: LineId) -> Option<
 
 /// The line of an input, where the rank doesn't rise over its hop to this one. A source is none.
 fn fall_from(
-    returns: Returns,
+    returns: ReturnRule,
     plan: &Plan,
     cert: &Cert,
     input: InputId,
@@ -108,7 +108,7 @@ fn fall_from(
 }
 
 /// The first line hops to the second, and the rank doesn't rise.
-fn falls(returns: Returns, plan: &Plan, cert: &Cert, line: LineId, next: LineId) -> bool
+fn falls(returns: ReturnRule, plan: &Plan, cert: &Cert, line: LineId, next: LineId) -> bool
     requires ranked { IsRanked plan.now cert.now }
     requires from { line.0 < line_count plan.now }
     requires to { next.0 < line_count plan.now }

@@ -4,7 +4,7 @@ ghost use Rattle.std.specs.Prelude.{◌≡◌, ◌++◌, ◌<◌, ◌≤◌, ◌
 ghost use Rattle.sync_topo.specs.Lines.{line_count};
 ghost use Rattle.rank_cert.specs.Ranks.{IsRanked, RanksNoOther, rank_at};
 ghost use Rattle.rank_cert.specs.CertificateText.{certificate_text, certificate_of, certificate_size, row_text};
-ghost use Rattle.rank_cert.specs.Written.{line_text};
+ghost use Rattle.rank_cert.specs.private.Written.{line_text};
 
 use crate::cert::Cert;
 use std::alloc::Global;

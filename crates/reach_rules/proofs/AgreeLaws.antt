@@ -13,7 +13,7 @@ use Rattle.sync_topo.specs.Topology.{Topology}
 use Rattle.sync_topo.specs.WellFormed.{IsWellFormed}
 use Rattle.sync_topo.specs.Lines.{line_count, line_input, sender_of, delay_of, IsNominated}
 use Rattle.sync_topo.specs.Hops.{bears_on}
-use Rattle.sync_topo.specs.declared.returns.Returns.TheVariants.{BarredFromLast}
+use Rattle.sync_topo.specs.declared.returns.ReturnRule.TheVariants.{BarredFromLast}
 use Rattle.sync_topo.proofs.HopLaws.{hop-meets}
 use Rattle.sync_topo.proofs.LineLaws.{IsNominated-within}
 use Rattle.net_rules.specs.Signals.{Signals, speaks_at}

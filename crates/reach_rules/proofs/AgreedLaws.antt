@@ -6,7 +6,7 @@ use Rattle.sync_ql.specs.Level.{place_of, do_not_use_of, IsBetter}
 use Rattle.sync_ql.specs.Table.{levels_of}
 use Rattle.sync_topo.specs.declared.input.InputId.{InputId}
 use Rattle.sync_topo.specs.declared.input.InputId.TheVariants.{Line, Source}
-use Rattle.sync_topo.specs.declared.returns.Returns.TheVariants.{BarredFromLast}
+use Rattle.sync_topo.specs.declared.returns.ReturnRule.TheVariants.{BarredFromLast}
 use Rattle.sync_topo.specs.Topology.{Topology}
 use Rattle.sync_topo.specs.WellFormed.{IsWellFormed}
 use Rattle.sync_topo.specs.Lines.{line_count, sender_of, input_priority}

@@ -2,8 +2,6 @@ pub mod Chains
 pub mod Ways
 pub mod Reaching
 pub mod Protection
-pub mod Examples
-pub mod ProtectionExamples
 pub mod Agreement
 pub mod Survival
-pub mod SurvivalExamples
+pub mod private

@@ -4,7 +4,7 @@ use Rattle.std.proofs.Math.Decide.{dec_lt}
 use Rattle.std.proofs.lemmas.Bool.{and_parts, not-true}
 use Rattle.sync_ql.specs.declared.rules.Candidate.{Candidate}
 use Rattle.sync_ql.specs.Selection.{candidate, is_eligible, beats, best_choice, IsEligible, IsBest, IsBestChoice}
-use Rattle.selector.specs.Scanned.{IsFirstBest, IsFirstBestAt}
+use Rattle.selector.specs.private.Scanned.{IsFirstBest, IsFirstBestAt}
 use Rattle.selector.proofs.Beating.{not_beats-trans}
 use Rattle.sync_ql.proofs.Eligible.{eligible_within}
 use Rattle.selector.proofs.FirstBest.{is_good, none_eligible, position-first, stays, first_taken, none_taken}

@@ -4,7 +4,7 @@ use Rattle.std.proofs.lemmas.Bool.Decides.{nat_tests}
 use Rattle.std.proofs.lemmas.List.Sums.{position_or_len_is}
 use Rattle.sync_ql.specs.declared.rules.Candidate.{Candidate}
 use Rattle.sync_ql.specs.Selection.{candidate, is_eligible, is_better, beats, is_best, best_choice}
-use Rattle.selector.specs.Scanned.{IsFirstBest, IsFirstBestAt}
+use Rattle.selector.specs.private.Scanned.{IsFirstBest, IsFirstBestAt}
 use Rattle.selector.proofs.Beating.{not_beats-trans, no_better-trans}
 use Rattle.sync_ql.proofs.Eligible.{nobody, eligible_within}
 use Rattle.selector.proofs.Eligible.{none_passes, none_passes-true, none_passes-false}

@@ -3,7 +3,7 @@ use Rattle.std.proofs.Common.{◌≡◌, ◌<◌, ◌↔◌, ℕ, Bool, true, fa
 use Rattle.std.proofs.lemmas.Bool.{and_parts}
 use Rattle.sync_ql.specs.declared.rules.Candidate.{Candidate}
 use Rattle.sync_ql.specs.Selection.{candidate, is_eligible, is_better, manual_stands, ManualStands}
-use Rattle.selector.specs.Scanned.{IsFirstBestAt}
+use Rattle.selector.specs.private.Scanned.{IsFirstBestAt}
 use Rattle.selector.proofs.Eligible.{read_is, none_passes, none_passes-true, none_passes-false}
 use Rattle.selector.proofs.FirstBest.{none_better_than_best}
 

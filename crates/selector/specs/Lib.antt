@@ -1,5 +1,4 @@
 pub mod Choices
 pub mod Table
-pub mod Standing
-pub mod Scanned
+pub mod private
 pub use Rattle.sync_ql.specs.Selection

@@ -2,14 +2,14 @@
 
 ghost use Rattle.std.specs.Prelude.{◌≡◌, ◌≤◌, ◌<◌, ◌+◌, IfSome, length};
 ghost use Rattle.sync_ql.specs.Selection.{candidate, is_eligible, is_better, beats, SameOption, AreOfOneOption};
-ghost use Rattle.selector.specs.Scanned.{IsFirstBest};
+ghost use Rattle.selector.specs.private.Scanned.{IsFirstBest};
 
 use sync_ql::limits::MOST_INPUTS;
 use sync_ql::rules::Candidate;
 use sync_ql::{better, do_not_use};
 
-// The first of the inputs that no other beats.
-pub fn first_best(inputs: &[Candidate]) -> Option<u32>
+/// The first of the inputs that no other beats.
+pub(crate) fn first_best(inputs: &[Candidate]) -> Option<u32>
     requires few { length inputs.now ≤ MOST_INPUTS }
     requires one_option { AreOfOneOption inputs.now }
     ensures { IsFirstBest inputs.now (length inputs.now) result }
@@ -21,7 +21,7 @@ pub fn first_best(inputs: &[Candidate]) -> Option<u32>
     best
 }
 
-// The best input up to a place, where the best one before it is known.
+/// The best input up to a place, where the best one before it is known.
 fn best_so_far(inputs: &[Candidate], before: Option<u32>, place: usize) -> Option<u32>
     requires few { length inputs.now ≤ MOST_INPUTS }
     requires place { place < length inputs.now }
@@ -39,8 +39,8 @@ fn best_so_far(inputs: &[Candidate], before: Option<u32>, place: usize) -> Optio
     }
 }
 
-// Usable, and of a level better than do-not-use.
-pub fn is_eligible(candidate: &Candidate) -> bool
+/// Usable, and of a level better than do-not-use.
+pub(crate) fn is_eligible(candidate: &Candidate) -> bool
     ensures { result ≡ is_eligible candidate.now }
 {
     match candidate.level {
@@ -49,8 +49,8 @@ pub fn is_eligible(candidate: &Candidate) -> bool
     }
 }
 
-// By a better level, or at the same level by a smaller priority number.
-pub fn beats(candidate: &Candidate, other: &Candidate) -> bool
+/// By a better level, or at the same level by a smaller priority number.
+pub(crate) fn beats(candidate: &Candidate, other: &Candidate) -> bool
     requires one_option { SameOption candidate.now.level other.now.level }
     ensures { result ≡ beats candidate.now other.now }
 {
@@ -62,7 +62,7 @@ pub fn beats(candidate: &Candidate, other: &Candidate) -> bool
     }
 }
 
-pub fn has_better_level(candidate: &Candidate, other: &Candidate) -> bool
+pub(crate) fn has_better_level(candidate: &Candidate, other: &Candidate) -> bool
     requires one_option { SameOption candidate.now.level other.now.level }
     ensures { result ≡ is_better candidate.now.level other.now.level }
 {

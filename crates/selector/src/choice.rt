@@ -1,7 +1,7 @@
 ghost use Rattle.std.specs.Prelude.{◌≡◌, ◌≤◌, ◌<◌, ◌⊎◌, ◌↔◌, ℕ, ◌&&◌, not, false, None, IsTrue, IsNone, IfSome, MatchOption, length};
 ghost use Rattle.sync_ql.specs.Selection.{choice, standing_manual, manual_stands, best_choice, candidate, is_eligible, beats, IsEligible, IsBestChoice, ManualStands, AreOfOneOption};
 ghost use Rattle.selector.specs.Choices.{IsChoice};
-ghost use Rattle.selector.specs.Scanned.{IsFirstBest};
+ghost use Rattle.selector.specs.private.Scanned.{IsFirstBest};
 
 use crate::best::{beats, first_best, has_better_level, is_eligible};
 use sync_ql::limits::MOST_INPUTS;
@@ -44,8 +44,8 @@ pub fn choose(
     choose_by(inputs, best, forced, manual, current)
 }
 
-// The same, where the first of the best is known.
-pub fn choose_by(
+/// The same, where the first of the best is known.
+pub(crate) fn choose_by(
     inputs: &[Candidate],
     best: Option<u32>,
     forced: Option<u32>,
@@ -73,7 +73,7 @@ pub fn choose_by(
     }
 }
 
-// Whether there is a manual switch that stands. No level is better than that of a best input.
+/// Whether there is a manual switch that stands. No level is better than that of a best input.
 fn stands(inputs: &[Candidate], best: Option<u32>, manual: Option<u32>) -> bool
     requires place { IfSome manual (λ i. i < length inputs.now) }
     requires one_option { AreOfOneOption inputs.now }
@@ -89,8 +89,12 @@ fn stands(inputs: &[Candidate], best: Option<u32>, manual: Option<u32>) -> bool
     }
 }
 
-// The current input stays where no input that may be taken beats it.
-pub fn stay_or_take(inputs: &[Candidate], best: Option<u32>, current: Option<u32>) -> Option<u32>
+/// The current input stays where no input that may be taken beats it.
+pub(crate) fn stay_or_take(
+    inputs: &[Candidate],
+    best: Option<u32>,
+    current: Option<u32>,
+) -> Option<u32>
     requires place { IfSome current (λ i. i < length inputs.now) }
     requires one_option { AreOfOneOption inputs.now }
     requires best { IsFirstBest inputs.now (length inputs.now) best }

@@ -13,7 +13,7 @@
 
 mod best;
 mod choice;
-mod standing;
+mod precedence;
 mod table;
 
 pub use choice::{Choice, choose};

@@ -1,10 +1,10 @@
 ghost use Rattle.std.specs.Prelude.{◌≡◌, ◌≤◌, ◌<◌, ◌+◌, ◌⊎◌, ℕ, None, IsNone, IfSome, IfOk, length, replicate, slice_set};
 ghost use Rattle.sync_ql.specs.Selection.{candidate, choice, IsBestChoice, SameOption};
 ghost use Rattle.selector.specs.Choices.{unusable, IsChoice};
-ghost use Rattle.selector.specs.Scanned.{IsFirstBest};
+ghost use Rattle.selector.specs.private.Scanned.{IsFirstBest};
 
 use crate::choice::{Choice, choose_by, stay_or_take};
-use crate::standing::{Standing, renew, standing_of};
+use crate::precedence::{Precedence, precedence_of, renew};
 use std::alloc::Global;
 use std::marker::Model;
 use sync_ql::limits::MOST_INPUTS;
@@ -20,7 +20,7 @@ pub struct Table {
     inputs: Vec<Candidate>,
     /// A tournament among the inputs: their standings in the second half, and before each two the
     /// one that is ahead; at place 1 the best.
-    standings: Vec<Option<Standing>>,
+    standings: Vec<Option<Precedence>>,
 }
 
 impl Model for Table {
@@ -29,7 +29,8 @@ impl Model for Table {
 
     ghost Value = { List Candidate };
 
-    ghost use Rattle.selector.specs.Table.{candidates_in, IsKept};
+    ghost use Rattle.selector.specs.Table.{candidates_in};
+    ghost use Rattle.selector.specs.private.Table.{IsKept};
 
     ghost view = { candidates_in };
 
@@ -40,13 +41,12 @@ impl Table {
     /// A table of so many inputs, at most 64, none of which can be taken.
     ///
     /// This project's own.
-    pub fn new(alloc: Global, n: u32) -> Result<Table, NoMemory>
-        requires few { n ≤ MOST_INPUTS }
-        ensures { IfOk result (λ table. table ≡ replicate n unusable) }
+    pub fn new(alloc: Global, count: u32) -> Result<Table, NoMemory>
+        requires few { count ≤ MOST_INPUTS }
+        ensures { IfOk result (λ table. table ≡ replicate count unusable) }
     {
-        let count = n as usize;
-        let inputs = new_inputs(alloc, count)?;
-        let standings = no_standings(alloc, count)?;
+        let inputs = new_inputs(alloc, count as usize)?;
+        let standings = no_standings(alloc, count as usize)?;
         Ok(Table { inputs, standings })
     }
 
@@ -67,18 +67,18 @@ impl Table {
     /// no memory.
     ///
     /// After G.781, quality level and priority of an input.
-    pub fn set(&mut self, i: u32, c: Candidate)
-        requires place { i < length self.old }
-        requires one_option { (k : ℕ) → SameOption c.level (candidate self.old k).level }
-        ensures { self.new ≡ slice_set self.old i c }
+    pub fn set(&mut self, input: u32, to: Candidate)
+        requires place { input < length self.old }
+        requires one_option { (k : ℕ) → SameOption to.level (candidate self.old k).level }
+        ensures { self.new ≡ slice_set self.old input to }
     {
         let count = self.inputs.len();
-        self.inputs[i as usize] = c;
+        self.inputs[input as usize] = to;
         renew(
             self.standings.as_mut_slice(),
             count,
-            i as usize,
-            standing_of(i, &c),
+            input as usize,
+            precedence_of(input, &to),
         );
     }
 
@@ -122,7 +122,7 @@ impl Table {
         choose_by(self.inputs.as_slice(), best, forced, manual, current)
     }
 
-    // The first of the inputs that no other beats.
+    /// The first of the inputs that no other beats.
     fn first(&self) -> Option<u32>
         ensures { IsFirstBest self.now (length self.now) result }
     {
@@ -136,7 +136,7 @@ impl Table {
     }
 }
 
-// So many inputs that can't be taken.
+/// So many inputs that can't be taken.
 fn new_inputs(alloc: Global, count: usize) -> Result<Vec<Candidate>, NoMemory>
     ensures { IfOk result (λ inputs. inputs.items ≡ replicate count unusable) }
 {
@@ -151,8 +151,8 @@ fn new_inputs(alloc: Global, count: usize) -> Result<Vec<Candidate>, NoMemory>
     }
 }
 
-// The rounds of a tournament of so many inputs, none of which has a standing.
-fn no_standings(alloc: Global, count: usize) -> Result<Vec<Option<Standing>>, NoMemory>
+/// The rounds of a tournament of so many inputs, none of which has a standing.
+fn no_standings(alloc: Global, count: usize) -> Result<Vec<Option<Precedence>>, NoMemory>
     requires few { count ≤ MOST_INPUTS }
     ensures { IfOk result (λ standings. standings.items ≡ replicate (count + count) None) }
 {

@@ -18,7 +18,7 @@ use Rattle.net_rules.specs.Settled.{IsSteady}
 use Rattle.net_rules.proofs.NetLaws.{many-inputs}
 use Rattle.sync_net.specs.Standing.{ElementStands}
 use Rattle.sync_net.proofs.SteadyElements.{each-by, up-now, failed-now}
-use Rattle.settle_trace.specs.Resting.{AreSteady}
+use Rattle.settle_trace.specs.private.Resting.{AreSteady}
 
 -- no time runs: the condition is good or failed
 steady-by : (up failed : Bool) (left : ℕ) → left_of (condition_of up failed left) ≡ None → failed ≡ not up

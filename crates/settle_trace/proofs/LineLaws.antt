@@ -20,7 +20,7 @@ use Rattle.net_rules.specs.History.{Levels, line_moment_at, heard}
 use Rattle.net_rules.specs.Settled.{is_news_at, IsOnWay}
 use Rattle.sync_net.specs.Standing.{LineStands}
 use Rattle.sync_net.proofs.QuietObjects.{line-until}
-use Rattle.settle_trace.specs.Resting.{hears_all, is_empty, at_rest, IsLineSettled}
+use Rattle.settle_trace.specs.private.Resting.{hears_all, is_empty, at_rest, IsLineSettled}
 use Rattle.settle_trace.proofs.Messages.{each-list_all, list_all-each, on_way-each, on_way-one}
 
 -- each message has the level that is heard

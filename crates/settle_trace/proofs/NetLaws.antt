@@ -13,7 +13,7 @@ use Rattle.net_rules.specs.Inputs.{IsInputOf}
 use Rattle.net_rules.specs.History.{Levels}
 use Rattle.net_rules.specs.Settled.{IsSteady, IsSettledByNews}
 use Rattle.net_rules.proofs.InputLaws.{inputs-are}
-use Rattle.settle_trace.specs.Resting.{IsLineSettled, AreSteady}
+use Rattle.settle_trace.specs.private.Resting.{IsLineSettled, AreSteady}
 
 -- the last of so many milliseconds
 pub last-is : (next now : ℕ) (answer : Option ℕ) → answer ≡ Some now → answer ≡ (if nat_eq next 0 then None else Some (next - 1)) → next ≡ suc now

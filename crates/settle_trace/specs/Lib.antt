@@ -1,3 +1,3 @@
 pub mod Now
-pub mod Resting
 pub mod Taking
+pub mod private

@@ -14,13 +14,13 @@
 mod lines;
 mod looping;
 mod settling;
-mod taking;
+mod taken;
 mod tracing;
 mod tracings;
 
 pub use closed_walks::{End, Ending, Traced, Walk};
 pub use looping::loops;
 pub use settling::settled;
-pub use taking::{taken_input, taken_inputs};
+pub use taken::{taken_input, taken_inputs};
 pub use tracing::trace;
 pub use tracings::traces;

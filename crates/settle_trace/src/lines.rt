@@ -5,14 +5,14 @@ ghost use Rattle.std.specs.List.{list_all};
 ghost use Rattle.sync_ql.specs.Messages.{LineMoment, heard_at, on_way_at, unchanged, line_until, is_same_level, IsLineDue};
 ghost use Rattle.link_model.specs.Spoken.{message_of};
 ghost use Rattle.link_model.specs.StandsFor.{StandsFor};
-ghost use Rattle.settle_trace.specs.Resting.{at_rest, hears_all};
+ghost use Rattle.settle_trace.specs.private.Resting.{at_rest, hears_all};
 
 use link_model::{Line, Word};
 use sync_ql::limits::LAST_MILLISECOND;
 use sync_ql::{Level, is_same_level};
 
-// Whether nothing changes on a line by itself, by what is heard on it and on its way.
-pub fn is_at_rest(line: &Line, now: u64) -> bool
+/// Whether nothing changes on a line by itself, by what is heard on it and on its way.
+pub(crate) fn is_at_rest(line: &Line, now: u64) -> bool
     requires turn { line.now.turn ≤ 4 * now + 4 }
     requires in_time { IfSome line.now.due (λ due. now ≤ due) }
     requires in_range { now ≤ LAST_MILLISECOND }

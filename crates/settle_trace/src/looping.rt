@@ -12,7 +12,7 @@ ghost use Rattle.sync_topo.specs.Lines.{numbers};
 ghost use Rattle.closed_walks.specs.Loops.{AreLoops};
 ghost use Rattle.closed_walks.specs.Within.{AreLinesOf};
 
-use crate::taking::taken_inputs;
+use crate::taken::taken_inputs;
 use closed_walks::{Walk, walks_of};
 use std::alloc::Global;
 use sync_net::Net;

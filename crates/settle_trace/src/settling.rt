@@ -18,7 +18,7 @@ ghost use Rattle.net_rules.specs.Walks.{IsClosedWalk, TraceEnd, IsTrace};
 ghost use Rattle.net_rules.specs.Safety.{IsEndLevel};
 ghost use Rattle.sync_net.specs.Standing.{StandsFor};
 ghost use Rattle.settle_trace.specs.Now.{now_of, signals_of, out_of, taken_now, IsSettledNow};
-ghost use Rattle.settle_trace.specs.Resting.{IsLineSettled};
+ghost use Rattle.settle_trace.specs.private.Resting.{IsLineSettled};
 
 use crate::lines::is_at_rest;
 use sync_element::Element;
@@ -65,7 +65,7 @@ pub fn settled(net: &Net<'_>) -> bool
     is_settled(net)
 }
 
-// Whether nothing is due, or no time of an input runs and each line is settled.
+/// Whether nothing is due, or no time of an input runs and each line is settled.
 fn is_settled(net: &Net<'_>) -> bool
     requires live { net.now.spent ≡ false }
     requires stepped { 0 < net.now.next }
@@ -83,7 +83,7 @@ fn is_settled(net: &Net<'_>) -> bool
     steady && settled
 }
 
-// Whether no time of an input runs.
+/// Whether no time of an input runs.
 fn are_inputs_steady(net: &Net<'_>) -> bool
     requires live { net.now.spent ≡ false }
     requires stepped { 0 < net.now.next }
@@ -101,7 +101,7 @@ fn are_inputs_steady(net: &Net<'_>) -> bool
     true
 }
 
-// Whether no condition of the element's inputs ends.
+/// Whether no condition of the element's inputs ends.
 fn none_ends(element: &Element) -> bool
     ensures value { IsTrue result ↔ IsNone element.now.due }
     ensures ends { (past : List Moment) → ElementStandsFor element.now past →
@@ -112,7 +112,7 @@ fn none_ends(element: &Element) -> bool
     element.due().is_none()
 }
 
-// Whether each line is settled.
+/// Whether each line is settled.
 fn are_lines_settled(net: &Net<'_>) -> bool
     requires live { net.now.spent ≡ false }
     requires stepped { 0 < net.now.next }
@@ -129,7 +129,7 @@ fn are_lines_settled(net: &Net<'_>) -> bool
     true
 }
 
-// Whether a line is settled, where it is nominated.
+/// Whether a line is settled, where it is nominated.
 fn is_line_settled(net: &Net<'_>, line: LineId) -> bool
     requires live { net.now.spent ≡ false }
     requires stepped { 0 < net.now.next }

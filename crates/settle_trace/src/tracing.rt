@@ -13,7 +13,7 @@ ghost use Rattle.closed_walks.specs.Taking.{taken_in_list, AreTaken};
 ghost use Rattle.sync_topo.specs.Lines.{numbers};
 ghost use Rattle.closed_walks.specs.Traces.{end_of};
 
-use crate::taking::taken_inputs;
+use crate::taken::taken_inputs;
 use closed_walks::{Traced, follow, no_marks};
 use std::alloc::Global;
 use sync_net::Net;
@@ -46,7 +46,7 @@ pub fn trace(alloc: Global, net: &Net<'_>, element: u32) -> Result<Traced, NoMem
     trace_in(alloc, net.plan(), taken.as_slice(), element)
 }
 
-// The trace of an element, by what each takes.
+/// The trace of an element, by what each takes.
 fn trace_in(
     alloc: Global,
     plan: &Plan,

@@ -9,7 +9,7 @@ ghost use Rattle.settle_trace.specs.Now.{taken_now};
 ghost use Rattle.closed_walks.specs.Traces.{EndsSo};
 ghost use Rattle.closed_walks.specs.Within.{IsEndOf};
 
-use crate::taking::taken_inputs;
+use crate::taken::taken_inputs;
 use closed_walks::{Ending, endings_of};
 use std::alloc::Global;
 use sync_net::Net;

@@ -4,7 +4,8 @@ use Rattle.std.proofs.Math.Seq.{take-add}
 use Rattle.std.proofs.KnownBytes.{Appends-trans}
 use Rattle.std.specs.Io.KnownBytes.{Appends, Consumes}
 use Rattle.sync_edge.specs.Contents.{Contents, Holds, HoldsMoreThan, Starts, KeepsFolder}
-use Rattle.sync_edge.specs.Transfers.{AreRead, AreTaken, IsLeft, IsMoreLeftThan, IsTriedOnce}
+use Rattle.sync_edge.specs.Transfers.{AreRead, IsTriedOnce}
+use Rattle.sync_edge.specs.private.Transfers.{AreTaken, IsLeft, IsMoreLeftThan}
 use Rattle.sync_edge.specs.Faults.{one_more}
 use Rattle.sync_edge.specs.declared.errors.ReadErr.{ReadErr}
 use Rattle.sync_edge.specs.declared.errors.ReadErr.TheVariants.{Failed, TooLong, NoMemory}

@@ -11,16 +11,6 @@ use Rattle.sync_edge.specs.Faults.{Rose, one_more}
 abbrev pub AppendsFront : Option (List ℕ) → Option (List ℕ) → List ℕ → Type 0
 AppendsFront before now bytes = (count : ℕ) × (count < length bytes) × Appends before now (take count bytes)
 
--- where it is told what was left, these bytes are all of it
-abbrev pub IsLeft : Option (List ℕ) → List ℕ → Type 0
-IsLeft None text = ⊤
-IsLeft (Some left) text = left ≡ text
-
--- where it is told what was left, it was more than `limit` bytes
-abbrev pub IsMoreLeftThan : ℕ → Option (List ℕ) → Type 0
-IsMoreLeftThan limit None = ⊤
-IsMoreLeftThan limit (Some left) = limit < length left
-
 -- a folder's count rose where a read failed, and stands still at every other answer
 abbrev pub ReadHasCause : {T : Type 0} → ℕ → ℕ → Result T ReadErr → Type 0
 ReadHasCause before now (Err Failed) = Rose before now
@@ -31,12 +21,6 @@ ReadHasCause before now (Ok value) = now ≡ before
 -- how many bytes one read asks for
 abbrev pub piece_size : ℕ
 piece_size = 65536
-
--- where it is told what was left before and now, at most so many bytes were taken of it
-abbrev pub AreTaken : ℕ → Option (List ℕ) → Option (List ℕ) → Type 0
-AreTaken most None now = ⊤
-AreTaken most (Some before) None = ⊥
-AreTaken most (Some before) (Some now) = length before ≤ most + length now
 
 -- where contents are told, all but at most so many bytes of the file of this name are left
 abbrev pub AreRead : ℕ → Option Contents → List ℕ → Option (List ℕ) → Type 0

@@ -2,7 +2,8 @@ ghost use Rattle.std.specs.Prelude.{◌≡◌, ◌≢◌, ◌+◌, ◌<◌, ◌�
 ghost use Rattle.std.specs.Io.KnownBytes.{Appends};
 ghost use Rattle.sync_edge.specs.Contents.{HasName, Holds, HoldsMoreThan, KeepsFolder};
 ghost use Rattle.sync_edge.specs.Faults.{HasCause};
-ghost use Rattle.sync_edge.specs.Transfers.{AppendsFront, AreRead, AreTaken, IsLeft, IsMoreLeftThan, IsTriedOnce, ReadHasCause, piece_size};
+ghost use Rattle.sync_edge.specs.Transfers.{AppendsFront, AreRead, IsTriedOnce, ReadHasCause, piece_size};
+ghost use Rattle.sync_edge.specs.private.Transfers.{AreTaken, IsLeft, IsMoreLeftThan};
 
 use crate::errors::{ReadErr, WriteFailed};
 use crate::outside::{Folder, Sink};

@@ -14,7 +14,7 @@ use Rattle.std.proofs.Math.Decide.{dec_lt}
 use Rattle.std.proofs.lemmas.List.{get_or_past}
 use Rattle.sync_ql.proofs.Eligible.{nobody}
 use Rattle.sync_element.specs.ElementState.{ElementState, inputs_of, IsInTime}
-use Rattle.sync_element.specs.Whole.{watched_of, level_of, level_back_of, IsWhole}
+use Rattle.sync_element.specs.private.Whole.{watched_of, level_of, level_back_of, IsWhole}
 use Rattle.sync_element.specs.StandsFor.{IsAfter}
 use Rattle.sync_ql.proofs.QuietMoments.{selection_at-within, level_of_taken}
 use Rattle.sync_ql.proofs.DoNotUse.{do_not_use-option}

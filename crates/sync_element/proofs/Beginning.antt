@@ -21,11 +21,12 @@ use Rattle.sync_element.specs.declared.config.InputConfig.{InputConfig}
 use Rattle.sync_element.specs.declared.watched.Watched.{Watched}
 use Rattle.sync_element.specs.Configured.{settings_of}
 use Rattle.agenda.specs.DueTimes.{due_in}
-use Rattle.sync_element.specs.Kept.{InputsKept, unused, watched_in, HasEnd}
+use Rattle.sync_element.specs.Kept.{InputsKept, unused, watched_in}
+use Rattle.sync_element.specs.private.Kept.{HasEnd}
 use Rattle.sync_element.specs.ElementState.{ElementState}
-use Rattle.sync_element.specs.Whole.{IsAtRest, IsWhole}
+use Rattle.sync_element.specs.private.Whole.{IsAtRest, IsWhole}
 use Rattle.sync_element.specs.StandsFor.{IsAfter}
-use Rattle.sync_element.specs.Starting.{HasFirst, AreNew, first_candidate}
+use Rattle.sync_element.specs.private.Starting.{HasFirst, AreNew, first_candidate}
 
 abbrev pub new_state : Config → InputsKept → Switches → ElementState
 new_state config inputs switches = record {

@@ -12,7 +12,7 @@ use Rattle.sync_ql.specs.Told.{moments_until}
 use Rattle.input_monitor.specs.Ending.{EndsWith, IsEnd, later_by}
 use Rattle.input_monitor.proofs.Conditions.{length-continued}
 use Rattle.sync_element.specs.ElementState.{ElementState, inputs_of, IsInTime}
-use Rattle.sync_element.specs.Whole.{monitor_of, IsFirstDue, IsFirstDueAt, IsWhole}
+use Rattle.sync_element.specs.private.Whole.{monitor_of, IsFirstDue, IsFirstDueAt, IsWhole}
 use Rattle.sync_element.specs.StandsFor.{IsAfter}
 use Rattle.sync_ql.specs.Quiet.{IsElementDue}
 use Rattle.sync_element.specs.Due.{left_of, left_in, IsLastPlusLeast, NoneEnds}

@@ -6,7 +6,7 @@ use Rattle.sync_ql.specs.declared.rules.InputEvent.TheVariants.{Signal, Heard, C
 use Rattle.sync_ql.specs.Switches.{NamesInput}
 use Rattle.sync_ql.specs.Moment.{Settings}
 use Rattle.sync_ql.specs.Told.{IsOfOption, FitsElement}
-use Rattle.sync_element.specs.Fitting.{FitsOption}
+use Rattle.sync_element.specs.private.Fitting.{FitsOption}
 
 fits_element : (settings : Settings) (option : NetOption) (n : ℕ) → settings.own.option ≡ option → length settings.priorities ≡ n → (event : InputEvent) → FitsOption option n event → FitsElement settings event
 fits_element settings option n own long (Signal i up) fits = omega (arith, long, fits)

@@ -9,7 +9,7 @@ use Rattle.input_monitor.specs.Monitored.{Monitored, up_of}
 use Rattle.input_monitor.specs.Ending.{EndsWith, IsEnd, later_by}
 use Rattle.input_monitor.proofs.Conditions.{Lasts, up_of-condition_at, condition_at-after_quiet, length-continued}
 use Rattle.sync_element.specs.Kept.{Follows}
-use Rattle.sync_element.specs.Renewing.{IsToldOf}
+use Rattle.sync_element.specs.private.Renewing.{IsToldOf}
 
 -- a quiet millisecond after quiet ones
 quiet-after : (k : ℕ) (past : List Signal) → quiet (after_quiet k past) ≡ quiet past

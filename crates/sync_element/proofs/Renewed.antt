@@ -14,10 +14,11 @@ use Rattle.sync_ql.proofs.Staying.{is_up-after_quiet}
 use Rattle.input_monitor.specs.Monitored.{up_of}
 use Rattle.sync_element.specs.declared.watched.Watched.{Watched}
 use Rattle.agenda.specs.DueTimes.{due_in}
-use Rattle.sync_element.specs.Kept.{InputsKept, unused, watched_in, Follows, HasEnd}
-use Rattle.sync_text.specs.Tests.{is_other}
+use Rattle.sync_element.specs.Kept.{InputsKept, unused, watched_in, Follows}
+use Rattle.sync_element.specs.private.Kept.{HasEnd}
+use Rattle.sync_text.specs.Tests.{differs}
 use Rattle.sync_text.proofs.Tests.{same-answer, answer-same}
-use Rattle.sync_element.specs.Renewing.{Renewal, ends_at, must_step, signal_of, candidate_of, touches, IsReady, IsStepped, IsRenewed, CanRenew, IsDone, IsPending, IsDoneAt, IsPendingAt, AreRenewed, AreTaken, AreKept}
+use Rattle.sync_element.specs.private.Renewing.{Renewal, ends_at, must_step, signal_of, candidate_of, touches, IsReady, IsStepped, IsRenewed, CanRenew, IsDone, IsPending, IsDoneAt, IsPendingAt, AreRenewed, AreTaken, AreKept}
 use Rattle.sync_element.proofs.Following.{follows-quiet, follows-told, follows-up, ends_after}
 
 -- two places are one, or they aren't
@@ -42,7 +43,7 @@ pub record IsQuiet (now : ℕ) (w : Watched) : Type 0 where
 
 pub quiet_is : (now : ℕ) (w : Watched) → must_step now w ≡ false → IsQuiet now w
 quiet_is now w none =
-    let parts = or-false w.cleared (is_other w.up (up_of w.monitor.condition)) (ends_at now w.monitor.due) none in
+    let parts = or-false w.cleared (differs w.up (up_of w.monitor.condition)) (ends_at now w.monitor.due) none in
     record { cleared = parts.0; up = same-answer w.up (up_of w.monitor.condition) parts.1; not_due = parts.2 }
 
 pub quiet_back : (now : ℕ) (w : Watched) → IsQuiet now w → must_step now w ≡ false

@@ -21,14 +21,15 @@ use Rattle.input_monitor.specs.Monitored.{up_of}
 use Rattle.sync_ql.specs.declared.limits.TheConstants.{LAST_MILLISECOND}
 use Rattle.sync_element.specs.declared.watched.Watched.{Watched}
 use Rattle.agenda.specs.DueTimes.{due_in}
-use Rattle.sync_element.specs.FirstTime.{IsFirstTime}
-use Rattle.sync_element.specs.Kept.{InputsKept, watched_in, Follows, HasEnd}
+use Rattle.sync_element.specs.private.FirstTime.{IsFirstTime}
+use Rattle.sync_element.specs.Kept.{InputsKept, watched_in, Follows}
+use Rattle.sync_element.specs.private.Kept.{HasEnd}
 use Rattle.sync_element.specs.ElementState.{ElementState, inputs_of, IsInTime}
-use Rattle.sync_element.specs.Whole.{watched_of, monitor_of, IsAtRest, IsFirstDue, IsWhole}
+use Rattle.sync_element.specs.private.Whole.{watched_of, monitor_of, IsAtRest, IsFirstDue, IsWhole}
 use Rattle.sync_element.specs.StandsFor.{IsAfter}
-use Rattle.sync_element.specs.Telling.{IsToldSoFar}
-use Rattle.sync_element.specs.Renewing as renewing
-use Rattle.sync_element.specs.Renewing.{touches, must_step, IsReady, CanRenew, IsDone, IsPending, IsDoneAt, AreRenewed, AreTaken, AreKept}
+use Rattle.sync_element.specs.private.Telling.{IsToldSoFar}
+use Rattle.sync_element.specs.private.Renewing as renewing
+use Rattle.sync_element.specs.private.Renewing.{touches, must_step, IsReady, CanRenew, IsDone, IsPending, IsDoneAt, AreRenewed, AreTaken, AreKept}
 use Rattle.sync_element.proofs.Following.{follows-up, follows-failed}
 use Rattle.sync_element.proofs.Renewed.{quiet_is, quiet_back, not_now, done_unstepped}
 use Rattle.sync_element.proofs.Untouched.{up-untouched, level-untouched, clear-untouched, locked-untouched}

@@ -9,7 +9,7 @@ use Rattle.sync_ql.specs.declared.rules.InputEvent.TheVariants.{Signal, Heard, C
 use Rattle.sync_ql.specs.Switches.{Switches, after_commands}
 use Rattle.sync_ql.specs.Told.{last_said, says_up, says_level, clears, commands_in}
 use Rattle.sync_element.specs.Kept.{watched_in}
-use Rattle.sync_element.specs.Telling.{Tellable, IsTold, IsToldSoFar}
+use Rattle.sync_element.specs.private.Telling.{Tellable, IsTold, IsToldSoFar}
 
 or-swap : (a b c : Bool) → (a || ((b || false) || c)) ≡ ((b || a) || c)
 or-swap true true c = refl

@@ -11,7 +11,7 @@ use Rattle.sync_ql.specs.declared.rules.InputEvent.{InputEvent}
 use Rattle.sync_ql.specs.declared.rules.InputEvent.TheVariants.{Signal, Heard, ClearWtr, Command}
 use Rattle.sync_ql.specs.Switches.{Switches, is_locked, after_command, after_commands, carried_out}
 use Rattle.sync_ql.specs.Told.{last_said, says_up, says_level, clears, commands_in}
-use Rattle.sync_element.specs.Renewing.{touches}
+use Rattle.sync_element.specs.private.Renewing.{touches}
 
 -- one event
 up-one : (i : ℕ) (event : InputEvent) → touches i event ≡ false → says_up i event ≡ None

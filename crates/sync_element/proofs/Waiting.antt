@@ -5,7 +5,7 @@ use Rattle.sync_ql.specs.Moment.{Moment, signals_of}
 use Rattle.sync_ql.specs.Told.{quiet_moments, moments_until}
 use Rattle.sync_ql.proofs.Staying.{Lasting, Stays, length-signals_of, stays-refl, stays-quiet_moments}
 use Rattle.sync_element.specs.ElementState.{ElementState, inputs_of, IsInTime}
-use Rattle.sync_element.specs.Whole.{monitor_of, IsFirstDue, IsWhole}
+use Rattle.sync_element.specs.private.Whole.{monitor_of, IsFirstDue, IsWhole}
 use Rattle.sync_element.specs.StandsFor.{IsAfter}
 use Rattle.sync_element.proofs.Following.{follows-due}
 

@@ -1,13 +1,11 @@
 -- Private to this crate: what an element keeps of its inputs. No clause elsewhere looks into it.
-use Rattle.std.specs.Prelude.{◌≡◌, ◌≤◌, ◌<◌, ◌+◌, ℕ, Bool, true, false, List, length, slice_index_or, Option, None, IfSome}
+use Rattle.std.specs.Prelude.{◌≡◌, ◌≤◌, ℕ, Bool, true, false, List, length, slice_index_or, Option, None}
 use Rattle.sync_ql.specs.declared.rules.Cond.TheVariants.{Good}
 use Rattle.sync_ql.specs.declared.rules.Candidate.{Candidate}
 use Rattle.sync_ql.specs.Condition.{Signal, continued}
 use Rattle.sync_ql.specs.Switches.{Switches}
 use Rattle.input_monitor.specs.Monitored.{Monitored}
-use Rattle.input_monitor.specs.Ending.{IsEnd}
 use Rattle.input_monitor.specs.StandsFor as Monitor
-use Rattle.sync_ql.specs.declared.limits.TheConstants.{GREATEST_WTR}
 use Rattle.sync_element.specs.declared.watched.Watched.{Watched}
 
 -- of the inputs, by place: what each was told last, with its monitor; when its running time ends; and
@@ -48,9 +46,3 @@ pub record Follows (m : Monitored) (past : List Signal) : Type 0 where
   pub stands : Monitor.StandsFor m told
   pub later : length told ≤ length past
   pub quiet : past ≡ continued (length past) told
-
--- a monitor's due time is that at which its condition ends, at most the longest time after its last
--- step
-pub record HasEnd (m : Monitored) : Type 0 where
-  pub ends : IsEnd m.next m.condition m.due
-  pub soon : IfSome m.due (λ due. due < m.next + GREATEST_WTR)

@@ -5,8 +5,4 @@ pub mod StandsAfter
 pub mod Due
 pub mod Kept
 pub mod Whole
-pub mod FirstTime
-pub mod Starting
-pub mod Telling
-pub mod Renewing
-pub mod Fitting
+pub mod private

@@ -7,16 +7,16 @@ use selector::Table;
 use sync_ql::is_same_heard;
 use sync_ql::rules::Candidate;
 
-// Sets a candidate in the table, unless it is there already.
-pub fn set_if_other(table: &mut Table, i: u32, c: Candidate)
-    requires place { i < length table.old }
-    requires one_option { (k : ℕ) → SameOption c.level (candidate table.old k).level }
-    ensures { table.new ≡ slice_set table.old i c }
+/// Sets a candidate in the table, unless it is there already.
+pub(crate) fn set_if_other(table: &mut Table, input: u32, to: Candidate)
+    requires place { input < length table.old }
+    requires one_option { (k : ℕ) → SameOption to.level (candidate table.old k).level }
+    ensures { table.new ≡ slice_set table.old input to }
 {
-    if is_same(table.inputs()[i as usize], c) {
+    if is_same(table.inputs()[input as usize], to) {
         return;
     }
-    table.set(i, c);
+    table.set(input, to);
 }
 
 fn is_same(one: Candidate, other: Candidate) -> bool

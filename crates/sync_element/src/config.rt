@@ -37,7 +37,7 @@ pub struct Config {
 }
 
 impl Config {
-    // The same settings once more.
+    /// The same settings once more.
     pub fn try_clone(&self, alloc: Global) -> Result<Config, NoMemory>
         ensures { IfOk result (λ config. settings_of config ≡ settings_of self.now) }
     {

@@ -56,7 +56,8 @@ impl Model for Element {
 
     ghost Value = { ElementState };
 
-    ghost use Rattle.sync_element.specs.Whole.{element_state, IsKept};
+    ghost use Rattle.sync_element.specs.Whole.{element_state};
+    ghost use Rattle.sync_element.specs.private.Whole.{IsKept};
 
     ghost view = { element_state };
 
@@ -125,15 +126,15 @@ impl Element {
     /// the signals of one input the last counts, and of its levels too. A step takes no memory, and
     /// is one step of the count.
     /// After G.781, selection and external commands.
-    pub fn step<L: Ledger>(&mut self, now: u64, changes: &[InputEvent], steps: &mut Steps<L>)
+    pub fn step<L: Ledger>(&mut self, now: u64, told: &[InputEvent], steps: &mut Steps<L>)
         requires in_time { IsInTime self.old now }
         requires in_range { now ≤ LAST_MILLISECOND }
-        requires fits { All (FitsElement self.old.settings) changes.now }
+        requires fits { All (FitsElement self.old.settings) told.now }
         ensures next { self.new.next ≡ now + 1 }
         ensures kept { self.new.settings ≡ self.old.settings }
         ensures stands { (past : List Moment) → StandsFor self.old past →
             StandsFor self.new
-            (moment_after self.old.settings (moments_until self.old.settings now past) changes.now
+            (moment_after self.old.settings (moments_until self.old.settings now past) told.now
             ∷ moments_until self.old.settings now past) }
         ensures due_later { IfSome self.new.due (λ due. now < due) }
         ensures due_soon { IfSome self.new.due (λ due. due ≤ now + GREATEST_WTR) }
@@ -142,7 +143,7 @@ impl Element {
             (if nat_eq self.old.next 0 then 0 else self.old.later_steps + 1) }
     {
         steps.tick();
-        self.advance(now, changes);
+        self.advance(now, told);
     }
 
     /// The input that is taken, by its place: from the last step up to but not at `due`, if nothing
@@ -186,13 +187,13 @@ impl Element {
     /// Whether an input is locked out, as from the last step up to but not at `due`, if nothing is told.
     ///
     /// After G.781, lockout.
-    pub fn locked(&self, i: u32) -> bool
-        requires place { i < inputs_of self.now }
+    pub fn locked(&self, input: u32) -> bool
+        requires place { input < inputs_of self.now }
         ensures locked { (past : List Moment) (n : ℕ) → StandsFor self.now past →
             IsInTime self.now n →
-            result ≡ is_locked (switches_at self.now.settings (moments_until self.now.settings n past)) i }
+            result ≡ is_locked (switches_at self.now.settings (moments_until self.now.settings n past)) input }
     {
-        self.commands.locked(i)
+        self.commands.locked(input)
     }
 
     /// The input that is switched to, the forced one or else the manual one, as from the last step up to
@@ -212,14 +213,14 @@ impl Element {
     /// `due`, if nothing is told. Before the first step it is the one that the input is set to.
     ///
     /// After G.781, quality level of an input.
-    pub fn level_of(&self, i: u32) -> Option<Level>
-        requires place { i < inputs_of self.now }
+    pub fn level_of(&self, input: u32) -> Option<Level>
+        requires place { input < inputs_of self.now }
         ensures option { IsOfOption self.now.settings.own.option result }
         ensures level { (past : List Moment) (n : ℕ) → StandsFor self.now past →
             IsInTime self.now n → 0 < n →
-            result ≡ level_now i (moments_until self.now.settings n past) }
+            result ≡ level_now input (moments_until self.now.settings n past) }
     {
-        self.inputs.watched.as_slice()[i as usize].level
+        self.inputs.watched.as_slice()[input as usize].level
     }
 
     /// The level below which no input is taken, where there is one.
@@ -250,15 +251,15 @@ impl Element {
     ///
     /// After G.781, do not use in the reverse direction of the selected input; bundles are this
     /// project's own.
-    pub fn out_to(&self, i: u32) -> Level
-        requires place { i < inputs_of self.now }
+    pub fn out_to(&self, input: u32) -> Level
+        requires place { input < inputs_of self.now }
         ensures option { result.option ≡ self.now.settings.own.option }
         ensures sent { (past : List Moment) (n : ℕ) → StandsFor self.now past →
             IsInTime self.now n →
-            result ≡ sent_back_at self.now.settings (moments_until self.now.settings n past) i }
+            result ≡ sent_back_at self.now.settings (moments_until self.now.settings n past) input }
     {
         let level = level_of(self.inputs.table.inputs(), self.selected, self.config.own);
-        level_back(&self.config, self.selected, i, level)
+        level_back(&self.config, self.selected, input, level)
     }
 
     /// The condition of an input at the last step, and what was left then of a running time.
@@ -266,22 +267,22 @@ impl Element {
     /// From there up to but not at `due` it stays in this kind of condition, if nothing is told, and
     /// of a running time that much less is left.
     /// After G.781, signal fail, hold-off and wait-to-restore.
-    pub fn cond(&self, i: u32) -> Cond
-        requires place { i < inputs_of self.now }
+    pub fn cond(&self, input: u32) -> Cond
+        requires place { input < inputs_of self.now }
         ensures last { (past : List Moment) → StandsFor self.now past →
-            result ≡ condition_at self.now.settings.timers (signals_of i past) }
+            result ≡ condition_at self.now.settings.timers (signals_of input past) }
         ensures kind { (past : List Moment) (n : ℕ) → StandsFor self.now past →
             IsInTime self.now n →
             IsSameKind result (condition_at self.now.settings.timers
-            (signals_of i (moments_until self.now.settings n past))) }
+            (signals_of input (moments_until self.now.settings n past))) }
         ensures left { (past : List Moment) (n : ℕ) → StandsFor self.now past →
             IsInTime self.now n →
             condition_at self.now.settings.timers
-            (signals_of i (moments_until self.now.settings n past))
+            (signals_of input (moments_until self.now.settings n past))
             ≡ later_by (n - self.now.next) result }
     {
-        let input = &self.inputs.watched.as_slice()[i as usize];
-        input.monitor.condition_before(self.next)
+        let watched = &self.inputs.watched.as_slice()[input as usize];
+        watched.monitor.condition_before(self.next)
     }
 
     /// The first later millisecond at which a step has to be made: that of the last step plus the
@@ -317,28 +318,24 @@ impl Element {
         self.later_steps
     }
 
-    // A step, but for the count of the caller.
-    fn advance(&mut self, now: u64, changes: &[InputEvent])
+    /// A step, but for the count of the caller.
+    fn advance(&mut self, now: u64, told: &[InputEvent])
         requires in_time { IsInTime self.old now }
         requires in_range { now ≤ LAST_MILLISECOND }
-        requires fits { All (FitsElement self.old.settings) changes.now }
+        requires fits { All (FitsElement self.old.settings) told.now }
         ensures next { self.new.next ≡ now + 1 }
         ensures kept { self.new.settings ≡ self.old.settings }
         ensures stands { (past : List Moment) → StandsFor self.old past →
             StandsFor self.new
-            (moment_after self.old.settings (moments_until self.old.settings now past) changes.now
+            (moment_after self.old.settings (moments_until self.old.settings now past) told.now
             ∷ moments_until self.old.settings now past) }
         ensures due_later { IfSome self.new.due (λ due. now < due) }
         ensures due_soon { IfSome self.new.due (λ due. due ≤ now + GREATEST_WTR) }
         ensures counts { self.new.later_steps ≡
             (if nat_eq self.old.next 0 then 0 else self.old.later_steps + 1) }
     {
-        tell_all(
-            self.inputs.watched.as_mut_slice(),
-            &mut self.commands,
-            changes,
-        );
-        renew_told(&mut self.inputs, changes, now, &self.commands, &self.config);
+        tell_all(self.inputs.watched.as_mut_slice(), &mut self.commands, told);
+        renew_told(&mut self.inputs, told, now, &self.commands, &self.config);
         renew_due(&mut self.inputs, now, &self.commands, &self.config);
         self.due = first_due(&self.inputs.dues);
         self.selected = evaluate(&self.inputs.table, &mut self.commands, self.selected);

@@ -3,8 +3,8 @@
 ghost use Rattle.std.specs.Prelude.{◌≡◌, ◌≤◌, ◌<◌, ℕ, [], length, All, IfOk};
 ghost use Rattle.sync_ql.specs.Selection.{is_better, SameOption};
 ghost use Rattle.sync_ql.specs.Told.{IsOfOption};
-ghost use Rattle.sync_element.specs.Telling.{Fits, IsTold, IsToldSoFar};
-ghost use Rattle.sync_element.specs.Renewing.{IsRenewed, CanRenew};
+ghost use Rattle.sync_element.specs.private.Telling.{Fits, IsTold, IsToldSoFar};
+ghost use Rattle.sync_element.specs.private.Renewing.{IsRenewed, CanRenew};
 ghost use Rattle.sync_element.specs.Whole.{inputs_kept};
 
 use crate::candidates::set_if_other;
@@ -20,7 +20,7 @@ use sync_ql::rules::{Candidate, InputEvent};
 use sync_ql::{Level, better};
 use sync_text::NoMemory;
 
-// The inputs, by place.
+/// The inputs, by place.
 #[derive(Debug, Drop)]
 pub struct Inputs {
     /// Four of them in place: most elements have no more.
@@ -30,8 +30,8 @@ pub struct Inputs {
 }
 
 impl Inputs {
-    // The same inputs once more.
-    pub fn try_clone(&self, alloc: Global) -> Result<Inputs, NoMemory>
+    /// The same inputs once more.
+    pub(crate) fn try_clone(&self, alloc: Global) -> Result<Inputs, NoMemory>
         ensures { IfOk result (λ inputs. inputs_kept inputs ≡ inputs_kept self.now) }
     {
         let watched = try_clone_all(alloc, self.watched.as_slice())?;
@@ -45,15 +45,15 @@ impl Inputs {
     }
 }
 
-// Takes in what is told in a millisecond, in order; no monitor is told of it yet.
-pub fn tell_all(watched: &mut [Watched], commands: &mut Cmds, events: &[InputEvent])
+/// Takes in what is told in a millisecond, in order; no monitor is told of it yet.
+pub(crate) fn tell_all(watched: &mut [Watched], commands: &mut Cmds, told: &[InputEvent])
     requires locked_length { length commands.old.locked ≡ length watched.old }
-    requires fits { All (Fits (length watched.old)) events.now }
-    ensures { IsToldSoFar events.now []
+    requires fits { All (Fits (length watched.old)) told.now }
+    ensures { IsToldSoFar told.now []
         (record { watched = watched.old; switches = commands.old })
         (record { watched = watched.new; switches = commands.new }) }
 {
-    for event in events {
+    for event in told {
         tell(watched, commands, *event);
     }
 }
@@ -75,9 +75,9 @@ fn tell(watched: &mut [Watched], commands: &mut Cmds, event: InputEvent)
     }
 }
 
-// Renews an input: its monitor where something happens to it, when its running time ends, and what
-// the choice looks at.
-pub fn renew(inputs: &mut Inputs, i: u32, now: u64, commands: &Cmds, config: &Config)
+/// Renews an input: its monitor where something happens to it, when its running time ends, and what
+/// the choice looks at.
+pub(crate) fn renew(inputs: &mut Inputs, i: u32, now: u64, commands: &Cmds, config: &Config)
     requires place { i < length inputs.old.watched.items }
     requires can { CanRenew now config.now.own.option (inputs_kept inputs.old) }
     requires in_range { now ≤ LAST_MILLISECOND }
@@ -101,8 +101,8 @@ pub fn renew(inputs: &mut Inputs, i: u32, now: u64, commands: &Cmds, config: &Co
     set_if_other(&mut inputs.table, i, candidate);
 }
 
-// Whether the floor is better than the level; a level equal to it is not below.
-pub fn is_below(floor: Option<Level>, level: Option<Level>) -> bool
+/// Whether the floor is better than the level; a level equal to it is not below.
+pub(crate) fn is_below(floor: Option<Level>, level: Option<Level>) -> bool
     requires option { SameOption floor level }
     ensures { result ≡ is_better floor level }
 {

@@ -5,8 +5,8 @@ ghost use Rattle.sync_ql.specs.declared.rules.Candidate.{Candidate};
 ghost use Rattle.sync_ql.specs.Told.{IsOfOption};
 ghost use Rattle.sync_element.specs.declared.watched.Watched.{Watched};
 ghost use Rattle.agenda.specs.DueTimes.{due_in};
-ghost use Rattle.sync_element.specs.Telling.{Fits};
-ghost use Rattle.sync_element.specs.Renewing.{touched_by, CanRenew, AreRenewed, AreTaken, AreKept, IsTouched};
+ghost use Rattle.sync_element.specs.private.Telling.{Fits};
+ghost use Rattle.sync_element.specs.private.Renewing.{touched_by, CanRenew, AreRenewed, AreTaken, AreKept, IsTouched};
 ghost use Rattle.sync_element.specs.Whole.{inputs_kept};
 
 use crate::config::Config;
@@ -16,28 +16,28 @@ use operator_cmds::Cmds;
 use sync_ql::limits::LAST_MILLISECOND;
 use sync_ql::rules::{Cmd, InputEvent};
 
-// Renews each input that an event touches.
-pub fn renew_told(
+/// Renews each input that an event touches.
+pub(crate) fn renew_told(
     inputs: &mut Inputs,
-    events: &[InputEvent],
+    told: &[InputEvent],
     now: u64,
     commands: &Cmds,
     config: &Config,
 )
     requires can { CanRenew now config.now.own.option (inputs_kept inputs.old) }
-    requires fits { All (Fits (length inputs.old.watched.items)) events.now }
+    requires fits { All (Fits (length inputs.old.watched.items)) told.now }
     requires in_range { now ≤ LAST_MILLISECOND }
     requires locked_length { length commands.now.locked ≡ length inputs.old.watched.items }
     requires floor { IsOfOption config.now.own.option config.now.floor }
     ensures can { CanRenew now config.now.own.option (inputs_kept inputs.new) }
     ensures count { length inputs.new.watched.items ≡ length inputs.old.watched.items }
-    ensures taken { (told : List Watched) (before : List Candidate) →
+    ensures taken { (watched : List Watched) (before : List Candidate) →
         AreRenewed (record { now = now; switches = commands.now; floor = config.now.floor })
-        told before (inputs_kept inputs.old) →
+        watched before (inputs_kept inputs.old) →
         AreTaken (record { now = now; switches = commands.now; floor = config.now.floor })
-        told before events.now [] (inputs_kept inputs.new) }
+        watched before told.now [] (inputs_kept inputs.new) }
 {
-    for event in events {
+    for event in told {
         renew_if_touched(inputs, *event, now, commands, config);
     }
 }
@@ -62,7 +62,7 @@ fn renew_if_touched(
     }
 }
 
-// The input that an event touches: which it names, except as that of a switch.
+/// The input that an event touches: which it names, except as that of a switch.
 fn touched_by(event: InputEvent) -> Option<u32>
     ensures { result ≡ touched_by event }
 {
@@ -75,8 +75,8 @@ fn touched_by(event: InputEvent) -> Option<u32>
     }
 }
 
-// Renews each input whose running time ends now.
-pub fn renew_due(inputs: &mut Inputs, now: u64, commands: &Cmds, config: &Config)
+/// Renews each input whose running time ends now.
+pub(crate) fn renew_due(inputs: &mut Inputs, now: u64, commands: &Cmds, config: &Config)
     requires can { CanRenew now config.now.own.option (inputs_kept inputs.old) }
     requires in_range { now ≤ LAST_MILLISECOND }
     requires locked_length { length commands.now.locked ≡ length inputs.old.watched.items }
@@ -85,18 +85,18 @@ pub fn renew_due(inputs: &mut Inputs, now: u64, commands: &Cmds, config: &Config
     ensures count { length inputs.new.watched.items ≡ length inputs.old.watched.items }
     ensures later { (i : ℕ) → i < length inputs.new.watched.items →
         IfSome (due_in inputs.new.dues i) (λ due. now < due) }
-    ensures renewed { (told : List Watched) (before : List Candidate) →
+    ensures renewed { (watched : List Watched) (before : List Candidate) →
         AreRenewed (record { now = now; switches = commands.now; floor = config.now.floor })
-        told before (inputs_kept inputs.old) →
+        watched before (inputs_kept inputs.old) →
         AreKept (record { now = now; switches = commands.now; floor = config.now.floor })
-        told before (inputs_kept inputs.old) (inputs_kept inputs.new) }
+        watched before (inputs_kept inputs.old) (inputs_kept inputs.new) }
 {
     while let Some(i) = due_now(&inputs.dues, now) {
         renew(inputs, i, now, commands, config);
     }
 }
 
-// An input whose running time ends now, if there is one.
+/// An input whose running time ends now, if there is one.
 fn due_now(dues: &DueTimes, now: u64) -> Option<u32>
     ensures some { IfSome result (λ i. i < length dues.now) }
     ensures due { IfSome result (λ i. due_in dues.now i ≡ Some now) }

@@ -7,7 +7,7 @@ ghost use Rattle.sync_ql.specs.Moment.{at_end};
 ghost use Rattle.sync_ql.specs.Output.{bundle_of, goes_back, mode_of, state_of};
 ghost use Rattle.sync_element.specs.Configured.{settings_of};
 ghost use Rattle.agenda.specs.DueTimes.{due_in};
-ghost use Rattle.sync_element.specs.FirstTime.{IsFirstTime};
+ghost use Rattle.sync_element.specs.private.FirstTime.{IsFirstTime};
 
 use crate::config::Config;
 use agenda::DueTimes;
@@ -17,8 +17,8 @@ use sync_ql::limits::LAST_MILLISECOND;
 use sync_ql::rules::{Candidate, ClockState, Mode};
 use sync_ql::{Level, do_not_use};
 
-// Chooses an input, and ends a manual switch that does not stand.
-pub fn evaluate(table: &Table, commands: &mut Cmds, current: Option<u32>) -> Option<u32>
+/// Chooses an input, and ends a manual switch that does not stand.
+pub(crate) fn evaluate(table: &Table, commands: &mut Cmds, current: Option<u32>) -> Option<u32>
     requires locked_length { length commands.old.locked ≡ length table.now }
     requires current_place { IfSome current (λ i. i < length table.now) }
     ensures input { result ≡
@@ -33,8 +33,8 @@ pub fn evaluate(table: &Table, commands: &mut Cmds, current: Option<u32>) -> Opt
     choice.input
 }
 
-// The first millisecond at which a running time ends.
-pub fn first_due(dues: &DueTimes) -> Option<u64>
+/// The first millisecond at which a running time ends.
+pub(crate) fn first_due(dues: &DueTimes) -> Option<u64>
     ensures { MatchOption result ((i : ℕ) → i < length dues.now → due_in dues.now i ≡ None)
         (IsFirstTime dues.now) }
 {
@@ -44,8 +44,8 @@ pub fn first_due(dues: &DueTimes) -> Option<u64>
     }
 }
 
-// The number of steps after the first, where there is one more.
-pub fn steps_after(next: u64, later_steps: u64) -> u64
+/// The number of steps after the first, where there is one more.
+pub(crate) fn steps_after(next: u64, later_steps: u64) -> u64
     requires few { later_steps ≤ next }
     requires in_range { next ≤ LAST_MILLISECOND + 1 }
     ensures { result ≡ (if nat_eq next 0 then 0 else later_steps + 1) }
@@ -53,15 +53,15 @@ pub fn steps_after(next: u64, later_steps: u64) -> u64
     if next == 0 { 0 } else { later_steps + 1 }
 }
 
-// Whether an input is taken, or was earlier.
-pub fn was_ever_locked(selected: Option<u32>, earlier: bool) -> bool
+/// Whether an input is taken, or was earlier.
+pub(crate) fn was_ever_locked(selected: Option<u32>, earlier: bool) -> bool
     ensures { result ≡ (is_some selected || earlier) }
 {
     selected.is_some() || earlier
 }
 
-// The level of the input that is taken, or that of the own clock without one.
-pub fn level_of(inputs: &[Candidate], selected: Option<u32>, own: Level) -> Level
+/// The level of the input that is taken, or that of the own clock without one.
+pub(crate) fn level_of(inputs: &[Candidate], selected: Option<u32>, own: Level) -> Level
     requires place { IfSome selected (λ i. i < length inputs.now) }
     ensures { result ≡
         unwrap_or (option_and_then (λ i. (candidate inputs.now i).level) selected) own }
@@ -75,22 +75,22 @@ pub fn level_of(inputs: &[Candidate], selected: Option<u32>, own: Level) -> Leve
     }
 }
 
-// Do-not-use on each input of the bundle from which the timing comes, and the element's level on any
-// other.
-pub fn level_back(config: &Config, selected: Option<u32>, i: u32, level: Level) -> Level
+/// Do-not-use on each input of the bundle from which the timing comes, and the element's level on any
+/// other.
+pub(crate) fn level_back(config: &Config, selected: Option<u32>, input: u32, level: Level) -> Level
     requires selected { IfSome selected (λ taken. taken < length config.now.inputs) }
-    requires place { i < length config.now.inputs }
-    ensures { result ≡ (if goes_back (settings_of config.now) selected i
+    requires place { input < length config.now.inputs }
+    ensures { result ≡ (if goes_back (settings_of config.now) selected input
         then do_not_use_of config.now.own.option else level) }
 {
-    if goes_back(config, selected, i) {
+    if goes_back(config, selected, input) {
         do_not_use(config.own.option)
     } else {
         level
     }
 }
 
-// Whether what is sent back on an input goes back to where the timing comes from.
+/// Whether what is sent back on an input goes back to where the timing comes from.
 fn goes_back(config: &Config, selected: Option<u32>, i: u32) -> bool
     requires selected { IfSome selected (λ taken. taken < length config.now.inputs) }
     requires place { i < length config.now.inputs }
@@ -109,7 +109,7 @@ fn bundle_of(config: &Config, i: u32) -> u32
     config.inputs.as_slice()[i as usize].bundle
 }
 
-pub fn mode_of(forced: Option<u32>, manual: Option<u32>) -> Mode
+pub(crate) fn mode_of(forced: Option<u32>, manual: Option<u32>) -> Mode
     ensures { result ≡ mode_of forced manual }
 {
     match (forced, manual) {
@@ -119,7 +119,7 @@ pub fn mode_of(forced: Option<u32>, manual: Option<u32>) -> Mode
     }
 }
 
-pub fn state_of(selected: Option<u32>, was_locked: bool) -> ClockState
+pub(crate) fn state_of(selected: Option<u32>, was_locked: bool) -> ClockState
     ensures { result ≡ state_of selected was_locked }
 {
     match (selected, was_locked) {

@@ -3,7 +3,7 @@
 ghost use Rattle.std.specs.Prelude.{◌≡◌, ◌≤◌, ◌<◌, ℕ, IfOk, All, length, map};
 ghost use Rattle.sync_ql.specs.Selection.{SameOption};
 ghost use Rattle.sync_ql.specs.Told.{IsOfOption};
-ghost use Rattle.sync_element.specs.Starting.{IsNew, AreNew, first_candidate, HasFirst};
+ghost use Rattle.sync_element.specs.private.Starting.{IsNew, AreNew, first_candidate, HasFirst};
 ghost use Rattle.sync_element.specs.Kept.{watched_in};
 ghost use Rattle.sync_element.specs.Whole.{inputs_kept};
 
@@ -20,8 +20,8 @@ use sync_ql::limits::{GREATEST_HOLDOFF, GREATEST_WTR, LEAST_HOLDOFF, MOST_INPUTS
 use sync_ql::rules::Candidate;
 use sync_text::NoMemory;
 
-// The inputs of a new element: all are up, and have their first levels.
-pub fn new_inputs(alloc: Global, config: &Config) -> Result<Inputs, NoMemory>
+/// The inputs of a new element: all are up, and have their first levels.
+pub(crate) fn new_inputs(alloc: Global, config: &Config) -> Result<Inputs, NoMemory>
     requires not_short { LEAST_HOLDOFF ≤ config.now.holdoff }
     requires not_long { config.now.holdoff ≤ GREATEST_HOLDOFF }
     requires minutes { config.now.wtr ≤ GREATEST_WTR }
@@ -40,7 +40,7 @@ pub fn new_inputs(alloc: Global, config: &Config) -> Result<Inputs, NoMemory>
     })
 }
 
-// Each input with a monitor that was told nothing.
+/// Each input with a monitor that was told nothing.
 fn new_watched(alloc: Global, config: &Config) -> Result<SmallVec<Watched, 4>, NoMemory>
     requires not_short { LEAST_HOLDOFF ≤ config.now.holdoff }
     requires not_long { config.now.holdoff ≤ GREATEST_HOLDOFF }
@@ -75,7 +75,7 @@ fn new_input(config: &Config, first: Option<Level>) -> Watched
     }
 }
 
-// What the choice looks at in each input.
+/// What the choice looks at in each input.
 fn new_table(alloc: Global, config: &Config) -> Result<Table, NoMemory>
     requires few { length config.now.inputs ≤ MOST_INPUTS }
     requires floor { IsOfOption config.now.own.option config.now.floor }

@@ -1,8 +1,8 @@
 //! One input of an element: what is told of it, and its monitor.
 
 ghost use Rattle.std.specs.Prelude.{◌≡◌, ◌≤◌, true, IfOk};
-ghost use Rattle.sync_element.specs.Kept.{HasEnd};
-ghost use Rattle.sync_element.specs.Renewing.{must_step, IsReady, IsStepped};
+ghost use Rattle.sync_element.specs.private.Kept.{HasEnd};
+ghost use Rattle.sync_element.specs.private.Renewing.{must_step, IsReady, IsStepped};
 
 use input_monitor::Monitor;
 use smallvec::SmallVec;
@@ -11,7 +11,7 @@ use sync_ql::Level;
 use sync_ql::limits::{LAST_MILLISECOND, LEAST_HOLDOFF};
 use sync_text::NoMemory;
 
-// What an element keeps of an input, besides what the choice looks at.
+/// What an element keeps of an input, besides what the choice looks at.
 #[derive(Debug, Drop)]
 pub struct Watched {
     pub monitor: Monitor,
@@ -34,8 +34,11 @@ impl Default for Watched {
     }
 }
 
-// The same inputs once more.
-pub fn try_clone_all(alloc: Global, watched: &[Watched]) -> Result<SmallVec<Watched, 4>, NoMemory>
+/// The same inputs once more.
+pub(crate) fn try_clone_all(
+    alloc: Global,
+    watched: &[Watched],
+) -> Result<SmallVec<Watched, 4>, NoMemory>
     ensures { IfOk result (λ copies. copies.items ≡ watched.now) }
 {
     let Ok(mut copies) = SmallVec::with_capacity(alloc, watched.len()) else {
@@ -55,17 +58,17 @@ pub fn try_clone_all(alloc: Global, watched: &[Watched]) -> Result<SmallVec<Watc
     Ok(copies)
 }
 
-// Whether something happens to the input in a millisecond: its wait-to-restore time is cleared, it
-// goes up or down, or its running time ends.
+/// Whether something happens to the input in a millisecond: its wait-to-restore time is cleared, it
+/// goes up or down, or its running time ends.
 fn must_step(input: &Watched, now: u64) -> bool
     ensures { result ≡ must_step now input.now }
 {
     input.cleared || input.up != input.monitor.up() || input.monitor.due() == Some(now)
 }
 
-// Tells the monitor of a millisecond in which something happens. It gives when the running time
-// ends.
-pub fn step_if_told(input: &mut Watched, now: u64) -> Option<u64>
+/// Tells the monitor of a millisecond in which something happens. It gives when the running time
+/// ends.
+pub(crate) fn step_if_told(input: &mut Watched, now: u64) -> Option<u64>
     requires ready { must_step now input.old ≡ true → IsReady now input.old.monitor }
     requires in_range { now ≤ LAST_MILLISECOND }
     requires ends { HasEnd input.old.monitor }

@@ -28,7 +28,7 @@ use Rattle.sync_topo.proofs.LineLaws.{IsNominated-within}
 use Rattle.net_rules.specs.Signals.{Signals, signals_by, events_at}
 use Rattle.net_rules.specs.Inputs.{IsInputOf}
 use Rattle.net_rules.specs.History.{Levels, settings_of, heard, moment_at, element_past, failed_by, out_at}
-use Rattle.sync_text.specs.Tests.{is_other}
+use Rattle.sync_text.specs.Tests.{differs}
 use Rattle.net_rules.specs.Activity.{is_active, news_arrives, is_busy}
 use Rattle.net_rules.proofs.InputLaws.{inputs-are}
 use Rattle.net_rules.proofs.NetLaws.{failed-at, many-inputs}
@@ -67,7 +67,7 @@ changed-place plan signals out place t element sound is none at =
     )
 
 -- what isn't other isn't the contrary
-not_same : (a b : Bool) → is_other a b ≡ false → a ≡ not b → ⊥
+not_same : (a b : Bool) → differs a b ≡ false → a ≡ not b → ⊥
 not_same true true none other = true≢false other
 not_same false false none other = true≢false (sym other)
 not_same true false none other = true≢false none

@@ -18,18 +18,20 @@ use Rattle.sync_topo.specs.declared.event.Event.{Event}
 use Rattle.sync_topo.specs.Topology.{Topology}
 use Rattle.sync_topo.specs.Lines.{line_count, inputs_of, is_nominated, IsNominated}
 use Rattle.sync_topo.proofs.LineLaws.{IsNominated-within}
-use Rattle.sync_net.specs.declared.parts.Parts.{Parts}
-use Rattle.sync_net.specs.Kept.{Kept, line_signal, heard_on, kept_up, kept_level}
+use Rattle.sync_net.specs.declared.parts.NetParts.{NetParts}
+use Rattle.sync_net.specs.Kept.{Kept, line_signal, heard_on}
+use Rattle.sync_net.specs.private.Kept.{kept_up, kept_level}
 use Rattle.sync_net.specs.NetState.{NetState, line_in, NoneDueBefore}
 use Rattle.sync_net.specs.NetState as Net
-use Rattle.sync_net.specs.Telling.{IsTold}
-use Rattle.sync_net.specs.Noting.{line_at, names_line}
+use Rattle.sync_net.specs.private.Telling.{IsTold}
+use Rattle.sync_net.specs.private.Noting.{line_at, names_line}
 use Rattle.net_rules.specs.Settling.{switches_line}
-use Rattle.sync_net.specs.Hearing.{told_in, HearsMore, CanTell}
+use Rattle.sync_net.specs.private.Hearing.{told_in, HearsMore, CanTell}
 use Rattle.agenda.specs.Called.{is_marked}
-use Rattle.sync_net.specs.Whole.{state_of, IsReadyLine, IsWhole}
+use Rattle.sync_net.specs.Whole.{state_of}
+use Rattle.sync_net.specs.private.Whole.{IsReadyLine, IsWhole}
 use Rattle.sync_text.proofs.Tests.{or-second}
-use Rattle.sync_net.specs.PartSteps.{AreCalled, AreTakenIn}
+use Rattle.sync_net.specs.private.PartSteps.{AreCalled, AreTakenIn}
 
 -- what an element is told of levels beside what it is told of events is all that it is told
 pub told-more : (plan : Topology) (was between next : Kept) (events : List Event) (element : ℕ) (changes changes_then : List InputEvent) →
@@ -96,7 +98,7 @@ pub exactly_now : (o : Option ℕ) (now : ℕ) → IsSomeAnd o (λ due. due ≤ 
 exactly_now (Some due) now early late = ap Some (omega (arith, early, late))
 exactly_now None now early late = absurd early
 
-module _ (plan : Topology) (now : ℕ) (events : List Event) (p a b : Parts) (whole : IsWhole plan p) (in_time : Net.IsInTime (state_of plan false p) now)
+module _ (plan : Topology) (now : ℕ) (events : List Event) (p a b : NetParts) (whole : IsWhole plan p) (in_time : Net.IsInTime (state_of plan false p) now)
     (first : AreCalled plan now p a) (second : AreTakenIn plan events a b) where
   -- the elements that are marked before the levels that are heard: for a cause
   a_lines : a.lines.items ≡ p.lines.items

@@ -18,22 +18,23 @@ use Rattle.sync_topo.specs.Topology.{Topology}
 use Rattle.sync_topo.specs.Lines.{line_count, sender_of, IsNominated}
 use Rattle.sync_topo.proofs.LineLaws.{IsNominated-within}
 use Rattle.net_rules.proofs.PlanLaws.{sender-within}
-use Rattle.sync_net.specs.declared.parts.Parts.{Parts}
+use Rattle.sync_net.specs.declared.parts.NetParts.{NetParts}
 use Rattle.sync_net.specs.Kept.{line_signal, heard_on}
 use Rattle.sync_net.specs.NetState.{NetState, line_in}
 use Rattle.sync_net.specs.NetState as Net
-use Rattle.sync_net.specs.Noted.{AreNoted}
-use Rattle.sync_net.specs.Noting.{line_at, AreOfOption}
+use Rattle.sync_net.specs.private.Noted.{AreNoted}
+use Rattle.sync_net.specs.private.Noting.{line_at, AreOfOption}
 use Rattle.sync_net.proofs.QuietGap.{some_element}
-use Rattle.sync_net.specs.Hearing.{heard_in, told_in}
-use Rattle.sync_net.specs.Steps.{IsSteady, IsLineTold, IsLineSaid}
+use Rattle.sync_net.specs.private.Hearing.{heard_in, told_in}
+use Rattle.sync_net.specs.private.Steps.{IsSteady, IsLineTold, IsLineSaid}
 use Rattle.agenda.specs.Called.{is_marked}
-use Rattle.sync_net.specs.Stages.{IsSent, IsNotGiven, is_out_of}
-use Rattle.sync_net.specs.NetStep.{ElementStays, ElementMoves, LineIsTold, LineKeeps, LineIsSaid, LineMoves, IsNetStep, HasCause, AreEvaluatedFor}
+use Rattle.sync_net.specs.private.Stages.{IsSent, IsNotGiven, is_out_of}
+use Rattle.sync_net.specs.private.NetStep.{ElementStays, ElementMoves, LineIsTold, LineKeeps, LineIsSaid, LineMoves, IsNetStep, HasCause, AreEvaluatedFor}
 use Rattle.sync_net.specs.Evaluated.{IsCalledFor, AreAloneCalled}
 use Rattle.sync_net.proofs.OutLaws.{out-every, out-is}
-use Rattle.sync_net.specs.Whole.{kept_of, state_of, IsReadyElement, IsReadyLine, IsWhole}
-use Rattle.sync_net.specs.PartSteps.{AreCalled, AreTakenIn, AreHeardIn, AreEvaluatedIn, AreSentIn, IsOver}
+use Rattle.sync_net.specs.Whole.{kept_of, state_of}
+use Rattle.sync_net.specs.private.Whole.{IsReadyElement, IsReadyLine, IsWhole}
+use Rattle.sync_net.specs.private.PartSteps.{AreCalled, AreTakenIn, AreHeardIn, AreEvaluatedIn, AreSentIn, IsOver}
 use Rattle.sync_net.proofs.StageLaws.{same-place}
 use Rattle.sync_net.proofs.Assembling.{unmarked-before, if_some_at, none-marked, exactly_now, kept_line, called_nominated, called_before, not_called_before, line_due_left}
 use Rattle.sync_net.proofs.Finishing.{called_in_end, c_elements, c_dues, not_active, told_line, untold_line, element_steps, element_stays, element_moves, called_later}
@@ -47,7 +48,7 @@ listed-at (k ∷ ks) (suc i) d inside = or-second (nat_eq (slice_index_or ks i d
 some-same : {A : Type 0} (x y : A) → Some x ≡ Some y → x ≡ y
 some-same x y is = ap (λ o. unwrap_or o x) is
 
-module _ (plan : Topology) (now : ℕ) (events : List Event) (p a b c d e q : Parts) (whole : IsWhole plan p) (in_time : Net.IsInTime (state_of plan false p) now)
+module _ (plan : Topology) (now : ℕ) (events : List Event) (p a b c d e q : NetParts) (whole : IsWhole plan p) (in_time : Net.IsInTime (state_of plan false p) now)
     (first : AreCalled plan now p a) (second : AreTakenIn plan events a b) (third : AreHeardIn plan now b c) (fourth : AreEvaluatedIn plan now c d)
     (fifth : AreSentIn plan now d e) (last : IsOver now e q) where
   -- what is kept in the end is what was kept when all was told

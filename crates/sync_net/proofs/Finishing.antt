@@ -12,26 +12,28 @@ use Rattle.link_model.specs.LineState.{LineState}
 use Rattle.sync_topo.specs.declared.event.Event.{Event}
 use Rattle.std.proofs.lemmas.List.Elements.{All-weaker}
 use Rattle.sync_topo.specs.Topology.{Topology}
-use Rattle.sync_topo.specs.Lines.{line_count, IsNominated, lines_out, IsLineOut}
+use Rattle.sync_topo.specs.Lines.{line_count, IsNominated, lines_out}
+use Rattle.sync_topo.specs.private.Lines.{IsLineOut}
 use Rattle.sync_topo.proofs.LineLaws.{IsNominated-within}
 use Rattle.net_rules.specs.History.{settings_of}
-use Rattle.sync_net.specs.declared.parts.Parts.{Parts}
+use Rattle.sync_net.specs.declared.parts.NetParts.{NetParts}
 use Rattle.sync_net.specs.NetState.{NetState, line_in}
 use Rattle.sync_net.specs.NetState as Net
-use Rattle.sync_net.specs.Telling.{IsTold}
-use Rattle.sync_net.specs.Noting.{line_at}
-use Rattle.sync_net.specs.Hearing.{heard_in, told_in, HearsMore, IsToldAt}
+use Rattle.sync_net.specs.private.Telling.{IsTold}
+use Rattle.sync_net.specs.private.Noting.{line_at}
+use Rattle.sync_net.specs.private.Hearing.{heard_in, told_in, HearsMore, IsToldAt}
 use Rattle.agenda.specs.Called.{is_marked}
-use Rattle.sync_net.specs.Stages.{CanStep, CanSay}
-use Rattle.sync_net.specs.NetStep.{ElementSteps, ElementStays, ElementMoves}
+use Rattle.sync_net.specs.private.Stages.{CanStep, CanSay}
+use Rattle.sync_net.specs.private.NetStep.{ElementSteps, ElementStays, ElementMoves}
 use Rattle.sync_net.proofs.OutLaws.{out-is}
-use Rattle.sync_net.specs.Whole.{kept_of, state_of, IsReadyElement, IsReadyLine, IsWhole}
-use Rattle.sync_net.specs.PartSteps.{AreCalled, AreTakenIn, AreHeardIn, AreEvaluatedIn}
+use Rattle.sync_net.specs.Whole.{kept_of, state_of}
+use Rattle.sync_net.specs.private.Whole.{IsReadyElement, IsReadyLine, IsWhole}
+use Rattle.sync_net.specs.private.PartSteps.{AreCalled, AreTakenIn, AreHeardIn, AreEvaluatedIn}
 use Rattle.sync_topo.proofs.LinesOut.{lines_out-are}
 use Rattle.sync_net.proofs.Assembling.{told-more, unmarked-before, if_some_at, some_and, kept_line, called_nominated, not_active_before}
 
 -- after the lines are told
-module _ (plan : Topology) (now : ℕ) (events : List Event) (p a b c : Parts) (whole : IsWhole plan p) (in_time : Net.IsInTime (state_of plan false p) now)
+module _ (plan : Topology) (now : ℕ) (events : List Event) (p a b c : NetParts) (whole : IsWhole plan p) (in_time : Net.IsInTime (state_of plan false p) now)
     (first : AreCalled plan now p a) (second : AreTakenIn plan events a b) (third : AreHeardIn plan now b c) where
   pub c_elements : c.elements.items ≡ p.elements.items
   c_elements = ap (λ v. v.items) (third.elements ∙ second.elements ∙ first.elements)
@@ -114,7 +116,7 @@ module _ (plan : Topology) (now : ℕ) (events : List Event) (p a b c : Parts) (
       )
 
 -- after the elements made their steps
-module _ (plan : Topology) (now : ℕ) (events : List Event) (p a b c d : Parts) (whole : IsWhole plan p) (in_time : Net.IsInTime (state_of plan false p) now)
+module _ (plan : Topology) (now : ℕ) (events : List Event) (p a b c d : NetParts) (whole : IsWhole plan p) (in_time : Net.IsInTime (state_of plan false p) now)
     (first : AreCalled plan now p a) (second : AreTakenIn plan events a b) (third : AreHeardIn plan now b c) (fourth : AreEvaluatedIn plan now c d) where
   -- an element that is marked made its step, and another is left
   pub element_steps : (element : ℕ) (other : ElementState) → element < length plan.elements → is_marked c.tellings.active.flags element ≡ true →

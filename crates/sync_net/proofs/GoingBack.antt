@@ -12,9 +12,9 @@ use Rattle.agenda.proofs.MarkedPlaces.{to_come}
 use Rattle.sync_element.specs.ElementState.{ElementState}
 use Rattle.sync_topo.specs.Topology.{Topology}
 use Rattle.sync_topo.specs.Lines.{line_count}
-use Rattle.sync_net.specs.declared.parts.Parts.{Parts}
-use Rattle.sync_net.specs.Whole.{IsWhole}
-use Rattle.sync_net.specs.Copied.{AreSameBut, AreRenewed, IsElementDue, IsLineDue}
+use Rattle.sync_net.specs.declared.parts.NetParts.{NetParts}
+use Rattle.sync_net.specs.private.Whole.{IsWhole}
+use Rattle.sync_net.specs.private.Copied.{AreSameBut, AreRenewed, IsElementDue, IsLineDue}
 use Rattle.sync_net.proofs.QuietGap.{some_element}
 
 -- lists of one length that have the same at each place are one
@@ -57,7 +57,7 @@ beyond_places places n k within beyond = list_any_none (nat_eq k) places (λ j d
     not_place k e low = grind (arith, nat_tests)
 
 -- once the due times of all elements and lines that differ are renewed, all are those of the other
-module _ (plan : Topology) (before base : Parts) (elements lines : List ℕ) (between after : List (Option ℕ)) (whole : IsWhole plan before) (base_whole : IsWhole plan base)
+module _ (plan : Topology) (before base : NetParts) (elements lines : List ℕ) (between after : List (Option ℕ)) (whole : IsWhole plan before) (base_whole : IsWhole plan base)
     (elements_within : All (λ e. e < length base.elements.items) elements)
     (elements_same : AreSameBut elements before.elements.items base.elements.items) (lines_same : AreSameBut lines before.lines.items base.lines.items)
     (first : AreRenewed 0 elements (IsElementDue base.elements.items) before.dues between)

@@ -31,8 +31,8 @@ use Rattle.net_words.specs.Tellings.{is_something}
 use Rattle.agenda.specs.Called.{is_marked}
 use Rattle.sync_net.specs.declared.signals.LineSignal.{LineSignal}
 use Rattle.sync_net.specs.NetState.{line_in}
-use Rattle.sync_net.specs.Steps.{IsLineTold}
-use Rattle.sync_net.specs.Hearing.{Ears, heard_in, IsToldAt, IsNotTold, HearsMore, told_in, AreTold, CanTell, IsPassedOn}
+use Rattle.sync_net.specs.private.Steps.{IsLineTold}
+use Rattle.sync_net.specs.private.Hearing.{Ears, heard_in, IsToldAt, IsNotTold, HearsMore, told_in, AreTold, CanTell, IsPassedOn}
 use Rattle.sync_net.proofs.StageLaws.{one-of, none-of, is-place, keeps-marks, keeps-same}
 use Rattle.net_rules.proofs.OwnLevels.{own-option}
 use Rattle.net_words.proofs.DistinctInputs.{place-at, input-of}

@@ -26,10 +26,10 @@ use Rattle.sync_net.specs.Kept.{line_signal, heard_on}
 use Rattle.sync_net.specs.NetState.{NetState, line_in}
 use Rattle.sync_net.specs.Standing.{ElementStands, LineStands, heard_before, AreSignals, AreHeard, IsOfPast}
 use Rattle.sync_net.specs.Sound.{IsSoundLine, AreSound}
-use Rattle.sync_net.specs.Telling.{IsTold}
-use Rattle.sync_net.specs.Steps.{IsSteady, IsLineSaid}
-use Rattle.sync_net.specs.Stages.{IsLevelSent}
-use Rattle.sync_net.specs.NetStep.{ElementStays, LineIsTold, LineKeeps, LineIsSaid, LineStays, IsNetStep}
+use Rattle.sync_net.specs.private.Telling.{IsTold}
+use Rattle.sync_net.specs.private.Steps.{IsSteady, IsLineSaid}
+use Rattle.sync_net.specs.private.Stages.{IsLevelSent}
+use Rattle.sync_net.specs.private.NetStep.{ElementStays, LineIsTold, LineKeeps, LineIsSaid, LineStays, IsNetStep}
 use Rattle.sync_net.proofs.SignalsAfter.{signals-after}
 use Rattle.sync_net.proofs.ToldMoment.{told-moment}
 use Rattle.sync_net.proofs.QuietObjects.{HasNoNews, element-quiet, element-sends, line-quiet, line-heard}

@@ -24,12 +24,12 @@ use Rattle.net_rules.specs.History.{settings_of}
 use Rattle.net_rules.specs.Inputs.{IsInputOf}
 use Rattle.net_rules.proofs.TouchLaws.{input-is_at}
 use Rattle.net_rules.proofs.NetLaws.{many-inputs}
-use Rattle.net_words.specs.declared.saying.Saying.{Saying}
-use Rattle.net_words.specs.declared.saying.Saying.TheVariants.{IsUp, HasLevel, IsCleared, IsLocked, IsUnlocked, IsForced, IsManual}
+use Rattle.net_words.specs.declared.input_words.Saying.{Saying}
+use Rattle.net_words.specs.declared.input_words.Saying.TheVariants.{IsUp, HasLevel, IsCleared, IsLocked, IsUnlocked, IsForced, IsManual}
 use Rattle.sync_net.specs.declared.signals.SourceSignal.{SourceSignal}
-use Rattle.sync_net.specs.Noting.{source_at, IsSourceOf, AreOfOption}
+use Rattle.sync_net.specs.private.Noting.{source_at, IsSourceOf, AreOfOption}
 use Rattle.net_words.specs.Words.{said_as, word_at, input_words, part_words, only_to, words_of, all_words}
-use Rattle.sync_net.specs.Settling.{named_source, settled, level_words, all_level_words}
+use Rattle.sync_net.specs.private.SourceLevels.{named_source, settled, level_words, all_level_words}
 use Rattle.net_words.proofs.DistinctInputs.{input-of}
 use Rattle.net_words.proofs.PlaceLemmas.{found-at, no-place-there}
 use Rattle.net_words.proofs.FitLaws.{word-fits, away}

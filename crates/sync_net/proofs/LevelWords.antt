@@ -24,15 +24,15 @@ use Rattle.sync_topo.specs.declared.event.Event.{Event}
 use Rattle.sync_topo.specs.Topology.{Topology}
 use Rattle.sync_topo.specs.Lines.{line_input, inputs_of, is_same_input, place_at}
 use Rattle.net_rules.specs.Signals.{last_word, is_of_part, command_to, says_up as says_input_up, clears as clears_input}
-use Rattle.net_words.specs.declared.saying.Saying.{Saying}
-use Rattle.net_words.specs.declared.saying.Saying.TheVariants.{IsUp, HasLevel, IsCleared, IsLocked, IsUnlocked, IsForced, IsManual}
+use Rattle.net_words.specs.declared.input_words.Saying.{Saying}
+use Rattle.net_words.specs.declared.input_words.Saying.TheVariants.{IsUp, HasLevel, IsCleared, IsLocked, IsUnlocked, IsForced, IsManual}
 use Rattle.net_words.specs.Words.{word_at, input_words, part_words, only_to, words_of, all_words}
 use Rattle.net_words.proofs.DistinctInputs.{place-at}
 use Rattle.sync_topo.proofs.InputPlaces.{same-is, same-self}
 use Rattle.net_words.proofs.PlaceLemmas.{found-at}
 use Rattle.sync_net.specs.declared.signals.SourceSignal.{SourceSignal}
-use Rattle.sync_net.specs.Noting.{source_at}
-use Rattle.sync_net.specs.Settling.{named_source, is_it, names_source, settled, level_words, all_level_words}
+use Rattle.sync_net.specs.private.Noting.{source_at}
+use Rattle.sync_net.specs.private.SourceLevels.{named_source, is_it, names_source, settled, level_words, all_level_words}
 use Rattle.net_words.proofs.WordLaws.{no-up, no-clear, level-word, no-command, last_said-append, commands_in-append}
 
 -- the level of the source that an event names, where that is the input

@@ -5,15 +5,16 @@ use Rattle.sync_ql.specs.declared.rules.InputEvent.{InputEvent}
 use Rattle.sync_topo.specs.declared.event.Event.{Event}
 use Rattle.sync_topo.specs.declared.input.InputId.TheVariants.{Source}
 use Rattle.sync_topo.specs.Topology.{Topology}
-use Rattle.net_words.specs.declared.saying.Saying.TheVariants.{HasLevel}
+use Rattle.net_words.specs.declared.input_words.Saying.TheVariants.{HasLevel}
 use Rattle.sync_net.specs.declared.signals.SourceSignal.{SourceSignal}
 use Rattle.net_words.specs.declared.tellings.Tellings.{Tellings}
-use Rattle.sync_net.specs.Noting.{source_at}
+use Rattle.sync_net.specs.private.Noting.{source_at}
 use Rattle.net_words.specs.Words.{input_words}
-use Rattle.sync_net.specs.Settling.{named_source, names_source, settled, settle_if, AreSourcesSettled, level_words, all_level_words}
-use Rattle.net_words.specs.Tellings.{told_to, is_active, is_something, AreTold, AreToldSoFar}
+use Rattle.sync_net.specs.private.SourceLevels.{named_source, names_source, settled, settle_if, AreSourcesSettled, level_words, all_level_words}
+use Rattle.net_words.specs.Tellings.{told_to, is_active, is_something, AreTold}
+use Rattle.net_words.specs.private.Tellings.{AreToldSoFar}
 
--- what is told of levels is the same of sources that settle alike
+-- what is told of levels is the same of sources that level_now alike
 same-words : (plan : Topology) (sources others : List SourceSignal) (named : Option ℕ) (element : ℕ)
     → ((source : ℕ) → settled (source_at sources source) ≡ settled (source_at others source)) → level_words plan sources named element ≡ level_words plan others named element
 same-words plan sources others None element same = refl
@@ -49,11 +50,11 @@ levels-told plan sources mid all rest event before now after same so_far told = 
     words : (element : ℕ) → level_words plan mid (named_source event.what) element ≡ level_words plan sources (named_source event.what) element
     words element = same-words plan mid sources (named_source event.what) element same
 
-settle-more : (here later : Bool) (now after : SourceSignal) → settled after ≡ settled now → after ≡ settle_if here now → settle_if later after ≡ settle_if (here || later) now
-settle-more true true now after same is = same
-settle-more true false now after same is = is
-settle-more false true now after same is = same
-settle-more false false now after same is = is
+level_now-more : (here later : Bool) (now after : SourceSignal) → settled after ≡ settled now → after ≡ settle_if here now → settle_if later after ≡ settle_if (here || later) now
+level_now-more true true now after same is = same
+level_now-more true false now after same is = is
+level_now-more false true now after same is = same
+level_now-more false false now after same is = is
 
 pub levels-settled : (all rest : List Event) (event : Event) (before now after : List SourceSignal) → AreSourcesSettled all (event ∷ rest) before now
     → AreSourcesSettled (event ∷ []) [] now after → AreSourcesSettled all rest before after
@@ -61,7 +62,7 @@ levels-settled all rest event before now after so_far here = record {
   count = here.count ∙ so_far.count;
   same = λ source. here.same source ∙ so_far.same source;
   source = λ source.
-      settle-more (names_source source event) (list_any (names_source source) rest) (source_at now source) (source_at after source) (here.same source)
+      level_now-more (names_source source event) (list_any (names_source source) rest) (source_at now source) (source_at after source) (here.same source)
       (here.source source ∙ ap (λ b. settle_if b (source_at now source)) (or-none (names_source source event)))
       ∙ so_far.source source;
 }

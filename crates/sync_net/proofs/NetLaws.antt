@@ -16,15 +16,16 @@ use Rattle.net_rules.specs.Signals.{signals_by, events_at}
 use Rattle.net_rules.specs.History.{heard, out_at}
 use Rattle.net_rules.specs.Activity.{touches, is_active, is_touched}
 use Rattle.net_rules.proofs.IdleLaws.{inactive-is}
-use Rattle.sync_net.specs.declared.parts.Parts.{Parts}
+use Rattle.sync_net.specs.declared.parts.NetParts.{NetParts}
 use Rattle.sync_net.specs.Kept.{heard_on}
 use Rattle.sync_net.specs.NetState.{NetState, line_in, NoneDueBefore, IsDueAt}
 use Rattle.sync_net.specs.NetState as Net
 use Rattle.sync_net.specs.Standing.{IsOfPast}
 use Rattle.sync_net.specs.Sound.{IsSoundLine, AreSound}
-use Rattle.sync_net.specs.NetStep.{IsNetStep, HasCause, AreEvaluatedFor}
+use Rattle.sync_net.specs.private.NetStep.{IsNetStep, HasCause, AreEvaluatedFor}
 use Rattle.sync_net.specs.Evaluated.{IsContinued}
-use Rattle.sync_net.specs.Whole.{state_of, IsReadyLine, IsWhole}
+use Rattle.sync_net.specs.Whole.{state_of}
+use Rattle.sync_net.specs.private.Whole.{IsReadyLine, IsWhole}
 use Rattle.sync_net.proofs.StageLaws.{none-of}
 use Rattle.sync_net.proofs.QuietGap.{stands-later, heard-then, some_element}
 use Rattle.sync_net.proofs.ActiveLaws.{element-active}
@@ -36,7 +37,7 @@ if-some P Q each (Some a) holds = each a holds
 if-some P Q each None holds = holds
 
 -- what is whole is sound
-pub whole-sound : (plan : Topology) (spent : Bool) (p : Parts) → IsWhole plan p → AreSound (state_of plan spent p)
+pub whole-sound : (plan : Topology) (spent : Bool) (p : NetParts) → IsWhole plan p → AreSound (state_of plan spent p)
 whole-sound plan spent p whole = record {
   elements = λ element other within. (whole.elements element other within).sound;
   lines = λ line within. if-some (IsReadyLine plan p.next line) (IsSoundLine plan line) (λ state ready. ready.sound) (line_in p.lines.items line) (whole.lines line within);
@@ -44,18 +45,18 @@ whole-sound plan spent p whole = record {
 }
 
 -- nothing is due before the next millisecond
-pub whole-later : (plan : Topology) (spent : Bool) (p : Parts) → IsWhole plan p → NoneDueBefore (state_of plan spent p) p.next
+pub whole-later : (plan : Topology) (spent : Bool) (p : NetParts) → IsWhole plan p → NoneDueBefore (state_of plan spent p) p.next
 whole-later plan spent p whole = record {
   elements = λ element other within. (whole.elements element other within).due_later;
   lines = λ line within. if-some (IsReadyLine plan p.next line) (λ state. IfSome state.due (λ due. p.next ≤ due)) (λ state ready. ready.due_later) (line_in p.lines.items line) (whole.lines line within);
 }
 
 -- a network that isn't spent
-pub state-live : (plan : Topology) (spent : Bool) (p : Parts) → spent ≡ false → state_of plan spent p ≡ state_of plan false p
+pub state-live : (plan : Topology) (spent : Bool) (p : NetParts) → spent ≡ false → state_of plan spent p ≡ state_of plan false p
 state-live plan spent p live = ap (λ b. state_of plan b p) live
 
 -- an element that makes a step for a cause is active
-module _ (plan : Topology) (all events : List Event) (p q : Parts) (whole : IsWhole plan p) where
+module _ (plan : Topology) (all events : List Event) (p q : NetParts) (whole : IsWhole plan p) where
   cause-at : (now : ℕ) → IsOfPast (state_of plan false p) all now → IsOfPast (state_of plan false q) all (suc now) → Net.IsInTime (state_of plan false p) now → events_at now all ≡ events
       → (element : ℕ) → element < length plan.elements → HasCause now events (state_of plan false p) (state_of plan false q) element → is_active plan all element now ≡ true
   cause-at zero before after in_time here element within cause = refl
@@ -83,7 +84,7 @@ module _ (plan : Topology) (all events : List Event) (p q : Parts) (whole : IsWh
           rw (is, was) idle.heard_same in
           true≢false (sym (ap not other) ∙ same)
 
-module _ (plan : Topology) (all events : List Event) (n now : ℕ) (p q : Parts) (whole : IsWhole plan p)
+module _ (plan : Topology) (all events : List Event) (n now : ℕ) (p q : NetParts) (whole : IsWhole plan p)
     (is : IsOfPast (state_of plan false p) all n) (here : IsContinued plan all n now events) (in_time : Net.IsInTime (state_of plan false p) now)
     (step : IsNetStep now events (state_of plan false p) (state_of plan false q)) where
   -- up to the step it stands for what it stood for
@@ -103,7 +104,7 @@ module _ (plan : Topology) (all events : List Event) (n now : ℕ) (p q : Parts)
       (evaluated.cause (slice_index_or q.tellings.active.listed i d) (listed-at q.tellings.active.listed i d inside))
 
 -- when a network is due
-module _ (plan : Topology) (p : Parts) (whole : IsWhole plan p) where
+module _ (plan : Topology) (p : NetParts) (whole : IsWhole plan p) where
   -- what no object is due before
   pub first_least : (n : ℕ) → ((i : ℕ) → i < length p.dues → IfSome (due_in p.dues i) (λ due. n ≤ due)) → NoneDueBefore (state_of plan false p) n
   first_least n none = record {

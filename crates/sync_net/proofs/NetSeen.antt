@@ -27,14 +27,15 @@ use Rattle.net_rules.specs.Facing.{Faces}
 use Rattle.net_rules.proofs.FinalLaws.{obeys-well, pair-by_events}
 use Rattle.net_rules.proofs.PairLaws.{pair-short}
 use Rattle.net_rules.proofs.PlanLaws.{receiver-within}
-use Rattle.sync_net.specs.declared.parts.Parts.{Parts}
+use Rattle.sync_net.specs.declared.parts.NetParts.{NetParts}
 use Rattle.sync_net.specs.NetState.{NetState, line_in, NoneDueBefore, IsDueAt}
 use Rattle.sync_net.specs.NetState as Net
 use Rattle.sync_net.specs.Sound.{AreSound}
 use Rattle.sync_net.specs.Standing.{IsOfPast, ElementStands, LineStands, NoneFrom}
-use Rattle.sync_net.specs.NetStep.{IsNetStep, AreEvaluatedFor}
+use Rattle.sync_net.specs.private.NetStep.{IsNetStep, AreEvaluatedFor}
 use Rattle.sync_net.specs.Evaluated.{IsContinued, AreTaking, AreFacing, HaveFaced}
-use Rattle.sync_net.specs.Whole.{state_of, IsReadyLine, IsWhole}
+use Rattle.sync_net.specs.Whole.{state_of}
+use Rattle.sync_net.specs.private.Whole.{IsReadyLine, IsWhole}
 use Rattle.sync_net.proofs.QuietGap.{stands-later, some_element}
 use Rattle.sync_net.proofs.IdleNet.{settled-idle}
 use Rattle.sync_net.proofs.ActiveLaws.{due-busy}
@@ -95,14 +96,14 @@ faces-until plan net all now line back from same well is facing faced t late ear
 ]
 
 -- an element that was read stands as it stands in the list
-pub element-read : (net : NetState) (plan : Topology) (spent : Bool) (p : Parts) (element : ℕ) (read : ElementState) → state_of plan spent p ≡ net
+pub element-read : (net : NetState) (plan : Topology) (spent : Bool) (p : NetParts) (element : ℕ) (read : ElementState) → state_of plan spent p ≡ net
     → read ≡ slice_index_or p.elements.items element read → element < length net.plan.elements → (all : List Event) (n : ℕ) → IsOfPast net all n
     → ElementStands net.plan (signals_by net.plan all) (out_at net.plan (signals_by net.plan all)) element n read
 element-read net plan spent p element read view same within all n is =
     subst (ElementStands net.plan (signals_by net.plan all) (out_at net.plan (signals_by net.plan all)) element n)
     (ap (λ s. slice_index_or s.elements element read) (sym view) ∙ sym same) (is.elements element read within)
 
-pub line-read : (net : NetState) (plan : Topology) (spent : Bool) (p : Parts) (line : ℕ) (kept : Option LineState) (read : LineState) → state_of plan spent p ≡ net
+pub line-read : (net : NetState) (plan : Topology) (spent : Bool) (p : NetParts) (line : ℕ) (kept : Option LineState) (read : LineState) → state_of plan spent p ≡ net
     → kept ≡ slice_index_or p.lines.items line kept → kept ≡ Some read → length p.lines.items ≡ line_count plan → IsNominated net.plan line → (all : List Event) (n : ℕ) → IsOfPast net all n
     → LineStands net.plan (signals_by net.plan all) (out_at net.plan (signals_by net.plan all)) line n read
 line-read net plan spent p line kept read view same has count nominated all n is =
@@ -112,7 +113,7 @@ line-read net plan spent p line kept read view same has count nominated all n is
     within : line < length p.lines.items
     within = omega (arith, IsNominated-within net.plan line nominated, ap (λ s. line_count s.plan) view, count)
 
-module _ (net : NetState) (plan : Topology) (spent : Bool) (p : Parts) (view : state_of plan spent p ≡ net) (live : net.spent ≡ false) (invariant : spent ≡ false → IsWhole plan p) where
+module _ (net : NetState) (plan : Topology) (spent : Bool) (p : NetParts) (view : state_of plan spent p ≡ net) (live : net.spent ≡ false) (invariant : spent ≡ false → IsWhole plan p) where
   -- it isn't spent
   not_spent : spent ≡ false
   not_spent = ap (λ s. s.spent) view ∙ live
@@ -123,7 +124,7 @@ module _ (net : NetState) (plan : Topology) (spent : Bool) (p : Parts) (view : s
   seen : state_of plan false p ≡ net
   seen = sym (state-live plan spent p not_spent) ∙ view
 
-  pub seen_stands : (now : ℕ) (events : List Event) (q : Parts) → Net.IsInTime net now → IsNetStep now events (state_of plan false p) (state_of plan false q)
+  pub seen_stands : (now : ℕ) (events : List Event) (q : NetParts) → Net.IsInTime net now → IsNetStep now events (state_of plan false p) (state_of plan false q)
       → (all : List Event) (n : ℕ) → IsContinued net.plan all n now events → IsOfPast net all n → IsOfPast (state_of plan spent q) all (now + 1)
   seen_stands now events q in_time step all n here is =
       subst (λ s. IsOfPast s all (now + 1)) (sym (state-live plan spent q not_spent))
@@ -132,7 +133,7 @@ module _ (net : NetState) (plan : Topology) (spent : Bool) (p : Parts) (view : s
       (subst (λ s. IsContinued s.plan all n now events) (sym seen) here)
       (subst (λ s. Net.IsInTime s now) (sym seen) in_time) step)
 
-  pub seen_active : (now : ℕ) (events : List Event) (q : Parts) → Net.IsInTime net now → IsNetStep now events (state_of plan false p) (state_of plan false q)
+  pub seen_active : (now : ℕ) (events : List Event) (q : NetParts) → Net.IsInTime net now → IsNetStep now events (state_of plan false p) (state_of plan false q)
       → AreEvaluatedFor now events (state_of plan false p) (state_of plan false q)
       → (all : List Event) (n : ℕ) → IsContinued net.plan all n now events → IsOfPast net all n → All (λ element. is_active net.plan all element now ≡ true) q.tellings.active.listed
   seen_active now events q in_time step evaluated all n here is =

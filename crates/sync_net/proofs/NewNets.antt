@@ -38,15 +38,16 @@ use Rattle.net_rules.specs.Signals.{Signals, signals_by, planned_level}
 use Rattle.net_rules.specs.History.{by_levels, Levels, settings_of, heard, moment_at, out_at}
 use Rattle.net_rules.specs.Inputs.{IsInputOf}
 use Rattle.net_rules.proofs.InputLaws.{inputs-are}
-use Rattle.sync_net.specs.declared.parts.Parts.{Parts}
+use Rattle.sync_net.specs.declared.parts.NetParts.{NetParts}
 use Rattle.sync_net.specs.declared.signals.LineSignal.{LineSignal}
 use Rattle.sync_net.specs.declared.signals.SourceSignal.{SourceSignal}
 use Rattle.sync_net.specs.Kept.{line_signal, no_source}
-use Rattle.sync_net.specs.Noting.{line_at, source_at, AreOfOption}
-use Rattle.sync_net.specs.Hearing.{heard_in, told_in}
+use Rattle.sync_net.specs.private.Noting.{line_at, source_at, AreOfOption}
+use Rattle.sync_net.specs.private.Hearing.{heard_in, told_in}
 use Rattle.sync_net.specs.Standing.{ElementStands, LineStands, AreSignals, AreHeard, IsOfPast}
-use Rattle.sync_net.specs.Whole.{IsReadyElement, IsReadyLine, IsWhole, kept_of, state_of}
-use Rattle.sync_net.specs.Beginning.{IsNewLine, IsNewSource, IsBegun}
+use Rattle.sync_net.specs.Whole.{kept_of, state_of}
+use Rattle.sync_net.specs.private.Whole.{IsReadyElement, IsReadyLine, IsWhole}
+use Rattle.sync_net.specs.private.Beginning.{IsNewLine, IsNewSource, IsBegun}
 use Rattle.net_words.specs.NewElements.{AreEach, IsNewElement}
 use Rattle.net_words.proofs.SplitWords.{none-before-0}
 
@@ -96,7 +97,7 @@ sources-fit plan sources are source within =
     record { said = ap (λ (l : Level). l.option) new.said ∙ new.of_option; level = ap (λ (l : Level). l.option) new.level ∙ new.of_option }
 
 -- a network that was told nothing is whole
-pub begun-whole : (plan : Topology) (parts : Parts) → IsBegun plan parts → IsWhole plan parts
+pub begun-whole : (plan : Topology) (parts : NetParts) → IsBegun plan parts → IsWhole plan parts
 begun-whole plan parts begun = record {
   well_formed = begun.well_formed;
   in_range = omega (arith, begun.next);
@@ -144,7 +145,7 @@ line-begins plan signals out line state new = record {
 }
 
 -- before any event all lines and sources are as the plan has them
-signals-begin : (plan : Topology) (parts : Parts) → IsBegun plan parts → (events : List Event) → AreSignals plan (kept_of parts) events 0
+signals-begin : (plan : Topology) (parts : NetParts) → IsBegun plan parts → (events : List Event) → AreSignals plan (kept_of parts) events 0
 signals-begin plan parts begun events = record {
   line_up = λ line nominated. rw (none-before-0 events) (ap (λ (signal : LineSignal). signal.up) (line-is line));
   line_esmc = λ line nominated. rw (none-before-0 events) (ap (λ (signal : LineSignal). signal.esmc) (line-is line));
@@ -157,12 +158,12 @@ signals-begin plan parts begun events = record {
     line-is line = ap (λ signals. line_at signals line) begun.signals ∙ same-everywhere (line_count plan) line (record { up = true; esmc = true })
 
 -- and nothing is heard
-heards-begin : (plan : Topology) (parts : Parts) → IsBegun plan parts → (events : List Event) → AreHeard plan (kept_of parts) events 0
+heards-begin : (plan : Topology) (parts : NetParts) → IsBegun plan parts → (events : List Event) → AreHeard plan (kept_of parts) events 0
 unfolding heard_at
 heards-begin plan parts begun events = λ line nominated. ap (λ heards. heard_in heards line) begun.heards ∙ same-everywhere (line_count plan) line None
 
 -- a network that was told nothing stands for no milliseconds, whatever events come
-pub begun-stands : (plan : Topology) (parts : Parts) → IsBegun plan parts → (events : List Event) → IsOfPast (state_of plan false parts) events 0
+pub begun-stands : (plan : Topology) (parts : NetParts) → IsBegun plan parts → (events : List Event) → IsOfPast (state_of plan false parts) events 0
 begun-stands plan parts begun events = record {
   first = λ _first. refl;
   later = omega (arith, begun.next);
@@ -176,6 +177,6 @@ begun-stands plan parts begun events = record {
 }
 
 -- what holds where there is no want of memory
-pub if-ok : (P Q : Parts → Type 0) (result : Result Parts NoMemory) → ((parts : Parts) → P parts → Q parts) → IfOk result P → IfOk result Q
+pub if-ok : (P Q : NetParts → Type 0) (result : Result NetParts NoMemory) → ((parts : NetParts) → P parts → Q parts) → IfOk result P → IfOk result Q
 if-ok P Q (Ok parts) f holds = f parts holds
 if-ok P Q (Err error) f holds = tt

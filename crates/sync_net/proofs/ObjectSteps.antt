@@ -15,7 +15,7 @@ use Rattle.net_rules.specs.Signals.{Signals}
 use Rattle.net_rules.specs.History.{Levels, line_moment_at}
 use Rattle.sync_net.specs.declared.signals.LineSignal.{LineSignal}
 use Rattle.sync_net.specs.Standing.{LineStands, heard_before}
-use Rattle.sync_net.specs.Steps.{told_past, IsLineTold, IsLineSaid}
+use Rattle.sync_net.specs.private.Steps.{told_past, IsLineTold, IsLineSaid}
 
 -- the calls of one millisecond up to `take_due`, in which the line is up or down
 told_moment : LineSignal → LineMoment → LineMoment

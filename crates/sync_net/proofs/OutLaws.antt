@@ -5,9 +5,10 @@ use Rattle.std.proofs.lemmas.Bool.{eq-eqb, true≢false}
 use Rattle.std.proofs.lemmas.List.Folds.{list_any_at}
 use Rattle.sync_topo.specs.declared.input.LineId.{LineId}
 use Rattle.sync_topo.specs.Topology.{Topology}
-use Rattle.sync_topo.specs.Lines.{line_id, lines_out, IsNominated, sender_of, IsLineOut}
+use Rattle.sync_topo.specs.Lines.{line_id, lines_out, IsNominated, sender_of}
+use Rattle.sync_topo.specs.private.Lines.{IsLineOut}
 use Rattle.sync_topo.proofs.LinesOut.{lines_out-are, lines_out-all}
-use Rattle.sync_net.specs.Stages.{is_among, is_out_of}
+use Rattle.sync_net.specs.private.Stages.{is_among, is_out_of}
 use Rattle.sync_net.proofs.StageLaws.{one-of, is-place}
 
 -- what holds of each of some lines holds of a line that is among them

@@ -14,7 +14,7 @@ use Rattle.net_rules.specs.Signals.{events_before, events_at, last_word, says_up
 use Rattle.sync_net.specs.Kept.{Kept, source_signal}
 use Rattle.sync_net.specs.Standing.{AreSignals, IsNominatedSource}
 use Rattle.net_words.specs.Before.{up_before, said_before}
-use Rattle.sync_net.specs.Noted.{AreNoted, IsSettled}
+use Rattle.sync_net.specs.private.Noted.{AreNoted, IsSettled}
 use Rattle.net_words.proofs.SplitWords.{none-before-0, until-split, word-until}
 
 -- a source that is kept as the events before a millisecond have it, and is up, has the level said

@@ -10,8 +10,8 @@ use Rattle.sync_ql.specs.declared.levels.Level.{Level}
 use Rattle.sync_topo.specs.Topology.{Topology}
 use Rattle.sync_topo.specs.Lines.{line_count, sender_of}
 use Rattle.sync_net.specs.NetState.{line_in}
-use Rattle.sync_net.specs.Steps.{IsSteady}
-use Rattle.sync_net.specs.Stages.{KeepsMarks, Workplace, changes_of, IsEvaluated, IsNotEvaluated, AreEvaluated, CanStep, IsLevelSent, Wires, IsNotGiven, IsSent, AreSent, CanSay, IsOnlyGiven}
+use Rattle.sync_net.specs.private.Steps.{IsSteady}
+use Rattle.sync_net.specs.private.Stages.{KeepsMarks, Workplace, changes_of, IsEvaluated, IsNotEvaluated, AreEvaluated, CanStep, IsLevelSent, Wires, IsNotGiven, IsSent, AreSent, CanSay, IsOnlyGiven}
 
 -- two tests, one of which is that of a place
 pub one-of : (a b : Bool) → (a || b) ≡ true → (a ≡ true) ⊎ ((a ≡ false) × (b ≡ true))

@@ -27,13 +27,13 @@ use Rattle.net_rules.specs.Signals.{last_word, says_up as says_input_up, says_es
 use Rattle.sync_net.specs.declared.signals.LineSignal.{LineSignal}
 use Rattle.sync_net.specs.declared.signals.SourceSignal.{SourceSignal}
 use Rattle.net_words.specs.declared.tellings.Tellings.{Tellings}
-use Rattle.sync_net.specs.Kept.{kept_up, kept_level}
-use Rattle.sync_net.specs.Noted.{AreNoted, IsSettled}
+use Rattle.sync_net.specs.private.Kept.{kept_up, kept_level}
+use Rattle.sync_net.specs.private.Noted.{AreNoted, IsSettled}
 use Rattle.agenda.specs.Called.{is_marked}
-use Rattle.sync_net.specs.Noting.{line_at, source_at, names_line, AreOfOption, AreLinesNoted, AreSourcesNoted}
-use Rattle.sync_net.specs.Settling.{named_source, is_it, names_source, settled, settle_if, AreSourcesSettled, all_level_words}
-use Rattle.sync_net.specs.Taking.{Taking, AreTaken, kept_in}
-use Rattle.sync_net.specs.Telling.{IsTold}
+use Rattle.sync_net.specs.private.Noting.{line_at, source_at, names_line, AreOfOption, AreLinesNoted, AreSourcesNoted}
+use Rattle.sync_net.specs.private.SourceLevels.{named_source, is_it, names_source, settled, settle_if, AreSourcesSettled, all_level_words}
+use Rattle.sync_net.specs.private.Taking.{Taking, AreTaken, kept_in}
+use Rattle.sync_net.specs.private.Telling.{IsTold}
 use Rattle.net_words.specs.Tellings.{told_to, is_active, is_something, AreTold}
 use Rattle.net_words.specs.Words.{all_words}
 use Rattle.net_words.proofs.FitLaws.{all-fit, all-away}

@@ -18,10 +18,11 @@ use Rattle.net_rules.specs.Signals.{signals_by, events_at, last_word, clears as 
 use Rattle.net_rules.specs.History.{by_levels, settings_of, first_level, heard, input_level, moment_at, element_past, out_at}
 use Rattle.net_rules.specs.Settings.{InputLevels, signal_at}
 use Rattle.net_rules.proofs.SettingLaws.{level_until, IsSaid, told-by}
-use Rattle.sync_net.specs.Kept.{Kept, kept_up, kept_level}
+use Rattle.sync_net.specs.Kept.{Kept}
+use Rattle.sync_net.specs.private.Kept.{kept_up, kept_level}
 use Rattle.sync_net.specs.Standing.{AreSignals, AreHeard, heard_before}
 use Rattle.net_words.specs.Before.{up_before}
-use Rattle.sync_net.specs.Telling.{IsTold}
+use Rattle.sync_net.specs.private.Telling.{IsTold}
 use Rattle.net_words.proofs.DistinctInputs.{input-of}
 use Rattle.net_words.proofs.SplitWords.{none-before-0, past-up}
 

@@ -1,11 +1,9 @@
 -- Private to this crate: what a network keeps of what comes to its lines and sources from outside,
 -- and of what is heard. No clause elsewhere looks into it.
-use Rattle.std.specs.Prelude.{ℕ, Bool, true, List, slice_index_or, Option, None, Some}
+use Rattle.std.specs.Prelude.{ℕ, true, List, slice_index_or, Option, None}
 use Rattle.sync_ql.specs.declared.levels.NetOption.TheVariants.{I}
 use Rattle.sync_ql.specs.declared.levels.Level.{Level}
 use Rattle.sync_ql.specs.Level.{do_not_use_of}
-use Rattle.sync_topo.specs.declared.input.InputId.{InputId}
-use Rattle.sync_topo.specs.declared.input.InputId.TheVariants.{Line, Source}
 use Rattle.sync_net.specs.declared.signals.LineSignal.{LineSignal}
 use Rattle.sync_net.specs.declared.signals.SourceSignal.{SourceSignal}
 
@@ -29,12 +27,3 @@ source_signal kept source = slice_index_or kept.sources source no_source
 
 abbrev pub heard_on : Kept → ℕ → Option Level
 heard_on kept line = slice_index_or kept.heards line None
-
--- an input: whether it is up, and its level
-abbrev pub kept_up : Kept → InputId → Bool
-kept_up kept (Line line) = (line_signal kept line.0).up
-kept_up kept (Source source) = (source_signal kept source).up
-
-abbrev pub kept_level : Kept → InputId → Option Level
-kept_level kept (Line line) = heard_on kept line.0
-kept_level kept (Source source) = Some (source_signal kept source).level

@@ -4,7 +4,7 @@ ghost use Rattle.std.specs.Prelude.{◌≡◌, ◌≤◌, ◌+◌, ◌*◌, fals
 ghost use Rattle.sync_ql.specs.Told.{FitsElement};
 ghost use Rattle.sync_element.specs.ElementState.{IsInTime};
 ghost use Rattle.sync_element.specs.StandsAfter.{IsStepped};
-ghost use Rattle.sync_net.specs.Steps.{IsSteady, IsLineTold, IsLineSaid};
+ghost use Rattle.sync_net.specs.private.Steps.{IsSteady, IsLineTold, IsLineSaid};
 
 use crate::signals::LineSignal;
 use link_model::Line;
@@ -14,9 +14,9 @@ use sync_ql::Level;
 use sync_ql::limits::LAST_MILLISECOND;
 use sync_text::{NoMemory, Steps};
 
-// Tells a line whether it is up and its ESMC is on, takes what arrives, and answers the level that
-// is heard then.
-pub fn tell_line(line: &mut Line, now: u64, signal: LineSignal) -> Option<Level>
+/// Tells a line whether it is up and its ESMC is on, takes what arrives, and answers the level that
+/// is heard then.
+pub(crate) fn tell_line(line: &mut Line, now: u64, signal: LineSignal) -> Option<Level>
     requires turn { line.old.turn ≤ 4 * now }
     requires in_time { IfSome line.old.due (λ due. now ≤ due) }
     requires in_range { now ≤ LAST_MILLISECOND }
@@ -28,8 +28,8 @@ pub fn tell_line(line: &mut Line, now: u64, signal: LineSignal) -> Option<Level>
     line.heard(now)
 }
 
-// Gives a line its level, and answers when it is due next.
-pub fn say_on_line(line: &mut Line, now: u64, level: Level) -> Result<Option<u64>, NoMemory>
+/// Gives a line its level, and answers when it is due next.
+pub(crate) fn say_on_line(line: &mut Line, now: u64, level: Level) -> Result<Option<u64>, NoMemory>
     requires turn { line.old.turn ≤ 4 * now + 3 }
     requires in_time { IfSome line.old.due (λ due. now ≤ due) }
     requires in_range { now ≤ LAST_MILLISECOND }
@@ -40,28 +40,28 @@ pub fn say_on_line(line: &mut Line, now: u64, level: Level) -> Result<Option<u64
     Ok(line.due())
 }
 
-// Lets an element make a step, and answers whether it takes something else then or has another
-// level.
-pub fn step_element<L: Ledger>(
+/// Lets an element make a step, and answers whether it takes something else then or has another
+/// level.
+pub(crate) fn step_element<L: Ledger>(
     element: &mut Element,
     now: u64,
-    changes: &[InputEvent],
+    told: &[InputEvent],
     steps: &mut Steps<L>,
 ) -> bool
     requires in_time { IsInTime element.old now }
     requires in_range { now ≤ LAST_MILLISECOND }
-    requires fits { All (FitsElement element.old.settings) changes.now }
-    ensures stepped { IsStepped now changes.now element.old element.new }
+    requires fits { All (FitsElement element.old.settings) told.now }
+    ensures stepped { IsStepped now told.now element.old element.new }
     ensures steady { result ≡ false → IsSteady now element.old element.new }
     ensures ticks { steps.new ≡ steps.old + 1 }
 {
     let before = (element.selected(), element.level());
-    element.step(now, changes, steps);
+    element.step(now, told, steps);
     let _due = element.due();
     is_other(before, (element.selected(), element.level()))
 }
 
-// Whether another input is taken, or there is another level.
+/// Whether another input is taken, or there is another level.
 fn is_other(before: (Option<u32>, Level), after: (Option<u32>, Level)) -> bool
     ensures { result ≡ false → (after.0 ≡ before.0) × (after.1 ≡ before.1) }
 {

@@ -1,9 +1,9 @@
 //! All that a network keeps, once more.
 
 ghost use Rattle.std.specs.Prelude.{◌≡◌, IfOk};
-ghost use Rattle.sync_net.specs.Copied.{AreSame};
+ghost use Rattle.sync_net.specs.private.Copied.{AreSame};
 
-use crate::parts::Parts;
+use crate::parts::NetParts;
 use crate::shared_element::SharedElement;
 use crate::shared_line::SharedLine;
 use crate::signals::{LineSignal, SourceSignal};
@@ -13,8 +13,11 @@ use sync_ql::Level;
 use sync_ql::rules::InputEvent;
 use sync_text::{NoMemory, Rows};
 
-// The same parts once more.
-pub fn try_clone_parts<'b>(alloc: Global, parts: &Parts<'_>) -> Result<Parts<'b>, NoMemory>
+/// The same parts once more.
+pub(crate) fn try_clone_parts<'b>(
+    alloc: Global,
+    parts: &NetParts<'_>,
+) -> Result<NetParts<'b>, NoMemory>
     ensures { IfOk result (AreSame parts.now) }
 {
     let elements = try_clone_elements(alloc, parts.elements.as_slice())?;
@@ -23,8 +26,11 @@ pub fn try_clone_parts<'b>(alloc: Global, parts: &Parts<'_>) -> Result<Parts<'b>
     Ok(copy)
 }
 
-// The same parts for another network, which has these elements and lines until it calls them.
-pub fn share_parts<'b>(alloc: Global, parts: &'b Parts<'_>) -> Result<Parts<'b>, NoMemory>
+/// The same parts for another network, which has these elements and lines until it calls them.
+pub(crate) fn share_parts<'b>(
+    alloc: Global,
+    parts: &'b NetParts<'_>,
+) -> Result<NetParts<'b>, NoMemory>
     ensures { IfOk result (AreSame parts.now) }
 {
     let elements = share_elements(alloc, parts.elements.as_slice())?;
@@ -33,13 +39,13 @@ pub fn share_parts<'b>(alloc: Global, parts: &'b Parts<'_>) -> Result<Parts<'b>,
     Ok(shared)
 }
 
-// The same parts once more, over the same elements and lines.
+/// The same parts once more, over the same elements and lines.
 fn copy_others<'b>(
     alloc: Global,
-    parts: &Parts<'_>,
+    parts: &NetParts<'_>,
     elements: Vec<SharedElement<'b>>,
     lines: Vec<Option<SharedLine<'b>>>,
-) -> Result<Parts<'b>, NoMemory>
+) -> Result<NetParts<'b>, NoMemory>
     requires elements { elements.items ≡ parts.now.elements.items }
     requires lines { lines.items ≡ parts.now.lines.items }
     ensures { IfOk result (AreSame parts.now) }
@@ -51,7 +57,7 @@ fn copy_others<'b>(
     let changes = try_clone_told(alloc, parts.tellings.changes.as_slice())?;
     let active = parts.tellings.active.try_clone(alloc)?;
     let called = parts.called.try_clone(alloc)?;
-    Ok(Parts {
+    Ok(NetParts {
         next: parts.next,
         later_steps: parts.later_steps,
         elements,
@@ -126,7 +132,7 @@ fn try_clone_lines<'b>(
     Ok(copies.into_vec())
 }
 
-pub fn try_clone_line<'b>(
+pub(crate) fn try_clone_line<'b>(
     alloc: Global,
     line: &Option<SharedLine<'_>>,
 ) -> Result<Option<SharedLine<'b>>, NoMemory>

@@ -5,7 +5,7 @@ ghost use Rattle.std.specs.List.{list_any};
 ghost use Rattle.agenda.specs.Marked.{AreListed};
 ghost use Rattle.sync_element.specs.ElementState.{ElementState};
 ghost use Rattle.sync_topo.specs.Lines.{lines_out};
-ghost use Rattle.sync_net.specs.Stages.{AreEvaluated, CanStep, changes_of, is_out_of};
+ghost use Rattle.sync_net.specs.private.Stages.{AreEvaluated, CanStep, changes_of, is_out_of};
 
 use crate::marking::mark_all;
 use crate::shared_element::SharedElement;
@@ -16,9 +16,9 @@ use sync_ql::rules::InputEvent;
 use sync_text::{NoMemory, Rows, Steps};
 use sync_topo::Plan;
 
-// Lets each marked element make its step, and marks the lines out of those that give something
-// else.
-pub fn evaluate_elements<L: Ledger>(
+/// Lets each marked element make its step, and marks the lines out of those that give something
+/// else.
+pub(crate) fn evaluate_elements<L: Ledger>(
     plan: &Plan,
     active: &Marks,
     elements: &mut [SharedElement<'_>],
@@ -49,7 +49,7 @@ pub fn evaluate_elements<L: Ledger>(
     Ok(())
 }
 
-// Lets one element make its step.
+/// Lets one element make its step.
 fn evaluate<L: Ledger>(
     plan: &Plan,
     place: u32,

@@ -8,8 +8,8 @@ ghost use Rattle.sync_ql.specs.Told.{IsOfOption};
 ghost use Rattle.sync_topo.specs.Lines.{line_count, IsNominated};
 ghost use Rattle.sync_topo.specs.WellFormed.{IsWellFormed};
 ghost use Rattle.sync_net.specs.NetState.{line_in};
-ghost use Rattle.sync_net.specs.Noting.{line_at};
-ghost use Rattle.sync_net.specs.Hearing.{AreTold, IsPassedOn, IsLineToldIn, CanTell};
+ghost use Rattle.sync_net.specs.private.Noting.{line_at};
+ghost use Rattle.sync_net.specs.private.Hearing.{AreTold, IsPassedOn, IsLineToldIn, CanTell};
 
 use crate::shared_line::SharedLine;
 use crate::signals::LineSignal;
@@ -21,7 +21,7 @@ use sync_ql::{Level, NetOption, is_same_heard};
 use sync_text::NoMemory;
 use sync_topo::{InputId, LineId, Plan};
 
-// Keeps the level that is heard on a line, and tells it to the line's element, if it is another.
+/// Keeps the level that is heard on a line, and tells it to the line's element, if it is another.
 fn pass_on(
     plan: &Plan,
     line: LineId,
@@ -51,8 +51,8 @@ fn pass_on(
     Ok(())
 }
 
-// Tells each marked line what it is, takes what arrives, and passes on what is heard.
-pub fn hear_lines(
+/// Tells each marked line what it is, takes what arrives, and passes on what is heard.
+pub(crate) fn hear_lines(
     plan: &Plan,
     signals: &[LineSignal],
     called: &Marks,
@@ -83,7 +83,7 @@ pub fn hear_lines(
     Ok(())
 }
 
-// Tells one line what it is, takes what arrives, and passes on what is heard.
+/// Tells one line what it is, takes what arrives, and passes on what is heard.
 fn hear(
     plan: &Plan,
     line: LineId,
@@ -111,7 +111,7 @@ fn hear(
     Ok(())
 }
 
-// Tells one line what it is, takes what arrives, and answers what is heard.
+/// Tells one line what it is, takes what arrives, and answers what is heard.
 fn tell(
     lines: &mut [Option<SharedLine<'_>>],
     line: LineId,
@@ -132,7 +132,7 @@ fn tell(
     Ok(level)
 }
 
-// What comes to a line from outside.
+/// What comes to a line from outside.
 fn signal_of(signals: &[LineSignal], line: u32) -> LineSignal
     requires { line < length signals.now }
     ensures { result ≡ line_at signals.now line }

@@ -21,21 +21,21 @@
 mod calls;
 mod copying;
 mod evaluating;
+mod events;
 mod hearing;
 mod laws;
 mod marking;
 mod net;
-mod noting;
+mod outside;
 mod parts;
 mod returning;
 mod sending;
-mod settling;
 mod shared_element;
 mod shared_line;
 mod signals;
+mod source_levels;
 mod starting;
 mod stepping;
-mod taking;
 
 pub use laws::{elements_law, gap_law, later_events_law};
 pub use net::Net;

@@ -4,15 +4,15 @@ ghost use Rattle.std.specs.Prelude.{◌≡◌, ◌≤◌, ◌<◌, ◌⊎◌, �
 ghost use Rattle.std.specs.List.{list_any};
 ghost use Rattle.agenda.specs.DueTimes.{AreLater};
 ghost use Rattle.sync_topo.specs.Lines.{line_count, IsNominated};
-ghost use Rattle.sync_net.specs.PartSteps.{IsFirstMarked};
+ghost use Rattle.sync_net.specs.private.PartSteps.{IsFirstMarked};
 ghost use Rattle.agenda.specs.Called.{is_marked};
-ghost use Rattle.sync_net.specs.Stages.{is_among, AreMarked, KeepsMarks, AreDueMarked};
+ghost use Rattle.sync_net.specs.private.Stages.{is_among, AreMarked, KeepsMarks, AreDueMarked};
 
 use agenda::{DueTimes, Marks};
 use sync_topo::{InputId, LineId, Plan};
 
-// Marks all lines of a list.
-pub fn mark_all(marks: &mut Marks, lines: &[LineId])
+/// Marks all lines of a list.
+pub(crate) fn mark_all(marks: &mut Marks, lines: &[LineId])
     requires within { All (λ line. line.0 < length marks.old.flags) lines.now }
     ensures kept { KeepsMarks marks.old.flags marks.new.flags }
     ensures marked { AreMarked (is_among lines.now) marks.new.flags }
@@ -24,9 +24,15 @@ pub fn mark_all(marks: &mut Marks, lines: &[LineId])
     }
 }
 
-// Takes out what is due in a millisecond, and marks it: the first so many objects are elements, and
-// the others lines.
-pub fn mark_due(dues: &mut DueTimes, count: u32, elements: &mut Marks, lines: &mut Marks, now: u64)
+/// Takes out what is due in a millisecond, and marks it: the first so many objects are elements, and
+/// the others lines.
+pub(crate) fn mark_due(
+    dues: &mut DueTimes,
+    count: u32,
+    elements: &mut Marks,
+    lines: &mut Marks,
+    now: u64,
+)
     requires elements { length elements.old.flags ≡ count }
     requires objects { length dues.old ≡ count + length lines.old.flags }
     ensures marked { AreDueMarked now count
@@ -39,7 +45,7 @@ pub fn mark_due(dues: &mut DueTimes, count: u32, elements: &mut Marks, lines: &m
     }
 }
 
-// Marks an object: an element, or else a line.
+/// Marks an object: an element, or else a line.
 fn mark_object(count: u32, elements: &mut Marks, lines: &mut Marks, place: u32)
     requires elements { length elements.old.flags ≡ count }
     requires place { place < count + length lines.old.flags }
@@ -57,8 +63,8 @@ fn mark_object(count: u32, elements: &mut Marks, lines: &mut Marks, place: u32)
     }
 }
 
-// In the first step each element and each nominated line is looked at.
-pub fn mark_if_first(plan: &Plan, next: u64, elements: &mut Marks, lines: &mut Marks)
+/// In the first step each element and each nominated line is looked at.
+pub(crate) fn mark_if_first(plan: &Plan, next: u64, elements: &mut Marks, lines: &mut Marks)
     requires elements { length elements.old.flags ≡ length plan.now.elements }
     requires lines { length lines.old.flags ≡ line_count plan.now }
     ensures { IsFirstMarked plan.now next elements.old.flags elements.new.flags lines.old.flags lines.new.flags }

@@ -17,7 +17,7 @@ ghost use Rattle.sync_net.specs.Standing.{ElementStands, LineStands, StandsFor, 
 ghost use Rattle.sync_net.specs.Evaluated.{IsContinued, AreAloneEvaluated, IsCalledFor, AreAloneCalled, AreFacing, HaveFaced};
 
 use crate::copying::{share_parts, try_clone_parts};
-use crate::parts::Parts;
+use crate::parts::NetParts;
 use crate::returning::return_parts;
 use crate::starting::new_parts;
 use crate::stepping::step_parts;
@@ -38,7 +38,7 @@ use sync_topo::{Event, LineId, Plan};
 #[derive(Debug, Drop)]
 pub struct Net<'a> {
     plan: &'a Plan,
-    parts: Parts<'a>,
+    parts: NetParts<'a>,
     /// Whether a step was refused, after which nothing else of the network is said.
     spent: bool,
 }
@@ -48,7 +48,8 @@ impl<'a> Model for Net<'a> {
 
     ghost Value = { NetState };
 
-    ghost use Rattle.sync_net.specs.NetKept.{net_state, IsKept};
+    ghost use Rattle.sync_net.specs.NetKept.{net_state};
+    ghost use Rattle.sync_net.specs.private.NetKept.{IsKept};
 
     ghost view = { net_state };
 
@@ -275,32 +276,32 @@ impl<'a> Net<'a> {
     }
 
     /// An element, by its number.
-    pub fn element(&self, e: u32) -> &Element
+    pub fn element(&self, element: u32) -> &Element
         requires live { self.now.spent ≡ false }
-        requires element { e < length self.now.plan.elements }
-        ensures settings { result.now.settings ≡ settings_of self.now.plan e }
-        ensures element { (other : ElementState) → result.now ≡ slice_index_or self.now.elements e other }
+        requires element { element < length self.now.plan.elements }
+        ensures settings { result.now.settings ≡ settings_of self.now.plan element }
+        ensures element { (other : ElementState) → result.now ≡ slice_index_or self.now.elements element other }
         ensures stands { (all : List Event) (n : ℕ) → StandsFor self.now all n →
             ElementStands self.now.plan (signals_by self.now.plan all)
-            (out_at self.now.plan (signals_by self.now.plan all)) e n result.now }
+            (out_at self.now.plan (signals_by self.now.plan all)) element n result.now }
     {
-        self.parts.elements[e as usize].get()
+        self.parts.elements[element as usize].get()
     }
 
     /// A nominated line, by its number.
-    pub fn line(&self, l: LineId) -> &Line
+    pub fn line(&self, line: LineId) -> &Line
         requires live { self.now.spent ≡ false }
-        requires nominated { IsNominated self.now.plan l.0 }
-        ensures line { line_in self.now.lines l.0 ≡ Some result.now }
+        requires nominated { IsNominated self.now.plan line.0 }
+        ensures line { line_in self.now.lines line.0 ≡ Some result.now }
         ensures turn { result.now.turn ≤ 4 * self.now.next }
         ensures in_range { self.now.next ≤ LAST_MILLISECOND + 1 }
         ensures in_time { IfSome result.now.due (λ due. self.now.next ≤ due) }
         ensures stands { (all : List Event) (n : ℕ) → StandsFor self.now all n →
             LineStands self.now.plan (signals_by self.now.plan all)
-            (out_at self.now.plan (signals_by self.now.plan all)) l.0 n result.now }
+            (out_at self.now.plan (signals_by self.now.plan all)) line.0 n result.now }
     {
-        match &self.parts.lines[l.0 as usize] {
-            Some(line) => line.get(),
+        match &self.parts.lines[line.0 as usize] {
+            Some(kept) => kept.get(),
             None => unreachable!(),
         }
     }

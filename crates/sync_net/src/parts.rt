@@ -7,9 +7,9 @@ use agenda::{DueTimes, Marks};
 use net_words::Tellings;
 use sync_ql::Level;
 
-// All that a network keeps, each list by number: of elements, lines or sources.
+/// All that a network keeps, each list by number: of elements, lines or sources.
 #[derive(Debug, Drop)]
-pub struct Parts<'a> {
+pub struct NetParts<'a> {
     // The first millisecond that no step has told of.
     pub next: u64,
     pub later_steps: u64,

@@ -2,11 +2,11 @@
 
 ghost use Rattle.std.specs.Prelude.{◌≡◌, ◌≤◌, ◌<◌, ◌+◌, ◌^◌, length, option_and_then, OnOk};
 ghost use Rattle.std.specs.List.{All};
-ghost use Rattle.sync_net.specs.Whole.{IsWhole};
-ghost use Rattle.sync_net.specs.Copied.{AreSameBut, AreRenewed, IsElementDue, IsLineDue, AreReturned};
+ghost use Rattle.sync_net.specs.private.Whole.{IsWhole};
+ghost use Rattle.sync_net.specs.private.Copied.{AreSameBut, AreRenewed, IsElementDue, IsLineDue, AreReturned};
 
 use crate::copying::try_clone_line;
-use crate::parts::Parts;
+use crate::parts::NetParts;
 use crate::shared_element::SharedElement;
 use crate::shared_line::SharedLine;
 use agenda::DueTimes;
@@ -14,13 +14,13 @@ use std::alloc::Global;
 use sync_text::NoMemory;
 use sync_topo::Plan;
 
-// The parts become those of another network over the same plan, from which they differ in some
-// elements and lines alone; what is told, places and outs are the same for all of a plan.
-pub fn return_parts(
+/// The parts become those of another network over the same plan, from which they differ in some
+/// elements and lines alone; what is told, places and outs are the same for all of a plan.
+pub(crate) fn return_parts(
     alloc: Global,
     plan: &Plan,
-    parts: &mut Parts<'_>,
-    base: &Parts<'_>,
+    parts: &mut NetParts<'_>,
+    base: &NetParts<'_>,
     elements: &[u32],
     lines: &[u32],
 ) -> Result<(), NoMemory>
@@ -95,7 +95,7 @@ fn return_lines(
     Ok(())
 }
 
-// Elements at some places are due when they say so.
+/// Elements at some places are due when they say so.
 fn renew_element_dues(dues: &mut DueTimes, elements: &[SharedElement<'_>], places: &[u32])
     requires within { All (λ e. e < length elements.now) places.now }
     requires room { length elements.now ≤ length dues.old }
@@ -106,7 +106,7 @@ fn renew_element_dues(dues: &mut DueTimes, elements: &[SharedElement<'_>], place
     }
 }
 
-// Lines at some places, which stand from the first on, are due when they say so.
+/// Lines at some places, which stand from the first on, are due when they say so.
 fn renew_line_dues(
     dues: &mut DueTimes,
     first: u32,
@@ -123,7 +123,7 @@ fn renew_line_dues(
     }
 }
 
-// When a line is due, if it is kept.
+/// When a line is due, if it is kept.
 fn due_of(line: &Option<SharedLine<'_>>) -> Option<u64>
     ensures { result ≡ option_and_then (λ state. state.due) line.now }
 {

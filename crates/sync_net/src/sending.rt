@@ -9,7 +9,7 @@ ghost use Rattle.sync_element.specs.StandsFor as ElementPast;
 ghost use Rattle.sync_topo.specs.Lines.{line_count, sender_of, inputs_of, IsInput};
 ghost use Rattle.net_rules.specs.History.{settings_of, is_way_back};
 ghost use Rattle.sync_net.specs.NetState.{line_in};
-ghost use Rattle.sync_net.specs.Stages.{IsLevelSent, AreSent, CanSay, IsOnlyGiven};
+ghost use Rattle.sync_net.specs.private.Stages.{IsLevelSent, AreSent, CanSay, IsOnlyGiven};
 
 use crate::shared_element::SharedElement;
 use crate::shared_line::SharedLine;
@@ -20,7 +20,7 @@ use sync_ql::{Level, do_not_use};
 use sync_text::NoMemory;
 use sync_topo::{InputId, LineId, Plan};
 
-// The input at a place among those of an element.
+/// The input at a place among those of an element.
 fn input_at(plan: &Plan, element: u32, place: Option<u32>) -> Option<InputId>
     requires { element < length plan.now.elements }
     ensures input { result ≡ option_and_then (slice_get (inputs_of plan.now element)) place }
@@ -32,7 +32,7 @@ fn input_at(plan: &Plan, element: u32, place: Option<u32>) -> Option<InputId>
     }
 }
 
-// Whether a line leads back to where its sender takes its timing from.
+/// Whether a line leads back to where its sender takes its timing from.
 fn is_way_back(plan: &Plan, taken: Option<InputId>, line: LineId) -> bool
     requires taken { IfSome taken (IsInput plan.now) }
     requires line { line.0 < line_count plan.now }
@@ -46,9 +46,9 @@ fn is_way_back(plan: &Plan, taken: Option<InputId>, line: LineId) -> bool
     }
 }
 
-// The level that a line's sender gives it: do-not-use where the line leads back to where the sender
-// takes its timing from, and else the sender's own.
-pub fn level_sent(plan: &Plan, line: LineId, sender: &Element) -> Level
+/// The level that a line's sender gives it: do-not-use where the line leads back to where the sender
+/// takes its timing from, and else the sender's own.
+pub(crate) fn level_sent(plan: &Plan, line: LineId, sender: &Element) -> Level
     requires line { line.0 < line_count plan.now }
     requires settings { sender.now.settings ≡ settings_of plan.now (sender_of plan.now line.0) }
     ensures { IsLevelSent plan.now line.0 sender.now result }
@@ -61,8 +61,8 @@ pub fn level_sent(plan: &Plan, line: LineId, sender: &Element) -> Level
     level
 }
 
-// Gives each marked line the level that its sender has.
-pub fn send_lines(
+/// Gives each marked line the level that its sender has.
+pub(crate) fn send_lines(
     plan: &Plan,
     called: &Marks,
     elements: &[SharedElement<'_>],
@@ -89,7 +89,7 @@ pub fn send_lines(
     Ok(())
 }
 
-// Gives one line the level that its sender has.
+/// Gives one line the level that its sender has.
 fn send(
     plan: &Plan,
     line: LineId,
@@ -115,7 +115,7 @@ fn send(
     Ok(())
 }
 
-// Gives a line a level, and keeps when it is due.
+/// Gives a line a level, and keeps when it is due.
 fn give(
     lines: &mut [Option<SharedLine<'_>>],
     dues: &mut DueTimes,

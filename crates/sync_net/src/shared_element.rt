@@ -4,7 +4,7 @@ ghost use Rattle.std.specs.Prelude.{◌≡◌, ◌≤◌, ◌+◌, false, All, I
 ghost use Rattle.sync_ql.specs.Told.{FitsElement};
 ghost use Rattle.sync_element.specs.ElementState.{IsInTime};
 ghost use Rattle.sync_element.specs.StandsAfter.{IsStepped};
-ghost use Rattle.sync_net.specs.Steps.{IsSteady};
+ghost use Rattle.sync_net.specs.private.Steps.{IsSteady};
 
 use crate::calls::step_element;
 use std::alloc::Global;
@@ -35,14 +35,14 @@ impl<'a> Model for SharedElement<'a> {
 
     ghost Value = { ElementState };
 
-    ghost use Rattle.sync_net.specs.SharedElements.{element_in};
+    ghost use Rattle.sync_net.specs.private.SharedElements.{element_in};
 
     ghost view = { λ shared. element_in shared.kept };
 }
 
 impl<'a> SharedElement<'a> {
     /// An element of a network's own.
-    pub fn new(alloc: Global, element: Element) -> Result<SharedElement<'a>, NoMemory>
+    pub(crate) fn new(alloc: Global, element: Element) -> Result<SharedElement<'a>, NoMemory>
         ensures { IfOk result (λ shared. shared ≡ element) }
     {
         match Box::new(alloc, element) {
@@ -55,7 +55,7 @@ impl<'a> SharedElement<'a> {
     }
 
     /// The element.
-    pub fn get(&self) -> &Element
+    pub(crate) fn get(&self) -> &Element
         ensures { result.now ≡ self.now }
     {
         match &self.kept {
@@ -65,14 +65,14 @@ impl<'a> SharedElement<'a> {
     }
 
     /// When it is due.
-    pub fn due(&self) -> Option<u64>
+    pub(crate) fn due(&self) -> Option<u64>
         ensures { result ≡ self.now.due }
     {
         self.get().due()
     }
 
     /// The same element for another network, until that one calls it.
-    pub fn share<'b>(&'b self) -> SharedElement<'b>
+    pub(crate) fn share<'b>(&'b self) -> SharedElement<'b>
         ensures { result ≡ self.now }
     {
         SharedElement {
@@ -82,7 +82,7 @@ impl<'a> SharedElement<'a> {
     }
 
     /// A copy of a network's own.
-    pub fn try_clone<'b>(&self, alloc: Global) -> Result<SharedElement<'b>, NoMemory>
+    pub(crate) fn try_clone<'b>(&self, alloc: Global) -> Result<SharedElement<'b>, NoMemory>
         ensures { IfOk result (λ shared. shared ≡ self.now) }
     {
         let copy = self.get().try_clone(alloc)?;
@@ -92,42 +92,42 @@ impl<'a> SharedElement<'a> {
 
     /// Lets it make a step, and answers whether it takes something else then or has another level.
     /// What is another network's is copied first.
-    pub fn step<L: Ledger>(
+    pub(crate) fn step<L: Ledger>(
         &mut self,
         now: u64,
-        changes: &[InputEvent],
+        told: &[InputEvent],
         steps: &mut Steps<L>,
     ) -> Result<bool, NoMemory>
         requires in_time { IsInTime self.old now }
         requires in_range { now ≤ LAST_MILLISECOND }
-        requires fits { All (FitsElement self.old.settings) changes.now }
-        ensures stepped { OnOk result (IsStepped now changes.now self.old self.new) }
+        requires fits { All (FitsElement self.old.settings) told.now }
+        ensures stepped { OnOk result (IsStepped now told.now self.old self.new) }
         ensures steady { IfOk result (λ other. other ≡ false → IsSteady now self.old self.new) }
         ensures ticks { OnOk result (steps.new ≡ steps.old + 1) }
     {
         if let KeptElement::Own(own) = &mut self.kept {
-            return Ok(step_element(own, now, changes, steps));
+            return Ok(step_element(own, now, told, steps));
         }
-        let other = self.step_copy(now, changes, steps)?;
+        let other = self.step_copy(now, told, steps)?;
         Ok(other)
     }
 
-    // The step of a copy.
+    /// The step of a copy.
     fn step_copy<L: Ledger>(
         &mut self,
         now: u64,
-        changes: &[InputEvent],
+        told: &[InputEvent],
         steps: &mut Steps<L>,
     ) -> Result<bool, NoMemory>
         requires in_time { IsInTime self.old now }
         requires in_range { now ≤ LAST_MILLISECOND }
-        requires fits { All (FitsElement self.old.settings) changes.now }
-        ensures stepped { OnOk result (IsStepped now changes.now self.old self.new) }
+        requires fits { All (FitsElement self.old.settings) told.now }
+        ensures stepped { OnOk result (IsStepped now told.now self.old self.new) }
         ensures steady { IfOk result (λ other. other ≡ false → IsSteady now self.old self.new) }
         ensures ticks { OnOk result (steps.new ≡ steps.old + 1) }
     {
         let mut copy = self.get().try_clone(self.alloc)?;
-        let other = step_element(&mut copy, now, changes, steps);
+        let other = step_element(&mut copy, now, told, steps);
         *self = SharedElement::new(self.alloc, copy)?;
         Ok(other)
     }

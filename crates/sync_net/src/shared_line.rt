@@ -1,7 +1,7 @@
 //! A line of a network, or of the one from which it goes on.
 
 ghost use Rattle.std.specs.Prelude.{◌≡◌, ◌≤◌, ◌+◌, ◌*◌, IfOk, IfSome, OnOk};
-ghost use Rattle.sync_net.specs.Steps.{IsLineTold, IsLineSaid};
+ghost use Rattle.sync_net.specs.private.Steps.{IsLineTold, IsLineSaid};
 
 use crate::calls::{say_on_line, tell_line};
 use crate::signals::LineSignal;
@@ -33,14 +33,14 @@ impl<'a> Model for SharedLine<'a> {
 
     ghost Value = { LineState };
 
-    ghost use Rattle.sync_net.specs.SharedLines.{line_kept};
+    ghost use Rattle.sync_net.specs.private.SharedLines.{line_kept};
 
     ghost view = { λ shared. line_kept shared.kept };
 }
 
 impl<'a> SharedLine<'a> {
     /// A line of a network's own.
-    pub fn new(alloc: Global, line: Line) -> Result<SharedLine<'a>, NoMemory>
+    pub(crate) fn new(alloc: Global, line: Line) -> Result<SharedLine<'a>, NoMemory>
         ensures { IfOk result (λ shared. shared ≡ line) }
     {
         match Box::new(alloc, line) {
@@ -53,7 +53,7 @@ impl<'a> SharedLine<'a> {
     }
 
     /// The line.
-    pub fn get(&self) -> &Line
+    pub(crate) fn get(&self) -> &Line
         ensures { result.now ≡ self.now }
     {
         match &self.kept {
@@ -63,14 +63,14 @@ impl<'a> SharedLine<'a> {
     }
 
     /// When it is due.
-    pub fn due(&self) -> Option<u64>
+    pub(crate) fn due(&self) -> Option<u64>
         ensures { result ≡ self.now.due }
     {
         self.get().due()
     }
 
     /// The same line for another network, until that one calls it.
-    pub fn share<'b>(&'b self) -> SharedLine<'b>
+    pub(crate) fn share<'b>(&'b self) -> SharedLine<'b>
         ensures { result ≡ self.now }
     {
         SharedLine {
@@ -80,7 +80,7 @@ impl<'a> SharedLine<'a> {
     }
 
     /// A copy of a network's own.
-    pub fn try_clone<'b>(&self, alloc: Global) -> Result<SharedLine<'b>, NoMemory>
+    pub(crate) fn try_clone<'b>(&self, alloc: Global) -> Result<SharedLine<'b>, NoMemory>
         ensures { IfOk result (λ shared. shared ≡ self.now) }
     {
         let copy = self.get().try_clone(alloc)?;
@@ -90,7 +90,7 @@ impl<'a> SharedLine<'a> {
 
     /// Tells whether it is up and its ESMC is on, takes what arrives, and answers the level that is
     /// heard then. What is another network's is copied first.
-    pub fn tell(&mut self, now: u64, signal: LineSignal) -> Result<Option<Level>, NoMemory>
+    pub(crate) fn tell(&mut self, now: u64, signal: LineSignal) -> Result<Option<Level>, NoMemory>
         requires turn { self.old.turn ≤ 4 * now }
         requires in_time { IfSome self.old.due (λ due. now ≤ due) }
         requires in_range { now ≤ LAST_MILLISECOND }
@@ -103,7 +103,7 @@ impl<'a> SharedLine<'a> {
         Ok(heard)
     }
 
-    // Tells a copy.
+    /// Tells a copy.
     fn tell_copy(&mut self, now: u64, signal: LineSignal) -> Result<Option<Level>, NoMemory>
         requires turn { self.old.turn ≤ 4 * now }
         requires in_time { IfSome self.old.due (λ due. now ≤ due) }
@@ -118,7 +118,7 @@ impl<'a> SharedLine<'a> {
 
     /// Gives it its level, and answers when it is due next. What is another network's is copied
     /// first.
-    pub fn say(&mut self, now: u64, level: Level) -> Result<Option<u64>, NoMemory>
+    pub(crate) fn say(&mut self, now: u64, level: Level) -> Result<Option<u64>, NoMemory>
         requires turn { self.old.turn ≤ 4 * now + 3 }
         requires in_time { IfSome self.old.due (λ due. now ≤ due) }
         requires in_range { now ≤ LAST_MILLISECOND }
@@ -133,7 +133,7 @@ impl<'a> SharedLine<'a> {
         Ok(due)
     }
 
-    // Gives a copy its level.
+    /// Gives a copy its level.
     fn say_copy(&mut self, now: u64, level: Level) -> Result<Option<u64>, NoMemory>
         requires turn { self.old.turn ≤ 4 * now + 3 }
         requires in_time { IfSome self.old.due (λ due. now ≤ due) }

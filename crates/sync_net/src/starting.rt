@@ -4,13 +4,14 @@ ghost use Rattle.std.specs.Prelude.{◌≡◌, ◌≤◌, ◌<◌, ◌+◌, ℕ,
 ghost use Rattle.agenda.specs.Marked.{none_marked};
 ghost use Rattle.sync_topo.specs.declared.event.Event.{Event};
 ghost use Rattle.sync_topo.specs.Lines.{line_count, inputs_of, IsInput};
-ghost use Rattle.sync_net.specs.Beginning.{IsBegun, IsNewPlace, IsNewSource};
+ghost use Rattle.sync_net.specs.private.Beginning.{IsBegun, IsNewPlace, IsNewSource};
 ghost use Rattle.net_rules.specs.History.{by_levels};
 ghost use Rattle.net_words.specs.NewElements.{AreEach, IsNewElement};
 ghost use Rattle.sync_net.specs.Standing.{IsOfPast};
-ghost use Rattle.sync_net.specs.Whole.{IsWhole, state_of};
+ghost use Rattle.sync_net.specs.Whole.{state_of};
+ghost use Rattle.sync_net.specs.private.Whole.{IsWhole};
 
-use crate::parts::Parts;
+use crate::parts::NetParts;
 use crate::shared_element::SharedElement;
 use crate::shared_line::SharedLine;
 use crate::signals::{LineSignal, SourceSignal};
@@ -22,8 +23,8 @@ use sync_ql::Level;
 use sync_text::{NoMemory, Rows};
 use sync_topo::{InputId, LineId, Plan};
 
-// The parts of a network that was told nothing.
-pub fn new_parts<'a>(alloc: Global, plan: &Plan) -> Result<Parts<'a>, NoMemory>
+/// The parts of a network that was told nothing.
+pub(crate) fn new_parts<'a>(alloc: Global, plan: &Plan) -> Result<NetParts<'a>, NoMemory>
     ensures whole { IfOk result (IsWhole plan.now) }
     ensures next { IfOk result (λ parts. parts.next ≡ 0) }
     ensures later_steps { IfOk result (λ parts. parts.later_steps ≡ 0) }
@@ -35,8 +36,8 @@ pub fn new_parts<'a>(alloc: Global, plan: &Plan) -> Result<Parts<'a>, NoMemory>
     begun(alloc, plan)
 }
 
-// The parts, each as it is before anything is told.
-fn begun<'a>(alloc: Global, plan: &Plan) -> Result<Parts<'a>, NoMemory>
+/// The parts, each as it is before anything is told.
+fn begun<'a>(alloc: Global, plan: &Plan) -> Result<NetParts<'a>, NoMemory>
     ensures { IfOk result (IsBegun plan.now) }
 {
     let elements = new_elements(alloc, plan)?;
@@ -47,7 +48,7 @@ fn begun<'a>(alloc: Global, plan: &Plan) -> Result<Parts<'a>, NoMemory>
     let dues = DueTimes::new(alloc, (plan.elements() + plan.lines()) as usize)?;
     let tellings = new_tellings(alloc, plan)?;
     let called = Marks::new(alloc, plan.lines() as usize)?;
-    Ok(Parts {
+    Ok(NetParts {
         next: 0,
         later_steps: 0,
         elements,
@@ -61,7 +62,7 @@ fn begun<'a>(alloc: Global, plan: &Plan) -> Result<Parts<'a>, NoMemory>
     })
 }
 
-// The elements, by number.
+/// The elements, by number.
 fn new_elements<'a>(alloc: Global, plan: &Plan) -> Result<Vec<SharedElement<'a>>, NoMemory>
     ensures { IfOk result (λ elements.
         AreEach (IsNewElement (by_levels plan.now) plan.now) (length plan.now.elements) elements.items) }
@@ -73,7 +74,7 @@ fn new_elements<'a>(alloc: Global, plan: &Plan) -> Result<Vec<SharedElement<'a>>
     Ok(elements.into_vec())
 }
 
-// An element that was told nothing.
+/// An element that was told nothing.
 fn own_element<'a>(alloc: Global, plan: &Plan, place: u32) -> Result<SharedElement<'a>, NoMemory>
     requires { place < length plan.now.elements }
     ensures { IfOk result (IsNewElement (by_levels plan.now) plan.now place) }
@@ -83,7 +84,7 @@ fn own_element<'a>(alloc: Global, plan: &Plan, place: u32) -> Result<SharedEleme
     Ok(own)
 }
 
-// The lines, by number, of which only the nominated ones are kept.
+/// The lines, by number, of which only the nominated ones are kept.
 fn new_lines<'a>(alloc: Global, plan: &Plan) -> Result<Vec<Option<SharedLine<'a>>>, NoMemory>
     ensures { IfOk result (λ lines.
         AreEach (IsNewPlace plan.now) (line_count plan.now) lines.items) }
@@ -95,7 +96,7 @@ fn new_lines<'a>(alloc: Global, plan: &Plan) -> Result<Vec<Option<SharedLine<'a>
     Ok(lines.into_vec())
 }
 
-// A line that was told nothing, if it is nominated.
+/// A line that was told nothing, if it is nominated.
 fn new_line<'a>(
     alloc: Global,
     plan: &Plan,
@@ -113,7 +114,7 @@ fn new_line<'a>(
     Ok(Some(own))
 }
 
-// All lines are up, and their ESMC is on.
+/// All lines are up, and their ESMC is on.
 fn new_signals(alloc: Global, plan: &Plan) -> Result<Vec<LineSignal>, NoMemory>
     ensures { IfOk result (λ signals.
         signals.items ≡ replicate (line_count plan.now) (record { up = true; esmc = true })) }
@@ -128,7 +129,7 @@ fn new_signals(alloc: Global, plan: &Plan) -> Result<Vec<LineSignal>, NoMemory>
     }
 }
 
-// The sources, by number.
+/// The sources, by number.
 fn new_sources(alloc: Global, plan: &Plan) -> Result<Vec<SourceSignal>, NoMemory>
     ensures { IfOk result (λ sources.
         AreEach (IsNewSource plan.now) (length plan.now.sources) sources.items) }
@@ -140,7 +141,7 @@ fn new_sources(alloc: Global, plan: &Plan) -> Result<Vec<SourceSignal>, NoMemory
     Ok(sources.into_vec())
 }
 
-// A source that was told nothing.
+/// A source that was told nothing.
 fn new_source(plan: &Plan, number: u32) -> SourceSignal
     requires { number < length plan.now.sources }
     ensures { IsNewSource plan.now number result }
@@ -153,7 +154,7 @@ fn new_source(plan: &Plan, number: u32) -> SourceSignal
     }
 }
 
-// Nothing is heard on any line.
+/// Nothing is heard on any line.
 fn no_levels(alloc: Global, plan: &Plan) -> Result<Vec<Option<Level>>, NoMemory>
     ensures { IfOk result (λ levels. levels.items ≡ replicate (line_count plan.now) None) }
 {

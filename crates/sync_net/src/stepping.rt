@@ -8,30 +8,31 @@ ghost use Rattle.sync_topo.specs.Lines.{line_count, IsNominated, lines_out};
 ghost use Rattle.sync_topo.specs.WellFormed.{IsWellFormed};
 ghost use Rattle.net_rules.specs.History.{settings_of};
 ghost use Rattle.sync_net.specs.NetState.{line_in};
-ghost use Rattle.sync_net.specs.Noting.{AreOfOption};
-ghost use Rattle.sync_net.specs.Hearing.{CanTell, told_in};
-ghost use Rattle.sync_net.specs.Stages.{CanStep, CanSay};
+ghost use Rattle.sync_net.specs.private.Noting.{AreOfOption};
+ghost use Rattle.sync_net.specs.private.Hearing.{CanTell, told_in};
+ghost use Rattle.sync_net.specs.private.Stages.{CanStep, CanSay};
 ghost use Rattle.sync_net.specs.NetState.{IsInTime};
-ghost use Rattle.sync_net.specs.NetStep.{IsNetStep, AreEvaluatedFor};
+ghost use Rattle.sync_net.specs.private.NetStep.{IsNetStep, AreEvaluatedFor};
 ghost use Rattle.sync_net.specs.Evaluated.{IsCalledFor, AreAloneCalled};
-ghost use Rattle.sync_net.specs.Whole.{state_of, IsWhole};
-ghost use Rattle.sync_net.specs.PartSteps.{AreCalled, AreTakenIn, AreHeardIn, AreEvaluatedIn, AreSentIn};
+ghost use Rattle.sync_net.specs.Whole.{state_of};
+ghost use Rattle.sync_net.specs.private.Whole.{IsWhole};
+ghost use Rattle.sync_net.specs.private.PartSteps.{AreCalled, AreTakenIn, AreHeardIn, AreEvaluatedIn, AreSentIn};
 
 use crate::evaluating::evaluate_elements;
+use crate::events::take_events;
 use crate::hearing::hear_lines;
 use crate::marking::{mark_due, mark_if_first};
-use crate::parts::Parts;
+use crate::parts::NetParts;
 use crate::sending::send_lines;
-use crate::taking::take_events;
 use std::sync::ledger::Ledger;
 use sync_ql::limits::LAST_MILLISECOND;
 use sync_text::{NoMemory, Steps};
 use sync_topo::{Event, Plan};
 
-// A step of the network: events come in, messages arrive, elements evaluate, and lines send.
-pub fn step_parts<L: Ledger>(
+/// A step of the network: events come in, messages arrive, elements evaluate, and lines send.
+pub(crate) fn step_parts<L: Ledger>(
     plan: &Plan,
-    parts: &mut Parts<'_>,
+    parts: &mut NetParts<'_>,
     now: u64,
     events: &[Event],
     steps: &mut Steps<L>,
@@ -62,8 +63,8 @@ pub fn step_parts<L: Ledger>(
     Ok(())
 }
 
-// Marks what is due, and in the first step all.
-fn call_due(plan: &Plan, parts: &mut Parts<'_>, now: u64)
+/// Marks what is due, and in the first step all.
+fn call_due(plan: &Plan, parts: &mut NetParts<'_>, now: u64)
     requires active { length parts.old.tellings.active.flags ≡ length plan.now.elements }
     requires called { length parts.old.called.flags ≡ line_count plan.now }
     requires dues { length parts.old.dues ≡ length plan.now.elements + line_count plan.now }
@@ -86,8 +87,8 @@ fn call_due(plan: &Plan, parts: &mut Parts<'_>, now: u64)
     );
 }
 
-// Takes in the events.
-fn take_in(plan: &Plan, parts: &mut Parts<'_>, events: &[Event]) -> Result<(), NoMemory>
+/// Takes in the events.
+fn take_in(plan: &Plan, parts: &mut NetParts<'_>, events: &[Event]) -> Result<(), NoMemory>
     requires fit { All (Fits plan.now) events.now }
     requires signals { length parts.old.signals.items ≡ line_count plan.now }
     requires sources { length parts.old.sources.items ≡ length plan.now.sources }
@@ -109,8 +110,8 @@ fn take_in(plan: &Plan, parts: &mut Parts<'_>, events: &[Event]) -> Result<(), N
     Ok(())
 }
 
-// Tells the lines, and passes on what is heard.
-fn hear(plan: &Plan, parts: &mut Parts<'_>, now: u64) -> Result<(), NoMemory>
+/// Tells the lines, and passes on what is heard.
+fn hear(plan: &Plan, parts: &mut NetParts<'_>, now: u64) -> Result<(), NoMemory>
     requires in_range { now ≤ LAST_MILLISECOND }
     requires well_formed { IsWellFormed plan.now }
     requires signals { length parts.old.signals.items ≡ line_count plan.now }
@@ -136,10 +137,10 @@ fn hear(plan: &Plan, parts: &mut Parts<'_>, now: u64) -> Result<(), NoMemory>
     Ok(())
 }
 
-// Lets the marked elements make their steps.
+/// Lets the marked elements make their steps.
 fn evaluate<L: Ledger>(
     plan: &Plan,
-    parts: &mut Parts<'_>,
+    parts: &mut NetParts<'_>,
     now: u64,
     steps: &mut Steps<L>,
 ) -> Result<(), NoMemory>
@@ -170,8 +171,8 @@ fn evaluate<L: Ledger>(
     Ok(())
 }
 
-// Gives the marked lines their levels.
-fn send(plan: &Plan, parts: &mut Parts<'_>, now: u64) -> Result<(), NoMemory>
+/// Gives the marked lines their levels.
+fn send(plan: &Plan, parts: &mut NetParts<'_>, now: u64) -> Result<(), NoMemory>
     requires in_range { now ≤ LAST_MILLISECOND }
     requires elements { length parts.old.elements.items ≡ length plan.now.elements }
     requires lines { length parts.old.lines.items ≡ line_count plan.now }
@@ -195,7 +196,7 @@ fn send(plan: &Plan, parts: &mut Parts<'_>, now: u64) -> Result<(), NoMemory>
     Ok(())
 }
 
-// The number of steps after the first, where there is one more.
+/// The number of steps after the first, where there is one more.
 fn steps_after(next: u64, later_steps: u64) -> u64
     requires few { later_steps ≤ next }
     requires in_range { next ≤ LAST_MILLISECOND + 1 }

@@ -17,7 +17,7 @@ use Rattle.sync_ql.specs.declared.levels.NetOption.TheVariants.{I, II}
 use Rattle.sync_ql.specs.declared.levels.Level.{Level}
 use Rattle.sync_ql.specs.declared.rows.Row as declared
 use Rattle.sync_ql.specs.Table.{Row, row, not_enhanced, levels_of}
-use Rattle.sync_ql.specs.Rows.{seen, rows_seen}
+use Rattle.sync_ql.specs.private.Rows.{seen, rows_seen}
 use Rattle.sync_ql.specs.Level.{row_at, row_of, level_at, place_of_codes, place_of_name, level_with_both, level_of_code, level_of_codes, level_of_name, code_of, enhanced_of, name_of}
 use Rattle.sync_ql.proofs.Positions.{position-map}
 

@@ -11,5 +11,4 @@ pub mod Output
 pub mod Quiet
 pub mod Taken
 pub mod Messages
-pub mod Examples
-pub mod Rows
+pub mod private

@@ -2,7 +2,7 @@
 
 ghost use Rattle.std.specs.Prelude.{◌≡◌, ◌<◌, length};
 ghost use Rattle.sync_ql.specs.Table.{levels_of};
-ghost use Rattle.sync_ql.specs.Rows.{rows_seen};
+ghost use Rattle.sync_ql.specs.private.Rows.{rows_seen};
 
 use crate::levels::NetOption;
 

@@ -8,9 +8,9 @@ use Rattle.sync_topo.specs.declared.event.Event.{Event}
 use Rattle.sync_topo.specs.Topology.{Topology}
 use Rattle.sync_sweep.specs.declared.row.SweepRow.{SweepRow}
 use Rattle.sync_sweep.specs.declared.working.Worked.{Worked}
-use Rattle.sync_sweep.specs.Rows.{IsRowOf}
+use Rattle.sync_sweep.specs.private.Rows.{IsRowOf}
 use Rattle.sync_sweep.specs.Sweep.{AreRows}
-use Rattle.sync_sweep.specs.Working.{AreWorked, IsSettledIfDue}
+use Rattle.sync_sweep.specs.private.Working.{AreWorked, IsSettledIfDue}
 
 -- a row whose bound has come is settled
 abbrev pub IsRowSettledIfDue : ℕ → SweepRow → Type 0

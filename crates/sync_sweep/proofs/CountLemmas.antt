@@ -19,7 +19,7 @@ use Rattle.net_rules.specs.History.{Levels, settings_of, out_at, element_past, e
 use Rattle.sync_net.specs.Standing.{ElementStands}
 use Rattle.sync_sweep.specs.declared.counted_states.States.{States}
 use Rattle.sync_sweep.specs.Outcomes.{is_in, level_in, IsWorstOf}
-use Rattle.sync_sweep.specs.Counts.{AreTallied, AreCounted}
+use Rattle.sync_sweep.specs.private.Counts.{AreTallied, AreCounted}
 use Rattle.sync_sweep.proofs.Tallies.{is_kind}
 use Rattle.std.specs.Prelude.{slice_index_or}
 use Rattle.std.proofs.lemmas.List.{take_all}

@@ -14,7 +14,7 @@ use Rattle.net_rules.specs.Signals.{events_at, events_before}
 use Rattle.net_rules.specs.Settling.{NoneAfter, IsSettlingBound}
 use Rattle.event_times.specs.EventTimes.{AreTold}
 use Rattle.event_times.proofs.Ascending.{ascend, ascend-before, ordered-by}
-use Rattle.sync_sweep.specs.Base.{AreCommonBefore}
+use Rattle.sync_sweep.specs.private.Base.{AreCommonBefore}
 use Rattle.sync_sweep.specs.Cases.{IsLastUntil}
 use Rattle.sync_sweep.specs.Outcomes.{IsBoundAfter}
 

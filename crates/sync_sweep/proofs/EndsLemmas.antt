@@ -26,11 +26,11 @@ use Rattle.closed_walks.specs.declared.following.Next.TheVariants.{On, Over}
 use Rattle.closed_walks.specs.Taking.{taken_in_list, AreTaken}
 use Rattle.closed_walks.specs.Traces.{EndsSo, AreFound}
 use Rattle.closed_walks.specs.Following.{next_of, is_met}
-use Rattle.closed_walks.specs.Known.{known_at, IsKnown}
+use Rattle.closed_walks.specs.private.Known.{known_at, IsKnown}
 use Rattle.closed_walks.proofs.KnownLaws.{few-ending, more-known, ends-longer, none-are, all-found, over-here, over-none, known-next, each-known}
 use Rattle.sync_sweep.specs.declared.timings.Timing.{Timing}
 use Rattle.sync_sweep.specs.Timing.{has_ended, is_lost, IsLengthIn, IsTiming}
-use Rattle.sync_sweep.specs.Ends.{lines_at, IsNoted, AreNoted, IsNumberIn}
+use Rattle.sync_sweep.specs.private.Ends.{lines_at, IsNoted, AreEndsNoted, IsNumberIn}
 
 -- the same is noted
 noted-so : (o p : Option Ending) (b c : Bool) (n m : ℕ) (l k : Bool) → o ≡ p → b ≡ c → n ≡ m → l ≡ k → IsNoted o b n l → IsNoted p c m k
@@ -39,7 +39,7 @@ noted-so o p b c n m l k endings known lines lost is =
 
 -- where nothing is known nothing is noted
 pub none-noted : (plan : Topology) (taken : Taken) (known : List Bool) (lines : List ℕ) (lost : List Bool) → known ≡ replicate (length plan.elements) false
-    → length lines ≡ length plan.elements → length lost ≡ length plan.elements → AreNoted plan taken known lines lost
+    → length lines ≡ length plan.elements → length lost ≡ length plan.elements → AreEndsNoted plan taken known lines lost
 none-noted plan taken known lines lost none many_lines many_lost = record {
   endings = replicate (length plan.elements) None;
   are = none-are plan taken (length plan.elements) refl;
@@ -70,15 +70,15 @@ noted-unknown (Some ending) known lines lost is met = absurd (true≢false (sym 
 
 -- what was written is noted
 pub noted-by : (plan : Topology) (taken : Taken) (known known_new : List Bool) (lines lines_new : List ℕ) (lost lost_new : List Bool) → known_new ≡ known → lines_new ≡ lines → lost_new ≡ lost
-    → AreNoted plan taken known lines lost → AreNoted plan taken known_new lines_new lost_new
+    → AreEndsNoted plan taken known lines lost → AreEndsNoted plan taken known_new lines_new lost_new
 noted-by plan taken known known_new lines lines_new lost lost_new one two three is =
-    subst (λ k. AreNoted plan taken k lines_new lost_new) (sym one) (subst (λ l. AreNoted plan taken known l lost_new) (sym two) (subst (λ l. AreNoted plan taken known lines l) (sym three) is))
+    subst (λ k. AreEndsNoted plan taken k lines_new lost_new) (sym one) (subst (λ l. AreEndsNoted plan taken known l lost_new) (sym two) (subst (λ l. AreEndsNoted plan taken known lines l) (sym three) is))
 
 -- the ending of one element more
 more-noted : (plan : Topology) (taken : Taken) (known : List Bool) (lines : List ℕ) (lost : List Bool) (element : ℕ) (ending : Ending) → element < length plan.elements
-    → (noted : AreNoted plan taken known lines lost) → EndsSo plan taken element ending → has_ended ending.end ≡ true
+    → (noted : AreEndsNoted plan taken known lines lost) → EndsSo plan taken element ending → has_ended ending.end ≡ true
     → ((line : ℕ) → taken element ≡ Some (line_input line) → IsKnown noted.endings (sender_of plan line))
-    → AreNoted plan taken (slice_set known element true) (slice_set lines element ending.lines) (slice_set lost element (is_lost ending))
+    → AreEndsNoted plan taken (slice_set known element true) (slice_set lines element ending.lines) (slice_set lost element (is_lost ending))
 more-noted plan taken known lines lost element ending within noted ends ended on =
     let inside : element < length noted.endings = let count = noted.are.count in omega (arith, within, count) in
     record {
@@ -121,8 +121,8 @@ over-ended (Some (Line line)) element end over = absurd (on-apart line end over)
 
 -- that of an element that takes no line
 pub over-noted : (plan : Topology) (taken : Taken) (known : List Bool) (lines : List ℕ) (lost : List Bool) (element : ℕ) (end : End) (next : Next) → element < length plan.elements
-    → AreNoted plan taken known lines lost → next ≡ next_of (taken element) element → next ≡ Over end
-    → AreNoted plan taken (slice_set known element true) (slice_set lines element 0) (slice_set lost element (is_lost (record { lines = 0; end = end })))
+    → AreEndsNoted plan taken known lines lost → next ≡ next_of (taken element) element → next ≡ Over end
+    → AreEndsNoted plan taken (slice_set known element true) (slice_set lines element 0) (slice_set lost element (is_lost (record { lines = 0; end = end })))
 over-noted plan taken known lines lost element end next within noted is over =
     more-noted plan taken known lines lost element (record { lines = 0; end = end }) within noted
     (over-here plan taken element end next is over) (over-ended (taken element) element end (sym is ∙ over))
@@ -130,22 +130,22 @@ over-noted plan taken known lines lost element end next within noted is over =
 
 -- that of an element that takes a line, where the ending of its sender is known
 pub line-noted : (plan : Topology) (taken : Taken) (known : List Bool) (lines : List ℕ) (lost : List Bool) (element line from : ℕ) → element < length plan.elements
-    → AreNoted plan taken known lines lost → taken element ≡ Some (line_input line) → from ≡ sender_of plan line → from < length plan.elements
+    → AreEndsNoted plan taken known lines lost → taken element ≡ Some (line_input line) → from ≡ sender_of plan line → from < length plan.elements
     → is_met known element ≡ false → is_met known from ≡ true
-    → AreNoted plan taken (slice_set known element true) (slice_set lines element (lines_at lines from + 1)) (slice_set lost element (is_met lost from))
+    → AreEndsNoted plan taken (slice_set known element true) (slice_set lines element (lines_at lines from + 1)) (slice_set lost element (is_met lost from))
 line-noted plan taken known lines lost element line from within noted takes to inside none is =
     let before = noted-known plan taken (known_at noted.endings from) from (is_met known from) (lines_at lines from) (is_met lost from) (noted.each from inside) is in
     let there : known_at noted.endings (sender_of plan line) ≡ Some before.ending = ap (known_at noted.endings) (sym to) ∙ before.is in
     let nothing : known_at noted.endings element ≡ None = noted-unknown (known_at noted.endings element) (is_met known element) (lines_at lines element) (is_met lost element) (noted.each element within) none in
-    subst (λ l. AreNoted plan taken (slice_set known element true) (slice_set lines element (lines_at lines from + 1)) (slice_set lost element l)) (sym before.lost_is)
-    (subst (λ n. AreNoted plan taken (slice_set known element true) (slice_set lines element (n + 1)) (slice_set lost element (is_lost before.ending))) (sym before.lines_are)
+    subst (λ l. AreEndsNoted plan taken (slice_set known element true) (slice_set lines element (lines_at lines from + 1)) (slice_set lost element l)) (sym before.lost_is)
+    (subst (λ n. AreEndsNoted plan taken (slice_set known element true) (slice_set lines element (n + 1)) (slice_set lost element (is_lost before.ending))) (sym before.lines_are)
     (more-noted plan taken known lines lost element (record { lines = before.ending.lines + 1; end = before.ending.end }) within noted
     (ends-longer plan taken noted.endings element line before.ending noted.are nothing takes there) before.ended
     (λ other takes_other. known-next plan taken noted.endings element line other takes (ap is_some there) takes_other)))
 
 -- what is noted is of few lines
 pub few-noted : (plan : Topology) (inputs : List (Option InputId)) (known : List Bool) (lines : List ℕ) (lost : List Bool) (element : ℕ) → IsWellFormed plan → AreTaken plan inputs
-    → AreNoted plan (taken_in_list inputs) known lines lost → element < length plan.elements → is_met known element ≡ true → lines_at lines element ≤ length plan.elements
+    → AreEndsNoted plan (taken_in_list inputs) known lines lost → element < length plan.elements → is_met known element ≡ true → lines_at lines element ≤ length plan.elements
 few-noted plan inputs known lines lost element well are noted within is =
     let so = noted-known plan (taken_in_list inputs) (known_at noted.endings element) element (is_met known element) (lines_at lines element) (is_met lost element) (noted.each element within) is in
     let ends : EndsSo plan (taken_in_list inputs) element so.ending = subst (λ (o : Option Ending). IfSome o (EndsSo plan (taken_in_list inputs) element)) so.is (noted.are.holds element) in
@@ -197,7 +197,7 @@ count-none (false ∷ marks) none (suc k) within =
     count-none marks (let more = sum_by-cons (λ (one : Bool). cond one 1 0) false marks in omega (arith, more, none)) k (omega (arith, within))
 
 -- what all of them come to
-module _ (plan : Topology) (taken : Taken) (known : List Bool) (lines : List ℕ) (lost : List Bool) (noted : AreNoted plan taken known lines lost)
+module _ (plan : Topology) (taken : Taken) (known : List Bool) (lines : List ℕ) (lost : List Bool) (noted : AreEndsNoted plan taken known lines lost)
     (all : (k : ℕ) → k < length known → is_met known k ≡ true) where
   so : (k : ℕ) → k < length plan.elements → IsNotedSo plan taken (known_at noted.endings k) k (lines_at lines k) (is_met lost k)
   so k within =

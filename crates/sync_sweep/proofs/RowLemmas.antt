@@ -13,9 +13,9 @@ use Rattle.sync_sweep.specs.declared.row.SweepRow.{SweepRow}
 use Rattle.sync_sweep.specs.declared.working.Worked.{Worked}
 use Rattle.sync_sweep.specs.Cases.{merged, IsLastUntil}
 use Rattle.sync_sweep.specs.Outcomes.{IsOutcome, IsBoundAfter}
-use Rattle.sync_sweep.specs.Rows.{IsRowOf}
+use Rattle.sync_sweep.specs.private.Rows.{IsRowOf}
 use Rattle.sync_sweep.specs.Sweep.{failure, IsSweepRow, AreRows, AreSweepRows}
-use Rattle.sync_sweep.specs.Working.{IsWorked, AreWorked}
+use Rattle.sync_sweep.specs.private.Working.{IsWorked, AreWorked}
 use Rattle.sync_sweep.proofs.ChunkLemmas.{zip-length}
 use Rattle.event_times.proofs.Ascending.{ordered-by}
 use Rattle.sync_sweep.proofs.Merging.{stands-at}

@@ -10,10 +10,10 @@ use Rattle.sync_sweep.specs.declared.studying.StudyRow.{StudyRow}
 use Rattle.sync_sweep.specs.declared.working.Worked.{Worked}
 use Rattle.sync_sweep.specs.Cases.{merged}
 use Rattle.sync_sweep.specs.Outcomes.{IsOutcome, taken_by}
-use Rattle.sync_sweep.specs.Rows.{IsStudyRowOf}
+use Rattle.sync_sweep.specs.private.Rows.{IsStudyRowOf}
 use Rattle.sync_sweep.specs.Study.{IsStudyRow, AreStudyRows}
 use Rattle.sync_sweep.specs.Timing.{IsTiming}
-use Rattle.sync_sweep.specs.Working.{IsSettledIfDue, IsWorked, AreWorked}
+use Rattle.sync_sweep.specs.private.Working.{IsSettledIfDue, IsWorked, AreWorked}
 use Rattle.sync_sweep.proofs.TimingLemmas.{first-within}
 
 -- what a row promises beside what it says

@@ -11,8 +11,8 @@ use Rattle.sync_ql.specs.Level.{do_not_use_of}
 use Rattle.sync_ql.specs.Table.{levels_of}
 use Rattle.sync_ql.specs.declared.rules.ClockState.{ClockState}
 use Rattle.shown_words.specs.Sameness.{is_same_state}
-use Rattle.sync_sweep.specs.Counts.{one_if, with_place, HasPlace}
-use Rattle.sync_sweep.specs.CountsKept.{AreByPlace}
+use Rattle.sync_sweep.specs.private.Counts.{one_if, with_place, HasPlace}
+use Rattle.sync_sweep.specs.private.CountsKept.{AreByPlace}
 
 pub one-is : (b : Bool) → one_if b ≡ cond b 1 0
 one-is true = refl

@@ -14,14 +14,14 @@ use Rattle.net_rules.specs.Walks.{Taken}
 use Rattle.closed_walks.specs.declared.traced.Ending.{Ending}
 use Rattle.closed_walks.specs.Taking.{taken_in_list}
 use Rattle.closed_walks.specs.Traces.{end_of, EndsSo, AreFound}
-use Rattle.closed_walks.specs.Known.{IsKnown}
+use Rattle.closed_walks.specs.private.Known.{IsKnown}
 use Rattle.closed_walks.proofs.KnownLaws.{found-known}
 use Rattle.closed_walks.proofs.FollowLaws.{same-trace}
 use Rattle.sync_topo.specs.WellFormed.{IsWellFormed}
 use Rattle.sync_net.specs.NetState.{NetState}
 use Rattle.sync_sweep.specs.declared.timings.Timing.{Timing}
-use Rattle.sync_sweep.specs.Branching.{IsBranch}
-use Rattle.sync_sweep.specs.ShownNow.{AreAlikeBut}
+use Rattle.sync_sweep.specs.private.Branching.{IsBranch}
+use Rattle.sync_sweep.specs.private.ShownNow.{AreAlikeBut}
 use Rattle.sync_sweep.specs.Timing.{IsCounted, IsTiming}
 
 pub same-taken : (one other : Option InputId) → is_same_taken one other ≡ true → one ≡ other

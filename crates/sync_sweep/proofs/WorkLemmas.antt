@@ -22,13 +22,13 @@ use Rattle.sync_net.specs.NetState.{NetState}
 use Rattle.sync_net.specs.Standing.{StandsFor}
 use Rattle.settle_trace.specs.Now.{taken_now}
 use Rattle.sync_topo.specs.declared.event.Case.{Case}
-use Rattle.sync_sweep.specs.Base.{AreCommonBefore}
+use Rattle.sync_sweep.specs.private.Base.{AreCommonBefore}
 use Rattle.sync_sweep.specs.Cases.{merged}
 use Rattle.sync_sweep.specs.declared.timings.Timing.{Timing}
 use Rattle.sync_sweep.specs.declared.timed.Timed.{Timed}
 use Rattle.closed_walks.specs.Taking.{AreTaken}
-use Rattle.sync_sweep.specs.ShownNow.{AreAlikeBut}
-use Rattle.sync_sweep.specs.Timed.{IsTimed}
+use Rattle.sync_sweep.specs.private.ShownNow.{AreAlikeBut}
+use Rattle.sync_sweep.specs.private.Timed.{IsTimed}
 use Rattle.sync_sweep.specs.Outcomes.{taken_by}
 use Rattle.sync_sweep.specs.Timing.{IsTiming}
 use Rattle.sync_sweep.proofs.CountLemmas.{some-element}

@@ -1,9 +1,7 @@
 -- What happens in a run: what happens in all runs, and what happens in this one alone. This
 -- project's own.
 use Rattle.std.specs.Prelude.{◌≤◌, ◌≢◌, ℕ, nat_lt, List, [], ◌∷◌, if◌then◌else◌}
-use Rattle.std.specs.List.{All}
 use Rattle.sync_topo.specs.declared.event.Event.{Event}
-use Rattle.sync_topo.specs.declared.event.Case.{Case}
 use Rattle.net_rules.specs.Signals.{events_at}
 use Rattle.net_rules.specs.Settling.{IsGreatest}
 
@@ -25,7 +23,3 @@ IsTimeUntil events until t = (t ≤ until) × (events_at t events ≢ [])
 -- the last millisecond up to another in which something happens, or 0
 abbrev pub IsLastUntil : List Event → ℕ → ℕ → Type 0
 IsLastUntil events until last = IsGreatest (IsTimeUntil events until) last
-
--- nothing happens in any of the cases before a millisecond
-abbrev pub NoneBefore : ℕ → List Case → Type 0
-NoneBefore from cases = All (λ case. All (λ event. from ≤ event.at) case.events) cases

@@ -3,16 +3,6 @@ pub mod Outcomes
 pub mod Sweep
 pub mod SweepText
 pub mod Timing
-pub mod Ends
 pub mod Study
 pub mod StudyText
-pub mod Examples
-pub mod Working
-pub mod Rows
-pub mod Chunks
-pub mod Counts
-pub mod CountsKept
-pub mod Base
-pub mod Branching
-pub mod ShownNow
-pub mod Timed
+pub mod private

@@ -11,8 +11,8 @@ ghost use Rattle.sync_net.specs.NetState.{NetState, IsInTime};
 ghost use Rattle.event_times.specs.EventTimes.{AreTold, AreWithin};
 ghost use Rattle.sync_net.specs.Standing.{StandsFor};
 ghost use Rattle.sync_net.specs.Evaluated.{IsContinued};
-ghost use Rattle.sync_sweep.specs.Branching.{IsBranch};
-ghost use Rattle.sync_sweep.specs.ShownNow.{AreShown};
+ghost use Rattle.sync_sweep.specs.private.Branching.{IsBranch};
+ghost use Rattle.sync_sweep.specs.private.ShownNow.{AreShown};
 
 use crate::shown::{Shown, all_shown, note_shown};
 use agenda::Marks;
@@ -34,8 +34,8 @@ pub struct Branch<'a> {
     pub shown: Shown,
 }
 
-// A network that goes on from another, of which nothing is touched.
-pub fn new_branch<'a>(alloc: Global, base: &'a Net<'_>) -> Result<Branch<'a>, NoMemory>
+/// A network that goes on from another, of which nothing is touched.
+pub(crate) fn new_branch<'a>(alloc: Global, base: &'a Net<'_>) -> Result<Branch<'a>, NoMemory>
     requires live { base.now.spent ≡ false }
     ensures branch { IfOk result (λ branch. IsBranch base.now branch.net branch.elements branch.lines) }
     ensures net { IfOk result (λ branch. branch.net ≡ base.now) }
@@ -53,7 +53,7 @@ pub fn new_branch<'a>(alloc: Global, base: &'a Net<'_>) -> Result<Branch<'a>, No
     })
 }
 
-// Marks all places of a list.
+/// Marks all places of a list.
 fn mark_all(marks: &mut Marks, places: &[u32])
     requires within { All (λ k. k < length marks.old.flags) places.now }
     ensures count { length marks.new.flags ≡ length marks.old.flags }
@@ -65,7 +65,7 @@ fn mark_all(marks: &mut Marks, places: &[u32])
     }
 }
 
-// A step, which marks what it evaluates and calls.
+/// A step, which marks what it evaluates and calls.
 fn step<L: Ledger>(
     branch: &mut Branch<'_>,
     now: u64,
@@ -98,8 +98,8 @@ fn step<L: Ledger>(
     Ok(())
 }
 
-// All steps from a millisecond up to and with another, which are told the events that stand there.
-pub fn run_events<L: Ledger>(
+/// All steps from a millisecond up to and with another, which are told the events that stand there.
+pub(crate) fn run_events<L: Ledger>(
     branch: &mut Branch<'_>,
     from: u64,
     events: &[Event],
@@ -136,8 +136,8 @@ pub fn run_events<L: Ledger>(
     Ok(())
 }
 
-// What is kept of the network where it began becomes what it shows.
-pub fn show(branch: &mut Branch<'_>)
+/// What is kept of the network where it began becomes what it shows.
+pub(crate) fn show(branch: &mut Branch<'_>)
     requires live { branch.old.net.spent ≡ false }
     requires elements { length branch.old.elements.flags ≡ length branch.old.net.plan.elements }
     requires states { length branch.old.shown.states ≡ length branch.old.net.plan.elements }
@@ -152,8 +152,12 @@ pub fn show(branch: &mut Branch<'_>)
     note_shown(&branch.net, &mut branch.shown, branch.elements.listed());
 }
 
-// Back to where it began: nothing is touched any more.
-pub fn go_back(alloc: Global, branch: &mut Branch<'_>, base: &Net<'_>) -> Result<(), NoMemory>
+/// Back to where it began: nothing is touched any more.
+pub(crate) fn go_back(
+    alloc: Global,
+    branch: &mut Branch<'_>,
+    base: &Net<'_>,
+) -> Result<(), NoMemory>
     requires live { branch.old.net.spent ≡ false }
     requires base_live { base.now.spent ≡ false }
     requires branch { IsBranch base.now branch.old.net branch.old.elements branch.old.lines }

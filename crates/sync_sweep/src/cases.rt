@@ -8,7 +8,8 @@ ghost use Rattle.sync_topo.specs.Events.{IsEventList, IsInOrder};
 ghost use Rattle.net_rules.specs.Signals.{events_at};
 ghost use Rattle.net_rules.specs.Settling.{IsGreatest};
 ghost use Rattle.event_times.specs.EventTimes.{AreTold, AreWithin};
-ghost use Rattle.sync_sweep.specs.Cases.{after_earlier, merged, IsLastUntil, NoneBefore};
+ghost use Rattle.sync_sweep.specs.Cases.{after_earlier, merged, IsLastUntil};
+ghost use Rattle.sync_sweep.specs.private.Cases.{NoneBefore};
 ghost use Rattle.sync_sweep.specs.Sweep.{failure};
 
 use event_times::events_until;
@@ -16,8 +17,8 @@ use std::alloc::Global;
 use sync_text::{NoMemory, Rows};
 use sync_topo::{Case, Event, Part, What};
 
-// For each link the case in which it goes down in a millisecond.
-pub fn failures(alloc: Global, links: u32, at: u64) -> Result<Rows<Case>, NoMemory>
+/// For each link the case in which it goes down in a millisecond.
+pub(crate) fn failures(alloc: Global, links: u32, at: u64) -> Result<Rows<Case>, NoMemory>
     ensures cases { IfOk result (AllZip (λ link case. case.events ≡ failure at link)
         (range_with_len 0 links)) }
     ensures count { IfOk result (λ cases. length cases ≡ links) }
@@ -29,7 +30,7 @@ pub fn failures(alloc: Global, links: u32, at: u64) -> Result<Rows<Case>, NoMemo
     Ok(cases)
 }
 
-// A link goes down in a millisecond.
+/// A link goes down in a millisecond.
 fn failure_of(alloc: Global, link: u32, at: u64) -> Result<Case, NoMemory>
     ensures { IfOk result (λ case. case.events ≡ failure at link) }
 {
@@ -41,9 +42,9 @@ fn failure_of(alloc: Global, link: u32, at: u64) -> Result<Case, NoMemory>
     Ok(Case { events })
 }
 
-// The first millisecond in which something happens in one of the cases alone, at most the last one
-// of all.
-pub fn begin_of(cases: &[Case], until: u64) -> u64
+/// The first millisecond in which something happens in one of the cases alone, at most the last one
+/// of all.
+pub(crate) fn begin_of(cases: &[Case], until: u64) -> u64
     requires in_order { All (λ case. IsInOrder case.events) cases.now }
     ensures up_to { result ≤ until }
     ensures none { NoneBefore result cases.now }
@@ -55,7 +56,7 @@ pub fn begin_of(cases: &[Case], until: u64) -> u64
     begin
 }
 
-// A millisecond, or the first one of some events where that is earlier.
+/// A millisecond, or the first one of some events where that is earlier.
 fn earlier(begin: u64, events: &[Event]) -> u64
     requires in_order { IsInOrder events.now }
     ensures up_to { result ≤ begin }
@@ -67,8 +68,8 @@ fn earlier(begin: u64, events: &[Event]) -> u64
     }
 }
 
-// The events that are not before a millisecond, of a list in order of time.
-pub fn events_from(events: &[Event], from: u64) -> &[Event]
+/// The events that are not before a millisecond, of a list in order of time.
+pub(crate) fn events_from(events: &[Event], from: u64) -> &[Event]
     ensures same { (t : ℕ) → from ≤ t → events_at t events.now ≡ events_at t result.now }
     ensures within { (plan : Topology) (until : ℕ) → AreWithin plan 0 until events.now →
         AreWithin plan from until result.now }
@@ -76,7 +77,7 @@ pub fn events_from(events: &[Event], from: u64) -> &[Event]
     events.split_at(count_before(events, from)).1
 }
 
-// The number of events before the first one that is not before a millisecond.
+/// The number of events before the first one that is not before a millisecond.
 fn count_before(events: &[Event], from: u64) -> usize
     ensures within { result ≤ length events.now }
     ensures before { (k : ℕ) (other : Event) → k < result →
@@ -92,7 +93,7 @@ fn count_before(events: &[Event], from: u64) -> usize
     events.len()
 }
 
-// All events of a run, in order of time: in one millisecond the common ones come first.
+/// All events of a run, in order of time: in one millisecond the common ones come first.
 fn merge(alloc: Global, common: &[Event], own: &[Event]) -> Result<Rows<Event>, NoMemory>
     ensures { IfOk result (λ all. all ≡ merged common.now own.now) }
 {
@@ -106,7 +107,7 @@ fn merge(alloc: Global, common: &[Event], own: &[Event]) -> Result<Rows<Event>, 
     Ok(all)
 }
 
-// Puts the events before a millisecond at the end, and gives those that are left.
+/// Puts the events before a millisecond at the end, and gives those that are left.
 fn put_earlier<'a>(
     all: &mut Rows<Event>,
     own: &'a [Event],
@@ -122,7 +123,7 @@ fn put_earlier<'a>(
     Ok(left)
 }
 
-// Puts events at the end of others.
+/// Puts events at the end of others.
 fn put_all(all: &mut Rows<Event>, more: &[Event]) -> Result<(), NoMemory>
     ensures { OnOk result (all.new ≡ all.old ++ more.now) }
 {
@@ -132,8 +133,8 @@ fn put_all(all: &mut Rows<Event>, more: &[Event]) -> Result<(), NoMemory>
     Ok(())
 }
 
-// What a run is told from a millisecond up to another, both included.
-pub fn told_of(
+/// What a run is told from a millisecond up to another, both included.
+pub(crate) fn told_of(
     alloc: Global,
     common: &[Event],
     own: &[Event],
@@ -150,8 +151,8 @@ pub fn told_of(
     merge(alloc, rest, own)
 }
 
-// The last millisecond up to another in which something happens in a run, or 0.
-pub fn run_last(common: &[Event], own: &[Event], until: u64) -> u64
+/// The last millisecond up to another in which something happens in a run, or 0.
+pub(crate) fn run_last(common: &[Event], own: &[Event], until: u64) -> u64
     ensures { (plan : Topology) → IsEventList plan common.now → IsEventList plan own.now →
         IsLastUntil (merged common.now own.now) until result }
 {
@@ -160,7 +161,7 @@ pub fn run_last(common: &[Event], own: &[Event], until: u64) -> u64
     if shared < alone { alone } else { shared }
 }
 
-// The millisecond of the last of some events in order of time, or 0.
+/// The millisecond of the last of some events in order of time, or 0.
 fn last_time(events: &[Event]) -> u64
     ensures { IsInOrder events.now → IsGreatest (λ t. events_at t events.now ≢ []) result }
 {

@@ -3,11 +3,11 @@
 ghost use Rattle.std.specs.Prelude.{◌≡◌, ◌++◌, ◌≤◌, Some, IfOk, OnOk};
 ghost use Rattle.std.specs.List.{All};
 ghost use Rattle.sync_topo.specs.Events.{IsCase, IsEventList};
-ghost use Rattle.sync_sweep.specs.Base.{IsBase};
-ghost use Rattle.sync_sweep.specs.Cases.{NoneBefore};
-ghost use Rattle.sync_sweep.specs.Chunks.{joined};
+ghost use Rattle.sync_sweep.specs.private.Base.{IsBase};
+ghost use Rattle.sync_sweep.specs.private.Cases.{NoneBefore};
+ghost use Rattle.sync_sweep.specs.private.Chunks.{joined};
 ghost use Rattle.sync_sweep.specs.Outcomes.{IsBoundAfter};
-ghost use Rattle.sync_sweep.specs.Working.{AreWorked};
+ghost use Rattle.sync_sweep.specs.private.Working.{AreWorked};
 
 use crate::branch::new_branch;
 use crate::timed::timed_if;
@@ -18,8 +18,8 @@ use sync_ql::limits::LAST_MILLISECOND;
 use sync_text::{NoMemory, Rows};
 use sync_topo::{Case, Event};
 
-// What becomes of the network in some cases.
-pub fn worked_in(
+/// What becomes of the network in some cases.
+pub(crate) fn worked_in(
     alloc: Global,
     base: &Sim<'_>,
     common: &[Event],
@@ -60,8 +60,8 @@ pub fn worked_in(
     Ok(worked)
 }
 
-// What all parts give in order, unless memory ran out for one.
-pub fn join_worked(
+/// What all parts give in order, unless memory ran out for one.
+pub(crate) fn join_worked(
     alloc: Global,
     parts: &[Result<Rows<Worked>, NoMemory>],
 ) -> Result<Rows<Worked>, NoMemory>
@@ -77,7 +77,7 @@ pub fn join_worked(
     Ok(worked)
 }
 
-// Puts what a part gives at the end of others.
+/// Puts what a part gives at the end of others.
 fn put_all(worked: &mut Rows<Worked>, more: &[Worked]) -> Result<(), NoMemory>
     ensures { OnOk result (worked.new ≡ worked.old ++ more.now) }
 {

@@ -2,7 +2,7 @@
 
 ghost use Rattle.std.specs.Prelude.{◌≡◌, ◌≤◌, ◌<◌, ◌++◌, ℕ, [], ◌∷◌, length, slice_set, slice_index_or, replicate, OnOk};
 ghost use Rattle.sync_ql.specs.declared.levels.Level.{Level};
-ghost use Rattle.sync_sweep.specs.Counts.{HasPlace};
+ghost use Rattle.sync_sweep.specs.private.Counts.{HasPlace};
 
 use std::alloc::Global;
 use std::marker::Model;
@@ -25,7 +25,7 @@ impl Model for CountedLevels {
 
     ghost Value = { List Level };
 
-    ghost use Rattle.sync_sweep.specs.CountsKept.{levels_in, AreLevelsCounted};
+    ghost use Rattle.sync_sweep.specs.private.CountsKept.{levels_in, AreLevelsCounted};
 
     ghost view = { levels_in };
 
@@ -33,8 +33,8 @@ impl Model for CountedLevels {
 }
 
 impl CountedLevels {
-    // The levels of no elements.
-    pub fn new(alloc: Global) -> CountedLevels
+    /// The levels of no elements.
+    pub(crate) fn new(alloc: Global) -> CountedLevels
         ensures { result ≡ [] }
     {
         CountedLevels {
@@ -43,8 +43,8 @@ impl CountedLevels {
         }
     }
 
-    // Puts the level of one more element at the end.
-    pub fn push(&mut self, level: Level) -> Result<(), NoMemory>
+    /// Puts the level of one more element at the end.
+    pub(crate) fn push(&mut self, level: Level) -> Result<(), NoMemory>
         requires few { length self.old < 4294967295 }
         ensures put { OnOk result (self.new ≡ self.old ++ level ∷ []) }
     {
@@ -55,19 +55,19 @@ impl CountedLevels {
         Ok(())
     }
 
-    // Renews the level of an element.
-    pub fn set(&mut self, e: u32, level: Level)
-        requires element { e < length self.old }
-        ensures { self.new ≡ slice_set self.old e level }
+    /// Renews the level of an element.
+    pub(crate) fn set(&mut self, element: u32, level: Level)
+        requires element { element < length self.old }
+        ensures { self.new ≡ slice_set self.old element level }
     {
-        let before = self.levels[e as usize];
-        self.levels[e as usize] = level;
+        let before = self.levels[element as usize];
+        self.levels[element as usize] = level;
         self.counts[before.place as usize] -= 1;
         self.counts[level.place as usize] += 1;
     }
 
-    // The greatest place that one of the levels has. It takes the same time for any number of them.
-    pub fn greatest_place(&self) -> u8
+    /// The greatest place that one of the levels has. It takes the same time for any number of them.
+    pub(crate) fn greatest_place(&self) -> u8
         requires some { 0 < length self.now }
         ensures has { HasPlace self.now result }
         ensures none_greater { (k : ℕ) (other : Level) → k < length self.now →

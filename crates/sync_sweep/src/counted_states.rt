@@ -3,7 +3,7 @@
 ghost use Rattle.std.specs.Prelude.{◌≡◌, ◌≤◌, ◌<◌, ◌++◌, [], ◌∷◌, length, slice_set, OnOk};
 ghost use Rattle.sync_ql.specs.declared.rules.ClockState.TheVariants.{FreeRun, Locked, Holdover};
 ghost use Rattle.shown_words.specs.Sameness.{is_same_state};
-ghost use Rattle.sync_sweep.specs.Counts.{AreTallied, IsOneMore, counted, one_if};
+ghost use Rattle.sync_sweep.specs.private.Counts.{AreTallied, IsOneMore, counted, one_if};
 
 use std::alloc::Global;
 use std::marker::Model;
@@ -31,7 +31,7 @@ impl Model for CountedStates {
 
     ghost Value = { List ClockState };
 
-    ghost use Rattle.sync_sweep.specs.CountsKept.{states_in, AreStatesCounted};
+    ghost use Rattle.sync_sweep.specs.private.CountsKept.{states_in, AreStatesCounted};
 
     ghost view = { states_in };
 
@@ -39,8 +39,8 @@ impl Model for CountedStates {
 }
 
 impl CountedStates {
-    // The states of no elements.
-    pub fn new(alloc: Global) -> CountedStates
+    /// The states of no elements.
+    pub(crate) fn new(alloc: Global) -> CountedStates
         ensures { result ≡ [] }
     {
         CountedStates {
@@ -53,8 +53,8 @@ impl CountedStates {
         }
     }
 
-    // Puts the state of one more element at the end.
-    pub fn push(&mut self, state: ClockState) -> Result<(), NoMemory>
+    /// Puts the state of one more element at the end.
+    pub(crate) fn push(&mut self, state: ClockState) -> Result<(), NoMemory>
         requires few { length self.old < 4294967295 }
         ensures put { OnOk result (self.new ≡ self.old ++ state ∷ []) }
     {
@@ -65,25 +65,25 @@ impl CountedStates {
         Ok(())
     }
 
-    // Renews the state of an element.
-    pub fn set(&mut self, e: u32, state: ClockState)
-        requires element { e < length self.old }
-        ensures { self.new ≡ slice_set self.old e state }
+    /// Renews the state of an element.
+    pub(crate) fn set(&mut self, element: u32, state: ClockState)
+        requires element { element < length self.old }
+        ensures { self.new ≡ slice_set self.old element state }
     {
-        let before = self.states[e as usize];
-        self.states[e as usize] = state;
+        let before = self.states[element as usize];
+        self.states[element as usize] = state;
         self.counts = with_one_in(with_one_out(self.counts, before), state);
     }
 
-    // How many elements are in each state. It takes the same time for any number of elements.
-    pub fn counts(&self) -> States
+    /// How many elements are in each state. It takes the same time for any number of elements.
+    pub(crate) fn counts(&self) -> States
         ensures { AreTallied self.now result }
     {
         self.counts
     }
 }
 
-// One more element in a state.
+/// One more element in a state.
 fn with_one_in(states: States, state: ClockState) -> States
     requires room { counted states < 4294967295 }
     ensures one_more { IsOneMore states state result }
@@ -95,7 +95,7 @@ fn with_one_in(states: States, state: ClockState) -> States
     }
 }
 
-// One less in a state.
+/// One less in a state.
 fn with_one_out(states: States, state: ClockState) -> States
     requires locked { one_if (is_same_state state Locked) ≤ states.locked }
     requires holdover { one_if (is_same_state state Holdover) ≤ states.holdover }

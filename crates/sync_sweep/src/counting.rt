@@ -7,8 +7,8 @@ ghost use Rattle.sync_topo.specs.WellFormed.{IsWellFormed};
 ghost use Rattle.sync_net.specs.Standing.{StandsFor};
 ghost use Rattle.settle_trace.specs.Now.{now_of};
 ghost use Rattle.sync_sweep.specs.Outcomes.{IsWorstOf};
-ghost use Rattle.sync_sweep.specs.ShownNow.{AreStates, AreLevels, AreShown};
-ghost use Rattle.sync_sweep.specs.Counts.{AreCounted};
+ghost use Rattle.sync_sweep.specs.private.ShownNow.{AreStates, AreLevels, AreShown};
+ghost use Rattle.sync_sweep.specs.private.Counts.{AreCounted};
 
 use crate::counted_levels::CountedLevels;
 use crate::counted_states::{CountedStates, States};
@@ -16,16 +16,16 @@ use crate::shown::Shown;
 use sync_net::Net;
 use sync_ql::{Level, NetOption, do_not_use};
 
-// How many elements are in each state, and the worst level that one has.
+/// How many elements are in each state, and the worst level that one has.
 #[derive(Clone, Copy, Debug, PartialEq, Eq)]
 pub struct Tally {
     pub states: States,
     pub worst: Level,
 }
 
-// The states and the worst level of a plan's elements in the millisecond of the last step, by what
-// is shown. It takes the same time for any number of elements.
-pub fn tally_of(net: &Net<'_>, shown: &Shown) -> Tally
+/// The states and the worst level of a plan's elements in the millisecond of the last step, by what
+/// is shown. It takes the same time for any number of elements.
+pub(crate) fn tally_of(net: &Net<'_>, shown: &Shown) -> Tally
     requires live { net.now.spent ≡ false }
     requires stepped { 0 < net.now.next }
     requires shown { AreShown net.now shown.now }
@@ -42,7 +42,7 @@ pub fn tally_of(net: &Net<'_>, shown: &Shown) -> Tally
     }
 }
 
-// How many of a plan's elements are in each state.
+/// How many of a plan's elements are in each state.
 fn states_of(net: &Net<'_>, states: &CountedStates) -> States
     requires live { net.now.spent ≡ false }
     requires stepped { 0 < net.now.next }
@@ -56,7 +56,7 @@ fn states_of(net: &Net<'_>, states: &CountedStates) -> States
     states.counts()
 }
 
-// The worst level that one of a plan's elements has.
+/// The worst level that one of a plan's elements has.
 fn worst_of(net: &Net<'_>, levels: &CountedLevels) -> Level
     requires live { net.now.spent ≡ false }
     requires stepped { 0 < net.now.next }
@@ -71,7 +71,7 @@ fn worst_of(net: &Net<'_>, levels: &CountedLevels) -> Level
     level_at(net.plan().option(), levels.greatest_place())
 }
 
-// The level at a place of an option's table, and the last one where the table doesn't go so far.
+/// The level at a place of an option's table, and the last one where the table doesn't go so far.
 fn level_at(option: NetOption, place: u8) -> Level
     ensures option { result.option ≡ option }
     ensures place { place < length (levels_of option) → result.place ≡ place }

@@ -9,7 +9,7 @@ ghost use Rattle.net_rules.specs.Walks.{Taken};
 ghost use Rattle.closed_walks.specs.Taking.{taken_in_list, AreTaken};
 ghost use Rattle.closed_walks.specs.Following.{is_met};
 ghost use Rattle.sync_sweep.specs.Timing.{IsTiming};
-ghost use Rattle.sync_sweep.specs.Ends.{lines_at, AreNoted, IsNumberIn};
+ghost use Rattle.sync_sweep.specs.private.Ends.{lines_at, AreEndsNoted, IsNumberIn};
 
 use crate::timings::{Timing, is_lost};
 use closed_walks::{Ending, Next, next_of};
@@ -30,8 +30,8 @@ pub struct Ends {
     pub left: Vec<u32>,
 }
 
-// The memory in which they are found.
-pub fn no_ends(alloc: Global) -> Ends {
+/// The memory in which they are found.
+pub(crate) fn no_ends(alloc: Global) -> Ends {
     Ends {
         known: Vec::new(alloc),
         lines: Vec::new(alloc),
@@ -40,9 +40,9 @@ pub fn no_ends(alloc: Global) -> Ends {
     }
 }
 
-// The timing of all elements, by what each takes, where the order tells it: none where a trace goes
-// round, or where too many elements come before those that they take their timing from.
-pub fn timing_along(
+/// The timing of all elements, by what each takes, where the order tells it: none where a trace goes
+/// round, or where too many elements come before those that they take their timing from.
+pub(crate) fn timing_along(
     plan: &Plan,
     taken: &[Option<InputId>],
     order: &[u32],
@@ -63,7 +63,7 @@ pub fn timing_along(
     )
 }
 
-// The same, where it is noted how some traces end.
+/// The same, where it is noted how some traces end.
 fn timing_in(
     plan: &Plan,
     taken: &[Option<InputId>],
@@ -74,7 +74,7 @@ fn timing_in(
     left: &mut Vec<u32>,
 ) -> Result<Option<Timing>, NoMemory>
     requires taken { AreTaken plan.now taken.now }
-    requires noted { AreNoted plan.now (taken_in_list taken.now) known.old lines.old lost.old }
+    requires noted { AreEndsNoted plan.now (taken_in_list taken.now) known.old lines.old lost.old }
     ensures { IfOk result (λ timing. IfSome timing (IsTiming plan.now (taken_in_list taken.now))) }
 {
     let _elements = plan.elements();
@@ -86,7 +86,7 @@ fn timing_in(
     Ok(Some(counted_of(lines, lost)))
 }
 
-// Of so many elements nothing is known.
+/// Of so many elements nothing is known.
 fn forget(count: u32, ends: &mut Ends) -> Result<(), NoMemory>
     ensures known { OnOk result (ends.new.known.items ≡ replicate count false) }
     ensures lines { OnOk result (length ends.new.lines.items ≡ count) }
@@ -99,7 +99,7 @@ fn forget(count: u32, ends: &mut Ends) -> Result<(), NoMemory>
     Ok(())
 }
 
-// The elements of an order of which nothing is known.
+/// The elements of an order of which nothing is known.
 fn leave(order: &[u32], known: &[bool], left: &mut Vec<u32>) -> Result<(), NoMemory> {
     left.clear();
     for element in order {
@@ -110,7 +110,7 @@ fn leave(order: &[u32], known: &[bool], left: &mut Vec<u32>) -> Result<(), NoMem
     Ok(())
 }
 
-// Notes how the traces end of the elements of an order that were left behind, where some were.
+/// Notes how the traces end of the elements of an order that were left behind, where some were.
 fn note_left(
     plan: &Plan,
     taken: &[Option<InputId>],
@@ -121,8 +121,8 @@ fn note_left(
     left: &mut Vec<u32>,
 ) -> Result<(), NoMemory>
     requires taken { AreTaken plan.now taken.now }
-    requires noted { AreNoted plan.now (taken_in_list taken.now) known.old lines.old lost.old }
-    ensures { OnOk result (AreNoted plan.now (taken_in_list taken.now) known.new lines.new lost.new) }
+    requires noted { AreEndsNoted plan.now (taken_in_list taken.now) known.old lines.old lost.old }
+    ensures { OnOk result (AreEndsNoted plan.now (taken_in_list taken.now) known.new lines.new lost.new) }
 {
     if are_all(known) {
         return Ok(());
@@ -133,8 +133,8 @@ fn note_left(
     Ok(())
 }
 
-// Notes how the traces end of the elements of an order, from the last to the first, as where timing has
-// turned round.
+/// Notes how the traces end of the elements of an order, from the last to the first, as where timing has
+/// turned round.
 fn note_back(
     plan: &Plan,
     taken: &[Option<InputId>],
@@ -144,16 +144,16 @@ fn note_back(
     lost: &mut [bool],
 )
     requires taken { AreTaken plan.now taken.now }
-    requires noted { AreNoted plan.now (taken_in_list taken.now) known.old lines.old lost.old }
-    ensures { AreNoted plan.now (taken_in_list taken.now) known.new lines.new lost.new }
+    requires noted { AreEndsNoted plan.now (taken_in_list taken.now) known.old lines.old lost.old }
+    ensures { AreEndsNoted plan.now (taken_in_list taken.now) known.new lines.new lost.new }
 {
     for element in order.iter().rev() {
         note(plan, taken, known, lines, lost, *element);
     }
 }
 
-// Notes how the traces end of the elements of an order, one after another, as far as what comes before
-// them is known.
+/// Notes how the traces end of the elements of an order, one after another, as far as what comes before
+/// them is known.
 #[inline(never)]
 fn note_each(
     plan: &Plan,
@@ -164,16 +164,16 @@ fn note_each(
     lost: &mut [bool],
 )
     requires taken { AreTaken plan.now taken.now }
-    requires noted { AreNoted plan.now (taken_in_list taken.now) known.old lines.old lost.old }
-    ensures { AreNoted plan.now (taken_in_list taken.now) known.new lines.new lost.new }
+    requires noted { AreEndsNoted plan.now (taken_in_list taken.now) known.old lines.old lost.old }
+    ensures { AreEndsNoted plan.now (taken_in_list taken.now) known.new lines.new lost.new }
 {
     for element in order {
         note(plan, taken, known, lines, lost, *element);
     }
 }
 
-// Notes how the trace of an element ends, where it takes no line, or that of the one is known that it takes
-// its timing from.
+/// Notes how the trace of an element ends, where it takes no line, or that of the one is known that it takes
+/// its timing from.
 fn note(
     plan: &Plan,
     taken: &[Option<InputId>],
@@ -183,8 +183,8 @@ fn note(
     element: u32,
 )
     requires taken { AreTaken plan.now taken.now }
-    requires noted { AreNoted plan.now (taken_in_list taken.now) known.old lines.old lost.old }
-    ensures { AreNoted plan.now (taken_in_list taken.now) known.new lines.new lost.new }
+    requires noted { AreEndsNoted plan.now (taken_in_list taken.now) known.old lines.old lost.old }
+    ensures { AreEndsNoted plan.now (taken_in_list taken.now) known.new lines.new lost.new }
 {
     if element >= plan.elements() || known[element as usize] {
         return;
@@ -205,7 +205,7 @@ fn note(
     }
 }
 
-// Notes how the trace of an element ends.
+/// Notes how the trace of an element ends.
 fn note_one(
     known: &mut [bool],
     lines: &mut [u32],
@@ -226,11 +226,11 @@ fn note_one(
     lost[element as usize] = is_lost;
 }
 
-// What is counted of traces, all of which are known.
+/// What is counted of traces, all of which are known.
 fn counted_of(lines: &[u32], lost: &[bool]) -> Timing
     requires few { length lost.now < 2 ^ 32 }
     ensures { (plan : Topology) (taken : Taken) (known : List Bool) →
-        AreNoted plan taken known lines.now lost.now →
+        AreEndsNoted plan taken known lines.now lost.now →
         ((k : ℕ) → k < length known → is_met known k ≡ true) → IsTiming plan taken result }
 {
     let count = count_of(lost);
@@ -241,7 +241,7 @@ fn counted_of(lines: &[u32], lost: &[bool]) -> Timing
     }
 }
 
-// Whether all of some are set.
+/// Whether all of some are set.
 fn are_all(set: &[bool]) -> bool
     ensures { result ≡ true → (k : ℕ) → k < length set.now → is_met set.now k ≡ true }
 {
@@ -254,7 +254,7 @@ fn are_all(set: &[bool]) -> bool
     all
 }
 
-// How many of some are set.
+/// How many of some are set.
 fn count_of(set: &[bool]) -> u32
     requires few { length set.now < 2 ^ 32 }
     ensures { result ≡ count_by (λ (one : Bool). one) set.now }
@@ -268,7 +268,7 @@ fn count_of(set: &[bool]) -> u32
     count
 }
 
-// The first of some of which so many are set.
+/// The first of some of which so many are set.
 fn first_of(count: u32, set: &[bool]) -> Option<u32>
     requires few { length set.now < 2 ^ 32 }
     requires counted { count ≡ count_by (λ (one : Bool). one) set.now }
@@ -285,7 +285,7 @@ fn first_of(count: u32, set: &[bool]) -> Option<u32>
     None
 }
 
-// The greatest of some numbers, and 0 where there is none.
+/// The greatest of some numbers, and 0 where there is none.
 fn greatest_of(numbers: &[u32]) -> u32
     ensures { IsGreatest (IsNumberIn numbers.now) result }
 {

@@ -9,7 +9,7 @@ ghost use Rattle.sync_topo.specs.Hops.{IsRising};
 ghost use Rattle.sync_net.specs.Standing.{StandsFor};
 ghost use Rattle.settle_trace.specs.Now.{now_of, taken_now};
 ghost use Rattle.sync_sweep.specs.Outcomes.{AreSoManyLoops, IsShown, IsBoundAfter};
-ghost use Rattle.sync_sweep.specs.ShownNow.{AreShown};
+ghost use Rattle.sync_sweep.specs.private.ShownNow.{AreShown};
 
 use crate::counting::tally_of;
 use crate::shown::Shown;
@@ -40,8 +40,8 @@ pub struct Outcome {
     pub bound: Option<u64>,
 }
 
-// The settling bound after a millisecond, by the one after a later one.
-pub fn bound_after(bound: Option<u64>, until: u64, last: u64) -> Option<u64>
+/// The settling bound after a millisecond, by the one after a later one.
+pub(crate) fn bound_after(bound: Option<u64>, until: u64, last: u64) -> Option<u64>
     requires earlier { last ≤ until }
     requires late { IfSome bound (λ bound. until ≤ bound) }
     ensures { (plan : Topology) → IsBoundAfter plan until bound → IsBoundAfter plan last result }
@@ -52,7 +52,7 @@ pub fn bound_after(bound: Option<u64>, until: u64, last: u64) -> Option<u64>
     }
 }
 
-// How many closed walks there are in the millisecond of the last step.
+/// How many closed walks there are in the millisecond of the last step.
 fn count_loops(alloc: Global, net: &Net<'_>) -> Result<u32, NoMemory>
     requires live { net.now.spent ≡ false }
     requires stepped { 0 < net.now.next }
@@ -66,7 +66,7 @@ fn count_loops(alloc: Global, net: &Net<'_>) -> Result<u32, NoMemory>
     Ok(count_of(walks.as_slice(), lines))
 }
 
-// How many there are, at most a number.
+/// How many there are, at most a number.
 fn count_of(walks: &[Walk], most: u32) -> u32
     requires few { length walks.now ≤ most }
     ensures { result ≡ length walks.now }
@@ -74,8 +74,8 @@ fn count_of(walks: &[Walk], most: u32) -> u32
     walks.len() as u32
 }
 
-// How many closed walks there are in the millisecond of the last step. Where it is settled and the
-// plan has a settling bound none is looked for, since ranks rise.
+/// How many closed walks there are in the millisecond of the last step. Where it is settled and the
+/// plan has a settling bound none is looked for, since ranks rise.
 fn loops_of(
     alloc: Global,
     net: &Net<'_>,
@@ -99,9 +99,9 @@ fn loops_of(
     count_loops(alloc, net)
 }
 
-// What becomes of a network that its run has brought to the end, whose last event was in a
-// millisecond.
-pub fn outcome_of(
+/// What becomes of a network that its run has brought to the end, whose last event was in a
+/// millisecond.
+pub(crate) fn outcome_of(
     alloc: Global,
     net: &Net<'_>,
     shown: &Shown,

@@ -2,7 +2,7 @@
 
 ghost use Rattle.std.specs.Prelude.{◌≡◌, ◌<◌, ◌^◌, length, IfOk};
 ghost use Rattle.std.specs.List.{AllZip, range_with_len};
-ghost use Rattle.sync_sweep.specs.Rows.{IsRowOf};
+ghost use Rattle.sync_sweep.specs.private.Rows.{IsRowOf};
 
 use crate::outcomes::Outcome;
 use crate::working::Worked;
@@ -20,8 +20,8 @@ pub struct SweepRow {
     pub outcome: Outcome,
 }
 
-// The rows of all links, by what becomes of the network in each link's case.
-pub fn rows_of(alloc: Global, worked: &[Worked]) -> Result<Rows<SweepRow>, NoMemory>
+/// The rows of all links, by what becomes of the network in each link's case.
+pub(crate) fn rows_of(alloc: Global, worked: &[Worked]) -> Result<Rows<SweepRow>, NoMemory>
     requires few { length worked.now < 2 ^ 32 }
     ensures rows { IfOk result (AllZip IsRowOf worked.now) }
     ensures links { IfOk result (AllZip (λ link row. row.link ≡ link)
@@ -34,7 +34,7 @@ pub fn rows_of(alloc: Global, worked: &[Worked]) -> Result<Rows<SweepRow>, NoMem
     Ok(rows)
 }
 
-// The row of a link.
+/// The row of a link.
 fn row_of(link: u32, worked: &Worked) -> SweepRow
     ensures row { IsRowOf worked.now result }
     ensures link { result.link ≡ link }

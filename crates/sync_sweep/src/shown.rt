@@ -3,7 +3,7 @@
 ghost use Rattle.std.specs.Prelude.{◌≡◌, ◌<◌, false, length, IfOk};
 ghost use Rattle.std.specs.List.{All};
 ghost use Rattle.sync_net.specs.NetState.{NetState};
-ghost use Rattle.sync_sweep.specs.ShownNow.{ShowsState, ShowsLevel, AreStates, AreLevels, AreShown, AreAlikeBut};
+ghost use Rattle.sync_sweep.specs.private.ShownNow.{ShowsState, ShowsLevel, AreStates, AreLevels, AreShown, AreAlikeBut};
 
 use crate::counted_levels::CountedLevels;
 use crate::counted_states::CountedStates;
@@ -21,8 +21,8 @@ pub struct Shown {
     pub levels: CountedLevels,
 }
 
-// What each element of a network shows.
-pub fn all_shown(alloc: Global, net: &Net<'_>) -> Result<Shown, NoMemory>
+/// What each element of a network shows.
+pub(crate) fn all_shown(alloc: Global, net: &Net<'_>) -> Result<Shown, NoMemory>
     requires live { net.now.spent ≡ false }
     ensures { IfOk result (AreShown net.now) }
 {
@@ -32,9 +32,9 @@ pub fn all_shown(alloc: Global, net: &Net<'_>) -> Result<Shown, NoMemory>
     })
 }
 
-// What is kept of another network becomes what is shown by a network that differs from it at some
-// places alone.
-pub fn note_shown(net: &Net<'_>, shown: &mut Shown, places: &[u32])
+/// What is kept of another network becomes what is shown by a network that differs from it at some
+/// places alone.
+pub(crate) fn note_shown(net: &Net<'_>, shown: &mut Shown, places: &[u32])
     requires live { net.now.spent ≡ false }
     requires within { All (λ e. e < length net.now.plan.elements) places.now }
     requires states { length shown.old.states ≡ length net.now.plan.elements }

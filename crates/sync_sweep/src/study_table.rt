@@ -36,7 +36,7 @@ pub fn study_text(
     Ok(text)
 }
 
-// Puts the row of a case.
+/// Puts the row of a case.
 fn put_case(text: &mut Text, plan: &Plan, name: &Text, row: &StudyRow) -> Result<(), NoMemory>
     requires of_plan { IfSome row.now.timing.first (λ element. element < length plan.now.elements) }
     ensures put { OnOk result (text.new ≡ text.old ++ case_text plan.now name.now row.now) }
@@ -49,7 +49,7 @@ fn put_case(text: &mut Text, plan: &Plan, name: &Text, row: &StudyRow) -> Result
     text.put(b"\n")
 }
 
-// Puts whence the elements have their timing.
+/// Puts whence the elements have their timing.
 fn put_timing(text: &mut Text, plan: &Plan, timing: &Timing) -> Result<(), NoMemory>
     requires of_plan { IfSome timing.now.first (λ element. element < length plan.now.elements) }
     ensures put { OnOk result (text.new ≡ text.old ++ timing_text plan.now timing.now) }
@@ -61,7 +61,7 @@ fn put_timing(text: &mut Text, plan: &Plan, timing: &Timing) -> Result<(), NoMem
     text.put_number(u64::from(timing.longest))
 }
 
-// Puts the name of an element, where there is one.
+/// Puts the name of an element, where there is one.
 fn put_first(text: &mut Text, plan: &Plan, first: Option<u32>) -> Result<(), NoMemory>
     requires of_plan { IfSome first (λ element. element < length plan.now.elements) }
     ensures put { OnOk result (text.new ≡ text.old ++ first_word plan.now first) }

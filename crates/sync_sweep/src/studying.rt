@@ -3,7 +3,7 @@
 ghost use Rattle.std.specs.Prelude.{◌≡◌, ◌≤◌, ◌<◌, true, length, is_some, IfOk, IfSome};
 ghost use Rattle.std.specs.List.{All, AllZip};
 ghost use Rattle.sync_topo.specs.Events.{IsCase, IsEventList};
-ghost use Rattle.sync_sweep.specs.Rows.{IsStudyRowOf};
+ghost use Rattle.sync_sweep.specs.private.Rows.{IsStudyRowOf};
 ghost use Rattle.sync_sweep.specs.Study.{AreStudyRows};
 
 use crate::gate::Gate;
@@ -61,7 +61,7 @@ pub fn study<R: Threads + Sync, G: Gate + Sync>(
     study_rows(alloc, worked.as_slice())
 }
 
-// The rows of cases that were timed.
+/// The rows of cases that were timed.
 fn study_rows(alloc: Global, worked: &[Worked]) -> Result<Rows<StudyRow>, NoMemory>
     requires timed { All (λ one. is_some one.timing ≡ true) worked.now }
     ensures { IfOk result (AllZip IsStudyRowOf worked.now) }
@@ -73,7 +73,7 @@ fn study_rows(alloc: Global, worked: &[Worked]) -> Result<Rows<StudyRow>, NoMemo
     Ok(rows)
 }
 
-// The row of a case that was timed.
+/// The row of a case that was timed.
 fn study_row(worked: Worked) -> StudyRow
     requires timed { is_some worked.timing ≡ true }
     ensures { IsStudyRowOf worked result }

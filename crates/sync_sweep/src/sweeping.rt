@@ -3,11 +3,11 @@
 ghost use Rattle.std.specs.Prelude.{◌≡◌, ◌≤◌, ◌<◌, ◌*◌, ◌/◌, ℕ, true, List, length, IfOk, IfSome};
 ghost use Rattle.std.specs.List.{All};
 ghost use Rattle.sync_topo.specs.Events.{IsCase, IsEventList};
-ghost use Rattle.sync_sweep.specs.Base.{IsBase};
-ghost use Rattle.sync_sweep.specs.Cases.{NoneBefore};
+ghost use Rattle.sync_sweep.specs.private.Base.{IsBase};
+ghost use Rattle.sync_sweep.specs.private.Cases.{NoneBefore};
 ghost use Rattle.sync_sweep.specs.Outcomes.{IsBoundAfter};
 ghost use Rattle.sync_sweep.specs.Sweep.{AreSweepRows};
-ghost use Rattle.sync_sweep.specs.Working.{AreWorked};
+ghost use Rattle.sync_sweep.specs.private.Working.{AreWorked};
 
 use crate::cases::{begin_of, failures};
 use crate::chunks::{join_worked, worked_in};
@@ -58,9 +58,9 @@ pub fn sweep<R: Threads + Sync, G: Gate + Sync>(
     rows_of(alloc, worked.as_slice())
 }
 
-// What becomes of the plan's network at the end of a millisecond in each case, where the common
-// events happen in all of them, with the timing of its elements where they are to be timed.
-pub fn work_all<R: Threads + Sync, G: Gate + Sync>(
+/// What becomes of the plan's network at the end of a millisecond in each case, where the common
+/// events happen in all of them, with the timing of its elements where they are to be timed.
+pub(crate) fn work_all<R: Threads + Sync, G: Gate + Sync>(
     rt: &R,
     alloc: Global,
     plan: &Plan,
@@ -86,7 +86,7 @@ pub fn work_all<R: Threads + Sync, G: Gate + Sync>(
     )
 }
 
-// How many cases each chunk has: enough that there are at most eight chunks.
+/// How many cases each chunk has: enough that there are at most eight chunks.
 fn chunk_size(cases: usize) -> usize
     requires { 0 < cases }
     ensures some { 0 < result }
@@ -95,7 +95,7 @@ fn chunk_size(cases: usize) -> usize
     cases.div_ceil(CHUNKS)
 }
 
-// The number of a chunk, by the place of its first case.
+/// The number of a chunk, by the place of its first case.
 fn chunk_number(start: usize, size: usize) -> u32
     requires some { 0 < size }
     requires start { start < CHUNKS * size }
@@ -104,7 +104,7 @@ fn chunk_number(start: usize, size: usize) -> u32
     (start / size) as u32
 }
 
-// What becomes of the network in each case, worked in chunks.
+/// What becomes of the network in each case, worked in chunks.
 fn in_chunks<R: Threads + Sync, G: Gate + Sync>(
     rt: &R,
     alloc: Global,
@@ -153,7 +153,7 @@ fn in_chunks<R: Threads + Sync, G: Gate + Sync>(
     }
 }
 
-// What becomes of the network in the cases of a chunk, from the place of its first.
+/// What becomes of the network in the cases of a chunk, from the place of its first.
 fn work<G: Gate>(
     gate: &G,
     alloc: Global,
@@ -182,8 +182,8 @@ fn work<G: Gate>(
     worked_in(alloc, base, common, from, until, bound, chunk, timed)
 }
 
-// A simulator of the plan that watches nothing and has come as far as up to a millisecond, with
-// the common events before it.
+/// A simulator of the plan that watches nothing and has come as far as up to a millisecond, with
+/// the common events before it.
 fn base_run<'a, L: Ledger>(
     alloc: Global,
     plan: &'a Plan,

@@ -29,7 +29,7 @@ pub fn sweep_text(alloc: Global, plan: &Plan, rows: &Rows<SweepRow>) -> Result<T
     Ok(text)
 }
 
-// Puts one row.
+/// Puts one row.
 fn put_row(text: &mut Text, plan: &Plan, row: &SweepRow) -> Result<(), NoMemory>
     requires of_plan { row.now.link < length plan.now.links }
     ensures put { OnOk result (text.new ≡ text.old ++ row_text plan.now row.now) }
@@ -40,7 +40,7 @@ fn put_row(text: &mut Text, plan: &Plan, row: &SweepRow) -> Result<(), NoMemory>
     text.put(b"\n")
 }
 
-// The name of a link.
+/// The name of a link.
 fn link_name(plan: &Plan, link: u32) -> &[u8]
     requires of_plan { link < length plan.now.links }
     ensures { result.now ≡ link_name plan.now link }
@@ -48,8 +48,8 @@ fn link_name(plan: &Plan, link: u32) -> &[u8]
     plan.link(link).name.bytes()
 }
 
-// Puts what becomes of a network.
-pub fn put_results(text: &mut Text, outcome: &Outcome) -> Result<(), NoMemory>
+/// Puts what becomes of a network.
+pub(crate) fn put_results(text: &mut Text, outcome: &Outcome) -> Result<(), NoMemory>
     ensures put { OnOk result (text.new ≡ text.old ++ results_text outcome.now) }
 {
     text.put(settled_word(outcome.settled))?;
@@ -61,14 +61,14 @@ pub fn put_results(text: &mut Text, outcome: &Outcome) -> Result<(), NoMemory>
     put_bound(text, outcome.bound)
 }
 
-// Puts the name of a level.
+/// Puts the name of a level.
 fn put_level(text: &mut Text, level: Level) -> Result<(), NoMemory>
     ensures put { OnOk result (text.new ≡ text.old ++ level_name level) }
 {
     text.put(name_of(level).as_bytes())
 }
 
-// Puts how many elements are in each state, and how many closed walks there are.
+/// Puts how many elements are in each state, and how many closed walks there are.
 fn put_counts(text: &mut Text, outcome: &Outcome) -> Result<(), NoMemory>
     ensures put { OnOk result (text.new ≡ text.old ++ counts_text outcome.now) }
 {
@@ -81,7 +81,7 @@ fn put_counts(text: &mut Text, outcome: &Outcome) -> Result<(), NoMemory>
     text.put_number(u64::from(outcome.loops))
 }
 
-// Puts the settling bound, or that there is none.
+/// Puts the settling bound, or that there is none.
 fn put_bound(text: &mut Text, bound: Option<u64>) -> Result<(), NoMemory>
     ensures put { OnOk result (text.new ≡ text.old ++ bound_word bound) }
 {
@@ -91,7 +91,7 @@ fn put_bound(text: &mut Text, bound: Option<u64>) -> Result<(), NoMemory>
     }
 }
 
-// Whether a row is settled, in a word.
+/// Whether a row is settled, in a word.
 fn settled_word(settled: bool) -> &'static [u8]
     ensures { result.now ≡ settled_word settled }
 {

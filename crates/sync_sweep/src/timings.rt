@@ -4,7 +4,7 @@ ghost use Rattle.std.specs.Prelude.{◌≡◌, ◌≤◌, ◌<◌, ◌+◌, ◌^
 ghost use Rattle.std.specs.List.{count_by, position};
 ghost use Rattle.net_rules.specs.Settling.{IsGreatest};
 ghost use Rattle.closed_walks.specs.declared.traced.Ending.{Ending};
-ghost use Rattle.closed_walks.specs.Known.{IsKnown};
+ghost use Rattle.closed_walks.specs.private.Known.{IsKnown};
 ghost use Rattle.sync_sweep.specs.Timing.{has_ended, is_lost, IsCounted, IsLengthIn};
 
 use settle_trace::{End, Ending};
@@ -23,8 +23,8 @@ pub struct Timing {
     pub longest: u32,
 }
 
-// What is counted of some traces, all of which are known.
-pub fn counted(known: &[Option<Ending>]) -> Timing
+/// What is counted of some traces, all of which are known.
+pub(crate) fn counted(known: &[Option<Ending>]) -> Timing
     requires few { length known.now < 2 ^ 32 }
     requires known { (element : ℕ) → element < length known.now → IsKnown known.now element }
     ensures { (endings : List Ending) → map Some endings ≡ known.now → IsCounted endings result }
@@ -47,7 +47,7 @@ pub fn counted(known: &[Option<Ending>]) -> Timing
     timing
 }
 
-// How many don't end at a source, with one more trace.
+/// How many don't end at a source, with one more trace.
 fn lost_with(lost: u32, ending: &Ending) -> u32
     requires few { lost < 4294967295 }
     ensures counted { (front : List Ending) → lost ≡ count_by is_lost front →
@@ -57,7 +57,7 @@ fn lost_with(lost: u32, ending: &Ending) -> u32
     if is_lost(ending) { lost + 1 } else { lost }
 }
 
-// The first that doesn't end at a source, with one more trace, of this element.
+/// The first that doesn't end at a source, with one more trace, of this element.
 fn first_with(first: Option<u32>, element: u32, ending: &Ending) -> Option<u32>
     ensures { (front : List Ending) → element ≡ length front → first ≡ position is_lost front →
         result ≡ position is_lost (front ++ ending.now ∷ []) }
@@ -68,7 +68,7 @@ fn first_with(first: Option<u32>, element: u32, ending: &Ending) -> Option<u32>
     first
 }
 
-// The most lines of a trace that ends, with one more trace.
+/// The most lines of a trace that ends, with one more trace.
 fn longest_with(longest: u32, ending: &Ending) -> u32
     ensures { (front : List Ending) → IsGreatest (IsLengthIn front) longest →
         IsGreatest (IsLengthIn (front ++ ending.now ∷ [])) result }
@@ -79,8 +79,8 @@ fn longest_with(longest: u32, ending: &Ending) -> u32
     longest
 }
 
-// Whether a trace doesn't end at a source.
-pub fn is_lost(ending: &Ending) -> bool
+/// Whether a trace doesn't end at a source.
+pub(crate) fn is_lost(ending: &Ending) -> bool
     ensures { result ≡ is_lost ending.now }
 {
     match ending.end {
@@ -89,7 +89,7 @@ pub fn is_lost(ending: &Ending) -> bool
     }
 }
 
-// Whether a trace ends at a source or an own clock.
+/// Whether a trace ends at a source or an own clock.
 fn has_ended(ending: &Ending) -> bool
     ensures { result ≡ has_ended ending.now.end }
 {

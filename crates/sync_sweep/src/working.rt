@@ -8,13 +8,13 @@ ghost use Rattle.sync_topo.specs.Lines.{line_count};
 ghost use Rattle.event_times.specs.EventTimes.{AreTold, AreWithin};
 ghost use Rattle.sync_net.specs.NetState.{NetState};
 ghost use Rattle.sync_net.specs.Standing.{StandsFor};
-ghost use Rattle.sync_sweep.specs.Base.{AreCommonBefore};
-ghost use Rattle.sync_sweep.specs.Branching.{IsBranch};
+ghost use Rattle.sync_sweep.specs.private.Base.{AreCommonBefore};
+ghost use Rattle.sync_sweep.specs.private.Branching.{IsBranch};
 ghost use Rattle.sync_sweep.specs.Cases.{merged};
 ghost use Rattle.sync_sweep.specs.Outcomes.{IsBoundAfter};
-ghost use Rattle.sync_sweep.specs.ShownNow.{AreShown};
-ghost use Rattle.sync_sweep.specs.Timed.{IsTimed};
-ghost use Rattle.sync_sweep.specs.Working.{IsWorked};
+ghost use Rattle.sync_sweep.specs.private.ShownNow.{AreShown};
+ghost use Rattle.sync_sweep.specs.private.Timed.{IsTimed};
+ghost use Rattle.sync_sweep.specs.private.Working.{IsWorked};
 
 use crate::branch::{Branch, go_back, run_events, show};
 use crate::cases::{run_last, told_of};
@@ -36,7 +36,7 @@ pub struct Worked {
     pub timing: Option<Timing>,
 }
 
-// The network runs to its end; its steps are counted on a ledger.
+/// The network runs to its end; its steps are counted on a ledger.
 fn run_out<L: Ledger>(
     branch: &mut Branch<'_>,
     from: u64,
@@ -69,10 +69,10 @@ fn run_out<L: Ledger>(
     run_events(branch, from, told, until, &mut steps)
 }
 
-// What becomes of the network in a case, on a branch of the network that has come as far as up to a
-// millisecond before which only the common events happen, with the timing of its elements where that
-// is to be told; the branch goes back.
-pub fn case_worked(
+/// What becomes of the network in a case, on a branch of the network that has come as far as up to a
+/// millisecond before which only the common events happen, with the timing of its elements where that
+/// is to be told; the branch goes back.
+pub(crate) fn case_worked(
     alloc: Global,
     base: &Net<'_>,
     branch: &mut Branch<'_>,

@@ -1,16 +1,16 @@
 -- Answers of tests, and what follows from two of them.
 use Rattle.std.proofs.Common.{◌≡◌, Bool, true, false, ◌||◌, refl}
 use Rattle.std.specs.Prelude.{if◌then◌else◌}
-use Rattle.sync_text.specs.Tests.{is_other}
+use Rattle.sync_text.specs.Tests.{differs}
 
 -- answers that aren't other are the same
-pub same-answer : (a b : Bool) → is_other a b ≡ false → a ≡ b
+pub same-answer : (a b : Bool) → differs a b ≡ false → a ≡ b
 same-answer true true none = refl
 same-answer false false none = refl
 same-answer true false none = absurd (cc)
 same-answer false true none = absurd (cc)
 
-pub answer-same : (a b : Bool) → a ≡ b → is_other a b ≡ false
+pub answer-same : (a b : Bool) → a ≡ b → differs a b ≡ false
 answer-same true true same = refl
 answer-same false false same = refl
 answer-same true false same = absurd (cc)

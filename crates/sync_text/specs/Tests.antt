@@ -2,6 +2,6 @@
 use Rattle.std.specs.Prelude.{Bool, true, false, not}
 
 -- two answers differ
-abbrev pub is_other : Bool → Bool → Bool
-is_other true b = not b
-is_other false b = b
+abbrev pub differs : Bool → Bool → Bool
+differs true b = not b
+differs false b = b

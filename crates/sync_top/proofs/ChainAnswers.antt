@@ -1,7 +1,7 @@
 -- That `chains` has one answer.
 use Rattle.std.proofs.Common.{◌≡◌, ℕ, List, refl, sym, ◌∙◌, ap, inl, inr}
 use Rattle.std.specs.Prelude.{◌⊎◌}
-use Rattle.sync_topo.specs.declared.returns.Returns.TheVariants.{Barred}
+use Rattle.sync_topo.specs.declared.returns.ReturnRule.TheVariants.{Barred}
 use Rattle.sync_topo.specs.Topology.{Topology}
 use Rattle.sync_topo.specs.Hops.{hops, IsCycle}
 use Rattle.sync_topo.specs.Ranks.{IsFirstCycle}

@@ -6,7 +6,7 @@ use Rattle.sync_edge.specs.Transfers.{AppendsFront}
 use Rattle.sync_top.specs.declared.status.Status.{Status}
 use Rattle.sync_top.specs.declared.status.Status.TheVariants.{Done, Refuted, Usage, BadPlan, BadCert, BadEvents, BadFrames, ReadFault, WriteFault, TooLong, NoMemory, Stopped}
 use Rattle.sync_top.specs.Answer.{Outside, IsAnswer, MissesFile, MayFault, IsCut}
-use Rattle.sync_top.specs.Work.{EndsIn}
+use Rattle.sync_top.specs.private.Work.{EndsIn}
 
 abbrev pub outside : Option Contents → Bool → ℕ → ℕ → Outside
 outside told steady before now = record { told = told; steady = steady; before = before; now = now }

@@ -10,12 +10,12 @@ use Rattle.sync_top.specs.declared.found.Finding.TheVariants as finding
 use Rattle.sync_top.specs.declared.found.Found.{Found}
 use Rattle.sync_top.specs.declared.reply.Reply.{Reply}
 use Rattle.sync_top.specs.declared.reply.Stop.{Stop}
-use Rattle.sync_top.specs.declared.reply.Stop.TheVariants.{Ended, OutOfMemory}
+use Rattle.sync_top.specs.declared.reply.Stop.TheVariants.{Ended, NoMemory}
 use Rattle.sync_top.specs.Form.{Form}
 use Rattle.sync_top.specs.Reading.{End, no_file, answered, one_file, no_files, text_line}
 use Rattle.sync_top.specs.Answer.{Outside, meaning, FormAnswer, FormMissesFile, IsAnswer, MissesFile}
 use Rattle.sync_top.proofs.Cuts.{outside}
-use Rattle.sync_top.specs.Work.{EndsIn, Gets, HasRead, WorkFacts, Works, ends_in, replied}
+use Rattle.sync_top.specs.private.Work.{EndsIn, Gets, HasRead, WorkFacts, Works, ends_in, replied}
 
 -- what holds of all contents holds of those that are told
 always : (P : Contents → Type 0) (told : Option Contents) → ((files : Contents) → P files) → IfSome told P
@@ -131,7 +131,7 @@ worked form outside tried tries see value found result has answers is =
 pub ended : {A : Type 0} (form : Form) (outside : Outside) (tried tries : ℕ) (see : A → (meaning form).reading.Read) (stop : Stop)
     → HasRead (meaning form).reading see outside tried tries (Err stop) → Works (Some form) outside tried tries (Err stop)
 unfolding Works
-ended form outside tried tries see OutOfMemory has = record {
+ended form outside tried tries see NoMemory has = record {
   replies = tt;
   usage = tt;
   once = has.once;
@@ -158,7 +158,7 @@ no-form outside tried text is calm = record {
   first_alone = always _ outside.told (λ files ends. absurd ends);
 }
 
-pub no-memory : (outside : Outside) (tried : ℕ) → Works None outside tried tried (Err OutOfMemory)
+pub no-memory : (outside : Outside) (tried : ℕ) → Works None outside tried tried (Err NoMemory)
 unfolding Works
 no-memory outside tried = record {
   replies = tt;

@@ -29,7 +29,7 @@ use Rattle.sync_top.specs.Answer.{FormAnswer, IsAnswer, MissesFile}
 use Rattle.sync_top.specs.LoopFree.{IsCheckedLoopFree}
 use Rattle.sync_top.specs.Forms.Priority.{IsCheckedForPriority}
 use Rattle.prio_mode.proofs.LoopLaws.{never_loops}
-use Rattle.sync_top.specs.Work.{EndsIn}
+use Rattle.sync_top.specs.private.Work.{EndsIn}
 use Rattle.sync_top.proofs.Accepted.{never_done}
 use Rattle.sync_top.proofs.Cuts.{outside}
 use Rattle.sync_top.proofs.Endings.{done-from}

@@ -6,7 +6,7 @@ use Rattle.sync_topo.specs.Topology.{Topology}
 use Rattle.net_rules.specs.Settling.{IsRank}
 use Rattle.event_sim.specs.declared.change.Change.{Change}
 use Rattle.event_sim.specs.Rows.{rows_until}
-use Rattle.sync_top.specs.declared.trial.TheConstants.{LAST}
+use Rattle.sync_top.specs.declared.trial.TheConstants.{TRIAL_END}
 use Rattle.sync_top.specs.Forms.Trial.{AreReportRows, IsTrialText, IsSettledAt, trial_events, trial_text}
 use Rattle.sync_sweep.proofs.OneOutcome.{one-greatest}
 use Rattle.sync_top.proofs.LastFits.{one_last}
@@ -35,8 +35,8 @@ one_test P false true first second = first.1 (second.0 refl)
 pub one_trial_text : (n : ℕ) (plan : Topology) (text another : List ℕ) → IsTrialText n plan text → IsTrialText n plan another → text ≡ another
 one_trial_text n plan text another first second =
     let top = one-greatest (IsRank plan) first.top second.top first.greatest second.greatest in
-    let rows = one_rows plan trial_events LAST first.rows second.rows first.are_rows second.are_rows in
-    let settled = one_test (IsSettledAt plan trial_events LAST) first.settled second.settled first.is_settled second.is_settled in
+    let rows = one_rows plan trial_events TRIAL_END first.rows second.rows first.are_rows second.are_rows in
+    let settled = one_test (IsSettledAt plan trial_events TRIAL_END) first.settled second.settled first.is_settled second.is_settled in
     first.is
     ∙ ap (λ t. trial_text n plan t first.rows first.settled) top
     ∙ ap (λ r. trial_text n plan second.top r first.settled) rows

@@ -11,7 +11,7 @@ use Rattle.cycle_plan.proofs.OneCycle.{one_cycle}
 use Rattle.sync_topo.specs.Hops.{hops_any}
 use Rattle.prio_mode.specs.PriorityReport.{IsPriorityReport}
 use Rattle.prio_mode.proofs.OneReport.{one_priority_report}
-use Rattle.sync_topo.specs.declared.returns.Returns.TheVariants.{Allowed}
+use Rattle.sync_topo.specs.declared.returns.ReturnRule.TheVariants.{Allowed}
 use Rattle.sync_top.proofs.Verdicts.{IsOne, no_first_cycle}
 use Rattle.sync_top.specs.declared.status.Status.{Status}
 use Rattle.sync_top.specs.declared.status.Status.TheVariants.{Done, Refuted, Usage, BadPlan, BadCert, BadEvents, BadFrames, ReadFault, WriteFault, TooLong, NoMemory, Stopped}

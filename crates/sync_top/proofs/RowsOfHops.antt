@@ -19,7 +19,7 @@ use Rattle.sync_topo.specs.Lines.{line_count, line_input, sender_of, receiver_of
 use Rattle.sync_topo.proofs.Lists.{slice_get-set_same, slice_get-set_other}
 use Rattle.nominate.specs.HopCount.{Counts, count_at, is_one_less, is_count}
 use Rattle.sync_top.specs.Forms.Hops.{leads_from}
-use Rattle.sync_top.specs.HopRows.{first_source, line_at, AreLinesFrom, from_name}
+use Rattle.sync_top.specs.private.HopRows.{first_source, line_at, AreLinesFrom, from_name}
 
 first-inputs : (lines sources : List ℕ) → first_source (map line_input lines ++ map Source sources) ≡ slice_get sources 0
 first-inputs [] [] = refl

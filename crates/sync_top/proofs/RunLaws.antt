@@ -21,7 +21,7 @@ use Rattle.event_sim.specs.Standing.{StandsFor, watched_rows}
 use Rattle.event_sim.specs.Answers.{is_stopped, OnUntil, IfStopped, IsLastFit}
 use Rattle.sync_top.specs.Forms.Trial.{trial_events, counted_line, last_line, run_lines, trial_text, AreReportRows, IsSettledAt}
 use Rattle.trace_report.specs.LastParts.{settled_part}
-use Rattle.sync_top.specs.Runs.{CameTo, HasRun}
+use Rattle.sync_top.specs.private.Runs.{CameTo, HasRun}
 
 -- how far it came, by the clauses of an advance from before 0
 pub came_to : (plan : Topology) (events told : List Event) (watch : Watch) (until : ℕ) (made sim : SimState) (reach : Reach)

@@ -17,7 +17,7 @@ use Rattle.sync_top.specs.Reading.{plan_in, Answered}
 use Rattle.sync_top.specs.Forms.Protect.{IsProtectingText}
 use Rattle.sync_top.specs.Answer.{FormAnswer, IsAnswer, MissesFile}
 use Rattle.sync_top.specs.Survival.{Protects, IsSurvivor}
-use Rattle.sync_top.specs.Work.{EndsIn}
+use Rattle.sync_top.specs.private.Work.{EndsIn}
 use Rattle.sync_top.proofs.Accepted.{never_done}
 use Rattle.sync_top.proofs.Cuts.{outside}
 use Rattle.sync_top.proofs.Endings.{done-from}

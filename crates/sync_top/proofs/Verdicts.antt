@@ -1,7 +1,7 @@
 -- That a test of ranks has one verdict over any test of hops.
 use Rattle.std.proofs.Common.{◌≡◌, ℕ, List, ◌++◌, refl, sym, ◌∙◌, ap, inl, inr, arith}
 use Rattle.std.specs.Prelude.{◌⊎◌, codes}
-use Rattle.sync_topo.specs.declared.returns.Returns.{Returns}
+use Rattle.sync_topo.specs.declared.returns.ReturnRule.{ReturnRule}
 use Rattle.sync_topo.specs.Topology.{Topology}
 use Rattle.sync_topo.specs.Lines.{line_name}
 use Rattle.sync_topo.specs.Hops.{hops_by}
@@ -85,7 +85,7 @@ one_verdict hop plan ranks status other text another first second =
     ]
 
 -- where ranks rise there is no first cycle
-pub no_first_cycle : (returns : Returns) (plan : Topology) (ranks : Ranks) (lines : List ℕ) → HopsRise (hops_by returns plan) (rank_of ranks)
+pub no_first_cycle : (returns : ReturnRule) (plan : Topology) (ranks : Ranks) (lines : List ℕ) → HopsRise (hops_by returns plan) (rank_of ranks)
     → IsFirstCycle (hops_by returns plan) lines → ⊥
 no_first_cycle returns plan ranks lines rising cycle =
     no_cycle (hops_by returns plan) (rank_of ranks) rising lines (IsCycle-first returns plan lines cycle)

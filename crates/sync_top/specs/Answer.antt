@@ -133,9 +133,9 @@ FormMissesFile (Some form) files = (meaning form).reading.read files ≡ Err no_
 
 -- a form whose first file, which is the plan where it names two, ends the reading: it isn't there, it is too long, it is
 -- refused, or it hasn't the element that is asked for
-abbrev pub FirstEnds : Option Form → Contents → Type 0
-FirstEnds None files = ⊥
-FirstEnds (Some form) files = IsErr ((meaning form).reading.first files)
+abbrev pub PlanEndsReading : Option Form → Contents → Type 0
+PlanEndsReading None files = ⊥
+PlanEndsReading (Some form) files = IsErr ((meaning form).reading.first files)
 
 -- words whose answer comes to a file that isn't there
 abbrev pub MissesFile : List (List ℕ) → Contents → Type 0
@@ -157,8 +157,8 @@ pub record Outside : Type 0 where
   pub before : ℕ
   pub now : ℕ
 
-abbrev pub across : {F : Type 0} → (F → Option Contents) → (F → Bool) → (F → ℕ) → F → F → Outside
-across contents steady faults old new =
+abbrev pub outside_of : {F : Type 0} → (F → Option Contents) → (F → Bool) → (F → ℕ) → F → F → Outside
+outside_of contents steady faults old new =
     record { told = contents old; steady = steady old; before = faults old; now = faults new }
 
 -- a fault of the folder may come: its count rose, and it isn't steady with every file there

@@ -3,13 +3,9 @@ pub mod Form
 pub mod Reading
 pub mod Forms
 pub mod Answer
-pub mod Examples
-pub mod Work
-pub mod Runs
-pub mod FormSeen
 pub mod LoopFree
 pub mod ChainBounds
 pub mod Protection
 pub mod Agreement
 pub mod Survival
-pub mod HopRows
+pub mod private

@@ -1,6 +1,6 @@
 ghost use Rattle.std.specs.Prelude.{◌≡◌, IfOk};
 ghost use Rattle.sync_top.specs.Forms.Agree.{agreed_text, IsAgreedText};
-ghost use Rattle.sync_top.specs.Work.{ends_in};
+ghost use Rattle.sync_top.specs.private.Work.{ends_in};
 
 use crate::found::{Finding, Found, done};
 use crate::planner::lines_text;

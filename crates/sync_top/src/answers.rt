@@ -4,9 +4,9 @@ ghost use Rattle.std.specs.Prelude.{◌≤◌, IfOk};
 ghost use Rattle.std.specs.List.{All};
 ghost use Rattle.sync_topo.specs.Events.{Fits, IsInOrder};
 ghost use Rattle.rank_cert.specs.Ranks.{IsRanked};
-ghost use Rattle.sync_top.specs.FormSeen.{IsTimed};
+ghost use Rattle.sync_top.specs.private.FormSeen.{IsTimed};
 ghost use Rattle.sync_top.specs.Answer.{PlanAnswer, RanksAnswer, EventsAnswer, FramesAnswer, LadderAnswer};
-ghost use Rattle.sync_top.specs.Work.{ends_in};
+ghost use Rattle.sync_top.specs.private.Work.{ends_in};
 
 use crate::agreeing::agreed;
 use crate::captures::{captured, captured_packets};
@@ -34,7 +34,7 @@ use sync_ql::NetOption;
 use sync_ql::limits::LAST_MILLISECOND;
 use sync_sweep::Gate;
 use sync_text::NoMemory;
-use sync_topo::{Event, MOST_ELEMENTS, Plan, Returns};
+use sync_topo::{Event, MOST_ELEMENTS, Plan, ReturnRule};
 
 /// What is found of a plan.
 pub(crate) fn plan_found<R: Threads + Sync, G: Gate + Sync>(
@@ -71,8 +71,8 @@ pub(crate) fn ranks_found(
     ensures { IfOk result (λ found. RanksAnswer what plan.now cert.now (ends_in found.finding) found.text) }
 {
     match what {
-        RanksForm::Check => judged(alloc, Returns::Barred, plan, cert),
-        RanksForm::PrioCheck => judged(alloc, Returns::Allowed, plan, cert),
+        RanksForm::Check => judged(alloc, ReturnRule::Barred, plan, cert),
+        RanksForm::PrioCheck => judged(alloc, ReturnRule::Allowed, plan, cert),
     }
 }
 

@@ -7,7 +7,7 @@ ghost use Rattle.pcap_file.specs.Refusal.{Gives as GivesPackets};
 ghost use Rattle.pcap_file.specs.declared.error.PcapErr as packets;
 ghost use Rattle.sync_top.specs.Reading.{text_line};
 ghost use Rattle.sync_top.specs.Forms.Captures.{capture_refusal, capture_place, pcap_refusal, pcap_place, IsCaptured, IsCapture};
-ghost use Rattle.sync_top.specs.Work.{ends_in};
+ghost use Rattle.sync_top.specs.private.Work.{ends_in};
 
 use crate::found::{Finding, Found, done};
 use crate::reply::{put_number, refusal};

@@ -1,6 +1,6 @@
 ghost use Rattle.std.specs.Prelude.{◌≡◌, ◌++◌, ◌<◌, length, IfOk, OnOk};
 ghost use Rattle.sync_top.specs.Forms.Chains.{numbers_text, chains_row, chains_text, IsChained};
-ghost use Rattle.sync_top.specs.Work.{ends_in};
+ghost use Rattle.sync_top.specs.private.Work.{ends_in};
 
 use crate::found::{Finding, Found, done};
 use crate::planner::cycle_text;

@@ -4,10 +4,10 @@ ghost use Rattle.sync_topo.specs.Lines.{line_count, line_name};
 ghost use Rattle.sync_topo.specs.Hops.{hops_by};
 ghost use Rattle.sync_top.specs.Reading.{text_line, two_files, plan_in};
 ghost use Rattle.sync_top.specs.Forms.Check.{certificate_refusal, certificate_place, ranks_in, documents, IsVerdictOver};
-ghost use Rattle.sync_top.specs.Answer.{across};
+ghost use Rattle.sync_top.specs.Answer.{outside_of};
 ghost use Rattle.rank_cert.specs.Ranks.{IsRanked};
 ghost use Rattle.rank_cert.specs.Rules.{NamesLine};
-ghost use Rattle.sync_top.specs.Work.{Gets, HasRead, ends_in, stopped_in};
+ghost use Rattle.sync_top.specs.private.Work.{Gets, HasRead, ends_in, stopped_in};
 
 use crate::found::{Finding, Found, done};
 use crate::input::file;
@@ -18,7 +18,7 @@ use rank_cert::{Cert, CertErr, Verdict, check_with, read_cert};
 use std::alloc::Global;
 use sync_edge::Folder;
 use sync_text::{NoMemory, Text};
-use sync_topo::{InputId, LineId, Plan, Returns};
+use sync_topo::{InputId, LineId, Plan, ReturnRule};
 
 /// The line on a certificate that is refused.
 fn refusal_text(alloc: Global, plan: &Plan, refused: CertErr) -> Result<Text, NoMemory>
@@ -52,7 +52,7 @@ fn put_place(alloc: Global, text: &mut Text, plan: &Plan, refused: CertErr) -> R
 
 /// The certificate of a file.
 fn cert_in<F: Folder>(alloc: Global, folder: &mut F, plan: &Plan, name: &str) -> Result<Cert, Stop>
-    ensures gets { Gets (λ cert. cert) (across F.contents F.steady F.faults folder.old folder.new)
+    ensures gets { Gets (λ cert. cert) (outside_of F.contents F.steady F.faults folder.old folder.new)
         (F.tries folder.old) (F.tries folder.new) result (ranks_in plan.now name.now) }
     ensures no_plan { stopped_in result ≢ Some Status.BadPlan }
     ensures keeps { KeepsFolder F.contents F.steady F.faults folder.old folder.new }
@@ -61,7 +61,7 @@ fn cert_in<F: Folder>(alloc: Global, folder: &mut F, plan: &Plan, name: &str) ->
     let bytes = file(alloc, folder, name)?;
     match read_cert(alloc, plan, bytes.bytes()) {
         Ok(cert) => Ok(cert),
-        Err(CertErr::NoMemory) => Err(Stop::OutOfMemory),
+        Err(CertErr::NoMemory) => Err(Stop::NoMemory),
         Err(refused) => Err(Stop::Ended(Reply {
             status: Status::BadCert,
             text: refusal_text(alloc, plan, refused)?,
@@ -77,7 +77,7 @@ pub(crate) fn documents<F: Folder>(
     cert: &str,
 ) -> Result<(Plan, Cert), Stop>
     ensures read { HasRead (two_files (plan_in plan.now) (documents plan.now cert.now))
-        (λ read. (read.0, read.1)) (across F.contents F.steady F.faults folder.old folder.new) (F.tries folder.old) (F.tries folder.new) result }
+        (λ read. (read.0, read.1)) (outside_of F.contents F.steady F.faults folder.old folder.new) (F.tries folder.old) (F.tries folder.new) result }
     ensures keeps { KeepsFolder F.contents F.steady F.faults folder.old folder.new }
     ensures ranked { IfOk result (λ read. IsRanked read.0 read.1) }
 {
@@ -108,7 +108,7 @@ fn falls_text(alloc: Global, plan: &Plan, from: LineId, to: LineId) -> Result<Te
 /// mayn't.
 pub(crate) fn judged(
     alloc: Global,
-    returns: Returns,
+    returns: ReturnRule,
     plan: &Plan,
     cert: &Cert,
 ) -> Result<Found, NoMemory>

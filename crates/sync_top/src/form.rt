@@ -2,7 +2,7 @@ ghost use Rattle.std.specs.Prelude.{◌≡◌, ◌≤◌, false, map, codes, Som
 ghost use Rattle.std.specs.Option.{option_map};
 ghost use Rattle.std.specs.String.{string_bytes};
 ghost use Rattle.sync_top.specs.Form.{form_of, form_of_two, form_of_three, form_of_four, run_form, sweep_form, node_form, on_events, study, ladder_size, millisecond_of, option_of, is_file_word, plan_word, ranks_word, events_word, frames_word, ladder_word};
-ghost use Rattle.sync_top.specs.FormSeen.{seen, IsSized};
+ghost use Rattle.sync_top.specs.private.FormSeen.{seen, IsSized};
 
 use sync_ql::NetOption;
 use sync_ql::limits::LAST_MILLISECOND;

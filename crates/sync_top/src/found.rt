@@ -1,7 +1,7 @@
 // What a form finds of what was read, and the reply with it.
 
 ghost use Rattle.std.specs.Prelude.{◌≡◌};
-ghost use Rattle.sync_top.specs.Work.{replied};
+ghost use Rattle.sync_top.specs.private.Work.{replied};
 
 use crate::reply::{Reply, Stop};
 use crate::status::Status;
@@ -21,7 +21,7 @@ pub(crate) enum Finding {
 }
 
 impl Finding {
-    ghost use Rattle.sync_top.specs.Work.{ends_in};
+    ghost use Rattle.sync_top.specs.private.Work.{ends_in};
 
     /// The status of the program.
     fn status(self) -> Status
@@ -72,6 +72,6 @@ pub(crate) fn replied(found: Result<Found, NoMemory>) -> Result<Reply, Stop>
             status: found.finding.status(),
             text: found.text,
         }),
-        Err(NoMemory) => Err(Stop::OutOfMemory),
+        Err(NoMemory) => Err(Stop::NoMemory),
     }
 }

@@ -5,8 +5,8 @@ ghost use Rattle.sync_topo.specs.Lines.{line_count, input_name, IsInput};
 ghost use Rattle.nominate.specs.HopCount.{count_at, is_one_less};
 ghost use Rattle.sync_topo.specs.declared.input.InputId.TheVariants.{Line, Source};
 ghost use Rattle.sync_top.specs.Forms.Hops.{none_text, from_text, hops_row, hops_text, AreHopRows};
-ghost use Rattle.sync_top.specs.HopRows.{first_source, line_at, from_name, AreLinesFrom};
-ghost use Rattle.sync_top.specs.Work.{ends_in};
+ghost use Rattle.sync_top.specs.private.HopRows.{first_source, line_at, from_name, AreLinesFrom};
+ghost use Rattle.sync_top.specs.private.Work.{ends_in};
 
 use crate::found::{Found, done};
 use nominate::{Hops, is_one_less, least_hops};

@@ -1,8 +1,8 @@
 ghost use Rattle.std.specs.Prelude.{◌≢◌, Some};
 ghost use Rattle.sync_edge.specs.Contents.{KeepsFolder};
 ghost use Rattle.sync_top.specs.Reading.{file};
-ghost use Rattle.sync_top.specs.Answer.{across};
-ghost use Rattle.sync_top.specs.Work.{Gets, stopped_in};
+ghost use Rattle.sync_top.specs.Answer.{outside_of};
+ghost use Rattle.sync_top.specs.private.Work.{Gets, stopped_in};
 
 use crate::reply::{Reply, Stop, line_text};
 use crate::status::Status;
@@ -15,7 +15,7 @@ const FILE_LIMIT: usize = 8_388_608;
 
 /// The bytes of a file.
 pub(crate) fn file<F: Folder>(alloc: Global, folder: &mut F, name: &str) -> Result<Text, Stop>
-    ensures gets { Gets (λ text. text) (across F.contents F.steady F.faults folder.old folder.new)
+    ensures gets { Gets (λ text. text) (outside_of F.contents F.steady F.faults folder.old folder.new)
         (F.tries folder.old) (F.tries folder.new) result (file name.now) }
     ensures no_plan { stopped_in result ≢ Some Status.BadPlan }
     ensures keeps { KeepsFolder F.contents F.steady F.faults folder.old folder.new }
@@ -30,6 +30,6 @@ pub(crate) fn file<F: Folder>(alloc: Global, folder: &mut F, name: &str) -> Resu
             status: Status::TooLong,
             text: line_text(alloc, b"too long")?,
         })),
-        Err(ReadErr::NoMemory) => Err(Stop::OutOfMemory),
+        Err(ReadErr::NoMemory) => Err(Stop::NoMemory),
     }
 }

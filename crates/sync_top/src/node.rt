@@ -4,8 +4,8 @@ ghost use Rattle.sync_top.specs.Reading.{text_line, refusal_line, two_files};
 ghost use Rattle.sync_topo.specs.Topology.{Topology};
 ghost use Rattle.node_replay.specs.Sent.{IsSentText};
 ghost use Rattle.sync_top.specs.Forms.Node.{unknown_element, node_place, node_refusal, element_in, element_of_plan, received_in, node_bytes, IsNodeReply};
-ghost use Rattle.sync_top.specs.Answer.{across};
-ghost use Rattle.sync_top.specs.Work.{Gets, HasRead, ends_in, stopped_in};
+ghost use Rattle.sync_top.specs.Answer.{outside_of};
+ghost use Rattle.sync_top.specs.private.Work.{Gets, HasRead, ends_in, stopped_in};
 
 use crate::found::{Finding, Found, done};
 use crate::input::file;
@@ -83,7 +83,7 @@ fn received_in<F: Folder>(
     element: &str,
     name: &str,
 ) -> Result<(u32, Text), Stop>
-    ensures gets { Gets (λ read. (read.0, read.1)) (across F.contents F.steady F.faults folder.old folder.new)
+    ensures gets { Gets (λ read. (read.0, read.1)) (outside_of F.contents F.steady F.faults folder.old folder.new)
         (F.tries folder.old) (F.tries folder.new) result (received_in plan.now element.now name.now) }
     ensures no_plan { stopped_in result ≢ Some Status.BadPlan }
     ensures keeps { KeepsFolder F.contents F.steady F.faults folder.old folder.new }
@@ -111,7 +111,7 @@ pub(crate) fn node_bytes<F: Folder>(
     name: &str,
 ) -> Result<(Plan, u32, Text), Stop>
     ensures read { HasRead (two_files (element_of_plan plan.now element.now) (node_bytes plan.now element.now name.now))
-        (λ read. (read.0, read.1, read.2)) (across F.contents F.steady F.faults folder.old folder.new) (F.tries folder.old) (F.tries folder.new) result }
+        (λ read. (read.0, read.1, read.2)) (outside_of F.contents F.steady F.faults folder.old folder.new) (F.tries folder.old) (F.tries folder.new) result }
     ensures keeps { KeepsFolder F.contents F.steady F.faults folder.old folder.new }
     ensures within { IfOk result (λ read. read.1 < length read.0.elements) }
 {

@@ -1,8 +1,8 @@
 ghost use Rattle.std.specs.Prelude.{◌≡◌, ◌≢◌, ◌++◌, IfOk, OnOk, codes};
 ghost use Rattle.sync_edge.specs.Contents.{KeepsFolder};
 ghost use Rattle.sync_top.specs.Reading.{text_line, place_text, plan_in, plan_place, plan_refusal, rows_refusal, section_name};
-ghost use Rattle.sync_top.specs.Answer.{across};
-ghost use Rattle.sync_top.specs.Work.{Gets};
+ghost use Rattle.sync_top.specs.Answer.{outside_of};
+ghost use Rattle.sync_top.specs.private.Work.{Gets};
 
 use crate::input::file;
 use crate::reply::{Reply, Stop, put_number, refusal};
@@ -15,14 +15,14 @@ use sync_topo::{Place, Plan, PlanErr, Section};
 
 /// The plan of a file.
 pub(crate) fn plan_in<F: Folder>(alloc: Global, folder: &mut F, name: &str) -> Result<Plan, Stop>
-    ensures gets { Gets (λ plan. plan) (across F.contents F.steady F.faults folder.old folder.new)
+    ensures gets { Gets (λ plan. plan) (outside_of F.contents F.steady F.faults folder.old folder.new)
         (F.tries folder.old) (F.tries folder.new) result (plan_in name.now) }
     ensures keeps { KeepsFolder F.contents F.steady F.faults folder.old folder.new }
 {
     let bytes = file(alloc, folder, name)?;
     match read_plan(alloc, bytes.bytes()) {
         Ok(plan) => Ok(plan),
-        Err(PlanFileErr::NoMemory) => Err(Stop::OutOfMemory),
+        Err(PlanFileErr::NoMemory) => Err(Stop::NoMemory),
         Err(refused) => Err(Stop::Ended(Reply {
             status: Status::BadPlan,
             text: refusal_text(alloc, refused)?,

@@ -2,7 +2,7 @@ ghost use Rattle.std.specs.Prelude.{◌≡◌, ◌++◌, ◌<◌, IfOk, OnOk, co
 ghost use Rattle.std.specs.List.{All};
 ghost use Rattle.sync_topo.specs.Lines.{line_count, line_name};
 ghost use Rattle.sync_top.specs.Forms.Rank.{lines_text, cycle_text, IsPlanned};
-ghost use Rattle.sync_top.specs.Work.{ends_in};
+ghost use Rattle.sync_top.specs.private.Work.{ends_in};
 
 use crate::found::{Finding, Found, done};
 use cycle_plan::{Ranked, rank_plan};

@@ -1,6 +1,6 @@
 ghost use Rattle.std.specs.Prelude.{IfOk};
 ghost use Rattle.sync_top.specs.Forms.Priority.{IsPriorityPlanned};
-ghost use Rattle.sync_top.specs.Work.{ends_in};
+ghost use Rattle.sync_top.specs.private.Work.{ends_in};
 
 use crate::found::{Finding, Found, done};
 use prio_mode::{PrioRanked, prio_plan, write_forced};

@@ -5,7 +5,7 @@ ghost use Rattle.sync_edge.specs.Contents.{KeepsFolder};
 ghost use Rattle.sync_edge.specs.Faults.{Rose};
 ghost use Rattle.sync_top.specs.Status.{OnAnswer};
 ghost use Rattle.sync_top.specs.Form.{form_of};
-ghost use Rattle.sync_top.specs.Answer.{across, file_count, reads_file, IsAnswer, MissesFile, FirstEnds, HasFiles, Delivers, IsCut, MayFault, fault_text};
+ghost use Rattle.sync_top.specs.Answer.{outside_of, file_count, reads_file, IsAnswer, MissesFile, PlanEndsReading, HasFiles, Delivers, IsCut, MayFault, fault_text};
 ghost use Rattle.net_rules.specs.Safety.{IsLoopFree};
 ghost use Rattle.sync_top.specs.LoopFree.{IsCheckedLoopFree};
 ghost use Rattle.sync_top.specs.ChainBounds.{IsBoundedByChains};
@@ -13,7 +13,7 @@ ghost use Rattle.sync_top.specs.Protection.{IsHoldingOut};
 ghost use Rattle.sync_top.specs.Agreement.{IsComingToRest};
 ghost use Rattle.sync_top.specs.Survival.{Protects, IsSurvivor};
 ghost use Rattle.sync_top.specs.Forms.Priority.{IsCheckedForPriority};
-ghost use Rattle.sync_top.specs.Work.{EndsIn, Works};
+ghost use Rattle.sync_top.specs.private.Work.{EndsIn, Works};
 
 use crate::form::{Form, form_of};
 use crate::reply::{Reply, Stop};
@@ -34,7 +34,7 @@ fn work<R: Threads + Sync, F: Folder, G: Gate + Sync>(
     gate: &G,
 ) -> Result<Reply, Stop>
     ensures works { Works (form_of (map string_bytes words.now))
-        (across F.contents F.steady F.faults folder.old folder.new) (F.tries folder.old) (F.tries folder.new) result }
+        (outside_of F.contents F.steady F.faults folder.old folder.new) (F.tries folder.old) (F.tries folder.new) result }
     ensures keeps { KeepsFolder F.contents F.steady F.faults folder.old folder.new }
     ensures no_call { reads_file (form_of (map string_bytes words.now)) ≡ false → folder.new ≡ folder.old }
 {
@@ -67,7 +67,7 @@ fn work<R: Threads + Sync, F: Folder, G: Gate + Sync>(
 }
 
 /// The reply to the words.
-#[tactic(auto, unfolding(crate::specs::Work::Works))]
+#[tactic(auto, unfolding(crate::specs::private::Work::Works))]
 fn reply_to<R: Threads + Sync, F: Folder, G: Gate + Sync>(
     rt: &R,
     alloc: Global,
@@ -76,19 +76,19 @@ fn reply_to<R: Threads + Sync, F: Folder, G: Gate + Sync>(
     gate: &G,
 ) -> Result<Reply, NoMemory>
     ensures ends { IfOk result (λ reply. EndsIn (IsAnswer (map string_bytes words.now)) (MissesFile (map string_bytes words.now))
-        (across F.contents F.steady F.faults folder.old folder.new) reply.status reply.text) }
+        (outside_of F.contents F.steady F.faults folder.old folder.new) reply.status reply.text) }
     ensures usage { IfOk result (λ reply. (reply.status ≡ Status.Usage) ↔ (form_of (map string_bytes words.now) ≡ None)) }
     ensures keeps { KeepsFolder F.contents F.steady F.faults folder.old folder.new }
     ensures no_call { reads_file (form_of (map string_bytes words.now)) ≡ false → folder.new ≡ folder.old }
     ensures once { F.tries folder.new ≤ F.tries folder.old + file_count (form_of (map string_bytes words.now)) }
     ensures plan_alone { IfOk result (λ reply. reply.status ≡ Status.BadPlan → F.tries folder.new ≤ F.tries folder.old + 1) }
-    ensures first_alone { IfSome (F.contents folder.old) (λ files. FirstEnds (form_of (map string_bytes words.now)) files
+    ensures first_alone { IfSome (F.contents folder.old) (λ files. PlanEndsReading (form_of (map string_bytes words.now)) files
         → F.tries folder.new ≤ F.tries folder.old + 1) }
 {
     match work(rt, alloc, words, folder, gate) {
         Ok(reply) => Ok(reply),
         Err(Stop::Ended(reply)) => Ok(reply),
-        Err(Stop::OutOfMemory) => Err(NoMemory),
+        Err(Stop::NoMemory) => Err(NoMemory),
     }
 }
 
@@ -186,7 +186,7 @@ pub fn run<R: Threads + Sync, F: Folder, K: Sink, G: Gate + Sync>(
     // where the first of two files ends the reading, so that a pipe will do for each.
     ensures once { F.tries folder.new ≤ F.tries folder.old + file_count (form_of (map string_bytes words.now)) }
     ensures plan_alone { result ≡ Status.BadPlan → F.tries folder.new ≤ F.tries folder.old + 1 }
-    ensures first_alone { IfSome (F.contents folder.old) (λ files. FirstEnds (form_of (map string_bytes words.now)) files
+    ensures first_alone { IfSome (F.contents folder.old) (λ files. PlanEndsReading (form_of (map string_bytes words.now)) files
         → F.tries folder.new ≤ F.tries folder.old + 1) }
 
     // Where the run ends neither in a fault nor for want of memory, no call of the folder failed: no
@@ -204,7 +204,7 @@ pub fn run<R: Threads + Sync, F: Folder, K: Sink, G: Gate + Sync>(
     ensures write_fault_only { result ≡ Status.WriteFault → Rose (K.faults sink.old) (K.faults sink.new) }
     ensures cut { result ≡ Status.WriteFault → IfSome (F.contents folder.old)
         (IsCut (map string_bytes words.now) (K.written sink.old) (K.written sink.new)
-        (MayFault (map string_bytes words.now) (across F.contents F.steady F.faults folder.old folder.new))) }
+        (MayFault (map string_bytes words.now) (outside_of F.contents F.steady F.faults folder.old folder.new))) }
 
     // Want of memory writes nothing.
     ensures no_memory { result ≡ Status.NoMemory → sink.new ≡ sink.old }

@@ -4,7 +4,7 @@ ghost use Rattle.reach_rules.specs.Protection.{IsFailureOf};
 ghost use Rattle.protection.specs.Gaps.{IsGapIn};
 ghost use Rattle.sync_top.specs.Forms.Protect.{IsProtectingText};
 ghost use Rattle.sync_top.specs.Forms.Protected.{failure_word, failure_name, cut_text, gap_row, gaps_text, IsProtectedText};
-ghost use Rattle.sync_top.specs.Work.{ends_in};
+ghost use Rattle.sync_top.specs.private.Work.{ends_in};
 
 use crate::found::{Found, done, refuted};
 use crate::reply::line_text;

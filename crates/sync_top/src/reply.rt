@@ -19,17 +19,17 @@ pub(crate) enum Stop {
     /// The reply is known already.
     Ended(Reply),
     /// Memory ran out.
-    OutOfMemory,
+    NoMemory,
 }
 
 impl From<NoMemory> for Stop {
     ghost use Rattle.std.specs.Prelude.{◌≡◌};
     ghost use Rattle.sync_top.specs.declared.reply.Stop.TheVariants as stop;
 
-    ghost from_gives = { λ _ e. e ≡ stop.OutOfMemory };
+    ghost from_gives = { λ _ e. e ≡ stop.NoMemory };
 
     fn from(_: NoMemory) -> Stop {
-        Stop::OutOfMemory
+        Stop::NoMemory
     }
 }
 

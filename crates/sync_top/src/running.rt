@@ -3,7 +3,7 @@
 ghost use Rattle.std.specs.Prelude.{◌≡◌, ◌≤◌, ◌<◌, IfOk};
 ghost use Rattle.std.specs.List.{All};
 ghost use Rattle.sync_topo.specs.Events.{Fits, IsInOrder};
-ghost use Rattle.sync_top.specs.Runs.{HasRun};
+ghost use Rattle.sync_top.specs.private.Runs.{HasRun};
 
 use event_sim::{Reach, Sim, Watch, events_until};
 use std::alloc::Global;

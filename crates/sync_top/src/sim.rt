@@ -4,8 +4,8 @@ ghost use Rattle.sync_edge.specs.Contents.{KeepsFolder};
 ghost use Rattle.sync_topo.specs.Events.{Fits, IsInOrder};
 ghost use Rattle.sync_top.specs.Reading.{text_line, two_files, plan_in};
 ghost use Rattle.sync_top.specs.Forms.Sim.{event_place, event_refusal, events_in, plan_and_events, IsReport};
-ghost use Rattle.sync_top.specs.Answer.{across};
-ghost use Rattle.sync_top.specs.Work.{Gets, HasRead, ends_in, stopped_in};
+ghost use Rattle.sync_top.specs.Answer.{outside_of};
+ghost use Rattle.sync_top.specs.private.Work.{Gets, HasRead, ends_in, stopped_in};
 
 use crate::found::{Finding, Found, done};
 use crate::input::file;
@@ -60,7 +60,7 @@ fn events_in<F: Folder>(
     plan: &Plan,
     name: &str,
 ) -> Result<Rows<Event>, Stop>
-    ensures gets { Gets (λ events. events) (across F.contents F.steady F.faults folder.old folder.new)
+    ensures gets { Gets (λ events. events) (outside_of F.contents F.steady F.faults folder.old folder.new)
         (F.tries folder.old) (F.tries folder.new) result (events_in plan.now name.now) }
     ensures no_plan { stopped_in result ≢ Some Status.BadPlan }
     ensures keeps { KeepsFolder F.contents F.steady F.faults folder.old folder.new }
@@ -70,7 +70,7 @@ fn events_in<F: Folder>(
     let bytes = file(alloc, folder, name)?;
     match read_events(alloc, plan, bytes.bytes()) {
         Ok(events) => Ok(events),
-        Err(EventErr::NoMemory) => Err(Stop::OutOfMemory),
+        Err(EventErr::NoMemory) => Err(Stop::NoMemory),
         Err(refused) => Err(Stop::Ended(Reply {
             status: Status::BadEvents,
             text: refusal_text(alloc, refused)?,
@@ -86,7 +86,7 @@ pub(crate) fn plan_and_events<F: Folder>(
     events: &str,
 ) -> Result<(Plan, Rows<Event>), Stop>
     ensures read { HasRead (two_files (plan_in plan.now) (plan_and_events plan.now events.now))
-        (λ read. (read.0, read.1)) (across F.contents F.steady F.faults folder.old folder.new) (F.tries folder.old) (F.tries folder.new) result }
+        (λ read. (read.0, read.1)) (outside_of F.contents F.steady F.faults folder.old folder.new) (F.tries folder.old) (F.tries folder.new) result }
     ensures keeps { KeepsFolder F.contents F.steady F.faults folder.old folder.new }
     ensures fit { IfOk result (λ read. All (Fits read.0) read.1) }
     ensures in_order { IfOk result (λ read. IsInOrder read.1) }

@@ -2,10 +2,10 @@ ghost use Rattle.std.specs.Prelude.{◌≡◌, ◌≢◌, ◌≤◌, length, Som
 ghost use Rattle.std.specs.List.{All};
 ghost use Rattle.sync_edge.specs.Contents.{KeepsFolder};
 ghost use Rattle.sync_topo.specs.Events.{IsCase, IsEventList};
-ghost use Rattle.sync_top.specs.Answer.{across};
+ghost use Rattle.sync_top.specs.Answer.{outside_of};
 ghost use Rattle.sync_top.specs.Forms.Study.{cases_in, plan_and_cases, IsStudyTable};
 ghost use Rattle.sync_top.specs.Reading.{plan_in, two_files};
-ghost use Rattle.sync_top.specs.Work.{ends_in, stopped_in, Gets, HasRead};
+ghost use Rattle.sync_top.specs.private.Work.{ends_in, stopped_in, Gets, HasRead};
 
 use crate::found::{Found, done};
 use crate::input::file;
@@ -29,7 +29,7 @@ fn cases_in<F: Folder>(
     plan: &Plan,
     name: &str,
 ) -> Result<Cases, Stop>
-    ensures gets { Gets (λ cases. cases) (across F.contents F.steady F.faults folder.old folder.new)
+    ensures gets { Gets (λ cases. cases) (outside_of F.contents F.steady F.faults folder.old folder.new)
         (F.tries folder.old) (F.tries folder.new) result (cases_in plan.now name.now) }
     ensures no_plan { stopped_in result ≢ Some Status.BadPlan }
     ensures keeps { KeepsFolder F.contents F.steady F.faults folder.old folder.new }
@@ -40,7 +40,7 @@ fn cases_in<F: Folder>(
     let bytes = file(alloc, folder, name)?;
     match read_cases(alloc, plan, bytes.bytes()) {
         Ok(cases) => Ok(cases),
-        Err(EventErr::NoMemory) => Err(Stop::OutOfMemory),
+        Err(EventErr::NoMemory) => Err(Stop::NoMemory),
         Err(refused) => Err(Stop::Ended(Reply {
             status: Status::BadEvents,
             text: refusal_text(alloc, refused)?,
@@ -56,7 +56,7 @@ pub(crate) fn plan_and_cases<F: Folder>(
     cases: &str,
 ) -> Result<(Plan, Cases), Stop>
     ensures read { HasRead (two_files (plan_in plan.now) (plan_and_cases plan.now cases.now))
-        (λ read. (read.0, read.1)) (across F.contents F.steady F.faults folder.old folder.new) (F.tries folder.old) (F.tries folder.new) result }
+        (λ read. (read.0, read.1)) (outside_of F.contents F.steady F.faults folder.old folder.new) (F.tries folder.old) (F.tries folder.new) result }
     ensures keeps { KeepsFolder F.contents F.steady F.faults folder.old folder.new }
     ensures common { IfOk result (λ read. IsEventList read.0 read.1.common) }
     ensures each { IfOk result (λ read. All (IsCase read.0) read.1.cases) }

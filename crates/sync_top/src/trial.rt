@@ -11,7 +11,7 @@ ghost use Rattle.net_rules.specs.Settling.{IsGreatest, IsRank};
 ghost use Rattle.rank_cert.specs.Ranks.{rank_at};
 ghost use Rattle.event_sim.specs.Changes.{IsChangeOf};
 ghost use Rattle.event_sim.specs.declared.change.Change.{Change};
-ghost use Rattle.sync_top.specs.Runs.{HasRun};
+ghost use Rattle.sync_top.specs.private.Runs.{HasRun};
 ghost use Rattle.sync_top.specs.Forms.Trial.{trial_events, counted_line, last_line, run_lines, AreReportRows, IsSettledAt, IsTrialText};
 
 use crate::reply::put_number;
@@ -27,14 +27,14 @@ use sync_topo::{Event, LineId, MOST_ELEMENTS, Part, Plan, What};
 use trace_report::{put_change, put_settled};
 
 /// When the ladder's first link goes down, in milliseconds.
-pub(crate) const FAILURE: u64 = 300_000;
+pub(crate) const LINK_FAILS_AT: u64 = 300_000;
 
 /// The last millisecond of a run.
-pub(crate) const LAST: u64 = 600_000;
+pub(crate) const TRIAL_END: u64 = 600_000;
 
 /// The one event of a run: the ladder's first link goes down.
 const EVENTS: [Event; 1] = [Event {
-    at: FAILURE,
+    at: LINK_FAILS_AT,
     what: What::Down(Part::Link(0)),
 }];
 
@@ -121,11 +121,11 @@ fn put_counted(text: &mut Text, word: &[u8], number: u64) -> Result<(), NoMemory
 /// Puts what a run of the plan has come to, in three lines.
 fn put_run(alloc: Global, text: &mut Text, plan: &Plan) -> Result<(), NoMemory>
     requires link { 0 < length plan.now.links }
-    ensures put { OnOk result ((rows : List Change) × AreReportRows plan.now trial_events LAST rows
-        × ((settled : Bool) × (IsTrue settled ↔ IsSettledAt plan.now trial_events LAST)
+    ensures put { OnOk result ((rows : List Change) × AreReportRows plan.now trial_events TRIAL_END rows
+        × ((settled : Bool) × (IsTrue settled ↔ IsSettledAt plan.now trial_events TRIAL_END)
         × (text.new ≡ text.old ++ run_lines plan.now rows settled))) }
 {
-    let (sim, reach) = run_to(alloc, plan, Watch::Changes, &EVENTS, LAST)?;
+    let (sim, reach) = run_to(alloc, plan, Watch::Changes, &EVENTS, TRIAL_END)?;
     put_counted(text, b"changes", sim.changes().len() as u64)?;
     put_last(alloc, text, plan, sim.changes())?;
     put_settled(text, is_settled(alloc, plan, &sim, reach)?)?;
@@ -148,13 +148,13 @@ fn put_last(alloc: Global, text: &mut Text, plan: &Plan, changes: &[Change]) -> 
 /// which watches none.
 fn is_settled(alloc: Global, plan: &Plan, sim: &Sim<'_>, reach: Reach) -> Result<bool, NoMemory>
     requires link { 0 < length plan.now.links }
-    requires run { HasRun plan.now trial_events Watch.Changes LAST sim.now reach }
-    ensures { IfOk result (λ settled. IsTrue settled ↔ IsSettledAt plan.now trial_events LAST) }
+    requires run { HasRun plan.now trial_events Watch.Changes TRIAL_END sim.now reach }
+    ensures { IfOk result (λ settled. IsTrue settled ↔ IsSettledAt plan.now trial_events TRIAL_END) }
 {
     match reach {
         Reach::Until => Ok(settled(sim.net())),
         Reach::Stopped(_) => {
-            let (unwatched, _) = run_to(alloc, plan, Watch::Nothing, &EVENTS, LAST)?;
+            let (unwatched, _) = run_to(alloc, plan, Watch::Nothing, &EVENTS, TRIAL_END)?;
             Ok(settled(unwatched.net()))
         }
     }

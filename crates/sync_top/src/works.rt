@@ -3,9 +3,9 @@
 ghost use Rattle.std.specs.Prelude.{◌≡◌, ◌≤◌, ℕ, Some, None};
 ghost use Rattle.sync_edge.specs.Contents.{KeepsFolder};
 ghost use Rattle.sync_top.specs.Form.{on_plan, on_ranks, on_events, study, on_frames, on_ladder, node};
-ghost use Rattle.sync_top.specs.FormSeen.{IsTimed};
-ghost use Rattle.sync_top.specs.Answer.{across, Outside};
-ghost use Rattle.sync_top.specs.Work.{Works};
+ghost use Rattle.sync_top.specs.private.FormSeen.{IsTimed};
+ghost use Rattle.sync_top.specs.Answer.{outside_of, Outside};
+ghost use Rattle.sync_top.specs.private.Work.{Works};
 
 use crate::answers::{events_found, frames_found, ladder_found, plan_found, ranks_found};
 use crate::check::documents;
@@ -37,7 +37,7 @@ pub(crate) fn on_plan<R: Threads + Sync, F: Folder, G: Gate + Sync>(
 ) -> Result<Reply, Stop>
     requires timed { IsTimed what }
     ensures works { Works (Some (on_plan what plan.now))
-        (across F.contents F.steady F.faults folder.old folder.new) (F.tries folder.old) (F.tries folder.new) result }
+        (outside_of F.contents F.steady F.faults folder.old folder.new) (F.tries folder.old) (F.tries folder.new) result }
     ensures keeps { KeepsFolder F.contents F.steady F.faults folder.old folder.new }
 {
     match plan_in(alloc, folder, plan) {
@@ -55,7 +55,7 @@ pub(crate) fn on_ranks<F: Folder>(
     cert: &str,
 ) -> Result<Reply, Stop>
     ensures works { Works (Some (on_ranks what plan.now cert.now))
-        (across F.contents F.steady F.faults folder.old folder.new) (F.tries folder.old) (F.tries folder.new) result }
+        (outside_of F.contents F.steady F.faults folder.old folder.new) (F.tries folder.old) (F.tries folder.new) result }
     ensures keeps { KeepsFolder F.contents F.steady F.faults folder.old folder.new }
 {
     match documents(alloc, folder, plan, cert) {
@@ -75,7 +75,7 @@ pub(crate) fn on_events<F: Folder>(
 ) -> Result<Reply, Stop>
     requires in_range { until ≤ LAST_MILLISECOND }
     ensures works { Works (Some (on_events what plan.now events.now until))
-        (across F.contents F.steady F.faults folder.old folder.new) (F.tries folder.old) (F.tries folder.new) result }
+        (outside_of F.contents F.steady F.faults folder.old folder.new) (F.tries folder.old) (F.tries folder.new) result }
     ensures keeps { KeepsFolder F.contents F.steady F.faults folder.old folder.new }
 {
     match plan_and_events(alloc, folder, plan, events) {
@@ -98,7 +98,7 @@ pub(crate) fn study<R: Threads + Sync, F: Folder, G: Gate + Sync>(
 ) -> Result<Reply, Stop>
     requires in_range { until ≤ LAST_MILLISECOND }
     ensures works { Works (Some (study plan.now cases.now until))
-        (across F.contents F.steady F.faults folder.old folder.new) (F.tries folder.old) (F.tries folder.new) result }
+        (outside_of F.contents F.steady F.faults folder.old folder.new) (F.tries folder.old) (F.tries folder.new) result }
     ensures keeps { KeepsFolder F.contents F.steady F.faults folder.old folder.new }
 {
     match plan_and_cases(alloc, folder, plan, cases) {
@@ -116,7 +116,7 @@ pub(crate) fn on_frames<F: Folder>(
     name: &str,
 ) -> Result<Reply, Stop>
     ensures works { Works (Some (on_frames what option name.now))
-        (across F.contents F.steady F.faults folder.old folder.new) (F.tries folder.old) (F.tries folder.new) result }
+        (outside_of F.contents F.steady F.faults folder.old folder.new) (F.tries folder.old) (F.tries folder.new) result }
     ensures keeps { KeepsFolder F.contents F.steady F.faults folder.old folder.new }
 {
     match file(alloc, folder, name) {
@@ -136,7 +136,7 @@ pub(crate) fn node<F: Folder>(
 ) -> Result<Reply, Stop>
     requires in_range { until ≤ LAST_MILLISECOND }
     ensures works { Works (Some (node plan.now element.now name.now until))
-        (across F.contents F.steady F.faults folder.old folder.new) (F.tries folder.old) (F.tries folder.new) result }
+        (outside_of F.contents F.steady F.faults folder.old folder.new) (F.tries folder.old) (F.tries folder.new) result }
     ensures keeps { KeepsFolder F.contents F.steady F.faults folder.old folder.new }
 {
     match node_bytes(alloc, folder, plan, element, name) {
@@ -167,6 +167,6 @@ pub(crate) fn no_form(alloc: Global) -> Result<Reply, Stop>
             status: Status::Usage,
             text,
         }),
-        Err(_) => Err(Stop::OutOfMemory),
+        Err(_) => Err(Stop::NoMemory),
     }
 }

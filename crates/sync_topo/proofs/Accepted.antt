@@ -25,8 +25,8 @@ use Rattle.sync_topo.specs.Names.{is_name, is_named, element_names}
 use Rattle.sync_topo.specs.RowValues.{number_or, if_clock_level, clock_level, default_own, element_of_name, element_from, link_from, source_from, plan_from}
 use Rattle.sync_topo.specs.Rules.{Rule, is_outside, has_room, element_rules, link_rules, source_rules}
 use Rattle.sync_topo.specs.PlanRows.{each_row, element_row_rules, link_row_rules, source_row_rules, limits_of, rules_of, first_broken, or_refusal, plan_of_rows}
-use Rattle.sync_topo.specs.Steps.{rows_from, element_rules_after, link_rules_after, source_rules_after}
-use Rattle.sync_topo.specs.Indexed.{MayJoin, MayLink, MayFeed}
+use Rattle.sync_topo.specs.private.Steps.{rows_from, element_rules_after, link_rules_after, source_rules_after}
+use Rattle.sync_topo.specs.private.Indexed.{MayJoin, MayLink, MayFeed}
 use Rattle.sync_topo.specs.WellFormed.{IsClockLevel, IsWellFormed}
 use Rattle.sync_topo.proofs.FirstBroken.{all-kept}
 use Rattle.sync_topo.proofs.Lists.{places-apart}

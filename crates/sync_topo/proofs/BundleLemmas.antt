@@ -10,7 +10,7 @@ use Rattle.std.proofs.lemmas.Slice.Eq.{bytes_eq-Decides}
 use Rattle.sync_text.proofs.Ranges.{find_range-Some, find_range-None, find_range-first, find_range-none}
 use Rattle.sync_topo.specs.declared.link.Link.{Link}
 use Rattle.sync_topo.specs.Bundles.{is_same_bundle, bundle_name, are_of_one_bundle, lowest_of_bundle}
-use Rattle.sync_topo.specs.Kept.{names_bundle, first_of_bundle, first_beside, AreBundlesOf}
+use Rattle.sync_topo.specs.private.Kept.{names_bundle, first_of_bundle, first_beside, AreBundlesOf}
 use Rattle.sync_topo.specs.Names.{is_named, place_of}
 use Rattle.sync_topo.proofs.LineNames.{not_same}
 use Rattle.sync_topo.proofs.Lists.{slice_get-push_before, slice_get-push_last, position-push, place_of-fresh, place_of-names}

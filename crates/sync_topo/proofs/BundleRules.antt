@@ -9,7 +9,7 @@ use Rattle.std.proofs.lemmas.Slice.Eq.{bytes_eq-Decides}
 use Rattle.sync_text.proofs.Ranges.{find_range-Some, find_range-None}
 use Rattle.sync_topo.specs.declared.link.Link.{Link}
 use Rattle.sync_topo.specs.Bundles.{is_same_bundle, join_same, BundlesJoin}
-use Rattle.sync_topo.specs.Kept.{names_bundle, first_of_bundle}
+use Rattle.sync_topo.specs.private.Kept.{names_bundle, first_of_bundle}
 use Rattle.sync_topo.specs.Names.{is_name}
 use Rattle.sync_topo.specs.Rules.{is_bad_bundle_name, is_bad_bundle}
 use Rattle.sync_topo.proofs.Lists.{slice_get-push_before, slice_get-push_last}

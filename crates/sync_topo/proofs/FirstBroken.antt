@@ -11,8 +11,8 @@ use Rattle.sync_topo.specs.Topology.{Topology}
 use Rattle.sync_topo.specs.Rules.{Rule, rule}
 use Rattle.sync_topo.specs.RowValues.{plan_from}
 use Rattle.sync_topo.specs.PlanRows.{rules_of, first_broken, or_refusal, plan_of_rows, AreKept, IsFirstBroken}
-use Rattle.sync_topo.specs.Gives.{Refuses}
-use Rattle.sync_topo.specs.Steps.{Tells}
+use Rattle.sync_topo.specs.private.Gives.{Refuses}
+use Rattle.sync_topo.specs.private.Steps.{Tells}
 use Rattle.sync_topo.proofs.RowLoops.{kept-front}
 
 -- no rule is broken where none is the first

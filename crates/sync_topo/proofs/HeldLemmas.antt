@@ -6,7 +6,8 @@ use Rattle.std.specs.declared.alloc.Global.{Global}
 use Rattle.std.proofs.lemmas.Bool.Decides.{eqb_tells}
 use Rattle.std.proofs.lemmas.List.{append-nil}
 use Rattle.std.proofs.lemmas.Option.{slice_get_past, slice_get_read}
-use Rattle.sync_topo.specs.Held.{held, taken}
+use Rattle.sync_topo.specs.Held.{held}
+use Rattle.sync_topo.specs.private.Held.{taken}
 use Rattle.sync_topo.proofs.Lists.{slice_get-set_same, slice_get-set_other, slice_get-push_before, slice_get-push_last}
 
 -- an input with a priority is kept for its element, and for no other

@@ -2,8 +2,8 @@
 use Rattle.std.proofs.Common.{◌≡◌, ◌<◌, ℕ, true, ◌&&◌, ◌==◌, not}
 use Rattle.std.specs.Cmp.Derive.{both_true}
 use Rattle.std.proofs.lemmas.Bool.{and_parts, eqb-true, eq-eqb}
-use Rattle.sync_topo.specs.declared.returns.Returns.{Returns}
-use Rattle.sync_topo.specs.declared.returns.Returns.TheVariants.{Barred, Allowed, BarredFromLast}
+use Rattle.sync_topo.specs.declared.returns.ReturnRule.{ReturnRule}
+use Rattle.sync_topo.specs.declared.returns.ReturnRule.TheVariants.{Barred, Allowed, BarredFromLast}
 use Rattle.sync_topo.specs.Topology.{Topology}
 use Rattle.sync_topo.specs.Lines.{line_count, sender_of, receiver_of, is_nominated}
 use Rattle.sync_topo.specs.Bundles.{are_bundled}
@@ -11,7 +11,7 @@ use Rattle.sync_topo.specs.Hops.{hops_any, is_last_resort, HopsBy}
 use Rattle.sync_topo.proofs.LineLaws.{IsNominated-within}
 
 -- a hop by either rule is one where returns are allowed
-pub hop-any : (returns : Returns) (plan : Topology) (line next : ℕ) → HopsBy returns plan line next → hops_any plan line next ≡ true
+pub hop-any : (returns : ReturnRule) (plan : Topology) (line next : ℕ) → HopsBy returns plan line next → hops_any plan line next ≡ true
 hop-any Barred plan line next hop =
     (and_parts (is_nominated plan line && is_nominated plan next && receiver_of plan line == sender_of plan next) (not (are_bundled plan line next)) hop).0
 hop-any Allowed plan line next hop = hop
@@ -23,14 +23,14 @@ pub record Meets (plan : Topology) (line next : ℕ) : Type 0 where
   pub to : is_nominated plan next ≡ true
   pub joined : receiver_of plan line ≡ sender_of plan next
 
-pub hop-meets : (returns : Returns) (plan : Topology) (line next : ℕ) → HopsBy returns plan line next → Meets plan line next
+pub hop-meets : (returns : ReturnRule) (plan : Topology) (line next : ℕ) → HopsBy returns plan line next → Meets plan line next
 hop-meets returns plan line next hop =
     let meet = and_parts (is_nominated plan line && is_nominated plan next) (receiver_of plan line == sender_of plan next) (hop-any returns plan line next hop) in
     let both = and_parts (is_nominated plan line) (is_nominated plan next) meet.0 in
     record { from = both.0; to = both.1; joined = eqb-true (receiver_of plan line) (sender_of plan next) meet.1 }
 
 -- so both are lines of the plan
-pub lines-of-hop : (returns : Returns) (plan : Topology) (line next : ℕ) → HopsBy returns plan line next → (line < line_count plan) × (next < line_count plan)
+pub lines-of-hop : (returns : ReturnRule) (plan : Topology) (line next : ℕ) → HopsBy returns plan line next → (line < line_count plan) × (next < line_count plan)
 lines-of-hop returns plan line next hop =
     let meets = hop-meets returns plan line next hop in (IsNominated-within plan line meets.from, IsNominated-within plan next meets.to)
 

@@ -10,7 +10,7 @@ use Rattle.sync_topo.specs.declared.input.InputId.{InputId}
 use Rattle.sync_topo.specs.declared.input.InputId.TheVariants.{Line, Source}
 use Rattle.sync_topo.specs.Topology.{Topology}
 use Rattle.sync_topo.specs.Lines.{line_count, line_input, lines_into, sources_at, inputs_of, IsInput, is_nominated, is_nominated_input, is_same_input, place_at, receiver_of, element_of_source, source_priority}
-use Rattle.sync_topo.specs.Held.{taken}
+use Rattle.sync_topo.specs.private.Held.{taken}
 use Rattle.sync_topo.proofs.Inputs.{inputs_of-within}
 use Rattle.sync_topo.proofs.Lists.{position-push}
 

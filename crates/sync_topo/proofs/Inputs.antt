@@ -11,7 +11,7 @@ use Rattle.sync_topo.specs.declared.link.Link.{Link}
 use Rattle.sync_topo.specs.declared.source.Source as declared
 use Rattle.sync_topo.specs.Topology.{Topology}
 use Rattle.sync_topo.specs.Lines.{line_count, is_nominated, receiver_of, sender_of, priority_of, line_id, lines_out, source_priority, element_of_source, lines_into, sources_at, line_input, inputs_of, IsInput}
-use Rattle.sync_topo.specs.Held.{taken}
+use Rattle.sync_topo.specs.private.Held.{taken}
 use Rattle.sync_topo.proofs.Lists.{slice_get-push_before, slice_get-push_last, filter_range_more, filter_range_agree}
 
 -- a plan with one more link, and with one more source

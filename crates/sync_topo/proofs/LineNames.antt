@@ -14,7 +14,7 @@ use Rattle.sync_topo.specs.Lines.{line_count, receiver_of, line_name, line_of_na
 use Rattle.sync_topo.specs.Names.{is_name, is_name_byte, is_named, place_of}
 use Rattle.sync_topo.specs.Names.{link_names}
 use Rattle.sync_topo.specs.WellFormed.{IsWellFormed}
-use Rattle.sync_topo.specs.Naming.{has_sign, IsCut, line_into}
+use Rattle.sync_topo.specs.private.Naming.{has_sign, IsCut, line_into}
 use Rattle.std.proofs.Math.Bool.{or-true}
 use Rattle.sync_text.proofs.Ranges.{find_range-none, find_range-first}
 use Rattle.sync_topo.proofs.Lists.{is_named-at}

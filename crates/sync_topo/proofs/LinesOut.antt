@@ -8,7 +8,8 @@ use Rattle.std.proofs.lemmas.Option.{slice_get-map, slice_get_within, get_or_fro
 use Rattle.std.specs.Prelude.{option_map}
 use Rattle.sync_topo.specs.declared.input.LineId.{LineId}
 use Rattle.sync_topo.specs.Topology.{Topology}
-use Rattle.sync_topo.specs.Lines.{line_count, line_id, lines_out, is_nominated, IsNominated, sender_of, IsLineOut}
+use Rattle.sync_topo.specs.Lines.{line_count, line_id, lines_out, is_nominated, IsNominated, sender_of}
+use Rattle.sync_topo.specs.private.Lines.{IsLineOut}
 use Rattle.sync_topo.proofs.KeptNumbers.{kept_in_range}
 use Rattle.sync_topo.proofs.LineLaws.{IsNominated-within}
 

@@ -18,7 +18,7 @@ use Rattle.sync_topo.specs.declared.input.InputId.TheVariants.{Line, Source}
 use Rattle.sync_topo.specs.Topology.{Topology}
 use Rattle.sync_topo.specs.Lines.{line_count, receiver_of, line_name, line_of_name, element_name, source_name, line_input, IsInput, input_name, input_of_name}
 use Rattle.sync_topo.specs.Names.{is_name, place_of, element_names, link_names, source_names}
-use Rattle.sync_topo.specs.Naming.{has_sign}
+use Rattle.sync_topo.specs.private.Naming.{has_sign}
 use Rattle.sync_topo.specs.WellFormed.{AreDistinct, IsWellFormed}
 use Rattle.sync_topo.proofs.LineNames.{no_sign, cut_once, link_there, link_no_sign, line_name-is, one_link, unsigned-names_no_line}
 use Rattle.sync_topo.proofs.Lists.{place_of-names}

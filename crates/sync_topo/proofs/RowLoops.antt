@@ -7,7 +7,7 @@ use Rattle.sync_topo.specs.declared.error.PlanErr.{PlanErr}
 use Rattle.sync_topo.specs.declared.error.PlanErr.TheVariants.{Limit, Name, Twice, NoElement, SelfLink, Range, Bundle, LevelName, NoMemory}
 use Rattle.sync_topo.specs.Rules.{Rule}
 use Rattle.sync_topo.specs.PlanRows.{first_broken}
-use Rattle.sync_topo.specs.Steps.{Tells, rows_from}
+use Rattle.sync_topo.specs.private.Steps.{Tells, rows_from}
 
 -- the first broken rule of two lists
 pub first_broken-append : (xs ys : List Rule) → first_broken (xs ++ ys) ≡ option_or (first_broken xs) (first_broken ys)

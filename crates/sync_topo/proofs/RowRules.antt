@@ -13,7 +13,7 @@ use Rattle.sync_topo.specs.Topology.{Topology}
 use Rattle.sync_topo.specs.RowValues.{element_from, link_from, source_from}
 use Rattle.sync_topo.specs.Rules.{Rule, element_rules, link_rules, source_rules}
 use Rattle.sync_topo.specs.PlanRows.{each_row, element_row_rules, link_row_rules, source_row_rules, limits_of, rules_of, first_broken}
-use Rattle.sync_topo.specs.Steps.{Tells, rows_from, element_rules_after, link_rules_after, source_rules_after}
+use Rattle.sync_topo.specs.private.Steps.{Tells, rows_from, element_rules_after, link_rules_after, source_rules_after}
 use Rattle.sync_topo.proofs.RowLoops.{Tells-front, kept-front}
 use Rattle.sync_topo.proofs.RuleLemmas.{rows_from-each}
 

@@ -11,7 +11,7 @@ use Rattle.sync_topo.specs.Names.{is_name, is_named}
 use Rattle.sync_topo.specs.WellFormed.{AreDistinct}
 use Rattle.sync_topo.specs.Rules.{Rule}
 use Rattle.sync_topo.specs.PlanRows.{first_broken, rules_at, each_row}
-use Rattle.sync_topo.specs.Steps.{rows_from}
+use Rattle.sync_topo.specs.private.Steps.{rows_from}
 
 -- no rule of two lists is broken where none of either is
 pub first_broken-append : (rules more : List Rule) → first_broken rules ≡ None → first_broken more ≡ None → first_broken (rules ++ more) ≡ None

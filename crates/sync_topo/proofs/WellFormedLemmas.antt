@@ -15,12 +15,13 @@ use Rattle.sync_topo.specs.Topology.{Topology}
 use Rattle.sync_topo.specs.Lines.{inputs_of, line_input}
 use Rattle.sync_topo.specs.Names.{is_name, is_named, element_names, link_names, source_names}
 use Rattle.sync_topo.specs.Limits.{element_limit, link_limit, source_limit, input_limit}
-use Rattle.sync_topo.specs.Held.{taken}
+use Rattle.sync_topo.specs.private.Held.{taken}
 use Rattle.sync_topo.specs.WellFormed.{AreDistinct, JoinsTwo, IsSourceOf, IsWellFormed}
-use Rattle.sync_topo.specs.declared.parts.Parts.{Parts}
-use Rattle.sync_topo.specs.Kept.{AreBundlesOf}
-use Rattle.sync_topo.specs.Wired.{IsWired}
-use Rattle.sync_topo.specs.Indexed.{topology, IsIndexed, MayJoin, MayLink, MayFeed}
+use Rattle.sync_topo.specs.declared.parts.PlanTables.{PlanTables}
+use Rattle.sync_topo.specs.private.Kept.{AreBundlesOf}
+use Rattle.sync_topo.specs.private.Wired.{IsWired}
+use Rattle.sync_topo.specs.Indexed.{topology}
+use Rattle.sync_topo.specs.private.Indexed.{IsIndexed, MayJoin, MayLink, MayFeed}
 use Rattle.sync_topo.proofs.Lists.{slice_get-push_before, slice_get-push_last, is_named-at}
 use Rattle.sync_topo.proofs.BundleRules.{good-name, BundlesJoin-push}
 use Rattle.sync_topo.proofs.Inputs.{with_link, with_source, inputs_of-link, inputs_of-source, taken-other}
@@ -95,7 +96,7 @@ IsWellFormed-empty option = record {
   few_inputs = λ element. omega arith;
 }
 
-pub IsIndexed-empty : (parts : Parts) → parts.elements.items ≡ [] → parts.links.items ≡ [] → parts.sources.items ≡ [] → parts.element_names ≡ [] → parts.link_names ≡ []
+pub IsIndexed-empty : (parts : PlanTables) → parts.elements.items ≡ [] → parts.links.items ≡ [] → parts.sources.items ≡ [] → parts.element_names ≡ [] → parts.link_names ≡ []
     → parts.source_names ≡ [] → IsWired (topology parts) parts.wiring → AreBundlesOf parts.bundles.names parts.bundles.firsts.items parts.bundles.numbers.items []
     → IsIndexed parts
 IsIndexed-empty parts elements links sources element_names link_names source_names wired bundles = record {

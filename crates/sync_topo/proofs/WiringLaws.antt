@@ -12,8 +12,9 @@ use Rattle.sync_topo.specs.declared.input.InputId.TheVariants.{Line, Source}
 use Rattle.sync_topo.specs.declared.wiring.Wiring.{Wiring}
 use Rattle.sync_topo.specs.Topology.{Topology}
 use Rattle.sync_topo.specs.Lines.{line_input, line_id, inputs_of, IsInput, is_nominated_input, is_same_input, place_at, element_of, element_of_source, receiver_of}
-use Rattle.sync_topo.specs.Held.{held, taken}
-use Rattle.sync_topo.specs.Wired.{IsWired, IsWidened, HasLine, HasSource, kept_place}
+use Rattle.sync_topo.specs.Held.{held}
+use Rattle.sync_topo.specs.private.Held.{taken}
+use Rattle.sync_topo.specs.private.Wired.{IsWired, IsWidened, HasLine, HasSource, kept_place}
 use Rattle.sync_topo.proofs.Lists.{slice_get-push_before, slice_get-push_last}
 use Rattle.sync_topo.proofs.Inputs.{with_link, with_source, inputs_of-link, inputs_of-source, lines_out-link, taken-other, taken-own, priority-before, priority-to_b, priority-to_a, receivers}
 use Rattle.sync_topo.proofs.InputPlaces.{new-placed, place-kept, place-last}

@@ -6,9 +6,9 @@ use Rattle.sync_topo.specs.declared.input.InputId.{InputId}
 use Rattle.sync_topo.specs.declared.input.InputId.TheVariants.{Line, Source}
 use Rattle.sync_topo.specs.Lines.{sender_of, receiver_of, is_nominated, priority_of, source_priority, inputs_of}
 use Rattle.sync_topo.specs.Bundles.{are_bundled}
-use Rattle.sync_topo.specs.Ranks.{Rises, Walks, Circles}
-use Rattle.sync_topo.specs.declared.returns.Returns.{Returns}
-use Rattle.sync_topo.specs.declared.returns.Returns.TheVariants.{Barred, Allowed, BarredFromLast}
+use Rattle.sync_topo.specs.Ranks.{Rises, Circles}
+use Rattle.sync_topo.specs.declared.returns.ReturnRule.{ReturnRule}
+use Rattle.sync_topo.specs.declared.returns.ReturnRule.TheVariants.{Barred, Allowed, BarredFromLast}
 
 -- the second line begins where the first ends, and leads back over the first one's bundle: what a line brings is not
 -- offered there again. After G.781, do-not-use towards the selected reference.
@@ -40,13 +40,13 @@ abbrev pub bears_on : Topology → ℕ → ℕ → Bool
 bears_on plan line next = hops_any plan line next && not (are_bundled plan line next && is_last_resort plan line)
 
 -- by the rule of returns
-abbrev pub hops_by : Returns → Topology → ℕ → ℕ → Bool
+abbrev pub hops_by : ReturnRule → Topology → ℕ → ℕ → Bool
 hops_by Barred plan line next = hops plan line next
 hops_by Allowed plan line next = hops_any plan line next
 hops_by BarredFromLast plan line next = bears_on plan line next
 
 -- the first line hops to the second
-abbrev pub HopsBy : Returns → Topology → ℕ → ℕ → Type 0
+abbrev pub HopsBy : ReturnRule → Topology → ℕ → ℕ → Type 0
 HopsBy returns plan line next = IsTrue (hops_by returns plan line next)
 
 abbrev pub HopsAny : Topology → ℕ → ℕ → Type 0
@@ -58,9 +58,6 @@ Hops plan line next = IsTrue (hops plan line next)
 -- ranks that rise over the hops of a plan, its walks and its cycles
 abbrev pub IsRising : Topology → (ℕ → ℕ) → Type 0
 IsRising plan rank = Rises (hops plan) rank
-
-abbrev pub IsWalk : Topology → List ℕ → Type 0
-IsWalk plan lines = Walks (hops plan) lines
 
 abbrev pub IsCycle : Topology → List ℕ → Type 0
 IsCycle plan lines = Circles (hops plan) lines

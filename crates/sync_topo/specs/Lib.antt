@@ -13,12 +13,7 @@ pub mod RowsOfPlan
 pub mod Refusal
 pub mod WellFormed
 pub mod Gives
-pub mod Examples
-pub mod RanksExamples
 pub mod Held
 pub mod Outputs
-pub mod Wired
-pub mod Kept
-pub mod Naming
 pub mod Indexed
-pub mod Steps
+pub mod private

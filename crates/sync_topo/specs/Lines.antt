@@ -1,5 +1,5 @@
 -- Lines and inputs: each link is two lines, one for each direction, and an element takes its timing from nominated lines and sources.
-use Rattle.std.specs.Prelude.{◌≡◌, ℕ, ◌+◌, ◌-◌, ◌*◌, ◌/◌, ◌%◌, ◌<◌, Bool, ◌&&◌, ◌==◌, nat_eq, nat_lt, false, position, IsTrue, if◌then◌else◌, List, [], ◌++◌, length, map, filter, find, codes, Option, slice_get, option_map}
+use Rattle.std.specs.Prelude.{ℕ, ◌+◌, ◌-◌, ◌*◌, ◌/◌, ◌%◌, ◌<◌, Bool, ◌&&◌, ◌==◌, nat_eq, nat_lt, false, position, IsTrue, if◌then◌else◌, List, [], ◌++◌, length, map, filter, find, codes, Option, slice_get, option_map}
 use Rattle.std.specs.Option.{option_map_or, option_or}
 use Rattle.std.specs.List.{range_with_len}
 use Rattle.std.specs.Str.{bytes_eq}
@@ -108,11 +108,6 @@ line_id line = record { 0 = line }
 abbrev pub lines_out : Topology → ℕ → List LineId
 lines_out plan element =
     map line_id (filter (λ line. is_nominated plan line && sender_of plan line == element) (range_with_len 0 (line_count plan)))
-
--- the line is nominated, and the element sends over it
-pub record IsLineOut (plan : Topology) (element : ℕ) (line : LineId) : Type 0 where
-  pub nominated : IsNominated plan line.0
-  pub sent : sender_of plan line.0 ≡ element
 
 -- the element of an input: a line's receiver, and a source's own
 abbrev pub element_of : Topology → InputId → ℕ

@@ -1,7 +1,7 @@
 ghost use Rattle.std.specs.Prelude.{◌≡◌, [], ◌∷◌, ◌++◌, ◌<◌, ◌^◌, length, List, OnOk, Some, is_some, slice_get, IfOk};
 ghost use Rattle.sync_topo.specs.declared.link.Link.{Link};
 ghost use Rattle.sync_topo.specs.Names.{is_named};
-ghost use Rattle.sync_topo.specs.Kept.{first_beside, AreBundlesOf};
+ghost use Rattle.sync_topo.specs.private.Kept.{first_beside, AreBundlesOf};
 
 use crate::names::Names;
 use std::alloc::Global;
@@ -32,7 +32,7 @@ impl Bundles {
     }
 
     /// The number of a link's bundle.
-    pub(crate) fn lowest(&self, link: u32) -> u32
+    pub(crate) fn bundle_of(&self, link: u32) -> u32
         requires { link < length self.now.numbers.items }
         ensures { slice_get self.now.numbers.items link ≡ Some result }
     {

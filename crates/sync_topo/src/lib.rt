@@ -43,6 +43,6 @@ pub use outputs::all_lines_out;
 pub use parts::{MOST_ELEMENTS, MOST_LINKS, MOST_SOURCES};
 pub use place::{Place, Section};
 pub use plan::Plan;
-pub use returns::Returns;
+pub use returns::ReturnRule;
 pub use rows::{ElementRow, LinkRow, PlanRows, SourceRow};
 pub use source::Source;

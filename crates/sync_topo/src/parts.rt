@@ -6,7 +6,7 @@ ghost use Rattle.sync_topo.specs.Lines.{inputs_of};
 ghost use Rattle.sync_topo.specs.Names.{is_named, element_names};
 ghost use Rattle.sync_topo.specs.PlanRows.{limits_of, rules_of};
 ghost use Rattle.sync_topo.specs.RowValues.{element_of_name, plan_from};
-ghost use Rattle.sync_topo.specs.Steps.{Follows};
+ghost use Rattle.sync_topo.specs.private.Steps.{Follows};
 
 mod elements;
 mod links;
@@ -37,7 +37,7 @@ pub const MOST_SOURCES: usize = 2000;
 
 /// What a plan keeps: what it holds, and indexes that are found from that.
 #[derive(Drop)]
-pub(crate) struct Parts {
+pub(crate) struct PlanTables {
     pub(crate) option: NetOption,
     pub(crate) elements: Vec<Element>,
     pub(crate) links: Vec<Link>,
@@ -49,11 +49,12 @@ pub(crate) struct Parts {
     pub(crate) wiring: Wiring,
 }
 
-impl Parts {
-    ghost use Rattle.sync_topo.specs.Indexed.{topology, IsIndexed};
+impl PlanTables {
+    ghost use Rattle.sync_topo.specs.Indexed.{topology};
+    ghost use Rattle.sync_topo.specs.private.Indexed.{IsIndexed};
 
     /// No elements, no links and no sources, with room for those of the rows.
-    fn with_room(alloc: Global, rows: &PlanRows) -> Result<Parts, NoMemory>
+    fn with_room(alloc: Global, rows: &PlanRows) -> Result<PlanTables, NoMemory>
         ensures indexed { IfOk result IsIndexed }
         ensures option { IfOk result (λ parts. parts.option ≡ rows.now.option) }
         ensures no_elements { IfOk result (λ parts. parts.elements.items ≡ []) }
@@ -63,7 +64,7 @@ impl Parts {
         let elements = rows.elements.as_slice().len();
         let links = rows.links.as_slice().len();
         let sources = rows.sources.as_slice().len();
-        Ok(Parts {
+        Ok(PlanTables {
             option: rows.option,
             elements: Rows::with_capacity(alloc, elements)?.into_vec(),
             links: Rows::with_capacity(alloc, links)?.into_vec(),
@@ -77,13 +78,13 @@ impl Parts {
     }
 
     /// What the rows give, or the refusal of the first rule that they break.
-    pub(crate) fn of_rows(alloc: Global, rows: PlanRows) -> Result<Parts, PlanErr>
+    pub(crate) fn of_rows(alloc: Global, rows: PlanRows) -> Result<PlanTables, PlanErr>
         ensures rules { Follows (rules_of rows) result }
         ensures indexed { IfOk result IsIndexed }
         ensures plan { IfOk result (λ parts. topology parts ≡ plan_from rows) }
     {
         check_limits(&rows)?;
-        let mut parts = Parts::with_room(alloc, &rows)?;
+        let mut parts = PlanTables::with_room(alloc, &rows)?;
         parts.add_elements(alloc, rows.elements)?;
         parts.add_links(rows.links)?;
         parts.add_sources(rows.sources)?;

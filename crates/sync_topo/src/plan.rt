@@ -21,7 +21,7 @@ use crate::element::Element;
 use crate::error::PlanErr;
 use crate::input::{InputId, LineId};
 use crate::link::Link;
-use crate::parts::Parts;
+use crate::parts::PlanTables;
 use crate::rows::PlanRows;
 use crate::source::Source;
 use std::alloc::Global;
@@ -34,7 +34,7 @@ use sync_ql::NetOption;
 /// Contracts see its option, its elements, its links and its sources.
 #[derive(Drop)]
 pub struct Plan {
-    parts: Parts,
+    parts: PlanTables,
 }
 
 impl Model for Plan {
@@ -42,7 +42,8 @@ impl Model for Plan {
 
     ghost Value = { Topology };
 
-    ghost use Rattle.sync_topo.specs.Indexed.{topology, IsIndexed};
+    ghost use Rattle.sync_topo.specs.Indexed.{topology};
+    ghost use Rattle.sync_topo.specs.private.Indexed.{IsIndexed};
 
     ghost view = { λ plan. topology plan.parts };
 
@@ -89,7 +90,7 @@ impl Plan {
         ensures again { (plan : Topology) → IsWellFormed plan →
             plan_of_rows (rows_of_plan plan) ≡ Ok plan }
     {
-        let parts = Parts::of_rows(alloc, rows)?;
+        let parts = PlanTables::of_rows(alloc, rows)?;
         Ok(Plan { parts })
     }
 
@@ -134,91 +135,95 @@ impl Plan {
     }
 
     /// An element, by its number.
-    pub fn element(&self, e: u32) -> &Element
-        requires { e < length self.now.elements }
+    pub fn element(&self, element: u32) -> &Element
+        requires { element < length self.now.elements }
         ensures well_formed { IsWellFormed self.now }
-        ensures element { slice_get self.now.elements e ≡ Some result.now }
+        ensures element { slice_get self.now.elements element ≡ Some result.now }
         ensures fits { IsElementOf self.now.option result.now }
     {
-        &self.parts.elements[e as usize]
+        &self.parts.elements[element as usize]
     }
 
     /// A link, by its number.
-    pub fn link(&self, k: u32) -> &Link
-        requires { k < length self.now.links }
+    pub fn link(&self, link: u32) -> &Link
+        requires { link < length self.now.links }
         ensures well_formed { IsWellFormed self.now }
-        ensures link { slice_get self.now.links k ≡ Some result.now }
+        ensures link { slice_get self.now.links link ≡ Some result.now }
         ensures fits { JoinsTwo (length self.now.elements) result.now }
     {
-        &self.parts.links[k as usize]
+        &self.parts.links[link as usize]
     }
 
     /// The lowest-numbered link of a link's bundle, by its number: the link itself where it names no
     /// bundle. This project's own.
-    pub fn bundle(&self, k: u32) -> u32
-        requires { k < length self.now.links }
+    pub fn bundle(&self, link: u32) -> u32
+        requires { link < length self.now.links }
         ensures well_formed { IsWellFormed self.now }
-        ensures bundle { result ≡ bundle_of self.now k }
-        ensures lowest { result ≤ k }
+        ensures bundle { result ≡ bundle_of self.now link }
+        ensures lowest { result ≤ link }
     {
-        self.parts.bundles.lowest(k)
+        self.parts.bundles.bundle_of(link)
     }
 
     /// A source, by its number.
-    pub fn source(&self, j: u32) -> &Source
-        requires { j < length self.now.sources }
+    pub fn source(&self, source: u32) -> &Source
+        requires { source < length self.now.sources }
         ensures well_formed { IsWellFormed self.now }
-        ensures source { slice_get self.now.sources j ≡ Some result.now }
+        ensures source { slice_get self.now.sources source ≡ Some result.now }
         ensures fits { IsSourceOf self.now.option (length self.now.elements) result.now }
     {
-        &self.parts.sources[j as usize]
+        &self.parts.sources[source as usize]
     }
 
     /// The element that a line brings timing from.
-    pub fn from(&self, l: LineId) -> u32
-        requires { l.0 < line_count self.now }
+    pub fn from(&self, line: LineId) -> u32
+        requires { line.0 < line_count self.now }
         ensures well_formed { IsWellFormed self.now }
-        ensures sender { result ≡ sender_of self.now l.0 }
+        ensures sender { result ≡ sender_of self.now line.0 }
         ensures within { result < length self.now.elements }
     {
-        let link = self.link(l.0 / 2);
-        if l.ends_at_b() { link.a } else { link.b }
+        let link = self.link(line.0 / 2);
+        if line.ends_at_b() { link.a } else { link.b }
     }
 
     /// The element that a line brings timing to.
-    pub fn to(&self, l: LineId) -> u32
-        requires { l.0 < line_count self.now }
+    pub fn to(&self, line: LineId) -> u32
+        requires { line.0 < line_count self.now }
         ensures well_formed { IsWellFormed self.now }
-        ensures receiver { result ≡ receiver_of self.now l.0 }
+        ensures receiver { result ≡ receiver_of self.now line.0 }
         ensures within { result < length self.now.elements }
     {
-        let link = self.link(l.0 / 2);
-        if l.ends_at_b() { link.b } else { link.a }
+        let link = self.link(line.0 / 2);
+        if line.ends_at_b() { link.b } else { link.a }
     }
 
     /// The other direction of a line's link.
-    pub fn rev(&self, l: LineId) -> LineId
-        requires { l.0 < line_count self.now }
+    pub fn rev(&self, line: LineId) -> LineId
+        requires { line.0 < line_count self.now }
         ensures well_formed { IsWellFormed self.now }
-        ensures reverse { result.0 ≡ reverse_of l.0 }
-        ensures goes_back { IsTrue (goes_back self.now l.0 result.0) }
+        ensures reverse { result.0 ≡ reverse_of line.0 }
+        ensures goes_back { IsTrue (goes_back self.now line.0 result.0) }
         ensures within { result.0 < line_count self.now }
     {
         // A plan has at most 4,000 links, so the sum fits.
         let _links = self.links();
-        LineId(if l.ends_at_b() { l.0 + 1 } else { l.0 - 1 })
+        LineId(if line.ends_at_b() {
+            line.0 + 1
+        } else {
+            line.0 - 1
+        })
     }
 
     /// How long a message takes on a line, 1 to 2,000 milliseconds.
-    pub fn delay(&self, l: LineId) -> u32
-        requires { l.0 < line_count self.now }
+    pub fn delay(&self, line: LineId) -> u32
+        requires { line.0 < line_count self.now }
         ensures well_formed { IsWellFormed self.now }
-        ensures delay { result ≡ delay_of self.now l.0 }
+        ensures delay { result ≡ delay_of self.now line.0 }
         ensures at_least { least_delay ≤ result }
         ensures at_most { result ≤ greatest_delay }
     {
-        let link = self.link(l.0 / 2);
-        if l.ends_at_b() {
+        let link = self.link(line.0 / 2);
+        if line.ends_at_b() {
             link.delay_b
         } else {
             link.delay_a
@@ -241,35 +246,35 @@ impl Plan {
 
     /// The priority that an element gives an input: 1 is the highest, 255 the lowest, and 0 is not
     /// nominated. After G.781, priority.
-    pub fn priority(&self, i: InputId) -> u8
-        requires { IsInput self.now i }
+    pub fn priority(&self, input: InputId) -> u8
+        requires { IsInput self.now input }
         ensures well_formed { IsWellFormed self.now }
-        ensures priority { result ≡ input_priority self.now i }
+        ensures priority { result ≡ input_priority self.now input }
     {
-        match i {
+        match input {
             InputId::Line(l) => self.line_priority(l),
             InputId::Source(j) => self.source(j).priority,
         }
     }
 
     /// An element may take its timing from the input. After G.781, nominated input.
-    pub fn nominated(&self, i: InputId) -> bool
-        requires { IsInput self.now i }
+    pub fn nominated(&self, input: InputId) -> bool
+        requires { IsInput self.now input }
         ensures well_formed { IsWellFormed self.now }
-        ensures nominated { result ≡ is_nominated_input self.now i }
+        ensures nominated { result ≡ is_nominated_input self.now input }
     {
-        0 < self.priority(i)
+        0 < self.priority(input)
     }
 
     /// The number of an input: a line's is the line's own, and those of the sources come after all
     /// lines. This project's own.
-    pub fn number(&self, i: InputId) -> u32
-        requires { IsInput self.now i }
+    pub fn number(&self, input: InputId) -> u32
+        requires { IsInput self.now input }
         ensures well_formed { IsWellFormed self.now }
-        ensures number { result ≡ input_number self.now i }
+        ensures number { result ≡ input_number self.now input }
     {
         let lines = self.lines();
-        match i {
+        match input {
             InputId::Line(l) => l.0,
             InputId::Source(j) => lines + j,
         }
@@ -277,50 +282,50 @@ impl Plan {
 
     /// The inputs of an element, in order of number: the nominated lines into it, and then the
     /// nominated sources at it. There are at most 64. After G.781, nominated inputs.
-    pub fn inputs(&self, e: u32) -> &[InputId]
-        requires { e < length self.now.elements }
+    pub fn inputs(&self, element: u32) -> &[InputId]
+        requires { element < length self.now.elements }
         ensures well_formed { IsWellFormed self.now }
-        ensures inputs { result.now ≡ inputs_of self.now e }
+        ensures inputs { result.now ≡ inputs_of self.now element }
         ensures within { All (IsInput self.now) result.now }
         ensures few { length result.now ≤ input_limit }
     {
-        self.parts.wiring.inputs[e as usize].as_slice()
+        self.parts.wiring.inputs[element as usize].as_slice()
     }
 
     /// The nominated lines out of an element, in order of number: those from which their receivers may
     /// take timing. After G.781, nominated inputs.
-    pub fn lines_out(&self, e: u32) -> &[LineId]
-        requires { e < length self.now.elements }
+    pub fn lines_out(&self, element: u32) -> &[LineId]
+        requires { element < length self.now.elements }
         ensures well_formed { IsWellFormed self.now }
-        ensures lines { result.now ≡ lines_out self.now e }
+        ensures lines { result.now ≡ lines_out self.now element }
     {
-        self.parts.wiring.outs[e as usize].as_slice()
+        self.parts.wiring.outs[element as usize].as_slice()
     }
 
     /// The element that an input brings timing to: a line's receiver, and a source's own.
-    pub fn element_of(&self, i: InputId) -> u32
-        requires { IsInput self.now i }
+    pub fn element_of(&self, input: InputId) -> u32
+        requires { IsInput self.now input }
         ensures well_formed { IsWellFormed self.now }
-        ensures element { result ≡ element_of self.now i }
+        ensures element { result ≡ element_of self.now input }
         ensures within { result < length self.now.elements }
     {
-        match i {
+        match input {
             InputId::Line(l) => self.to(l),
             InputId::Source(j) => self.source(j).at,
         }
     }
 
     /// The place of an input among those of its element, from 0; `None` for one that isn't nominated.
-    pub fn place_of(&self, i: InputId) -> Option<u32>
-        requires { IsInput self.now i }
+    pub fn place_of(&self, input: InputId) -> Option<u32>
+        requires { IsInput self.now input }
         ensures well_formed { IsWellFormed self.now }
-        ensures place { result ≡ place_at self.now (element_of self.now i) i }
-        ensures nominated { is_some result ≡ is_nominated_input self.now i }
+        ensures place { result ≡ place_at self.now (element_of self.now input) input }
+        ensures nominated { is_some result ≡ is_nominated_input self.now input }
     {
-        if !self.nominated(i) {
+        if !self.nominated(input) {
             return None;
         }
-        let place = match i {
+        let place = match input {
             InputId::Line(l) => self.parts.wiring.line_places[l.0 as usize],
             InputId::Source(j) => self.parts.wiring.source_places[j as usize],
         };

@@ -2,7 +2,7 @@
 ///
 /// This project's own.
 #[derive(Clone, Copy, Debug, PartialEq, Eq, Drop)]
-pub enum Returns {
+pub enum ReturnRule {
     /// It may not: do-not-use is sent there. After G.781, do not use in the reverse direction.
     Barred,
     /// It may, since nothing tells: in networks without quality levels.

@@ -1,7 +1,8 @@
 //! What is kept of a plan's elements: their inputs, where each input stands, and the lines out of them.
 
 ghost use Rattle.std.specs.Prelude.{◌≡◌, [], ◌∷◌, ◌++◌, ◌<◌, ◌≤◌, length, OnOk, ℕ};
-ghost use Rattle.sync_topo.specs.Held.{held, taken};
+ghost use Rattle.sync_topo.specs.Held.{held};
+ghost use Rattle.sync_topo.specs.private.Held.{taken};
 ghost use Rattle.sync_topo.specs.Limits.{input_limit};
 
 use crate::input::{InputId, LineId};
@@ -22,7 +23,7 @@ pub(crate) struct Wiring {
 }
 
 impl Wiring {
-    ghost use Rattle.sync_topo.specs.Wired.{IsWidened, HasLine, HasSource};
+    ghost use Rattle.sync_topo.specs.private.Wired.{IsWidened, HasLine, HasSource};
 
     /// Nothing, of no elements.
     pub(crate) fn new(alloc: Global) -> Wiring

@@ -1,4 +1,4 @@
 pub mod Words
 pub mod LastParts
 pub mod Report
-pub mod Least
+pub mod private

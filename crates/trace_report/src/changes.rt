@@ -13,8 +13,8 @@ use sync_ql::name_of;
 use sync_text::{NoMemory, Text};
 use sync_topo::Plan;
 
-// Puts all changes.
-pub fn put_changes(
+/// Puts all changes.
+pub(crate) fn put_changes(
     alloc: Global,
     text: &mut Text,
     plan: &Plan,
@@ -52,7 +52,7 @@ pub fn put_change(
     text.put(b"\n")
 }
 
-// Puts what it has of that.
+/// Puts what it has of that.
 fn put_level(text: &mut Text, change: &Change) -> Result<(), NoMemory>
     ensures put { OnOk result (text.new ≡ text.old ++ level_text change.now) }
 {

@@ -7,12 +7,12 @@ ghost use Rattle.sync_element.specs.Due.{left_of, IsLeastLeft, NoneEnds};
 ghost use Rattle.sync_element.specs.ElementState.{inputs_of, IsInTime};
 ghost use Rattle.sync_element.specs.StandsFor.{StandsFor};
 ghost use Rattle.input_monitor.specs.Ending.{later_by};
-ghost use Rattle.trace_report.specs.Least.{lesser};
+ghost use Rattle.trace_report.specs.private.Least.{lesser};
 
 use sync_element::Element;
 use sync_ql::rules::Cond;
 
-// What is left of a condition that ends.
+/// What is left of a condition that ends.
 fn left_in(condition: Cond) -> Option<u32>
     ensures { result ≡ left_of condition }
 {
@@ -22,7 +22,7 @@ fn left_in(condition: Cond) -> Option<u32>
     }
 }
 
-// The lesser of two numbers, where there is one.
+/// The lesser of two numbers, where there is one.
 fn lesser(one: Option<u32>, other: Option<u32>) -> Option<u32>
     ensures { result ≡ lesser one other }
 {
@@ -33,7 +33,7 @@ fn lesser(one: Option<u32>, other: Option<u32>) -> Option<u32>
     }
 }
 
-// The least that was left at the last step of a condition of the element's inputs.
+/// The least that was left at the last step of a condition of the element's inputs.
 fn least_left(element: &Element, inputs: u32) -> Option<u32>
     requires inputs { inputs ≡ inputs_of element.now }
     ensures none { (past : List Moment) → StandsFor element.now past → IsNone result →
@@ -79,7 +79,7 @@ pub fn later(condition: Cond, passed: u64) -> Cond
     }
 }
 
-// What is left of a time.
+/// What is left of a time.
 fn less(left: u32, passed: u64) -> u32
     ensures { result ≡ left - passed }
 {

@@ -18,8 +18,13 @@ use sync_ql::rules::Cond;
 use sync_text::{NoMemory, Text};
 use sync_topo::{InputId, Plan};
 
-// Puts the inputs of all elements, as they are in the millisecond of the last step.
-pub fn put_inputs(alloc: Global, text: &mut Text, net: &Net<'_>, until: u64) -> Result<(), NoMemory>
+/// Puts the inputs of all elements, as they are in the millisecond of the last step.
+pub(crate) fn put_inputs(
+    alloc: Global,
+    text: &mut Text,
+    net: &Net<'_>,
+    until: u64,
+) -> Result<(), NoMemory>
     requires live { net.now.spent ≡ false }
     ensures put { OnOk result ((all : List Event) → StandsFor net.now all (until + 1) →
         text.new ≡ text.old ++ inputs_part net.now.plan (conditions_at net.now.plan all until)) }
@@ -32,7 +37,7 @@ pub fn put_inputs(alloc: Global, text: &mut Text, net: &Net<'_>, until: u64) -> 
     Ok(())
 }
 
-// Puts the inputs of an element.
+/// Puts the inputs of an element.
 fn put_element(
     alloc: Global,
     text: &mut Text,
@@ -56,7 +61,7 @@ fn put_element(
     Ok(())
 }
 
-// Puts the row of one input.
+/// Puts the row of one input.
 fn put_row(
     alloc: Global,
     text: &mut Text,

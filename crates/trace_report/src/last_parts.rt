@@ -18,8 +18,13 @@ use sync_net::Net;
 use sync_text::{NoMemory, Text};
 use sync_topo::Plan;
 
-// Puts how the network stands in the millisecond of its last step.
-pub fn put_end(alloc: Global, text: &mut Text, net: &Net<'_>, until: u64) -> Result<(), NoMemory>
+/// Puts how the network stands in the millisecond of its last step.
+pub(crate) fn put_end(
+    alloc: Global,
+    text: &mut Text,
+    net: &Net<'_>,
+    until: u64,
+) -> Result<(), NoMemory>
     requires live { net.now.spent ≡ false }
     requires next { net.now.next ≡ until + 1 }
     ensures put { OnOk result ((all : List Event) → StandsFor net.now all (until + 1) →
@@ -31,7 +36,7 @@ pub fn put_end(alloc: Global, text: &mut Text, net: &Net<'_>, until: u64) -> Res
     Ok(())
 }
 
-// Puts the last parts, as they are in the millisecond of the last step.
+/// Puts the last parts, as they are in the millisecond of the last step.
 fn put_last_parts(alloc: Global, text: &mut Text, net: &Net<'_>) -> Result<(), NoMemory>
     requires live { net.now.spent ≡ false }
     requires stepped { 0 < net.now.next }
@@ -47,7 +52,7 @@ fn put_last_parts(alloc: Global, text: &mut Text, net: &Net<'_>) -> Result<(), N
     Ok(())
 }
 
-// Puts how the traces of all elements end.
+/// Puts how the traces of all elements end.
 fn put_traces(text: &mut Text, plan: &Plan, endings: &[Ending]) -> Result<(), NoMemory>
     requires count { length endings.now ≡ length plan.now.elements }
     requires of_plan { All (IsEndOf plan.now) endings.now }
@@ -60,7 +65,7 @@ fn put_traces(text: &mut Text, plan: &Plan, endings: &[Ending]) -> Result<(), No
     Ok(())
 }
 
-// Puts how the trace of one element ends.
+/// Puts how the trace of one element ends.
 fn put_trace(text: &mut Text, plan: &Plan, e: u32, ending: Ending) -> Result<(), NoMemory>
     requires within { e < length plan.now.elements }
     requires of_plan { IsEndOf plan.now ending }
@@ -76,7 +81,7 @@ fn put_trace(text: &mut Text, plan: &Plan, e: u32, ending: Ending) -> Result<(),
     text.put(b"\n")
 }
 
-// The kind of an end, in a word.
+/// The kind of an end, in a word.
 fn end_word(end: End) -> &'static [u8]
     ensures { result.now ≡ end_word end }
 {
@@ -87,7 +92,7 @@ fn end_word(end: End) -> &'static [u8]
     }
 }
 
-// The name of the source or element at which a trace ends.
+/// The name of the source or element at which a trace ends.
 fn end_name(plan: &Plan, ending: Ending) -> &[u8]
     requires of_plan { IsEndOf plan.now ending }
     ensures { result.now ≡ end_name plan.now ending.end }
@@ -98,7 +103,7 @@ fn end_name(plan: &Plan, ending: Ending) -> &[u8]
     }
 }
 
-// Puts all closed walks.
+/// Puts all closed walks.
 fn put_loops(alloc: Global, text: &mut Text, plan: &Plan, walks: &[Walk]) -> Result<(), NoMemory>
     requires of_plan { All (AreLinesOf plan.now) walks.now }
     ensures put { OnOk result (text.new ≡ text.old ++ loops_part plan.now (map numbers walks.now)) }

@@ -5,8 +5,8 @@ ghost use Rattle.trace_report.specs.Words.{condition_word, left_of};
 
 use sync_ql::rules::Cond;
 
-// The condition of an input.
-pub fn condition_word(condition: Cond) -> &'static [u8]
+/// The condition of an input.
+pub(crate) fn condition_word(condition: Cond) -> &'static [u8]
     ensures { result.now ≡ condition_word condition }
 {
     match condition {
@@ -17,8 +17,8 @@ pub fn condition_word(condition: Cond) -> &'static [u8]
     }
 }
 
-// How many milliseconds are left of it, and 0 where it doesn't end by itself.
-pub fn left_of(condition: Cond) -> u64
+/// How many milliseconds are left of it, and 0 where it doesn't end by itself.
+pub(crate) fn left_of(condition: Cond) -> u64
     ensures { result ≡ left_of condition }
 {
     match condition {

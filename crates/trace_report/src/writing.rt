@@ -32,7 +32,7 @@ pub fn report(alloc: Global, sim: &Sim<'_>, reach: Reach) -> Result<Text, NoMemo
     }
 }
 
-// The report of a simulator that has reached its end.
+/// The report of a simulator that has reached its end.
 fn whole_text(alloc: Global, sim: &Sim<'_>, until: u64) -> Result<Text, NoMemory>
     requires live { sim.now.spent ≡ false }
     requires going { sim.now.stopped ≡ false }
@@ -48,7 +48,7 @@ fn whole_text(alloc: Global, sim: &Sim<'_>, until: u64) -> Result<Text, NoMemory
     Ok(text)
 }
 
-// The report of a simulator with too many changes.
+/// The report of a simulator with too many changes.
 fn stopped_text(alloc: Global, sim: &Sim<'_>, t: u64) -> Result<Text, NoMemory>
     requires live { sim.now.spent ≡ false }
     requires watching { sim.now.watch ≡ Watch.Changes }
@@ -62,7 +62,7 @@ fn stopped_text(alloc: Global, sim: &Sim<'_>, t: u64) -> Result<Text, NoMemory>
     Ok(text)
 }
 
-// Puts that the changes were too many.
+/// Puts that the changes were too many.
 fn put_stopped(text: &mut Text, t: u64) -> Result<(), NoMemory>
     ensures put { OnOk result (text.new ≡ text.old ++ stopped_part t) }
 {

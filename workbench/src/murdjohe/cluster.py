@@ -13,7 +13,7 @@ from typing import Any
 
 import murdjohe
 from murdjohe import core, study_runs
-from murdjohe.core import Answer
+from murdjohe.study_runs import Worked
 from murdjohe.surveying import AHEAD
 from murdjohe.wrong import Wrong
 
@@ -38,12 +38,12 @@ def here() -> str:
     return f"worker {get_worker().address} on {socket.gethostname()}"
 
 
-def worked(plan: bytes, cases: bytes, until: int, program: str) -> Answer:
+def worked(plan: bytes, cases: bytes, until: int, program: str) -> Worked:
     """On a worker: what the program with this checksum answers. Raises core.Absent and core.Ended."""
     try:
         if study_runs.core_sum() != program:
             raise core.Absent(f"it has another proved program than this command; {HOW}")
-        return study_runs.studied(plan, cases, until)
+        return study_runs.studied(plan, cases, until, set())
     except (core.Absent, core.Ended) as fault:
         raise type(fault)(f"{here()}: {fault}") from None
 
@@ -122,9 +122,9 @@ class Cluster:
         workers = self.client.scheduler_info()["workers"].values()
         return AHEAD * max(1, sum(int(worker["nthreads"]) for worker in workers))
 
-    def begin(self, cases: bytes) -> Future[Answer]:
+    def begin(self, cases: bytes) -> Future[Worked]:
         try:
-            future: Future[Answer] = self.executor.submit(worked, self.plan, cases, self.until, self.program)
+            future: Future[Worked] = self.executor.submit(worked, self.plan, cases, self.until, self.program)
         except Exception as fault:  # (by a client whose scheduler is gone)
             raise self.gone() from fault
         return future

@@ -34,7 +34,10 @@ LEVEL_COLOURS = {
 }
 PLAIN = "#FFFFFF"  # where no level is known
 LOOP, PAIR = "#D00000", "#E07000"
+# What an element is at the end of a case, the lighter the better: steps of ColorBrewer's Purples, by Cynthia Brewer.
+WORSE, HOLDOVER, FREERUN = "#DADAEB", "#9E9AC8", "#54278F"
 DARK, GREY, PALE = "#1A1A1A", "#8A8A8A", "#D0D0D0"
+LEAST_SHADE, MOST_SHADE = 0xD0, 0x1A  # greys of a small share, and of all
 MIDDLE = 0.18  # the brightness from which on ink is black
 
 
@@ -53,6 +56,12 @@ def ink(colour: str) -> str:
 def of_level(level: str | None) -> str:
     """The colour of a level, and white for none."""
     return LEVEL_COLOURS.get(level or "", PLAIN)
+
+
+def shade(share: float) -> str:
+    """A grey for a share: white for none, and else the darker the greater it is."""
+    grey = round(LEAST_SHADE + (MOST_SHADE - LEAST_SHADE) * share) if share else 0xFF
+    return f"#{grey:02X}{grey:02X}{grey:02X}"
 
 
 def in_order(levels: Iterable[str]) -> list[str]:

@@ -110,32 +110,53 @@ def ended(code: int) -> int:
     return status
 
 
-def run(words: Sequence[str | bytes], working: Working | None = None, running: set[int] | None = None) -> Answer:
-    """Runs the program on these words, with the standard input and error of this process, and gives all that it wrote.
-
-    While it runs its process is among those that are `running`, for whoever may want to end it. Raises Absent where there is
-    no program, and Ended where a signal ended it.
-    """
+def spawned(words: Sequence[str | bytes], sink: int) -> int:
+    """Starts the program on these words, with standard output going to a file, and gives its process. Raises Absent."""
     program = find()
     argv = [os.fsencode(program), *(os.fsencode(word) for word in words)]
-    source, sink = os.pipe()
     try:
-        actions = [(os.POSIX_SPAWN_DUP2, sink, 1)]
-        try:
-            child = os.posix_spawn(program, argv, os.environ, file_actions=actions)
-        except OSError as fault:
-            raise Absent(f"{program} can't be run: {os.strerror(fault.errno or errno.ENOEXEC)}") from fault
-        finally:
-            os.close(sink)
-        if running is not None:
-            running.add(child)
-        try:
-            text = received(source, working)
-        finally:
-            os.close(source)
-            if running is not None:
-                running.discard(child)
-            _, code = os.waitpid(child, 0)
+        return os.posix_spawn(program, argv, os.environ, file_actions=[(os.POSIX_SPAWN_DUP2, sink, 1)])
+    except OSError as fault:
+        raise Absent(f"{program} can't be run: {os.strerror(fault.errno or errno.ENOEXEC)}") from fault
     except ValueError as fault:  # a word with a zero octet, which no program can be given
         raise Absent(f"the words can't be given to a program: {fault}") from fault
+
+
+def run(words: Sequence[str | bytes], working: Working | None = None) -> Answer:
+    """Runs the program on these words, with the standard input and error of this process, and gives all that it wrote.
+
+    Raises Absent where there is no program, and Ended where a signal ended it.
+    """
+    source, sink = os.pipe()
+    try:
+        child = spawned(words, sink)
+    except Absent:
+        os.close(source)
+        raise
+    finally:
+        os.close(sink)
+    try:
+        text = received(source, working)
+    finally:
+        os.close(source)
+        _, code = os.waitpid(child, 0)
     return Answer(ended(code), text)
+
+
+def run_kept(words: Sequence[str | bytes], running: set[int]) -> Answer:
+    """The same, but what the program writes is kept in memory until it has ended: many may run at once, and none waits to be read.
+
+    While it runs its process is among those that are `running`, for whoever may want to end it.
+    """
+    memory = os.memfd_create("answer")
+    try:
+        child = spawned(words, memory)
+        running.add(child)
+        try:
+            os.waitid(os.P_PID, child, os.WEXITED | os.WNOWAIT)
+        finally:
+            running.discard(child)
+            _, code = os.waitpid(child, 0)
+        return Answer(ended(code), os.pread(memory, os.fstat(memory).st_size, 0))
+    finally:
+        os.close(memory)

@@ -2,11 +2,11 @@
 
 from __future__ import annotations
 
-import gzip
 import os
 import tempfile
 from typing import IO
 
+from murdjohe import packing
 from murdjohe.inputs import STDIN
 from murdjohe.wrong import Wrong, reason
 
@@ -110,20 +110,30 @@ class Growing:
                 self.file = os.fdopen(number, "wb")
         except OSError as fault:
             raise reason(self.path, fault) from None
-        self.packed = gzip.GzipFile("", "wb", 6, self.file, 0) if self.path.endswith(".gz") else None
+        self.tail = packing.End() if self.path.endswith(".gz") else None
+        if self.tail:
+            self.put(packing.BEGIN)
         return self
 
-    def write(self, data: bytes) -> None:
-        """Writes one more piece. Raises Wrong."""
+    def put(self, octets: bytes) -> None:
+        """Writes octets as they are. Raises Wrong."""
         try:
-            (self.packed or self.file).write(data)
+            self.file.write(octets)
         except OSError as fault:
             raise reason(self.path, fault) from None
 
+    def write(self, data: bytes, packed: bytes | None = None) -> None:
+        """Writes one more piece, which may be packed already. Raises Wrong."""
+        if self.tail:
+            self.tail.add(data)
+            self.put(packing.packed(data) if packed is None else packed)
+        else:
+            self.put(data)
+
     def end(self) -> None:
         """Puts the file where it is meant. Raises OSError."""
-        if self.packed:
-            self.packed.close()
+        if self.tail:
+            self.file.write(self.tail.octets())
         self.file.close()
         if self.beside:
             os.chmod(self.beside, 0o666 & ~mask())

@@ -57,9 +57,9 @@ class Finished:
         except OSError as fault:
             raise reason(path, fault) from None
 
-    def keep(self, part: Part, text: bytes) -> None:
+    def keep(self, part: Part, rows: Rows) -> None:
         """Keeps what the program answered to a part. Raises Wrong."""
-        files.written(self.path(part), gzip.compress(text, 6, mtime=0))
+        files.written(self.path(part), study_runs.file_of(rows))
 
     def octet(self, part: Part) -> int:
         """The octet of the file of claims that stands for a part."""

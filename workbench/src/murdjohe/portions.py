@@ -15,12 +15,13 @@ from murdjohe.sentences.records import MOST_ROWS
 from murdjohe.wrong import Wrong
 
 LEAST, MOST = 2_000, 20_000  # cases of a part, where nothing else is asked
-SHARES = 8  # so many parts there are between these
+SHARES = 8  # so many parts there are, or so many times 2, 3, 4 .., of which each processor has as many as the others
 
 
 def usual(total: int) -> int:
     """How many of so many cases a part has: more of many, since the program reads the plan anew for each part."""
-    return min(MOST, max(LEAST, -(-total // SHARES)))
+    parts = SHARES * max(1, -(-total // (SHARES * MOST)))
+    return max(LEAST, -(-total // parts))
 
 
 @dataclass(frozen=True)

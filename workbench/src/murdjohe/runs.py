@@ -44,13 +44,14 @@ def read_events(path: str) -> EventFile:
         raise Wrong(f"{path}: {fault}", status=core.READ_FAULT) from None
 
 
-def answer_of(name: str, plan: PlanFile, events: EventFile, at: int) -> core.Answer:
+def answer_of(name: str, plan: PlanFile, events: EventFile, at: int, running: set[int] | None = None) -> core.Answer:
     """What a form answers to a plan, events and a millisecond. Raises Wrong, with the program's status, where it refuses them."""
     form = forms.FORMS[name]
     with api.named([plan.data, events.data]) as (plan_path, events_path):
         files = [File(forms.PLAN, plan.name, plan_path), File(forms.EVENTS, events.name, events_path)]
         words = inputs.Words(form, [plan.name, events.name, str(at)], [], files)
-        answer = core.run([form.name, plan_path, events_path, str(at)])
+        given = [form.name, plan_path, events_path, str(at)]
+        answer = core.run(given) if running is None else core.run_kept(given, running)
         if answer.status not in reports.GOOD:
             from murdjohe.sentences import answers
 
@@ -59,9 +60,9 @@ def answer_of(name: str, plan: PlanFile, events: EventFile, at: int) -> core.Ans
     return answer
 
 
-def report_text(plan: PlanFile, events: EventFile, until: int) -> bytes:
+def report_text(plan: PlanFile, events: EventFile, until: int, running: set[int] | None = None) -> bytes:
     """What `sim` prints. Raises Wrong."""
-    return answer_of("sim", plan, events, until).text
+    return answer_of("sim", plan, events, until, running).text
 
 
 def inspection_of(plan: PlanFile, events: EventFile, at: int) -> Inspection:
@@ -69,9 +70,9 @@ def inspection_of(plan: PlanFile, events: EventFile, at: int) -> Inspection:
     return inspections.inspection(answer_of("inspect", plan, events, at))
 
 
-def report_of(plan: PlanFile, events: EventFile, until: int) -> Report:
+def report_of(plan: PlanFile, events: EventFile, until: int, running: set[int] | None = None) -> Report:
     """The report of a run. Raises Wrong."""
-    return reports.report(core.Answer(core.DONE, report_text(plan, events, until)))
+    return reports.report(core.Answer(core.DONE, report_text(plan, events, until, running)))
 
 
 def usual_end(events: EventFile) -> int:

@@ -2,10 +2,9 @@
 
 from __future__ import annotations
 
-import io
 from typing import Any
 
-from murdjohe import colours, places
+from murdjohe import colours, figures, places
 from murdjohe.places import BOX, ELEMENT, SOURCE, Layout
 from murdjohe.views import View
 from murdjohe.wiring import Line
@@ -15,7 +14,7 @@ Point = tuple[float, float]
 PAGES = ((30, (11.7, 8.3)), (320, (16.5, 11.7)), (100_000, (33.1, 23.4)))
 MARGIN, HEAD, FOOT = 0.35, 0.5, 0.75  # inches round the picture, above it for the title, below it for the legend
 FONT = 9.0  # points, where boxes have their whole size
-SETTINGS = {"svg.fonttype": "none", "svg.hashsalt": "murdjohe", "hatch.linewidth": 0.8, "font.family": "sans-serif"}
+STROKE = 0.8  # points of a hatch
 APART = 0.09  # inches between links that join the same elements
 DASHED, WAITING = (0, (4, 3)), (0, (6, 2, 1, 2))
 
@@ -267,12 +266,7 @@ def drawn_legend(page: Page, view: View) -> None:
 
 def picture(view: View, layout: Layout, ending: str) -> bytes:
     """The picture in a format of matplotlib. The same plan and report give the same octets."""
-    import matplotlib
-
-    matplotlib.use("agg")
-    matplotlib.rcParams.update(SETTINGS)
-    from matplotlib import pyplot
-
+    figures.begin(STROKE)
     page = Page(layout, len(view.wired.elements))
     for lines, place, count in cables_of(view):
         drawn_cable(page, view, lines, (place - (count - 1) / 2) * APART)
@@ -284,8 +278,4 @@ def picture(view: View, layout: Layout, ending: str) -> bytes:
         (MARGIN, page.size[1] - 0.35), view.title, ha="left", fontsize=max(10, page.size[0] * 0.95), weight="bold"
     )
     drawn_legend(page, view)
-    data = io.BytesIO()
-    about = {"svg": {"Date": None}, "pdf": {"CreationDate": None}}.get(ending)
-    page.figure.savefig(data, format=ending, dpi=120, metadata=about)
-    pyplot.close(page.figure)
-    return data.getvalue()
+    return figures.octets(page.figure, ending)

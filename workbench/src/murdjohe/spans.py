@@ -142,10 +142,23 @@ def gaps_of(wiring: Wiring, changes: Iterable[Change], end: int) -> dict[str, li
     return found
 
 
+def shown_by(wiring: Wiring, changes: Iterable[Change]) -> dict[str, list[Change]]:
+    """All that each element shows, one after the other, in the order of the plan."""
+    its = {name: [first] for name, first in moments.shown_first(wiring).items()}
+    for row in changes:
+        its[row.element].append(row)
+    return its
+
+
+def best_of(own: Iterable[Change], option: str) -> str:
+    """The best level that an element shows."""
+    return min((row.level or "" for row in own), key=LEVELS[option].index)
+
+
 def loss_of(own: list[Change], option: str, end: int, gaps: list[tuple[int, int]]) -> Loss:
     """What an element went without, by what it shows and by when it followed no source."""
     order = {level: place for place, level in enumerate(LEVELS[option])}
-    best = min((row.level or "" for row in own), key=lambda level: order[level])
+    best = best_of(own, option)
     after = own[next(place for place, row in enumerate(own) if row.level == best) :]
     spans = zip(after, [*(row.at for row in after[1:]), end])
     worse = [(row.at, stop, row.level or "") for row, stop in spans if row.level != best and row.at < stop]
@@ -157,8 +170,6 @@ def loss_of(own: list[Change], option: str, end: int, gaps: list[tuple[int, int]
 
 def losses_of(wiring: Wiring, option: str, changes: tuple[Change, ...], end: int) -> list[Loss]:
     """What each element went without, up to the end of a run, in the order of the plan."""
-    its: dict[str, list[Change]] = {name: [row] for name, row in moments.shown_first(wiring).items()}
-    for row in changes:
-        its[row.element].append(row)
+    its = shown_by(wiring, changes)
     gaps = gaps_of(wiring, changes, end)
     return [loss_of(rows, option, end, gaps[name]) for name, rows in its.items()]

@@ -26,6 +26,8 @@ class StretchRows:
         self.places = [frozenset(order[part] for part in one.down) for one in failures]
         self.own = [self.sorted_ends(places) for places in self.places]
         self.least, self.last = [min(places) for places in self.places], [max(places) for places in self.places]
+        # (the least place of each failure and of all behind it)
+        self.least_behind = list(accumulate(reversed(self.least), lambda one, other: min(one, other)))[::-1]
         self.ready_behind = cache(self.made_ready)
 
     def sorted_ends(self, places: frozenset[int]) -> list[bytes]:
@@ -43,9 +45,11 @@ class StretchRows:
     def runs(self, first: int, others: Sequence[int]) -> Iterator[tuple[int, int, bool]]:
         """From where to where the others follow one another, and whether all rows of a failure stand before theirs there."""
         last = self.last[first]
+        if others[-1] - others[0] == len(others) - 1 and last < self.least_behind[others[0]]:
+            yield 0, len(others), True
+            return
         before = [last < self.least[other] for other in others]
-        is_one = all(before) and others[-1] - others[0] == len(others) - 1
-        numbers = enumerate(zip(pairwise(others), pairwise(before)), start=1) if not is_one else ()
+        numbers = enumerate(zip(pairwise(others), pairwise(before)), start=1)
         cuts = [at for at, ((one, other), (was, now)) in numbers if other != one + 1 or was != now]
         for start, end in pairwise([0, *cuts, len(others)]):
             yield start, end, before[start]

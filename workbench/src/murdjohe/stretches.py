@@ -86,14 +86,20 @@ class Named(NamedTuple):
     are_usual: bool
 
 
-def clear_names(stretch: Stretch, names: Sequence[str]) -> Named:
-    """The names of the cases of a stretch, where names are clear: a pair is called by its number where its name is too long."""
-    its = [names[other] for other in stretch.others]
+def names_at(places: Sequence[int], names: list[str]) -> list[str]:
+    """The names at these places."""
+    return names[places.start : places.stop] if isinstance(places, range) else [names[place] for place in places]
+
+
+def clear_names(stretch: Stretch, names: list[str], longest: int) -> Named:
+    """The names of the cases of a stretch, where names are clear, and the longest has so many signs: a pair is called by its
+    number where its name is too long."""
+    its = names_at(stretch.others, names)
     if stretch.first is None:
         return Named(stretch, its, True)
     head = names[stretch.first] + BETWEEN
     room = LONGEST - len(head)
-    if max(map(len, its)) <= room:
+    if longest <= room or max(map(len, its)) <= room:
         return Named(stretch, [head + name for name in its], True)
     numbered = enumerate(its, stretch.number)
     return Named(
@@ -105,8 +111,9 @@ def named(failures: list[Failure], has_pairs: bool, span: Span) -> Iterator[Name
     """The stretches in the span, each with the names of its cases."""
     names = [one.name for one in failures]
     if are_clear(names):
+        longest = max(map(len, names), default=0)
         for stretch in stretches(failures, has_pairs, span):
-            yield clear_names(stretch, names)
+            yield clear_names(stretch, names, longest)
         return
     kept = CaseNames(failures)
     for stretch in stretches(failures, has_pairs, (1, span[1])):

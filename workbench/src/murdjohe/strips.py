@@ -2,11 +2,10 @@
 
 from __future__ import annotations
 
-import io
 from dataclasses import dataclass
 from typing import Any
 
-from murdjohe import bands, colours
+from murdjohe import bands, colours, figures
 from murdjohe.bands import Band, Row
 from murdjohe.moments import Event
 
@@ -16,7 +15,7 @@ FOOT = 1.45  # inches below the strips, for times and the legend
 LOOP, PAIR, CLOSED = "LOOP", "PAIR", "CLOSED"  # closed is a walk of which only a plan tells whether it is of one bundle
 MEANINGS = {LOOP: "TIMING LOOP", PAIR: "pair, facing one another", CLOSED: "closed walk, by another link"}
 LABELLED = 60  # events that are written beside their marks
-SETTINGS = {"svg.fonttype": "none", "svg.hashsalt": "murdjohe", "hatch.linewidth": 0.6}  # (no number by chance)
+STROKE = 0.6  # points of a hatch
 
 
 @dataclass(frozen=True)
@@ -152,12 +151,7 @@ class Strips:
 
 def picture(line: Timeline, ending: str) -> bytes:
     """The whole picture. The same report gives the same octets."""
-    import matplotlib
-
-    matplotlib.use("agg")
-    matplotlib.rcParams.update(SETTINGS)
-    from matplotlib import pyplot
-
+    figures.begin(STROKE)
     strips = Strips(line)
     for row, own in enumerate(strips.its.values()):
         for band in own:
@@ -169,8 +163,4 @@ def picture(line: Timeline, ending: str) -> bytes:
     strips.drawn_axes()
     strips.drawn_legend()
     strips.figure.text(0.01, 1 - 0.12 / strips.figure.get_figheight(), line.title, fontsize=10, weight="bold", va="top")
-    data = io.BytesIO()
-    about = {"svg": {"Date": None}, "pdf": {"CreationDate": None}}.get(ending)
-    strips.figure.savefig(data, format=ending, dpi=120, metadata=about)
-    pyplot.close(strips.figure)
-    return data.getvalue()
+    return figures.octets(strips.figure, ending)

@@ -8,19 +8,30 @@ import os
 from collections.abc import Sequence
 from typing import NamedTuple
 
-from murdjohe import api, core
+from murdjohe import api, core, packing
 from murdjohe.core import Answer
+from murdjohe.packing import Piece
 
 COLUMNS = ("case", "settled", "locked", "holdover", "freerun", "loops", "worst", "bound", "lost", "first", "longest")
 HEADER = ",".join(COLUMNS)
+BEGIN = f"{HEADER}\n".encode()
 
 
 class Rows(NamedTuple):
-    """The rows of some cases: the names of the cases, what each row says behind its name, and the rows as they are written."""
+    """The rows of some cases: the names of the cases, what each row says behind its name, from the comma on, and the rows as
+    they are written, maybe packed too."""
 
     names: Sequence[str]
     tails: Sequence[str]
     data: bytes
+    packed: bytes | None = None
+
+
+class Worked(NamedTuple):
+    """What the program answered to a table of cases, and the rows of that packed."""
+
+    answer: Answer
+    packed: bytes
 
 
 def rows_of(answer: bytes, names: Sequence[str]) -> Rows:
@@ -28,16 +39,25 @@ def rows_of(answer: bytes, names: Sequence[str]) -> Rows:
     head, *lines = answer.decode("ascii").split("\n")
     if head != HEADER or not lines or lines.pop():
         raise ValueError("it isn't a header and whole lines")
-    parted = [line.partition(",") for line in lines]
-    if [name for name, _, _ in parted] != list(names):
+    is_each = len(lines) == len(names) and all(map(str.startswith, lines, names))
+    tails = list(map(str.removeprefix, lines, names))
+    if not is_each or not all(tail.startswith(",") for tail in set(tails)):
         raise ValueError("its rows aren't those of the cases")
-    return Rows(names, [tail for _, _, tail in parted], answer[len(HEADER) + 1 :])
+    return Rows(names, tails, answer[len(BEGIN) :])
 
 
-def studied(plan: bytes, cases: bytes, until: int, running: set[int] | None = None) -> Answer:
-    """What the program answers to a table of cases. Raises core.Absent and core.Ended."""
+def file_of(rows: Rows) -> bytes:
+    """A file of gzip with what the program answered."""
+    packed = packing.packed(rows.data) if rows.packed is None else rows.packed
+    return packing.file_of([Piece(BEGIN, packing.packed(BEGIN)), Piece(rows.data, packed)])
+
+
+def studied(plan: bytes, cases: bytes, until: int, running: set[int]) -> Worked:
+    """What the program answers to a table of cases; meanwhile its process is among those that are running. Raises core.Absent
+    and core.Ended."""
     with api.named([plan, cases]) as (plan_path, cases_path):
-        return core.run(["study", plan_path, cases_path, str(until)], running=running)
+        answer = core.run_kept(["study", plan_path, cases_path, str(until)], running)
+    return Worked(answer, packing.packed(answer.text[len(BEGIN) :]))
 
 
 @functools.cache

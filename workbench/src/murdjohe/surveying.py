@@ -5,22 +5,31 @@ from __future__ import annotations
 
 import os
 import signal
+import sys
 import time
 from collections import deque
 from collections.abc import Callable, Generator, Iterable, Iterator
 from concurrent.futures import FIRST_COMPLETED, Future, ThreadPoolExecutor, wait
 from contextlib import suppress
-from typing import Protocol
+from functools import partial
+from typing import Any, Protocol, TypeVar
 
 from murdjohe import core, study_runs
 from murdjohe.core import Answer
 from murdjohe.finished import Finished
 from murdjohe.portions import Part
-from murdjohe.study_runs import Rows
+from murdjohe.study_runs import Rows, Worked
 from murdjohe.wrong import Wrong
 
+ResultT = TypeVar("ResultT")
 AHEAD = 3  # parts for each processor that are begun at once
 AGAIN_S = 0.2  # seconds after which it is looked again what another survey does
+TURN_S = 0.0005  # seconds after which a thread that waits has its turn: meanwhile a processor may have no work
+
+
+def processors() -> int:
+    """How many processors this process may use."""
+    return len(os.sched_getaffinity(0))
 
 
 class Crew(Protocol):
@@ -30,7 +39,7 @@ class Crew(Protocol):
     def ahead(self) -> int:
         """How many parts may be begun at once."""
 
-    def begin(self, cases: bytes) -> Future[Answer]:
+    def begin(self, cases: bytes) -> Future[Worked]:
         """Has a table of cases worked."""
 
     def told(self, fault: Exception) -> Exception:
@@ -40,27 +49,24 @@ class Crew(Protocol):
         """Ends what is still worked."""
 
 
-class Here:
-    """Threads of this process, each of which waits for the program."""
+class Threads:
+    """Threads of this process, each of which waits for the program, whose processes are among those that are `running`."""
 
-    def __init__(self, plan: bytes, until: int, jobs: int) -> None:
-        self.plan = plan
-        self.until = until
+    def __init__(self, jobs: int) -> None:
         self.pool = ThreadPoolExecutor(jobs)
-        self.ahead = AHEAD * jobs
         self.running: set[int] = set()
-        self.begun: set[Future[Answer]] = set()
+        self.begun: set[Future[Any]] = set()
+        sys.setswitchinterval(TURN_S)
 
-    def begin(self, cases: bytes) -> Future[Answer]:
-        future = self.pool.submit(study_runs.studied, self.plan, cases, self.until, self.running)
+    def begin(self, work: Callable[[set[int]], ResultT]) -> Future[ResultT]:
+        """Has something worked, which is given the set of what is running."""
+        future = self.pool.submit(work, self.running)
         self.begun.add(future)
         future.add_done_callback(self.begun.discard)
         return future
 
-    def told(self, fault: Exception) -> Exception:
-        return fault
-
     def stop(self) -> None:
+        """Ends what is still worked."""
         self.pool.shutdown(wait=False, cancel_futures=True)
         while left := set(self.begun):
             for child in list(self.running):
@@ -69,12 +75,31 @@ class Here:
             wait(left, AGAIN_S)
 
 
+class Here:
+    """The threads of this process as a crew."""
+
+    def __init__(self, plan: bytes, until: int, jobs: int) -> None:
+        self.plan = plan
+        self.until = until
+        self.threads = Threads(jobs)
+        self.ahead = AHEAD * jobs
+
+    def begin(self, cases: bytes) -> Future[Worked]:
+        return self.threads.begin(partial(study_runs.studied, self.plan, cases, self.until))
+
+    def told(self, fault: Exception) -> Exception:
+        return fault
+
+    def stop(self) -> None:
+        self.threads.stop()
+
+
 class Slot:
     """A part that was begun, with its rows once they are there; without a future another survey works it."""
 
     def __init__(self, part: Part) -> None:
         self.part = part
-        self.future: Future[Answer] | None = None
+        self.future: Future[Worked] | None = None
         self.rows: Rows | None = None
 
 
@@ -108,15 +133,16 @@ class Survey:
             self.found += len(slot.part.names)
             self.tell(len(slot.part.names))
 
-    def keep(self, slot: Slot, answer: Answer) -> None:
+    def keep(self, slot: Slot, worked: Worked) -> None:
         """Keeps what the program answered to a part. Raises Wrong where that is no row for each case."""
+        answer = worked.answer
         if answer.status != core.DONE:
             raise self.refused(slot.part, answer)
         try:
-            slot.rows = study_runs.rows_of(answer.text, slot.part.names)
+            slot.rows = study_runs.rows_of(answer.text, slot.part.names)._replace(packed=worked.packed)
         except ValueError as fault:
             raise Wrong(f"the program's answer to a part can't be read: {fault}") from None
-        self.finished.keep(slot.part, answer.text)
+        self.finished.keep(slot.part, slot.rows)
         self.finished.leave(slot.part)
         self.worked += len(slot.part.names)
         self.tell(len(slot.part.names))
@@ -134,10 +160,10 @@ class Survey:
                 self.look(slot)
             elif slot.future.done():
                 try:
-                    answer = slot.future.result()
+                    worked = slot.future.result()
                 except Exception as fault:
                     raise self.crew.told(fault) from None
-                self.keep(slot, answer)
+                self.keep(slot, worked)
 
     def ready(self) -> Iterator[Rows]:
         """The rows of the parts that come next and are done."""

@@ -21,8 +21,8 @@ KNOWN = 4_096  # ends of rows that are kept as they were read
 
 @lru_cache(KNOWN)
 def case_without_name(tail: str) -> Case:
-    """What a row says behind the name of its case. Raises ValueError and IndexError."""
-    return studies.case(["", *tail.split(",")])
+    """What a row says behind the name of its case, from the comma on. Raises ValueError and IndexError."""
+    return studies.case(tail.split(","))
 
 
 class Worst:
@@ -93,7 +93,7 @@ class Tally:
         self.count(outcome, 1)
 
     def add_all(self, names: Sequence[str], tails: Sequence[str]) -> None:
-        """Counts cases of these names, with what their rows say behind them. Raises ValueError and IndexError."""
+        """Counts cases of these names, with what their rows say behind them, from the comma on. Raises ValueError and IndexError."""
         before, counts = self.cases, Counter(tails)
         known = {tail: case_without_name(tail) for tail in counts}
         bad = {tail for tail, outcome in known.items() if self.is_among(outcome)}

@@ -20,11 +20,11 @@ use Rattle.trace_report.specs.Words.{change_row}
 use Rattle.trace_report.specs.LastParts.{settled_part}
 use Rattle.sync_top.specs.declared.status.Status.{Status}
 use Rattle.sync_top.specs.declared.status.Status.TheVariants.{Done}
-use Rattle.sync_top.specs.declared.trial.TheConstants.{FAILURE, LAST}
+use Rattle.sync_top.specs.declared.trial.TheConstants.{LINK_FAILS_AT, TRIAL_END}
 
 -- what happens in a trial: the signal of the ladder's first link, S1, fails, and stays so
 abbrev pub trial_events : List Event
-trial_events = record { at = FAILURE; what = Down (Link 0) } ∷ []
+trial_events = record { at = LINK_FAILS_AT; what = Down (Link 0) } ∷ []
 
 -- the rows of a run up to a millisecond that a report of it has: all of them where they fit, and else those up
 -- to the last millisecond up to which all fit
@@ -63,10 +63,10 @@ pub record IsTrialText (n : ℕ) (plan : Topology) (text : List ℕ) : Type 0 wh
   pub greatest : IsGreatest (IsRank plan) top
   -- the rows of the run that a report has
   pub rows : List Change
-  pub are_rows : AreReportRows plan trial_events LAST rows
+  pub are_rows : AreReportRows plan trial_events TRIAL_END rows
   -- whether its last millisecond is settled
   pub settled : Bool
-  pub is_settled : IsTrue settled ↔ IsSettledAt plan trial_events LAST
+  pub is_settled : IsTrue settled ↔ IsSettledAt plan trial_events TRIAL_END
   pub is : text ≡ trial_text n plan top rows settled
 
 -- the answer to `trial`: the text of the ladder of so many elements, whether or not its changes fit

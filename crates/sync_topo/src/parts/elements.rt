@@ -4,13 +4,13 @@ ghost use Rattle.std.specs.Prelude.{◌≡◌, [], ◌∷◌, ◌++◌, ◌<◌,
 ghost use Rattle.sync_topo.specs.Limits.{element_limit, least_holdoff, greatest_holdoff, greatest_wtr};
 ghost use Rattle.sync_topo.specs.RowValues.{number_or, clock_level, default_own, element_from};
 ghost use Rattle.sync_topo.specs.Rules.{is_outside, is_no_clock_level, element_rules};
-ghost use Rattle.sync_topo.specs.Steps.{Follows, rows_from, element_rules_after};
+ghost use Rattle.sync_topo.specs.private.Steps.{Follows, rows_from, element_rules_after};
 ghost use Rattle.sync_topo.specs.WellFormed.{IsClockLevel};
 
 use crate::element::Element;
 use crate::error::PlanErr;
 use crate::names::is_name;
-use crate::parts::{Parts, row_after};
+use crate::parts::{PlanTables, row_after};
 use crate::place::Section;
 use crate::rows::ElementRow;
 use crate::values::{default_own, level_given, number_within};
@@ -25,8 +25,9 @@ const DEFAULT_HOLDOFF: u32 = 300;
 /// The wait-to-restore time of an element that names none, in minutes.
 const DEFAULT_WTR_MINUTES: u32 = 5;
 
-impl Parts {
-    ghost use Rattle.sync_topo.specs.Indexed.{topology, IsIndexed, MayJoin};
+impl PlanTables {
+    ghost use Rattle.sync_topo.specs.Indexed.{topology};
+    ghost use Rattle.sync_topo.specs.private.Indexed.{IsIndexed, MayJoin};
 
     /// Puts the elements of all rows, in order, into parts that hold nothing yet.
     ///

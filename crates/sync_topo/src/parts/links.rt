@@ -5,13 +5,13 @@ ghost use Rattle.sync_topo.specs.Limits.{link_limit, least_delay, greatest_delay
 ghost use Rattle.sync_topo.specs.RowValues.{number_or, link_from};
 ghost use Rattle.sync_topo.specs.Bundles.{join_same};
 ghost use Rattle.sync_topo.specs.Rules.{is_outside, is_bad_bundle, has_room, link_rules};
-ghost use Rattle.sync_topo.specs.Steps.{Follows, rows_from, link_rules_after};
+ghost use Rattle.sync_topo.specs.private.Steps.{Follows, rows_from, link_rules_after};
 
 use crate::error::PlanErr;
 use crate::input::LineId;
 use crate::link::Link;
 use crate::names::is_name;
-use crate::parts::{Parts, row_after};
+use crate::parts::{PlanTables, row_after};
 use crate::place::Section;
 use crate::rows::LinkRow;
 use crate::values::{number_within, priority_within};
@@ -21,8 +21,9 @@ use sync_text::{NoMemory, Rows};
 /// The delay of a line that names none, in milliseconds.
 const DEFAULT_DELAY: u32 = 1;
 
-impl Parts {
-    ghost use Rattle.sync_topo.specs.Indexed.{topology, IsIndexed, MayLink};
+impl PlanTables {
+    ghost use Rattle.sync_topo.specs.Indexed.{topology};
+    ghost use Rattle.sync_topo.specs.private.Indexed.{IsIndexed, MayLink};
 
     /// Puts the links of all rows, in order, into parts that hold no links and sources yet.
     ///

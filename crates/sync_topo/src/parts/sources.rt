@@ -4,11 +4,11 @@ ghost use Rattle.std.specs.Prelude.{◌≡◌, [], ◌∷◌, ◌++◌, ◌<◌,
 ghost use Rattle.sync_topo.specs.Limits.{source_limit};
 ghost use Rattle.sync_topo.specs.RowValues.{source_from};
 ghost use Rattle.sync_topo.specs.Rules.{has_room, source_rules};
-ghost use Rattle.sync_topo.specs.Steps.{Follows, rows_from, source_rules_after};
+ghost use Rattle.sync_topo.specs.private.Steps.{Follows, rows_from, source_rules_after};
 
 use crate::error::PlanErr;
 use crate::names::is_name;
-use crate::parts::{Parts, row_after};
+use crate::parts::{PlanTables, row_after};
 use crate::place::Section;
 use crate::rows::SourceRow;
 use crate::source::Source;
@@ -16,8 +16,9 @@ use crate::values::priority_within;
 use sync_ql::level_of_name;
 use sync_text::{NoMemory, Rows};
 
-impl Parts {
-    ghost use Rattle.sync_topo.specs.Indexed.{topology, IsIndexed, MayFeed};
+impl PlanTables {
+    ghost use Rattle.sync_topo.specs.Indexed.{topology};
+    ghost use Rattle.sync_topo.specs.private.Indexed.{IsIndexed, MayFeed};
 
     /// Puts the sources of all rows, in order, into parts that hold no sources yet.
     ///

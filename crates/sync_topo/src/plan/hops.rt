@@ -7,36 +7,36 @@ ghost use Rattle.sync_topo.specs.WellFormed.{IsWellFormed};
 
 use crate::input::{InputId, LineId};
 use crate::plan::Plan;
-use crate::returns::Returns;
+use crate::returns::ReturnRule;
 
 impl Plan {
-    /// What line `l` brings to an element may go on over line `m`: both are nominated, `m` begins
-    /// where `l` ends, and their links are not of one bundle. After G.781, do-not-use towards the
-    /// selected reference.
-    pub fn hop(&self, l: LineId, m: LineId) -> bool
-        requires from { l.0 < line_count self.now }
-        requires to { m.0 < line_count self.now }
+    /// What `line` brings to an element may go on over `next`: both are nominated, `next` begins where
+    /// `line` ends, and their links are not of one bundle. After G.781, do-not-use towards the selected
+    /// reference.
+    pub fn hop(&self, line: LineId, next: LineId) -> bool
+        requires from { line.0 < line_count self.now }
+        requires to { next.0 < line_count self.now }
         ensures well_formed { IsWellFormed self.now }
-        ensures hops { IsTrue result ↔ Hops self.now l.0 m.0 }
+        ensures hops { IsTrue result ↔ Hops self.now line.0 next.0 }
     {
-        self.meet(l, m) && self.bundle(l.0 / 2) != self.bundle(m.0 / 2)
+        self.meet(line, next) && self.bundle(line.0 / 2) != self.bundle(next.0 / 2)
     }
 
-    /// What line `l` brings to an element may go on over line `m` by a rule of returns: where they are
-    /// barred it is a [`hop`](Plan::hop), and where they are allowed both are nominated, and `m`
-    /// begins where `l` ends, over `l`'s own link or bundle too. Where they are barred from a last
-    /// resort, that is so but for the ways back over the link or bundle of a
+    /// What `line` brings to an element may go on over `next` by a rule of returns: where they are
+    /// barred it is a [`hop`](Plan::hop), and where they are allowed both are nominated, and `next`
+    /// begins where `line` ends, over `line`'s own link or bundle too. Where they are barred from a
+    /// last resort, that is so but for the ways back over the link or bundle of a
     /// [`last_resort`](Plan::last_resort). This project's own.
-    pub fn hop_by(&self, returns: Returns, l: LineId, m: LineId) -> bool
-        requires from { l.0 < line_count self.now }
-        requires to { m.0 < line_count self.now }
+    pub fn hop_by(&self, returns: ReturnRule, line: LineId, next: LineId) -> bool
+        requires from { line.0 < line_count self.now }
+        requires to { next.0 < line_count self.now }
         ensures well_formed { IsWellFormed self.now }
-        ensures hops { IsTrue result ↔ HopsBy returns self.now l.0 m.0 }
+        ensures hops { IsTrue result ↔ HopsBy returns self.now line.0 next.0 }
     {
         match returns {
-            Returns::Barred => self.hop(l, m),
-            Returns::Allowed => self.meet(l, m),
-            Returns::BarredFromLast => self.bears_on(l, m),
+            ReturnRule::Barred => self.hop(line, next),
+            ReturnRule::Allowed => self.meet(line, next),
+            ReturnRule::BarredFromLast => self.bears_on(line, next),
         }
     }
 
@@ -55,14 +55,14 @@ impl Plan {
     /// A line is the last resort of the element in which it ends: each of the element's inputs that is
     /// no line of its link or bundle has a smaller number, so that all of them are preferred to it.
     /// This project's own.
-    pub fn last_resort(&self, l: LineId) -> bool
-        requires { l.0 < line_count self.now }
+    pub fn last_resort(&self, line: LineId) -> bool
+        requires { line.0 < line_count self.now }
         ensures well_formed { IsWellFormed self.now }
-        ensures last { result ≡ is_last_resort self.now l.0 }
+        ensures last { result ≡ is_last_resort self.now line.0 }
     {
-        let inputs = self.inputs(self.to(l));
+        let inputs = self.inputs(self.to(line));
         for input in inputs {
-            if !self.comes_first(l, *input) {
+            if !self.comes_first(line, *input) {
                 return false;
             }
         }

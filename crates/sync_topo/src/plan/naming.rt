@@ -5,7 +5,7 @@ ghost use Rattle.sync_topo.specs.declared.input.InputId.{InputId};
 ghost use Rattle.sync_topo.specs.Lines.{line_count, line_name, line_of_name, input_of_name, input_name, IsInput};
 ghost use Rattle.sync_topo.specs.Names.{place_of, element_names, link_names, source_names};
 ghost use Rattle.sync_topo.specs.WellFormed.{IsWellFormed};
-ghost use Rattle.sync_topo.specs.Naming.{has_sign, IsCut, line_into};
+ghost use Rattle.sync_topo.specs.private.Naming.{has_sign, IsCut, line_into};
 
 use crate::input::{InputId, LineId};
 use crate::plan::Plan;
@@ -109,13 +109,18 @@ impl Plan {
     /// Puts the name of an input at the end of a text: a line's as `L1>B`, or a source's.
     ///
     /// A refusal leaves the text as it was. This project's own.
-    pub fn put_input_name(&self, alloc: Global, out: &mut Text, i: InputId) -> Result<(), NoMemory>
-        requires { IsInput self.now i }
+    pub fn put_input_name(
+        &self,
+        alloc: Global,
+        out: &mut Text,
+        input: InputId,
+    ) -> Result<(), NoMemory>
+        requires { IsInput self.now input }
         ensures well_formed { IsWellFormed self.now }
-        ensures ok { OnOk result (out.new ≡ out.old ++ input_name self.now i) }
+        ensures ok { OnOk result (out.new ≡ out.old ++ input_name self.now input) }
         ensures err { OnErr result (out.new ≡ out.old) }
     {
-        match i {
+        match input {
             InputId::Line(line) => {
                 let mut name = Text::new(alloc);
                 name.put(self.link(line.0 / 2).name.bytes())?;

@@ -2,13 +2,14 @@
 
 from __future__ import annotations
 
+import os
 import re
 from collections.abc import Callable
 from typing import Any, TypeVar
 
 import click
 
-from murdjohe import failures, files, forms, runs
+from murdjohe import bands, failures, files, forms, runs
 from murdjohe.commands.common import Milliseconds
 from murdjohe.failures import KINDS, Failure
 from murdjohe.moments import Event
@@ -56,12 +57,24 @@ def span_of(words: str | None) -> tuple[int, int | None]:
     return int(found[1]), int(found[2])
 
 
+def kinds_of(asked: dict[str, Any]) -> list[str]:
+    """The kinds of failures that are asked for."""
+    return [kind for kind in KINDS if asked[kind]] or ([] if asked["groups"] else [failures.LINKS])
+
+
 def asked_of(taken: PlanFile, asked: dict[str, Any]) -> list[Failure]:
     """The failures that are asked for. Raises Wrong where a table of groups has mistakes."""
     groups = asked["groups"]
-    kinds = [kind for kind in KINDS if asked[kind]] or ([] if groups else [failures.LINKS])
-    found = failures.failures_of(taken.tables, kinds)
+    found = failures.failures_of(taken.tables, kinds_of(asked))
     return found + (failures.groups_of(groups, files.text(groups), taken.tables) if groups else [])
+
+
+def words_of(asked: dict[str, Any]) -> str:
+    """What is asked for, in some words."""
+    groups = [os.path.basename(asked["groups"])] if asked["groups"] else []
+    pairs = " alone and in pairs" if asked["pairs"] else ""
+    during = f", during {os.path.basename(asked['during'])}" if asked["during"] else ""
+    return f"{', '.join([*kinds_of(asked), *groups])}{pairs} down at {bands.minutes(asked['at'])}{during}"
 
 
 def common_of(taken: PlanFile, path: str | None) -> tuple[Event, ...]:

@@ -6,14 +6,14 @@ from dataclasses import replace
 
 import click
 
-from murdjohe import core, drawing, files, places, progress, runs, views, wiring
+from murdjohe import core, drawing, figures, files, places, progress, runs, views, wiring
 from murdjohe.commands.common import Milliseconds
 from murdjohe.drawing import Plan
 from murdjohe.places import Layout
 from murdjohe.views import View
 from murdjohe.wrong import Wrong
 
-ENDINGS = ("svg", "png", "pdf", "dot")
+ENDINGS = (*figures.ENDINGS, "dot")
 
 
 def view_of(plan: str, tables: Plan, report: str | None, events: str | None, at: int | None) -> View:

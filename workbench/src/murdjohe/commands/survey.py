@@ -2,8 +2,8 @@
 
 from __future__ import annotations
 
-import os
-from contextlib import ExitStack, closing
+from collections.abc import Iterator
+from contextlib import ExitStack, closing, contextmanager
 from functools import partial
 from typing import Any
 
@@ -11,11 +11,12 @@ import click
 from click.core import ParameterSource
 
 from murdjohe import case_files, case_lists, case_refusals, core, files, forms, inputs, plain_json, plan_file
-from murdjohe import portions, progress, runs, streams, study_runs, survey_report
+from murdjohe import portions, progress, runs, streams, study_runs, survey_report, surveying
 from murdjohe.case_lists import CaseList
-from murdjohe.commands import asked_failures
+from murdjohe.commands import asked_failures, asked_map
 from murdjohe.commands.common import Milliseconds
 from murdjohe.failures import KINDS
+from murdjohe.files import Growing
 from murdjohe.finished import Finished
 from murdjohe.plan_file import PlanFile
 from murdjohe.remarks import plural
@@ -45,7 +46,7 @@ def cases_of(context: click.Context, taken: PlanFile, table: str | None, asked: 
 def crew_of(scheduler: str | None, jobs: int | None, plan: bytes, until: int) -> Crew:
     """Who works the parts. Raises Wrong."""
     if scheduler is None:
-        return Here(plan, until, jobs or len(os.sched_getaffinity(0)))
+        return Here(plan, until, jobs or surveying.processors())
     if jobs is not None:
         raise Wrong("--jobs is for this machine alone: a cluster's workers have their own numbers of threads")
     from murdjohe.cluster import Cluster
@@ -53,38 +54,73 @@ def crew_of(scheduler: str | None, jobs: int | None, plan: bytes, until: int) ->
     return Cluster(scheduler, plan, until)
 
 
-def gone_through(cases: CaseList, survey: Survey, size: int, most: int, output: str | None) -> Tally:
-    """Has all cases worked: their rows are written, where an output is named, and counted. Raises Wrong."""
+def gone_through(cases: CaseList, survey: Survey, size: int, most: int, file: Growing | None) -> Tally:
+    """Has all cases worked: their rows are counted, and written where there is a file for them. Raises Wrong."""
     tally = Tally(most)
-    with ExitStack() as stack:
-        file = stack.enter_context(files.Growing(output)) if output else None
-        if file:
-            file.write(f"{study_runs.HEADER}\n".encode())
-        for rows in stack.enter_context(closing(survey.rows(portions.parts_of(cases, size)))):
+    if file:
+        file.write(study_runs.BEGIN)
+    with closing(survey.rows(portions.parts_of(cases, size))) as found:
+        for rows in found:
             if file:
-                file.write(rows.data)
+                file.write(rows.data, rows.packed)
             tally.add_all(rows.names, rows.tails)
     return tally
 
 
+@contextmanager
+def kept(survey: Survey, cases: CaseList, parts: str) -> Iterator[None]:
+    """Where what stands inside is ended before it is done, it is told where the survey goes on."""
+    try:
+        yield
+    except (KeyboardInterrupt, core.Absent, core.Ended):
+        done, of = survey.worked + survey.found, plural(cases.total, "case")
+        streams.tell(f"{done:,} of {of} are worked, and kept in {parts}: the same command goes on there")
+        raise
+
+
 def worked(
-    taken: PlanFile, cases: CaseList, until: int, settings: dict[str, Any], output: str | None
+    taken: PlanFile, cases: CaseList, until: int, settings: dict[str, Any], file: Growing | None
 ) -> tuple[Tally, Survey]:
-    """The summary of the cases, and what was worked for it; where that is ended before, it is told where it goes on."""
+    """The summary of the cases, and what was worked for it."""
     crew = crew_of(settings["scheduler"], settings["jobs"], taken.data, until)
     finished = Finished(settings["parts"], taken.data, until, study_runs.core_sum())
     refused = partial(case_refusals.refused, cases, taken.plan)
     with progress.counted("survey", cases.total) as tell:
         survey = Survey(crew, finished, refused, tell)
-        try:
+        with kept(survey, cases, settings["parts"]):
             size = settings["size"] or portions.usual(cases.total)
-            return gone_through(cases, survey, size, settings["worst"], output), survey
-        except (KeyboardInterrupt, core.Absent, core.Ended):
-            done, of = survey.worked + survey.found, plural(cases.total, "case")
-            streams.tell(
-                f"{done:,} of {of} are worked, and kept in {settings['parts']}: the same command goes on there"
-            )
-            raise
+            tally = gone_through(cases, survey, size, settings["worst"], file)
+    return tally, survey
+
+
+def growing(stack: ExitStack, path: str | None) -> Growing | None:
+    """A file that is there once what stands inside is done, where one is named. Raises Wrong."""
+    return stack.enter_context(Growing(path)) if path else None
+
+
+def written(
+    taken: PlanFile, cases: CaseList, until: int, asked: dict[str, Any], output: str | None
+) -> tuple[Tally, Survey]:
+    """The same, with the rows and the map in their files, once all of it is made."""
+    with ExitStack() as stack:
+        file, picture = growing(stack, output), growing(stack, asked["map"])
+        tally, survey = worked(taken, cases, until, asked, file)
+        if picture:
+            with kept(survey, cases, asked["parts"]), progress.watched("map"):
+                picture.write(asked_map.drawn(taken, cases, tally, until, asked))
+    return tally, survey
+
+
+def told(context: click.Context, tally: Tally, done: Survey, until: int, asked: dict[str, Any], as_json: bool) -> None:
+    """Prints the summary, and says how much was worked for it."""
+    root = context.find_root().params
+    if as_json or root["json"]:
+        context.obj.put(plain_json.text(survey_report.as_data(tally, until)))
+    else:
+        context.obj.put("".join(f"{line}\n" for line in survey_report.text_of(tally, asked["worst"])).encode())
+    if not root["quiet"]:
+        before = f"{done.found:,} were worked before; parts are in {asked['parts']}"
+        streams.tell(f"{plural(done.worked, 'case')} worked up to {until}, {before}", colour="green")
 
 
 @click.command("survey")
@@ -106,6 +142,7 @@ def worked(
     "--parts", type=click.Path(), default=PARTS, show_default=True, help="a folder in which finished parts are kept"
 )
 @click.option("--json", "as_json", is_flag=True, help="JSON: the summary")
+@click.option("--map", type=click.Path(), help="draws who has no source in the worst cases: .svg, .png or .pdf")
 @click.option("-o", "--output", type=click.Path(), help="all rows go to this file, packed where it ends in .gz")
 @click.option("--force", is_flag=True, help="writes over a file that is there already")
 @click.pass_context
@@ -125,26 +162,23 @@ def survey(
     works them by `study`, --size of them at once, on all processors or on a cluster. A survey that was stopped goes on where it
     was by the same command: finished parts stand in --parts, and none is worked twice; that folder may go once it is done.
 
+    --map draws the worst cases, each of which is run once more by `sim`: a line for each, a column for each element that is
+    without a source at the end of one of them, and in each field what the element follows.
+
     \b
       $ murdjohe gen 5 > plan.toml
-      $ murdjohe survey plan.toml --links --sources --pairs -o rows.csv.gz
+      $ murdjohe survey plan.toml --links --sources --pairs --map map.svg -o rows.csv.gz
     """
     if plan == inputs.STDIN and table == inputs.STDIN:
         raise Wrong("standard input is one file: the plan or the cases")
     asked_failures.within_a_day(until, "--until")
-    files.free([output] if output else [], force)
+    asked_map.can_be_drawn(asked["map"], output, asked["worst"])
+    files.free([path for path in (output, asked["map"]) if path], force)
     taken = plan_file.read(plan)
     cases = cases_of(context, taken, table, asked)
     end = min(cases.last + runs.AFTER, forms.DAY_MS) if until is None else until
-    tally, done = worked(taken, cases, end, asked, output)
-    root = context.find_root().params
-    if as_json or root["json"]:
-        context.obj.put(plain_json.text(survey_report.as_data(tally, end)))
-    else:
-        context.obj.put("".join(f"{line}\n" for line in survey_report.text_of(tally, asked["worst"])).encode())
-    if not root["quiet"]:
-        kept = f"{done.found:,} were worked before; parts are in {asked['parts']}"
-        streams.tell(f"{plural(done.worked, 'case')} worked up to {end}, {kept}", colour="green")
+    tally, done = written(taken, cases, end, asked, output)
+    told(context, tally, done, end, asked, as_json)
     return core.DONE
 
 

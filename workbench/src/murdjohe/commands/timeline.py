@@ -4,13 +4,11 @@ from __future__ import annotations
 
 import click
 
-from murdjohe import bands, core, drawing, files, progress, runs, spans, strips, views, wiring
+from murdjohe import bands, core, drawing, figures, files, progress, runs, spans, strips, views, wiring
 from murdjohe.commands.common import Milliseconds
 from murdjohe.reports import Loop, Report
 from murdjohe.strips import Red, Timeline
 from murdjohe.wrong import Wrong
-
-ENDINGS = ("svg", "png", "pdf")
 
 
 def word_of(walk: Loop) -> str:
@@ -97,9 +95,7 @@ def timeline(
       $ murdjohe sim plan.toml events.csv 10m > report
       $ murdjohe timeline report --plan plan.toml --events events.csv --until 10m -o timeline.svg
     """
-    ending = output.rpartition(".")[2]
-    if ending not in ENDINGS:
-        raise Wrong(f"{output}: a picture ends in .svg, .png or .pdf")
+    ending = figures.ending_of(output)
     if fold < 1:
         raise Wrong("--fold: at least 1 millisecond")
     rows, order = bands.changes_of(report)

@@ -1,7 +1,7 @@
 use Rattle.std.proofs.Common.{◌≡◌, ◌<◌, ℕ, ◌+◌, ◌-◌}
 use Rattle.std.specs.Prelude.{slice_index_or, min}
 use Rattle.agenda.specs.declared.due_times.TheConstants.{NEVER}
-use Rattle.agenda.specs.Tournament.{IsTournament}
+use Rattle.agenda.specs.private.Tournament.{IsTournament}
 use Rattle.agenda.proofs.due_times.place_of.Given as goal
 
 -- at this round the first number stands

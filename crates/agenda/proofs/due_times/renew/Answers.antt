@@ -2,7 +2,7 @@ use Rattle.std.proofs.Common.{◌≡◌, ◌<◌, ℕ, ◌+◌, ◌*◌, List, l
 use Rattle.std.specs.Prelude.{min, slice_index_or}
 use Rattle.std.proofs.lemmas.List.{get_or_default}
 use Rattle.agenda.specs.declared.due_times.TheConstants.{NEVER}
-use Rattle.agenda.specs.Tournament.{IsTournament, with_player}
+use Rattle.agenda.specs.private.Tournament.{IsTournament, with_player}
 use Rattle.agenda.proofs.Tournaments.{winner_at, with_same, with_winner}
 use Rattle.agenda.proofs.due_times.renew.Goals as goal
 

@@ -1,7 +1,7 @@
 use Rattle.std.proofs.Common.{◌≡◌, ◌<◌, ℕ, ◌+◌, length}
 use Rattle.std.specs.Prelude.{min}
 use Rattle.agenda.specs.declared.due_times.TheConstants.{NEVER}
-use Rattle.agenda.specs.Tournament.{IsTournament, with_player}
+use Rattle.agenda.specs.private.Tournament.{IsTournament, with_player}
 use Rattle.agenda.proofs.due_times.renew.Given as goal
 
 -- the winner of this round alone is stale

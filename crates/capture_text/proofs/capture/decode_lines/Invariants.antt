@@ -1,6 +1,6 @@
 use Rattle.std.proofs.Common.{◌≡◌, ◌+◌, length}
 use Rattle.capture_text.specs.Capture.{row_of_line, text_of_lines, decoded_text}
-use Rattle.capture_text.specs.Steps.{with_front}
+use Rattle.capture_text.specs.private.Steps.{with_front}
 use Rattle.capture_text.proofs.capture.decode_lines.Given as goal
 
 -- the text so far with that of the lines left is the whole text

@@ -1,7 +1,7 @@
 -- A line that ends with the digits of padding gives what stands before them, and the padding.
 use Rattle.std.proofs.Common.{subst}
 use Rattle.hex.specs.Hex.{decode_of}
-use Rattle.capture_text.specs.Steps.{IsPut}
+use Rattle.capture_text.specs.private.Steps.{IsPut}
 use Rattle.capture_text.proofs.PaddingLemmas.{half_put, ends_so}
 use Rattle.capture_text.proofs.capture.put_octets.Goals as goal
 

@@ -4,7 +4,7 @@ use Rattle.std.proofs.lemmas.Result.{IfOk-weaker}
 use Rattle.closed_walks.specs.declared.traced.Ending.{Ending}
 use Rattle.closed_walks.specs.Taking.{taken_in_list}
 use Rattle.closed_walks.specs.Traces.{EndsSo}
-use Rattle.closed_walks.specs.Known.{IsKnown}
+use Rattle.closed_walks.specs.private.Known.{IsKnown}
 use Rattle.closed_walks.proofs.KnownLaws.{found-each, found-known, found-count}
 use Rattle.closed_walks.proofs.endings.endings_of.Goals as goal
 

@@ -1,6 +1,6 @@
 use Rattle.std.proofs.Common.{vec_len}
 use Rattle.closed_walks.specs.Taking.{taken_in_list}
-use Rattle.closed_walks.specs.Known.{IsMoreKnown}
+use Rattle.closed_walks.specs.private.Known.{IsMoreKnown}
 use Rattle.closed_walks.proofs.KnownLaws.{LeadsToKnown}
 use Rattle.closed_walks.proofs.endings.note_back.Given as goal
 

@@ -1,7 +1,7 @@
 use Rattle.std.proofs.Common.{◌≡◌, ℕ, true, length}
 use Rattle.closed_walks.specs.Taking.{taken_in_list}
 use Rattle.closed_walks.specs.Following.{is_met}
-use Rattle.closed_walks.specs.Known.{IsKnown, AreKnown}
+use Rattle.closed_walks.specs.private.Known.{IsKnown, AreKnown}
 use Rattle.closed_walks.proofs.endings.note_in_order.Given as goal
 
 -- all that are marked are known

@@ -5,7 +5,8 @@ use Rattle.sync_topo.specs.declared.input.LineId.{LineId}
 use Rattle.sync_topo.specs.Lines.{sender_of, numbers}
 use Rattle.net_rules.specs.Walks.{Taken}
 use Rattle.closed_walks.specs.Taking.{taken_in_list}
-use Rattle.closed_walks.specs.Following.{Follows, IsPassed, is_met, IsOnTrace}
+use Rattle.closed_walks.specs.Following.{Follows, IsPassed, is_met}
+use Rattle.closed_walks.specs.private.Following.{IsOnTrace}
 use Rattle.closed_walks.proofs.FollowLaws.{follows-more, met-then, trace-begins, trace-more, ends-at_loop, takes-on, ends-over}
 use Rattle.closed_walks.proofs.following.follow.Goals as goal
 

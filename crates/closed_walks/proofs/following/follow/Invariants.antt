@@ -1,7 +1,8 @@
 use Rattle.std.proofs.Common.{◌≡◌, ◌<◌, ◌⊎◌, ℕ, true, List, length, sum_by, cond}
 use Rattle.closed_walks.specs.Taking.{taken_in_list}
 use Rattle.sync_topo.specs.Lines.{numbers}
-use Rattle.closed_walks.specs.Following.{Follows, IsPassed, is_met, AreMet, IsOnTrace}
+use Rattle.closed_walks.specs.Following.{Follows, IsPassed, is_met, AreMet}
+use Rattle.closed_walks.specs.private.Following.{IsOnTrace}
 use Rattle.closed_walks.proofs.following.follow.Given as goal
 
 -- the lines so far lead here, and those passed are marked

@@ -5,7 +5,7 @@ use Rattle.std.proofs.lemmas.Result.{on_ok_weaker}
 use Rattle.net_rules.specs.Walks.{Taken}
 use Rattle.closed_walks.specs.Taking.{taken_in_list}
 use Rattle.sync_topo.specs.Lines.{numbers}
-use Rattle.closed_walks.specs.Listing.{AreListed}
+use Rattle.closed_walks.specs.private.Listing.{AreListed}
 use Rattle.closed_walks.proofs.KnownLaws.{taken-own}
 use Rattle.closed_walks.proofs.LoopLaws.{listed-skip, listed-one}
 use Rattle.closed_walks.proofs.listing.list_from.Goals as goal

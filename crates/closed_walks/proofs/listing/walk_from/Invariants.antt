@@ -2,7 +2,7 @@ use Rattle.std.proofs.Common.{◌≡◌, ◌<◌, length}
 use Rattle.sync_topo.specs.Lines.{sender_of}
 use Rattle.net_rules.specs.GoingBack.{line_before, lines_before}
 use Rattle.closed_walks.specs.Taking.{taken_in_list}
-use Rattle.closed_walks.specs.Listing.{backwards, AreMarked}
+use Rattle.closed_walks.specs.private.Listing.{backwards, AreMarked}
 use Rattle.closed_walks.proofs.listing.walk_from.Given as goal
 
 -- the lines so far are those before the first

@@ -1,7 +1,7 @@
 use Rattle.std.proofs.Common.{◌≡◌, map, length}
 use Rattle.closed_walks.specs.Taking.{taken_in_list}
 use Rattle.sync_topo.specs.Lines.{numbers}
-use Rattle.closed_walks.specs.Listing.{AreListed}
+use Rattle.closed_walks.specs.private.Listing.{AreListed}
 use Rattle.closed_walks.proofs.listing.walks_of.Given as goal
 
 -- all that begin with a line behind are listed

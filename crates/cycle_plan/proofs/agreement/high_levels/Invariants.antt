@@ -1,5 +1,5 @@
 use Rattle.std.proofs.Common.{◌≤◌}
-use Rattle.cycle_plan.specs.Agreed.{IsHighBelow}
+use Rattle.cycle_plan.specs.private.Agreed.{IsHighBelow}
 use Rattle.cycle_plan.proofs.agreement.high_levels.Given as goal
 
 abbrev pub invariant-loop-e : goal.invariant-loop-e

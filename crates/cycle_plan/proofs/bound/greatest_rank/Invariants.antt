@@ -1,4 +1,4 @@
-use Rattle.cycle_plan.specs.BoundParts.{IsRankBelow}
+use Rattle.cycle_plan.specs.private.BoundParts.{IsRankBelow}
 use Rattle.cycle_plan.proofs.bound.greatest_rank.Given as goal
 
 abbrev pub invariant-loop-number : goal.invariant-loop-number

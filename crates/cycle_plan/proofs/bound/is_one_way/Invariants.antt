@@ -1,4 +1,4 @@
-use Rattle.cycle_plan.specs.BoundParts.{AreDirections}
+use Rattle.cycle_plan.specs.private.BoundParts.{AreDirections}
 use Rattle.cycle_plan.proofs.bound.is_one_way.Given as goal
 
 abbrev pub invariant-loop-number : goal.invariant-loop-number

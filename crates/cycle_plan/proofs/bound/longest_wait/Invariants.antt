@@ -1,6 +1,6 @@
 use Rattle.std.proofs.Common.{◌≤◌}
 use Rattle.sync_ql.specs.declared.limits.TheConstants.{GREATEST_WTR}
-use Rattle.cycle_plan.specs.BoundParts.{IsWaitBelow}
+use Rattle.cycle_plan.specs.private.BoundParts.{IsWaitBelow}
 use Rattle.cycle_plan.proofs.bound.longest_wait.Given as goal
 
 abbrev pub invariant-loop-e : goal.invariant-loop-e

@@ -1,5 +1,5 @@
 use Rattle.std.proofs.Common.{refl}
-use Rattle.sync_topo.specs.declared.returns.Returns.TheVariants.{Barred}
+use Rattle.sync_topo.specs.declared.returns.ReturnRule.TheVariants.{Barred}
 use Rattle.sync_topo.specs.Lines.{is_nominated, numbers}
 use Rattle.sync_topo.specs.Hops.{hops}
 use Rattle.rank_cert.specs.Ranks.{rank_at, rank_of}

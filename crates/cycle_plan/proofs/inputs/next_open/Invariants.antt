@@ -1,5 +1,5 @@
 use Rattle.std.proofs.Common.{◌≡◌, ℕ, ◌<◌, ◌≤◌, false}
-use Rattle.cycle_plan.specs.Inputs.{is_open}
+use Rattle.cycle_plan.specs.private.Inputs.{is_open}
 use Rattle.cycle_plan.proofs.inputs.next_open.Given as goal
 
 abbrev pub invariant-loop-place : goal.invariant-loop-place

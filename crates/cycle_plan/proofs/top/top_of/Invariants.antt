@@ -1,4 +1,4 @@
-use Rattle.cycle_plan.specs.Tops.{IsTop}
+use Rattle.cycle_plan.specs.private.Tops.{IsTop}
 use Rattle.cycle_plan.proofs.top.top_of.Given as goal
 
 abbrev pub invariant-loop-place : goal.invariant-loop-place

@@ -1,5 +1,5 @@
 use Rattle.std.proofs.Common.{◌≡◌, false, length}
-use Rattle.event_file.specs.CasesTaken.{AreCasesLeft}
+use Rattle.event_file.specs.private.CasesTaken.{AreCasesLeft}
 use Rattle.event_file.proofs.case_file.take_case_rows.Given as goal
 
 -- the rows so far broke no rule, and what is kept is what they gave

@@ -1,5 +1,5 @@
 use Rattle.std.proofs.Common.{◌≡◌, false, length}
-use Rattle.event_file.specs.Taken.{AreTaken}
+use Rattle.event_file.specs.private.Taken.{AreTaken}
 use Rattle.event_file.proofs.reading.take_rows.Given as goal
 
 -- the rows so far broke no rule, and these are their events

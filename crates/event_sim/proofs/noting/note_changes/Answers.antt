@@ -5,7 +5,7 @@ use Rattle.std.proofs.lemmas.List.{length-append, length-map}
 use Rattle.event_sim.specs.declared.shown.Shown.{Shown}
 use Rattle.event_sim.specs.declared.change.Change.{Change}
 use Rattle.event_sim.specs.Rows.{row_of, shown_after}
-use Rattle.event_sim.specs.Showing.{others_in, rows_between}
+use Rattle.event_sim.specs.private.Showing.{others_in, rows_between}
 use Rattle.event_sim.proofs.NotingLaws.{others-within}
 use Rattle.event_sim.proofs.noting.note_changes.Goals as goal
 

@@ -2,7 +2,7 @@ use Rattle.std.proofs.Common.{◌≡◌, ◌++◌, map, take}
 use Rattle.std.specs.Prelude.{codes}
 use Rattle.std.specs.List.{concat, range_with_len}
 use Rattle.inspection.specs.Commands.{row_at}
-use Rattle.inspection.specs.Tables.{AreTables, table_at}
+use Rattle.inspection.specs.private.Tables.{AreTables, table_at}
 use Rattle.inspection.proofs.commands.put_commands.Given as goal
 
 -- the rows of the events so far, and the tables after them

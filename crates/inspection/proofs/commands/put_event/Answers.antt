@@ -3,7 +3,7 @@ use Rattle.std.specs.Prelude.{Result, Ok, Err, OnOk, IfSome, slice_index_or}
 use Rattle.std.proofs.lemmas.Option.{slice_get_read}
 use Rattle.sync_ql.specs.Switches.{Switches, NamesInput}
 use Rattle.inspection.specs.Commands.{is_taken}
-use Rattle.inspection.specs.Tables.{after_asked, table_after}
+use Rattle.inspection.specs.private.Tables.{after_asked, table_after}
 use Rattle.inspection.proofs.Tabled.{table-room, tables-stay, tables-next, one-command}
 use Rattle.inspection.proofs.commands.put_event.Goals as goal
 

@@ -1,7 +1,7 @@
 use Rattle.std.proofs.Common.{◌++◌, ℕ, suc, ◌+◌, ◌≡◌, ap, subst, ◌∙◌, arith}
 use Rattle.sync_topo.specs.Topology.{Topology}
 use Rattle.sync_net.specs.Standing.{StandsFor}
-use Rattle.inspection.specs.Tables.{commands_told}
+use Rattle.inspection.specs.private.Tables.{commands_told}
 use Rattle.inspection.specs.Inspection.{elements_part, inputs_part}
 use Rattle.inspection.proofs.Told.{told-commands}
 use Rattle.inspection.proofs.inspecting.text_of.Goals as goal

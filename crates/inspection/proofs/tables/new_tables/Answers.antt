@@ -1,6 +1,6 @@
 use Rattle.std.proofs.Common.{◌≡◌, [], length, ap, ◌∙◌}
 use Rattle.sync_ql.specs.Switches.{unswitched}
-use Rattle.inspection.specs.Tables.{table_after}
+use Rattle.inspection.specs.private.Tables.{table_after}
 use Rattle.net_words.proofs.NewElements.{each-more}
 use Rattle.inspection.proofs.tables.new_tables.Goals as goal
 

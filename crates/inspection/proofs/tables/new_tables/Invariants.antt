@@ -1,6 +1,6 @@
 use Rattle.std.proofs.Common.{◌≡◌, []}
 use Rattle.net_words.specs.NewElements.{AreEach}
-use Rattle.inspection.specs.Tables.{table_after}
+use Rattle.inspection.specs.private.Tables.{table_after}
 use Rattle.inspection.proofs.tables.new_tables.Given as goal
 
 -- the tables so far

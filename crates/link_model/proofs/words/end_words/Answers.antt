@@ -1,6 +1,6 @@
 use Rattle.std.proofs.Common.{◌≡◌, ◌<◌, ℕ, zero, suc, ◌+◌, List, [], ◌∷◌, ◌++◌, length, map, take, drop, slice_set, slice_index_or, refl, ap, ◌∙◌, arith}
 use Rattle.link_model.specs.declared.word.Word.{Word}
-use Rattle.link_model.specs.Kept.{ended}
+use Rattle.link_model.specs.private.Kept.{ended}
 use Rattle.link_model.proofs.words.end_words.Goals as goal
 
 one_ended : (now i : ℕ) (ws : List Word) (d : Word) → i < length ws → slice_set (map (ended now) (take i ws) ++ drop i ws) i (ended now (slice_index_or (map (ended now) (take i ws) ++ drop i ws) i d)) ≡ map (ended now) (take (suc i) ws) ++ drop (suc i) ws

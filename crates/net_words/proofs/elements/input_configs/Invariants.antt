@@ -1,5 +1,6 @@
 use Rattle.std.proofs.Common.{◌≡◌, map, take}
-use Rattle.net_words.specs.NewElements.{config_by, setting_of}
+use Rattle.net_words.specs.NewElements.{setting_of}
+use Rattle.net_words.specs.private.NewElements.{config_by}
 use Rattle.net_words.proofs.elements.input_configs.Given as goal
 
 -- what the element is set to for the inputs so far

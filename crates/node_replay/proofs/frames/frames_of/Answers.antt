@@ -1,6 +1,6 @@
 use Rattle.std.proofs.Common.{arith}
 use Rattle.std.specs.List.{filter_map}
-use Rattle.node_replay.specs.Keeping.{frame_of}
+use Rattle.node_replay.specs.private.Keeping.{frame_of}
 use Rattle.node_replay.proofs.RowWords.{step-kept, end-kept}
 use Rattle.node_replay.proofs.frames.frames_of.Goals as goal
 

@@ -1,6 +1,6 @@
 use Rattle.std.proofs.Common.{◌≡◌, ◌++◌, drop}
 use Rattle.std.specs.List.{filter_map}
-use Rattle.node_replay.specs.Keeping.{frame_of}
+use Rattle.node_replay.specs.private.Keeping.{frame_of}
 use Rattle.node_replay.proofs.frames.frames_of.Given as goal
 
 -- what is left of the lines is still to be looked at

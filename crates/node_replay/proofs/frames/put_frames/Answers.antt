@@ -1,6 +1,6 @@
 use Rattle.std.proofs.Common.{◌++◌, map, arith}
 use Rattle.std.specs.List.{concat}
-use Rattle.node_replay.specs.Keeping.{sent_row}
+use Rattle.node_replay.specs.private.Keeping.{sent_row}
 use Rattle.node_replay.proofs.RowWords.{step-put, end-put}
 use Rattle.node_replay.proofs.frames.put_frames.Goals as goal
 

@@ -1,6 +1,6 @@
 use Rattle.std.proofs.Common.{◌≡◌, ◌++◌, map, drop}
 use Rattle.std.specs.List.{concat}
-use Rattle.node_replay.specs.Keeping.{sent_row}
+use Rattle.node_replay.specs.private.Keeping.{sent_row}
 use Rattle.node_replay.proofs.frames.put_frames.Given as goal
 
 -- the rows of what is left of the frames are still to be put

@@ -1,5 +1,5 @@
 use Rattle.std.proofs.Common.{ap, sym, ◌∙◌}
-use Rattle.node_replay.specs.Keeping.{input_after}
+use Rattle.node_replay.specs.private.Keeping.{input_after}
 use Rattle.node_replay.proofs.RowWords.{step-map}
 use Rattle.node_replay.proofs.inputs.note_inputs.Goals as goal
 

@@ -1,5 +1,5 @@
 use Rattle.std.proofs.Common.{◌≡◌, ◌++◌, map, take, drop}
-use Rattle.node_replay.specs.Keeping.{input_after}
+use Rattle.node_replay.specs.private.Keeping.{input_after}
 use Rattle.node_replay.proofs.inputs.note_inputs.Given as goal
 
 -- the inputs so far have taken in the rows

@@ -1,5 +1,5 @@
 use Rattle.std.proofs.Common.{ap, sym, ◌∙◌}
-use Rattle.node_replay.specs.Keeping.{out_after}
+use Rattle.node_replay.specs.private.Keeping.{out_after}
 use Rattle.node_replay.proofs.RowWords.{step-map}
 use Rattle.node_replay.proofs.outs.note_outs.Goals as goal
 

@@ -1,5 +1,5 @@
 use Rattle.std.proofs.Common.{◌≡◌, ◌++◌, map, take, drop}
-use Rattle.node_replay.specs.Keeping.{out_after}
+use Rattle.node_replay.specs.private.Keeping.{out_after}
 use Rattle.node_replay.proofs.outs.note_outs.Given as goal
 
 -- the lines so far have taken in the rows

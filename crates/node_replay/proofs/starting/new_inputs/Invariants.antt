@@ -1,5 +1,5 @@
 use Rattle.std.proofs.Common.{◌≡◌, map, take}
-use Rattle.node_replay.specs.Starting.{new_input}
+use Rattle.node_replay.specs.private.Starting.{new_input}
 use Rattle.node_replay.proofs.starting.new_inputs.Given as goal
 
 -- the inputs so far

@@ -2,7 +2,7 @@ use Rattle.std.proofs.Common.{map, arith}
 use Rattle.std.specs.Prelude.{◌==◌}
 use Rattle.sync_topo.specs.Lines.{line_count, sender_of}
 use Rattle.node_rules.specs.NodeText.{lines_out}
-use Rattle.node_replay.specs.Starting.{new_out}
+use Rattle.node_replay.specs.private.Starting.{new_out}
 use Rattle.node_replay.proofs.RowWords.{step-range, end-range}
 use Rattle.node_replay.proofs.starting.new_outs.Goals as goal
 

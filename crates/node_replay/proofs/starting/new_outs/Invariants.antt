@@ -3,7 +3,7 @@ use Rattle.std.specs.Prelude.{◌==◌}
 use Rattle.std.specs.List.{range_with_len}
 use Rattle.sync_topo.specs.Lines.{line_count, sender_of}
 use Rattle.node_rules.specs.NodeText.{lines_out}
-use Rattle.node_replay.specs.Starting.{new_out}
+use Rattle.node_replay.specs.private.Starting.{new_out}
 use Rattle.node_replay.proofs.starting.new_outs.Given as goal
 
 -- the lines from this number on are still to be looked at

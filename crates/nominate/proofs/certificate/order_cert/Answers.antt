@@ -1,6 +1,6 @@
 use Rattle.std.proofs.Common.{◌≡◌, List, ℕ, ap, arith, ◌∙◌}
 use Rattle.sync_topo.specs.Lines.{line_count}
-use Rattle.nominate.specs.Placing.{rank_by}
+use Rattle.nominate.specs.private.Placing.{rank_by}
 use Rattle.nominate.proofs.CertLaws.{AreRankedTo-more, order-ranks, order-ranked, order-no_other, order-rising, order-accepted, order-loop_free}
 use Rattle.nominate.proofs.certificate.order_cert.Goals as goal
 

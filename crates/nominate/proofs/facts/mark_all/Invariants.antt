@@ -1,4 +1,4 @@
-use Rattle.nominate.specs.Marks.{AreMarks}
+use Rattle.nominate.specs.private.Marks.{AreMarks}
 use Rattle.nominate.proofs.facts.mark_all.Given as goal
 
 abbrev pub invariant-loop-number : goal.invariant-loop-number

@@ -2,7 +2,7 @@ use Rattle.std.proofs.Common.{◌≡◌, [], List, map, drop, ap, arith}
 use Rattle.sync_topo.specs.declared.input.InputId.{InputId}
 use Rattle.std.proofs.Math.ListN.{drop_of_length-le}
 use Rattle.nominate.specs.Nomination.{greatest_of}
-use Rattle.nominate.specs.Numbering.{own_priority}
+use Rattle.nominate.specs.private.Numbering.{own_priority}
 use Rattle.nominate.proofs.OwnLemmas.{greatest-own}
 use Rattle.nominate.proofs.numbering.base_priority.Goals as goal
 

@@ -1,7 +1,7 @@
 use Rattle.std.proofs.Common.{◌≡◌, map, drop}
 use Rattle.std.specs.Prelude.{max}
 use Rattle.nominate.specs.Nomination.{greatest_of}
-use Rattle.nominate.specs.Numbering.{own_priority}
+use Rattle.nominate.specs.private.Numbering.{own_priority}
 use Rattle.nominate.proofs.numbering.base_priority.Given as goal
 
 abbrev pub invariant-loop-input : goal.invariant-loop-input

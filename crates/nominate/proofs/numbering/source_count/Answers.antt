@@ -1,7 +1,7 @@
 use Rattle.std.proofs.Common.{take_all, ap, ◌∙◌}
 use Rattle.std.specs.List.{count_by}
 use Rattle.sync_topo.specs.declared.input.InputId.{InputId}
-use Rattle.nominate.specs.Searching.{is_source}
+use Rattle.nominate.specs.private.Searching.{is_source}
 use Rattle.nominate.proofs.OwnLemmas.{count-own}
 use Rattle.nominate.proofs.numbering.source_count.Goals as goal
 use Rattle.std.proofs.Common.{List}

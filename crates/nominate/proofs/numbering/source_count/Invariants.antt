@@ -1,6 +1,6 @@
 use Rattle.std.proofs.Common.{◌≡◌, ◌≤◌, take}
 use Rattle.std.specs.List.{count_by}
-use Rattle.nominate.specs.Searching.{is_source}
+use Rattle.nominate.specs.private.Searching.{is_source}
 use Rattle.nominate.proofs.numbering.source_count.Given as goal
 
 abbrev pub invariant-loop-input : goal.invariant-loop-input

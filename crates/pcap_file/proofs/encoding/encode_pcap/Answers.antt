@@ -3,12 +3,12 @@ use Rattle.std.proofs.Common.{◌≡◌, ◌+◌, ◌++◌, [], Ok, rules, sym, 
 use Rattle.std.specs.List.{cons_option, filter_map}
 use Rattle.std.proofs.lemmas.List.{append-nil}
 use Rattle.capture_text.specs.Capture.{text_of_lines}
-use Rattle.capture_text.specs.Steps.{with_front}
+use Rattle.capture_text.specs.private.Steps.{with_front}
 use Rattle.capture_text.proofs.TextLemmas.{with_line}
 use Rattle.pcap_file.specs.Timed.{timed_of, record_of_line}
 use Rattle.pcap_file.specs.CaptureOf.{timed_rows, IsCaptureOf}
 use Rattle.pcap_file.specs.Written.{written_head}
-use Rattle.pcap_file.specs.WrittenSoFar.{IsWrittenSoFar}
+use Rattle.pcap_file.specs.private.WrittenSoFar.{IsWrittenSoFar}
 use Rattle.pcap_file.proofs.FramesOf.{none-written, next-row, capture-of}
 use Rattle.pcap_file.proofs.encoding.encode_pcap.Goals as goal
 

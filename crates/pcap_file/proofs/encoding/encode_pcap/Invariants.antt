@@ -1,11 +1,11 @@
 use Rattle.std.proofs.Common.{◌≡◌, ◌+◌, ◌++◌, List, length}
 use Rattle.std.specs.List.{filter_map}
 use Rattle.capture_text.specs.Capture.{text_of_lines}
-use Rattle.capture_text.specs.Steps.{with_front}
+use Rattle.capture_text.specs.private.Steps.{with_front}
 use Rattle.pcap_file.specs.declared.encoding.Timed.{Timed}
 use Rattle.pcap_file.specs.Timed.{timed_of, record_of_line, encoded_pcap}
 use Rattle.pcap_file.specs.CaptureOf.{timed_rows}
-use Rattle.pcap_file.specs.WrittenSoFar.{IsWrittenSoFar}
+use Rattle.pcap_file.specs.private.WrittenSoFar.{IsWrittenSoFar}
 use Rattle.pcap_file.proofs.encoding.encode_pcap.Given as goal
 
 -- the text so far with the records of the lines left is the whole capture; and it is one of the rows before these

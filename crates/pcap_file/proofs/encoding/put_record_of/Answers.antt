@@ -6,7 +6,7 @@ use Rattle.esmc_frame.specs.Frame.{written_frame}
 use Rattle.pcap_file.specs.declared.encoding.Timed.{Timed}
 use Rattle.pcap_file.specs.Timed.{timed_of}
 use Rattle.pcap_file.specs.Written.{written_record}
-use Rattle.pcap_file.specs.WrittenSoFar.{IsWrittenSoFar}
+use Rattle.pcap_file.specs.private.WrittenSoFar.{IsWrittenSoFar}
 use Rattle.pcap_file.proofs.FramesOf.{no-octets, no-row, one-written}
 use Rattle.pcap_file.proofs.encoding.put_record_of.Goals as goal
 

@@ -3,8 +3,8 @@ use Rattle.std.proofs.Common.{◌≡◌, ◌<◌, ◌≤◌, ◌+◌, length, dr
 use Rattle.std.proofs.lemmas.List.{length-drop}
 use Rattle.std.proofs.lemmas.List.Elements.{All-push}
 use Rattle.pcap_file.specs.declared.reading.Packet.{Packet}
-use Rattle.pcap_file.specs.Pcap.{first_packet}
-use Rattle.pcap_file.specs.Steps.{with_packets}
+use Rattle.pcap_file.specs.private.Pcap.{first_packet}
+use Rattle.pcap_file.specs.private.Steps.{with_packets}
 use Rattle.pcap_file.proofs.Packets.{so_far_more, at_end, refused_here}
 use Rattle.pcap_file.proofs.reading.read_records.Goals as goal
 

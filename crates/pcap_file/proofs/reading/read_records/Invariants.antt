@@ -1,7 +1,7 @@
 use Rattle.std.proofs.Common.{◌≡◌, ◌≤◌, ◌+◌, ◌-◌, length, drop}
 use Rattle.std.specs.List.{All}
 use Rattle.pcap_file.specs.Pcap.{packets_from}
-use Rattle.pcap_file.specs.Steps.{with_packets}
+use Rattle.pcap_file.specs.private.Steps.{with_packets}
 use Rattle.pcap_file.proofs.reading.read_records.Given as goal
 
 -- the packets so far with those of the octets left are the packets of all records

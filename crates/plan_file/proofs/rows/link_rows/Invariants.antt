@@ -3,7 +3,7 @@ use Rattle.std.specs.Vec.Iter.{into_iter_items, into_iter_len}
 use Rattle.toml.specs.View.{view}
 use Rattle.sync_topo.specs.declared.place.Section.TheVariants.{Links}
 use Rattle.plan_file.specs.Rows.{link_row}
-use Rattle.plan_file.specs.Values.{rows_from}
+use Rattle.plan_file.specs.private.Values.{rows_from}
 use Rattle.plan_file.proofs.RowsSoFar.{with_front}
 use Rattle.plan_file.proofs.rows.link_rows.Given as goal
 

@@ -4,7 +4,7 @@ use Rattle.toml.specs.View.{view}
 use Rattle.sync_topo.specs.declared.place.Section.TheVariants.{Sources}
 use Rattle.plan_file.specs.declared.version.Version.TheVariants.{One}
 use Rattle.plan_file.specs.Rows.{source_row}
-use Rattle.plan_file.specs.Values.{rows_from}
+use Rattle.plan_file.specs.private.Values.{rows_from}
 use Rattle.plan_file.proofs.RowsSoFar.{with_front}
 use Rattle.plan_file.proofs.rows.source_rows.Given as goal
 

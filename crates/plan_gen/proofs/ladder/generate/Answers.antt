@@ -5,11 +5,11 @@ use Rattle.plan_gen.proofs.ladder.generate.Goals as goal
 
 pub want_of_memory-requires : goal.want_of_memory-requires
 want_of_memory-requires c =
-    only_memory c.in-Err.error (plan_of_rows c.in_ok-rows.rows) (ladder c.args.n) c.in-Err.ensures.exact
-    (rw c.in_ok-rows.ensures (plan_of_rows-ladder c.args.n c.requires.least c.requires.greatest))
+    only_memory c.in-Err.error (plan_of_rows c.in_ok-rows.rows) (ladder c.args.elements) c.in-Err.ensures.exact
+    (rw c.in_ok-rows.ensures (plan_of_rows-ladder c.args.elements c.requires.least c.requires.greatest))
 
 pub returns-in-Ok : goal.returns-in-Ok
 returns-in-Ok c = record {
-  ladder = same_plan (plan_of_rows c.in_ok-rows.rows) c.in-Ok.plan (ladder c.args.n) c.in-Ok.ensures.exact
-      (rw c.in_ok-rows.ensures (plan_of_rows-ladder c.args.n c.requires.least c.requires.greatest));
+  ladder = same_plan (plan_of_rows c.in_ok-rows.rows) c.in-Ok.plan (ladder c.args.elements) c.in-Ok.ensures.exact
+      (rw c.in_ok-rows.ensures (plan_of_rows-ladder c.args.elements c.requires.least c.requires.greatest));
 }

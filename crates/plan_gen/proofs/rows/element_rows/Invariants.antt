@@ -1,6 +1,6 @@
 use Rattle.std.proofs.Common.{◌≡◌, map}
 use Rattle.std.specs.List.{range_with_len}
-use Rattle.plan_gen.specs.LadderRows.{element_row}
+use Rattle.plan_gen.specs.private.LadderRows.{element_row}
 use Rattle.plan_gen.proofs.rows.element_rows.Given as goal
 
 abbrev pub invariant-loop-j : goal.invariant-loop-j

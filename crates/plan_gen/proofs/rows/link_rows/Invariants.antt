@@ -1,6 +1,6 @@
 use Rattle.std.proofs.Common.{◌≡◌, flat_map}
 use Rattle.std.specs.List.{range_with_len}
-use Rattle.plan_gen.specs.LadderRows.{link_rows_up_to}
+use Rattle.plan_gen.specs.private.LadderRows.{link_rows_up_to}
 use Rattle.plan_gen.proofs.rows.link_rows.Given as goal
 
 abbrev pub invariant-loop-j : goal.invariant-loop-j

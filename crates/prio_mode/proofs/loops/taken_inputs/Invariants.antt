@@ -1,5 +1,5 @@
 use Rattle.std.proofs.Common.{◌≡◌, take}
-use Rattle.prio_mode.specs.Running.{inputs_shown}
+use Rattle.prio_mode.specs.private.Running.{inputs_shown}
 use Rattle.prio_mode.proofs.loops.taken_inputs.Given as goal
 
 -- what those behind take

@@ -1,7 +1,7 @@
 use Rattle.std.proofs.Common.{◌++◌, ◌∙◌, ap, sym, subst}
 use Rattle.std.specs.Prelude.{codes}
 use Rattle.closed_walks.specs.Taking.{AreTaken}
-use Rattle.prio_mode.specs.Running.{inputs_shown}
+use Rattle.prio_mode.specs.private.Running.{inputs_shown}
 use Rattle.prio_mode.proofs.Reporting.{take-own, reported}
 use Rattle.prio_mode.proofs.simulating.prio_sim.Goals as goal
 

@@ -1,5 +1,5 @@
 use Rattle.net_words.proofs.NewElements.{each-more}
-use Rattle.prio_mode.specs.Running.{IsNewSeen}
+use Rattle.prio_mode.specs.private.Running.{IsNewSeen}
 use Rattle.prio_mode.proofs.starting.all_seen.Goals as goal
 
 pub loop-place-preserved : goal.loop-place-preserved

@@ -1,5 +1,5 @@
 use Rattle.net_words.specs.NewElements.{AreEach}
-use Rattle.prio_mode.specs.Running.{IsNewSeen}
+use Rattle.prio_mode.specs.private.Running.{IsNewSeen}
 use Rattle.prio_mode.proofs.starting.all_seen.Given as goal
 
 -- the elements so far

@@ -1,7 +1,7 @@
 use Rattle.std.proofs.Common.{◌≡◌, ◌<◌, ◌⊎◌, ℕ}
 use Rattle.sync_topo.specs.Lines.{receiver_of, IsNominated}
 use Rattle.sync_topo.specs.Bundles.{line_bundle}
-use Rattle.protection.specs.Trying.{bundle_at}
+use Rattle.protection.specs.private.Trying.{bundle_at}
 use Rattle.protection.proofs.orderly.are_of_two.Given as goal
 
 abbrev pub invariant-loop-number : goal.invariant-loop-number

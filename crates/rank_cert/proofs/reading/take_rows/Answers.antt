@@ -4,7 +4,7 @@ use Rattle.csv_records.proofs.FirstRefusals.{first_refusal-some, first_refusal-n
 use Rattle.csv_records.specs.FirstRefusal.{first_refusal}
 use Rattle.rank_cert.specs.Rows.{Fields}
 use Rattle.rank_cert.specs.CertificateText.{refusal_at}
-use Rattle.rank_cert.specs.RowsTaken.{AreRanksBy}
+use Rattle.rank_cert.specs.private.RowsTaken.{AreRanksBy}
 use Rattle.rank_cert.proofs.Taking.{refusal_at-is, AreTaken-more, Refuses-first, at_drop, all_taken}
 use Rattle.rank_cert.proofs.reading.take_rows.Goals as goal
 

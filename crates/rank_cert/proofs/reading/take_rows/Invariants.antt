@@ -1,5 +1,5 @@
 use Rattle.std.proofs.Common.{◌≡◌, ◌≤◌, false, drop, length}
-use Rattle.rank_cert.specs.RowsTaken.{AreTaken}
+use Rattle.rank_cert.specs.private.RowsTaken.{AreTaken}
 use Rattle.rank_cert.proofs.reading.take_rows.Given as goal
 
 -- the rows so far broke no rule and gave these ranks, and the others are left

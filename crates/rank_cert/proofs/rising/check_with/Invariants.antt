@@ -1,4 +1,4 @@
-use Rattle.rank_cert.specs.FirstFall.{IsFirstBelow}
+use Rattle.rank_cert.specs.private.FirstFall.{IsFirstBelow}
 use Rattle.rank_cert.proofs.rising.check_with.Given as goal
 
 abbrev pub invariant-loop-number : goal.invariant-loop-number

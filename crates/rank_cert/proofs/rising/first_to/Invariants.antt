@@ -1,5 +1,5 @@
 use Rattle.std.proofs.Common.{◌≡◌, drop}
-use Rattle.rank_cert.specs.FirstFall.{first_among}
+use Rattle.rank_cert.specs.private.FirstFall.{first_among}
 use Rattle.rank_cert.proofs.rising.first_to.Given as goal
 
 abbrev pub invariant-loop-input : goal.invariant-loop-input

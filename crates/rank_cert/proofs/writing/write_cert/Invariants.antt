@@ -1,4 +1,4 @@
-use Rattle.rank_cert.specs.Written.{AreWritten}
+use Rattle.rank_cert.specs.private.Written.{AreWritten}
 use Rattle.rank_cert.proofs.writing.write_cert.Given as goal
 
 abbrev pub invariant-loop-number : goal.invariant-loop-number

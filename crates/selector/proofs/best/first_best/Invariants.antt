@@ -1,4 +1,4 @@
-use Rattle.selector.specs.Scanned.{IsFirstBest}
+use Rattle.selector.specs.private.Scanned.{IsFirstBest}
 use Rattle.selector.proofs.best.first_best.Given as goal
 
 -- what was found is the best of the inputs up to here

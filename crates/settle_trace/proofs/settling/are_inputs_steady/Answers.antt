@@ -3,7 +3,7 @@ use Rattle.std.proofs.lemmas.Bool.{true≢false}
 use Rattle.sync_topo.specs.WellFormed.{IsWellFormed}
 use Rattle.sync_net.proofs.SteadyElements.{all-steady}
 use Rattle.settle_trace.specs.Now.{signals_of, out_of}
-use Rattle.settle_trace.specs.Resting.{AreSteady}
+use Rattle.settle_trace.specs.private.Resting.{AreSteady}
 use Rattle.settle_trace.proofs.ElementLaws.{element-answers}
 use Rattle.settle_trace.proofs.NetLaws.{one-more, settled-element}
 use Rattle.settle_trace.proofs.settling.are_inputs_steady.Goals as goal

@@ -2,7 +2,7 @@ use Rattle.std.proofs.Common.{◌<◌, ◌-◌, ℕ, List}
 use Rattle.sync_topo.specs.declared.event.Event.{Event}
 use Rattle.sync_net.specs.Standing.{StandsFor}
 use Rattle.settle_trace.specs.Now.{signals_of}
-use Rattle.settle_trace.specs.Resting.{AreSteady}
+use Rattle.settle_trace.specs.private.Resting.{AreSteady}
 use Rattle.settle_trace.proofs.settling.are_inputs_steady.Given as goal
 
 -- the inputs of the elements behind are steady

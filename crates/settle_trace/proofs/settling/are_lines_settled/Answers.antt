@@ -2,7 +2,7 @@ use Rattle.std.proofs.Common.{◌-◌, ap, arith, refl}
 use Rattle.sync_topo.specs.Lines.{line_count, IsNominated}
 use Rattle.sync_topo.proofs.LineLaws.{IsNominated-within}
 use Rattle.settle_trace.specs.Now.{signals_of, out_of}
-use Rattle.settle_trace.specs.Resting.{IsLineSettled}
+use Rattle.settle_trace.specs.private.Resting.{IsLineSettled}
 use Rattle.settle_trace.proofs.NetLaws.{one-more}
 use Rattle.settle_trace.proofs.settling.are_lines_settled.Goals as goal
 

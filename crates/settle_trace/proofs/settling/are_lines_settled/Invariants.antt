@@ -3,7 +3,7 @@ use Rattle.sync_topo.specs.declared.event.Event.{Event}
 use Rattle.sync_topo.specs.Lines.{IsNominated}
 use Rattle.sync_net.specs.Standing.{StandsFor}
 use Rattle.settle_trace.specs.Now.{signals_of, out_of}
-use Rattle.settle_trace.specs.Resting.{IsLineSettled}
+use Rattle.settle_trace.specs.private.Resting.{IsLineSettled}
 use Rattle.settle_trace.proofs.settling.are_lines_settled.Given as goal
 
 -- the lines behind are settled

@@ -1,5 +1,5 @@
 use Rattle.std.proofs.Common.{◌<◌, length, ap, ◌∙◌, arith, length-set}
-use Rattle.sync_element.specs.Renewing.{Renewal}
+use Rattle.sync_element.specs.private.Renewing.{Renewal}
 use Rattle.sync_element.specs.Whole.{inputs_kept}
 use Rattle.sync_element.proofs.Renewed.{can_one, kept_one}
 use Rattle.sync_element.proofs.renewing.renew_due.Goals as goal

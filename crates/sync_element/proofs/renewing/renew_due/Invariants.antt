@@ -3,7 +3,7 @@ use Rattle.std.specs.Prelude.{if◌then◌else◌}
 use Rattle.std.specs.List.{sum_by}
 use Rattle.sync_ql.specs.declared.rules.Candidate.{Candidate}
 use Rattle.sync_element.specs.declared.watched.Watched.{Watched}
-use Rattle.sync_element.specs.Renewing.{ends_at, CanRenew, AreRenewed, AreKept}
+use Rattle.sync_element.specs.private.Renewing.{ends_at, CanRenew, AreRenewed, AreKept}
 use Rattle.sync_element.specs.Whole.{inputs_kept}
 use Rattle.sync_element.proofs.renewing.renew_due.Given as goal
 

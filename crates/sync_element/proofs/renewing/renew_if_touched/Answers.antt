@@ -4,8 +4,8 @@ use Rattle.std.proofs.lemmas.Option.{same_Some}
 use Rattle.sync_ql.specs.declared.rules.Cmd.TheVariants.{Lockout, Unlock, Forced, Manual, Clear}
 use Rattle.sync_ql.specs.declared.rules.InputEvent.{InputEvent}
 use Rattle.sync_ql.specs.declared.rules.InputEvent.TheVariants.{Signal, Heard, ClearWtr, Command}
-use Rattle.sync_element.specs.Telling.{Fits}
-use Rattle.sync_element.specs.Renewing.{Renewal, touched_by, ends_at, IsDoneAt}
+use Rattle.sync_element.specs.private.Telling.{Fits}
+use Rattle.sync_element.specs.private.Renewing.{Renewal, touched_by, ends_at, IsDoneAt}
 use Rattle.sync_element.specs.Whole.{inputs_kept}
 use Rattle.sync_element.proofs.Renewed.{can_one, kept_one, done_here}
 use Rattle.sync_element.proofs.renewing.renew_if_touched.Goals as goal

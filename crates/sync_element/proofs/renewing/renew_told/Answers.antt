@@ -1,7 +1,7 @@
 use Rattle.std.proofs.Common.{◌≡◌, ◌∷◌, ◌+◌, suc, [], drop, ap, sym, ◌∙◌, subst, drop-cons, add-one}
 use Rattle.std.proofs.lemmas.List.{drop_all}
 use Rattle.sync_ql.specs.declared.rules.InputEvent.{InputEvent}
-use Rattle.sync_element.specs.Renewing.{Renewal, AreTaken}
+use Rattle.sync_element.specs.private.Renewing.{Renewal, AreTaken}
 use Rattle.sync_element.specs.Whole.{inputs_kept}
 use Rattle.sync_element.proofs.Renewed.{taken_more}
 use Rattle.sync_element.proofs.renewing.renew_told.Goals as goal
@@ -9,7 +9,7 @@ use Rattle.sync_element.proofs.renewing.renew_told.Goals as goal
 pub loop-event-preserved : goal.loop-event-preserved
 loop-event-preserved c =
     let at : Renewal = record { now = c.args.now; switches = c.args.commands.now; floor = c.args.config.now.floor } in
-    let events = c.args.events.now in
+    let events = c.args.told.now in
     let k = c.loop-event.event-index in
     let x = inputs_kept c.loop-event.inputs in
     let x_then = inputs_kept c.renew_if_touched.new.inputs in
@@ -27,5 +27,5 @@ loop-event-preserved c =
 pub returns-clause-taken : goal.returns-clause-taken
 returns-clause-taken c told before all =
     let at : Renewal = record { now = c.args.now; switches = c.args.commands.now; floor = c.args.config.now.floor } in
-    let none : drop c.loop-event.event-index c.args.events.now ≡ [] = drop_all c.loop-event.event-index c.args.events.now c.loop-event-test.false in
-    subst (λ left. AreTaken at told before c.args.events.now left (inputs_kept c.loop-event.inputs)) none (c.loop-event.invariant.taken told before all)
+    let none : drop c.loop-event.event-index c.args.told.now ≡ [] = drop_all c.loop-event.event-index c.args.told.now c.loop-event-test.false in
+    subst (λ left. AreTaken at told before c.args.told.now left (inputs_kept c.loop-event.inputs)) none (c.loop-event.invariant.taken told before all)

@@ -5,7 +5,7 @@ use Rattle.sync_ql.specs.declared.rules.Candidate.{Candidate}
 use Rattle.sync_ql.specs.Selection.{candidate}
 use Rattle.sync_ql.specs.Told.{IsOfOption}
 use Rattle.sync_ql.proofs.Eligible.{nobody}
-use Rattle.sync_element.specs.Starting.{first_candidate}
+use Rattle.sync_element.specs.private.Starting.{first_candidate}
 use Rattle.sync_element.proofs.Beginning.{no_input, input_option, same_option, candidates_first}
 use Rattle.sync_element.proofs.starting.new_table.Goals as goal
 

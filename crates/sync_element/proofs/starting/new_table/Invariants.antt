@@ -2,7 +2,7 @@ use Rattle.std.proofs.Common.{◌≡◌, ◌≤◌, ◌<◌, ℕ, length}
 use Rattle.std.specs.Prelude.{slice_index_or}
 use Rattle.sync_ql.specs.Selection.{candidate}
 use Rattle.selector.specs.Choices.{unusable}
-use Rattle.sync_element.specs.Starting.{first_candidate}
+use Rattle.sync_element.specs.private.Starting.{first_candidate}
 use Rattle.sync_element.proofs.Beginning.{no_input}
 use Rattle.sync_element.proofs.starting.new_table.Given as goal
 

@@ -1,6 +1,6 @@
 use Rattle.std.proofs.Common.{◌≡◌, ◌<◌, ℕ, length}
 use Rattle.sync_element.specs.Kept.{watched_in}
-use Rattle.sync_element.specs.Starting.{IsNew}
+use Rattle.sync_element.specs.private.Starting.{IsNew}
 use Rattle.sync_element.proofs.starting.new_watched.Given as goal
 
 abbrev pub invariant-loop-input : goal.invariant-loop-input

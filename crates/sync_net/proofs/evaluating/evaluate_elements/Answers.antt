@@ -1,7 +1,7 @@
 use Rattle.std.proofs.Common.{◌≡◌, ◌<◌, ◌+◌, ℕ, length, slice_index, take, nat_eq, List, arith, ap, subst, sym, false, ◌||◌, take_all}
 use Rattle.std.specs.List.{list_any}
 use Rattle.agenda.proofs.MarkedPlaces.{behind, not_before}
-use Rattle.sync_net.specs.Stages.{is_out_of}
+use Rattle.sync_net.specs.private.Stages.{is_out_of}
 use Rattle.sync_net.proofs.StageLaws.{evaluated-next, can-step-still}
 use Rattle.sync_net.proofs.evaluating.evaluate_elements.Goals as goal
 

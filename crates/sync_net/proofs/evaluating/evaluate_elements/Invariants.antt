@@ -1,6 +1,6 @@
 use Rattle.std.proofs.Common.{◌≡◌, ◌+◌, length, nat_eq, take}
 use Rattle.std.specs.List.{list_any}
-use Rattle.sync_net.specs.Stages.{AreEvaluated, is_out_of}
+use Rattle.sync_net.specs.private.Stages.{AreEvaluated, is_out_of}
 use Rattle.sync_net.proofs.evaluating.evaluate_elements.Given as goal
 
 -- the elements behind are evaluated

@@ -2,7 +2,7 @@ use Rattle.std.proofs.Common.{◌≡◌, ◌<◌, ◌+◌, ℕ, length, slice_in
 use Rattle.std.specs.List.{list_any}
 use Rattle.sync_topo.specs.Lines.{line_count}
 use Rattle.agenda.proofs.MarkedPlaces.{behind, not_before}
-use Rattle.sync_net.specs.Noting.{line_at}
+use Rattle.sync_net.specs.private.Noting.{line_at}
 use Rattle.sync_net.proofs.StageLaws.{is-listed}
 use Rattle.sync_net.proofs.HearingLaws.{told-next, can-tell-still}
 use Rattle.sync_net.proofs.hearing.hear_lines.Goals as goal

@@ -1,7 +1,7 @@
 use Rattle.std.proofs.Common.{◌≡◌, length, nat_eq, take}
 use Rattle.std.specs.List.{list_any}
-use Rattle.sync_net.specs.Noting.{line_at}
-use Rattle.sync_net.specs.Hearing.{AreTold}
+use Rattle.sync_net.specs.private.Noting.{line_at}
+use Rattle.sync_net.specs.private.Hearing.{AreTold}
 use Rattle.sync_net.proofs.hearing.hear_lines.Given as goal
 
 -- the lines behind are told

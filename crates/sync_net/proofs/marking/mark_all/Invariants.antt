@@ -1,6 +1,6 @@
 use Rattle.std.proofs.Common.{◌≡◌, ◌⊎◌, ℕ, true, take}
 use Rattle.agenda.specs.Called.{is_marked}
-use Rattle.sync_net.specs.Stages.{is_among, AreMarked, KeepsMarks}
+use Rattle.sync_net.specs.private.Stages.{is_among, AreMarked, KeepsMarks}
 use Rattle.sync_net.proofs.marking.mark_all.Given as goal
 
 abbrev pub invariant-loop-line : goal.invariant-loop-line

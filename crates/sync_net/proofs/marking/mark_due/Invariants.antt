@@ -1,6 +1,6 @@
 use Rattle.std.proofs.Common.{◌≡◌, ◌+◌, length}
 use Rattle.agenda.specs.DueTimes.{due_count}
-use Rattle.sync_net.specs.Stages.{AreDueMarked}
+use Rattle.sync_net.specs.private.Stages.{AreDueMarked}
 use Rattle.sync_net.proofs.marking.mark_due.Given as goal
 
 abbrev pub invariant-loop-place : goal.invariant-loop-place

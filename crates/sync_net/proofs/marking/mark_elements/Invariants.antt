@@ -1,6 +1,6 @@
 use Rattle.std.proofs.Common.{◌≡◌, ◌<◌, ℕ, true}
 use Rattle.agenda.specs.Called.{is_marked}
-use Rattle.sync_net.specs.Stages.{KeepsMarks}
+use Rattle.sync_net.specs.private.Stages.{KeepsMarks}
 use Rattle.sync_net.proofs.marking.mark_elements.Given as goal
 
 abbrev pub invariant-loop-element : goal.invariant-loop-element

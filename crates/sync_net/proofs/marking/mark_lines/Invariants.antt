@@ -1,7 +1,7 @@
 use Rattle.std.proofs.Common.{◌≡◌, ◌<◌, ◌⊎◌, ℕ, true}
 use Rattle.sync_topo.specs.Lines.{IsNominated}
 use Rattle.agenda.specs.Called.{is_marked}
-use Rattle.sync_net.specs.Stages.{KeepsMarks}
+use Rattle.sync_net.specs.private.Stages.{KeepsMarks}
 use Rattle.sync_net.proofs.marking.mark_lines.Given as goal
 
 abbrev pub invariant-loop-line : goal.invariant-loop-line

@@ -1,5 +1,5 @@
 use Rattle.std.proofs.Common.{take}
-use Rattle.sync_net.specs.Copied.{AreRenewed, IsElementDue}
+use Rattle.sync_net.specs.private.Copied.{AreRenewed, IsElementDue}
 use Rattle.sync_net.proofs.returning.renew_element_dues.Given as goal
 
 -- the due times of the places behind are renewed

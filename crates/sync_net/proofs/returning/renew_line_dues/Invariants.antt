@@ -1,5 +1,5 @@
 use Rattle.std.proofs.Common.{take}
-use Rattle.sync_net.specs.Copied.{AreRenewed, IsLineDue}
+use Rattle.sync_net.specs.private.Copied.{AreRenewed, IsLineDue}
 use Rattle.sync_net.proofs.returning.renew_line_dues.Given as goal
 
 -- the due times of the places behind are renewed

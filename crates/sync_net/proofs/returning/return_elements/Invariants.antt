@@ -1,5 +1,5 @@
 use Rattle.std.proofs.Common.{drop}
-use Rattle.sync_net.specs.Copied.{AreSameBut}
+use Rattle.sync_net.specs.private.Copied.{AreSameBut}
 use Rattle.sync_net.proofs.returning.return_elements.Given as goal
 
 -- the elements to come may differ

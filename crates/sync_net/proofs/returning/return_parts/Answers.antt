@@ -1,6 +1,6 @@
 use Rattle.std.proofs.Common.{◌≡◌, rules, refl, sym, ap, subst, ◌∙◌, length}
 use Rattle.std.proofs.lemmas.List.{with_items_is}
-use Rattle.sync_net.specs.Copied.{AreRenewed, IsElementDue, IsLineDue}
+use Rattle.sync_net.specs.private.Copied.{AreRenewed, IsElementDue, IsLineDue}
 use Rattle.sync_net.proofs.GoingBack.{dues_back}
 use Rattle.sync_net.proofs.returning.return_parts.Goals as goal
 

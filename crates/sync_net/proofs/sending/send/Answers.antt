@@ -2,7 +2,7 @@ use Rattle.std.proofs.Common.{◌≡◌, ◌<◌, length, List, arith, subst, �
 use Rattle.std.specs.Prelude.{slice_index_or}
 use Rattle.std.proofs.lemmas.List.{get_or_default}
 use Rattle.sync_element.specs.ElementState.{ElementState}
-use Rattle.sync_net.specs.Stages.{IsLevelSent}
+use Rattle.sync_net.specs.private.Stages.{IsLevelSent}
 use Rattle.sync_net.proofs.StageLaws.{sent-one}
 use Rattle.sync_net.proofs.sending.send.Goals as goal
 

@@ -1,6 +1,6 @@
 use Rattle.std.proofs.Common.{◌≡◌, length, nat_eq, take}
 use Rattle.std.specs.List.{list_any}
-use Rattle.sync_net.specs.Stages.{AreSent}
+use Rattle.sync_net.specs.private.Stages.{AreSent}
 use Rattle.sync_net.proofs.sending.send_lines.Given as goal
 
 -- the lines behind have their levels

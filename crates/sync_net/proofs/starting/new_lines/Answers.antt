@@ -1,4 +1,4 @@
-use Rattle.sync_net.specs.Beginning.{IsNewPlace}
+use Rattle.sync_net.specs.private.Beginning.{IsNewPlace}
 use Rattle.net_words.proofs.NewElements.{each-more}
 use Rattle.sync_net.proofs.starting.new_lines.Goals as goal
 

@@ -1,4 +1,4 @@
-use Rattle.sync_net.specs.Beginning.{IsNewPlace}
+use Rattle.sync_net.specs.private.Beginning.{IsNewPlace}
 use Rattle.net_words.specs.NewElements.{AreEach}
 use Rattle.sync_net.proofs.starting.new_lines.Given as goal
 

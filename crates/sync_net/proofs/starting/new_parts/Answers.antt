@@ -2,8 +2,9 @@ use Rattle.std.proofs.Common.{◌≡◌, List, [], false, ap}
 use Rattle.agenda.specs.Marked.{Marked}
 use Rattle.sync_topo.specs.declared.event.Event.{Event}
 use Rattle.sync_net.specs.Standing.{IsOfPast}
-use Rattle.sync_net.specs.Whole.{IsWhole, state_of}
-use Rattle.sync_net.specs.Beginning.{IsBegun}
+use Rattle.sync_net.specs.Whole.{state_of}
+use Rattle.sync_net.specs.private.Whole.{IsWhole}
+use Rattle.sync_net.specs.private.Beginning.{IsBegun}
 use Rattle.sync_net.proofs.NewNets.{begun-whole, begun-stands, if-ok}
 use Rattle.sync_net.proofs.starting.new_parts.Goals as goal
 

@@ -1,4 +1,4 @@
-use Rattle.sync_net.specs.Beginning.{IsNewSource}
+use Rattle.sync_net.specs.private.Beginning.{IsNewSource}
 use Rattle.net_words.specs.NewElements.{AreEach}
 use Rattle.sync_net.proofs.starting.new_sources.Given as goal
 

@@ -4,7 +4,7 @@ use Rattle.net_rules.specs.Signals.{events_at}
 use Rattle.event_times.specs.EventTimes.{AreTold, AreWithin}
 use Rattle.sync_net.specs.NetState.{NetState}
 use Rattle.sync_net.specs.Standing.{StandsFor}
-use Rattle.sync_sweep.specs.Branching.{IsBranch}
+use Rattle.sync_sweep.specs.private.Branching.{IsBranch}
 use Rattle.sync_sweep.proofs.branch.run_events.Given as goal
 
 -- the network stands for all events of which those that are given stand here; what is left of them

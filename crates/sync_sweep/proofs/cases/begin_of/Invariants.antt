@@ -1,5 +1,5 @@
 use Rattle.std.proofs.Common.{◌≤◌, take}
-use Rattle.sync_sweep.specs.Cases.{NoneBefore}
+use Rattle.sync_sweep.specs.private.Cases.{NoneBefore}
 use Rattle.sync_sweep.proofs.cases.begin_of.Given as goal
 
 -- nothing happens before it in the cases behind

@@ -1,12 +1,12 @@
 use Rattle.std.proofs.Common.{◌<◌, ◌++◌, ℕ, [], ◌∷◌, length, take, arith, ap, sym, subst, ◌∙◌}
 use Rattle.std.specs.Prelude.{IfSome}
 use Rattle.std.proofs.lemmas.List.{take_more}
-use Rattle.sync_sweep.specs.Branching.{IsBranch}
+use Rattle.sync_sweep.specs.private.Branching.{IsBranch}
 use Rattle.sync_sweep.specs.Cases.{merged}
 use Rattle.sync_sweep.specs.Outcomes.{IsBoundAfter}
-use Rattle.sync_sweep.specs.ShownNow.{AreShown}
-use Rattle.sync_sweep.specs.Timed.{IsTimed}
-use Rattle.sync_sweep.specs.Working.{IsWorked}
+use Rattle.sync_sweep.specs.private.ShownNow.{AreShown}
+use Rattle.sync_sweep.specs.private.Timed.{IsTimed}
+use Rattle.sync_sweep.specs.private.Working.{IsWorked}
 use Rattle.sync_sweep.proofs.ChunkLemmas.{AllZip-next}
 use Rattle.sync_sweep.proofs.chunks.worked_in.Goals as goal
 

@@ -1,8 +1,8 @@
 use Rattle.std.proofs.Common.{◌≡◌, take, is_some, IfSome}
-use Rattle.sync_sweep.specs.Branching.{IsBranch}
-use Rattle.sync_sweep.specs.ShownNow.{AreShown}
-use Rattle.sync_sweep.specs.Timed.{IsTimed}
-use Rattle.sync_sweep.specs.Working.{AreWorked}
+use Rattle.sync_sweep.specs.private.Branching.{IsBranch}
+use Rattle.sync_sweep.specs.private.ShownNow.{AreShown}
+use Rattle.sync_sweep.specs.private.Timed.{IsTimed}
+use Rattle.sync_sweep.specs.private.Working.{AreWorked}
 use Rattle.sync_sweep.proofs.chunks.worked_in.Given as goal
 
 -- the cases behind are worked, and the branch is where it began

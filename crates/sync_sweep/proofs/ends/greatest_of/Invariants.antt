@@ -1,6 +1,6 @@
 use Rattle.std.proofs.Common.{◌≡◌, ◌<◌, ◌≤◌, ◌⊎◌, ℕ}
 use Rattle.std.specs.Prelude.{Some, slice_get}
-use Rattle.sync_sweep.specs.Ends.{IsNumberIn}
+use Rattle.sync_sweep.specs.private.Ends.{IsNumberIn}
 use Rattle.sync_sweep.proofs.ends.greatest_of.Given as goal
 
 -- none behind is greater

@@ -7,7 +7,7 @@ use Rattle.closed_walks.specs.Taking.{taken_in_list}
 use Rattle.closed_walks.specs.Following.{is_met}
 use Rattle.closed_walks.proofs.FollowLaws.{takes-on}
 use Rattle.sync_sweep.specs.Timing.{is_lost}
-use Rattle.sync_sweep.specs.Ends.{lines_at}
+use Rattle.sync_sweep.specs.private.Ends.{lines_at}
 use Rattle.sync_sweep.proofs.EndsLemmas.{over-noted, line-noted, few-noted, noted-by}
 use Rattle.sync_sweep.proofs.ends.note.Goals as goal
 

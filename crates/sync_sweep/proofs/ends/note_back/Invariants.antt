@@ -1,6 +1,6 @@
 use Rattle.closed_walks.specs.Taking.{taken_in_list}
-use Rattle.sync_sweep.specs.Ends.{AreNoted}
+use Rattle.sync_sweep.specs.private.Ends.{AreEndsNoted}
 use Rattle.sync_sweep.proofs.ends.note_back.Given as goal
 
 abbrev pub invariant-loop-element : goal.invariant-loop-element
-invariant-loop-element l = AreNoted l.plan (taken_in_list l.taken) l.known l.lines l.lost
+invariant-loop-element l = AreEndsNoted l.plan (taken_in_list l.taken) l.known l.lines l.lost

@@ -3,7 +3,7 @@ use Rattle.std.specs.List.{AllZip, range_with_len}
 use Rattle.std.proofs.lemmas.List.{take_more}
 use Rattle.sync_text.proofs.Ranges.{range_more}
 use Rattle.sync_sweep.specs.declared.row.SweepRow.{SweepRow}
-use Rattle.sync_sweep.specs.Rows.{IsRowOf}
+use Rattle.sync_sweep.specs.private.Rows.{IsRowOf}
 use Rattle.sync_sweep.proofs.ChunkLemmas.{AllZip-append, AllZip-next}
 use Rattle.sync_sweep.proofs.row.rows_of.Goals as goal
 

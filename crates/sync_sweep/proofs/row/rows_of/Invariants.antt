@@ -1,6 +1,6 @@
 use Rattle.std.proofs.Common.{◌≡◌, take}
 use Rattle.std.specs.List.{AllZip, range_with_len}
-use Rattle.sync_sweep.specs.Rows.{IsRowOf}
+use Rattle.sync_sweep.specs.private.Rows.{IsRowOf}
 use Rattle.sync_sweep.proofs.row.rows_of.Given as goal
 
 -- the worked behind have their rows, which are of the links in order

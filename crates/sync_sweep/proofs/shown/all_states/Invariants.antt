@@ -1,7 +1,7 @@
 use Rattle.std.proofs.Common.{◌≡◌, ◌<◌, ℕ, length, slice_index_or}
 use Rattle.sync_ql.specs.declared.rules.ClockState.{ClockState}
 use Rattle.sync_element.specs.ElementState.{ElementState}
-use Rattle.sync_sweep.specs.ShownNow.{ShowsState}
+use Rattle.sync_sweep.specs.private.ShownNow.{ShowsState}
 use Rattle.sync_sweep.proofs.shown.all_states.Given as goal
 
 -- the elements behind show what is kept

@@ -3,7 +3,7 @@ use Rattle.std.specs.Prelude.{nat_eq}
 use Rattle.std.specs.List.{list_any}
 use Rattle.sync_ql.specs.declared.levels.Level.{Level}
 use Rattle.sync_element.specs.ElementState.{ElementState}
-use Rattle.sync_sweep.specs.ShownNow.{ShowsLevel}
+use Rattle.sync_sweep.specs.private.ShownNow.{ShowsLevel}
 use Rattle.sync_sweep.proofs.shown.note_levels.Given as goal
 
 -- the places behind are noted, and all others are as they were

@@ -3,7 +3,7 @@ use Rattle.std.specs.Prelude.{nat_eq}
 use Rattle.std.specs.List.{list_any}
 use Rattle.sync_ql.specs.declared.rules.ClockState.{ClockState}
 use Rattle.sync_element.specs.ElementState.{ElementState}
-use Rattle.sync_sweep.specs.ShownNow.{ShowsState}
+use Rattle.sync_sweep.specs.private.ShownNow.{ShowsState}
 use Rattle.sync_sweep.proofs.shown.note_states.Given as goal
 
 -- the places behind are noted, and all others are as they were

@@ -5,9 +5,9 @@ use Rattle.std.proofs.lemmas.Result.{IfOk-weaker}
 use Rattle.sync_sweep.specs.declared.studying.StudyRow.{StudyRow}
 use Rattle.sync_sweep.specs.declared.working.Worked.{Worked}
 use Rattle.sync_sweep.specs.Cases.{merged}
-use Rattle.sync_sweep.specs.Rows.{IsStudyRowOf}
+use Rattle.sync_sweep.specs.private.Rows.{IsStudyRowOf}
 use Rattle.sync_sweep.specs.Study.{IsStudyRow, AreStudyRows}
-use Rattle.sync_sweep.specs.Working.{AreWorked, IsSettledIfDue}
+use Rattle.sync_sweep.specs.private.Working.{AreWorked, IsSettledIfDue}
 use Rattle.sync_sweep.proofs.ChunkLemmas.{zip-length}
 use Rattle.sync_sweep.proofs.StudyLemmas.{all-timed, rows-of-cases}
 use Rattle.sync_sweep.proofs.studying.study.Goals as goal

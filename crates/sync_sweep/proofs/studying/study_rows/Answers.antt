@@ -1,6 +1,6 @@
 use Rattle.std.proofs.Common.{◌<◌, ◌++◌, ℕ, [], ◌∷◌, length, take, arith, ap, sym, ◌∙◌}
 use Rattle.std.proofs.lemmas.List.{take_more}
-use Rattle.sync_sweep.specs.Rows.{IsStudyRowOf}
+use Rattle.sync_sweep.specs.private.Rows.{IsStudyRowOf}
 use Rattle.sync_sweep.proofs.ChunkLemmas.{AllZip-next}
 use Rattle.sync_sweep.proofs.studying.study_rows.Goals as goal
 

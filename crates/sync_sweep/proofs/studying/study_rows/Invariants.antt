@@ -1,6 +1,6 @@
 use Rattle.std.proofs.Common.{take}
 use Rattle.std.specs.List.{AllZip}
-use Rattle.sync_sweep.specs.Rows.{IsStudyRowOf}
+use Rattle.sync_sweep.specs.private.Rows.{IsStudyRowOf}
 use Rattle.sync_sweep.proofs.studying.study_rows.Given as goal
 
 -- what is behind has its rows

@@ -2,8 +2,8 @@ use Rattle.std.proofs.Common.{◌≡◌, ◌<◌, ◌≤◌, ◌*◌, ℕ, lengt
 use Rattle.std.specs.Prelude.{IfOk, Some}
 use Rattle.std.proofs.lemmas.Result.{IfOk-weaker}
 use Rattle.sync_sweep.specs.Cases.{merged}
-use Rattle.sync_sweep.specs.Chunks.{joined}
-use Rattle.sync_sweep.specs.Working.{AreWorked, IsWorked}
+use Rattle.sync_sweep.specs.private.Chunks.{joined}
+use Rattle.sync_sweep.specs.private.Working.{AreWorked, IsWorked}
 use Rattle.sync_sweep.proofs.ChunkLemmas.{joined_whole, parts-enough, got}
 use Rattle.sync_sweep.proofs.sweeping.in_chunks.Goals as goal
 

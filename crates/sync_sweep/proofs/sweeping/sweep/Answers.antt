@@ -4,9 +4,9 @@ use Rattle.std.proofs.lemmas.Result.{IfOk-weaker}
 use Rattle.sync_topo.specs.declared.event.Case.{Case}
 use Rattle.sync_topo.specs.Events.{IsCase}
 use Rattle.sync_sweep.specs.Cases.{merged}
-use Rattle.sync_sweep.specs.Rows.{IsRowOf}
+use Rattle.sync_sweep.specs.private.Rows.{IsRowOf}
 use Rattle.sync_sweep.specs.Sweep.{AreSweepRows}
-use Rattle.sync_sweep.specs.Working.{AreWorked, IsWorked}
+use Rattle.sync_sweep.specs.private.Working.{AreWorked, IsWorked}
 use Rattle.sync_sweep.proofs.BoundLemmas.{IsRowSettledIfDue, range-below, rows-settled, rows-within}
 use Rattle.sync_sweep.proofs.ChunkLemmas.{zip-length}
 use Rattle.sync_sweep.proofs.RowLemmas.{failures-are, swept}

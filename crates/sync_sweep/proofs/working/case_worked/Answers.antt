@@ -8,13 +8,13 @@ use Rattle.net_rules.specs.Signals.{events_before}
 use Rattle.event_times.specs.EventTimes.{AreTold, AreWithin}
 use Rattle.sync_net.specs.NetState.{NetState}
 use Rattle.sync_net.specs.Standing.{StandsFor}
-use Rattle.sync_sweep.specs.Base.{AreCommonBefore}
-use Rattle.sync_sweep.specs.Branching.{IsBranch}
-use Rattle.sync_sweep.specs.ShownNow.{AreAlikeBut}
+use Rattle.sync_sweep.specs.private.Base.{AreCommonBefore}
+use Rattle.sync_sweep.specs.private.Branching.{IsBranch}
+use Rattle.sync_sweep.specs.private.ShownNow.{AreAlikeBut}
 use Rattle.sync_sweep.proofs.TimedLemmas.{alike-but}
 use Rattle.sync_sweep.specs.Cases.{merged}
 use Rattle.sync_sweep.specs.Outcomes.{IsShown, IsBoundAfter}
-use Rattle.sync_sweep.specs.Working.{IsWorked}
+use Rattle.sync_sweep.specs.private.Working.{IsWorked}
 use Rattle.sync_sweep.proofs.CaseLemmas.{last-early}
 use Rattle.sync_sweep.proofs.EarlierLemmas.{told-before, common-before-end, none-late}
 use Rattle.sync_sweep.proofs.WorkLemmas.{case-elements, common-before, stood, timing-by}

@@ -1,5 +1,5 @@
 use Rattle.std.proofs.Common.{◌≡◌, drop}
-use Rattle.sync_top.specs.HopRows.{first_source}
+use Rattle.sync_top.specs.private.HopRows.{first_source}
 use Rattle.sync_top.proofs.hops.first_source.Given as goal
 
 abbrev pub invariant-loop-input : goal.invariant-loop-input

@@ -1,5 +1,5 @@
 use Rattle.std.proofs.Common.{◌<◌, length, None, get_or}
-use Rattle.sync_top.specs.HopRows.{line_at}
+use Rattle.sync_top.specs.private.HopRows.{line_at}
 use Rattle.sync_top.proofs.RowsOfHops.{first-name, first-within, line-name, line-within, line-kept, from-root, from-other}
 use Rattle.sync_top.proofs.hops.from_of.Goals as goal
 

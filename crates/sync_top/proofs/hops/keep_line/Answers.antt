@@ -2,7 +2,7 @@ use Rattle.std.proofs.Common.{◌≡◌, length, None, Some, refl, sym, ap, ◌�
 use Rattle.sync_topo.specs.declared.input.LineId.{LineId}
 use Rattle.std.specs.Prelude.{option_map}
 use Rattle.sync_topo.specs.Lines.{sender_of, receiver_of}
-use Rattle.sync_top.specs.HopRows.{line_at}
+use Rattle.sync_top.specs.private.HopRows.{line_at}
 use Rattle.sync_top.proofs.RowsOfHops.{AreLinesFrom-not, AreLinesFrom-later, AreLinesFrom-first, line-read, line_some, line_none, next-told}
 use Rattle.sync_top.proofs.hops.keep_line.Goals as goal
 

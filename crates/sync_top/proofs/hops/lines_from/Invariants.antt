@@ -1,4 +1,4 @@
-use Rattle.sync_top.specs.HopRows.{AreLinesFrom}
+use Rattle.sync_top.specs.private.HopRows.{AreLinesFrom}
 use Rattle.sync_top.proofs.hops.lines_from.Given as goal
 
 abbrev pub invariant-loop-number : goal.invariant-loop-number

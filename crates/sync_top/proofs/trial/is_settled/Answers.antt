@@ -1,4 +1,4 @@
-use Rattle.sync_top.specs.declared.trial.TheConstants.{LAST}
+use Rattle.sync_top.specs.declared.trial.TheConstants.{TRIAL_END}
 use Rattle.sync_top.specs.Forms.Trial.{trial_events}
 use Rattle.sync_top.proofs.RunLaws.{event_fits, settled_at, unwatched_next}
 use Rattle.sync_top.proofs.trial.is_settled.Goals as goal
@@ -11,6 +11,6 @@ returns-in_ok-unwatched-in-Stopped c =
     let plan = c.args.plan.now in
     let sim = c.in_ok-unwatched-in-Stopped.unwatched in
     let run = c.in_ok-unwatched-in-Stopped.ensures.run in
-    let next = unwatched_next plan trial_events LAST sim c.in_ok-unwatched-in-Stopped.field-0-1 run in
-    settled_at plan trial_events LAST sim c.settled-in-Stopped.result run.of_plan next
+    let next = unwatched_next plan trial_events TRIAL_END sim c.in_ok-unwatched-in-Stopped.field-0-1 run in
+    settled_at plan trial_events TRIAL_END sim c.settled-in-Stopped.result run.of_plan next
     ((rw c.net-in-Stopped.ensures.net at c.settled-in-Stopped.ensures.exact) trial_events run.stands.net)

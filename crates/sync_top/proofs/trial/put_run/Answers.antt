@@ -1,4 +1,4 @@
-use Rattle.sync_top.specs.declared.trial.TheConstants.{LAST}
+use Rattle.sync_top.specs.declared.trial.TheConstants.{TRIAL_END}
 use Rattle.sync_top.specs.Forms.Trial.{trial_events}
 use Rattle.sync_top.proofs.RunLaws.{report_rows, run-text}
 use Rattle.sync_top.proofs.trial.put_run.Goals as goal
@@ -10,7 +10,7 @@ returns c =
     record {
       put = (
         sim.changes,
-        report_rows plan trial_events LAST sim c.in_ok-sim.reach c.in_ok-sim.ensures.run,
+        report_rows plan trial_events TRIAL_END sim c.in_ok-sim.reach c.in_ok-sim.ensures.run,
         (
           c.in_ok-is_settled.field-0,
           c.in_ok-is_settled.ensures,

@@ -4,7 +4,8 @@ use Rattle.std.proofs.lemmas.List.{get_or_default}
 use Rattle.agenda.specs.declared.due_times.Due.{Due}
 use Rattle.agenda.specs.declared.due_times.TheConstants.{NEVER}
 use Rattle.agenda.specs.DueTimes.{due_in, IsFirst}
-use Rattle.agenda.specs.EarlierDue.{IsListed, times_by, number_at}
+use Rattle.agenda.specs.EarlierDue.{times_by}
+use Rattle.agenda.specs.private.EarlierDue.{IsListed, number_at}
 use Rattle.agenda.proofs.KeptTimes.{length_times, of_times}
 use Rattle.agenda.proofs.FirstDues.{few_due, is_first, is_last}
 use Rattle.agenda.proofs.due_times.DueTimes.first.Goals as goal

@@ -8,8 +8,9 @@ use Rattle.std.proofs.lemmas.Bool.Decides.{nat_tests}
 use mir.Val.{bool_byte}
 use Rattle.agenda.specs.declared.due_times.TheConstants.{NEVER}
 use Rattle.agenda.specs.DueTimes.{due_in, due_count}
-use Rattle.agenda.specs.Tournament.{IsTournament}
-use Rattle.agenda.specs.EarlierDue.{times_by, time_at, number_at}
+use Rattle.agenda.specs.private.Tournament.{IsTournament}
+use Rattle.agenda.specs.EarlierDue.{times_by, time_at}
+use Rattle.agenda.specs.private.EarlierDue.{number_at}
 use Rattle.agenda.proofs.KeptTimes.{length_times, time_there, times-set, times-same}
 use Rattle.agenda.proofs.FirstDues.{kept-set, count-set, counted_due, few_due, one_if_due}
 use Rattle.agenda.proofs.due_times.DueTimes.set.Goals as goal

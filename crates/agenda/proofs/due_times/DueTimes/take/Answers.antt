@@ -2,7 +2,8 @@ use Rattle.std.proofs.Common.{◌≡◌, ◌<◌, ℕ, Bool, length, List, Optio
 use Rattle.std.specs.Prelude.{slice_index_or}
 use Rattle.std.proofs.lemmas.List.{get_or_default}
 use Rattle.agenda.specs.declared.due_times.TheConstants.{NEVER}
-use Rattle.agenda.specs.EarlierDue.{times_by, number_at}
+use Rattle.agenda.specs.EarlierDue.{times_by}
+use Rattle.agenda.specs.private.EarlierDue.{number_at}
 use Rattle.agenda.proofs.KeptTimes.{length_times, of_times}
 use Rattle.agenda.proofs.FirstDues.{all_later, few_due}
 use Rattle.agenda.proofs.due_times.DueTimes.take.Goals as goal

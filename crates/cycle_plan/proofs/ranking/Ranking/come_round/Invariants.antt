@@ -1,6 +1,6 @@
 use Rattle.sync_topo.specs.Ranks.{StepsBack}
 use Rattle.sync_topo.specs.Hops.{hops_by}
-use Rattle.cycle_plan.specs.Rings.{IsLeft}
+use Rattle.cycle_plan.specs.private.Rings.{IsLeft}
 use Rattle.cycle_plan.proofs.ranking.Ranking.come_round.Given as goal
 
 abbrev pub invariant-loop-step : goal.invariant-loop-step

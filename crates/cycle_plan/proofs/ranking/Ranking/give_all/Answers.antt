@@ -3,11 +3,12 @@ use Rattle.std.specs.Prelude.{◌≢◌, slice_index_or}
 use Rattle.std.specs.List.{All}
 use Rattle.std.proofs.lemmas.List.Elements.{All-more, All-weaker}
 use Rattle.sync_topo.specs.declared.input.LineId.{LineId}
-use Rattle.sync_topo.specs.Lines.{sender_of, IsLineOut}
+use Rattle.sync_topo.specs.Lines.{sender_of}
+use Rattle.sync_topo.specs.private.Lines.{IsLineOut}
 use Rattle.sync_topo.proofs.LineLaws.{IsNominated-within}
 use Rattle.sync_topo.proofs.LinesOut.{lines_out-are, lines_out-all}
 use Rattle.rank_cert.specs.Ranks.{rank_at}
-use Rattle.cycle_plan.specs.Peeling.{IsAmong}
+use Rattle.cycle_plan.specs.private.Peeling.{IsAmong}
 use Rattle.cycle_plan.proofs.PeelingLemmas.{fewer}
 use Rattle.cycle_plan.proofs.Settling.{IsMore-trans, AreNext-grows}
 use Rattle.cycle_plan.proofs.ranking.Ranking.give_all.Goals as goal

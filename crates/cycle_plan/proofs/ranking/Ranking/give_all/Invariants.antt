@@ -3,7 +3,7 @@ use Rattle.std.specs.Prelude.{◌≢◌}
 use Rattle.std.specs.List.{All}
 use Rattle.sync_topo.specs.Lines.{sender_of}
 use Rattle.rank_cert.specs.Ranks.{rank_at}
-use Rattle.cycle_plan.specs.Peeling.{IsMore, IsAmong, AreNext}
+use Rattle.cycle_plan.specs.private.Peeling.{IsMore, IsAmong, AreNext}
 use Rattle.cycle_plan.proofs.ranking.Ranking.give_all.Given as goal
 
 abbrev pub invariant-loop-line : goal.invariant-loop-line

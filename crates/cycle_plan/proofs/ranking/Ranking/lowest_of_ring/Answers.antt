@@ -1,6 +1,6 @@
 use Rattle.std.proofs.Common.{refl, sym, ap, subst, inl, inr}
 use Rattle.sync_topo.specs.Hops.{hops_by}
-use Rattle.cycle_plan.specs.Rings.{IsLeft}
+use Rattle.cycle_plan.specs.private.Rings.{IsLeft}
 use Rattle.cycle_plan.proofs.Rounds.{back_more, low_start, low_more}
 use Rattle.cycle_plan.proofs.ranking.Ranking.lowest_of_ring.Goals as goal
 

@@ -1,6 +1,6 @@
 use Rattle.sync_topo.specs.Ranks.{StepsBack}
 use Rattle.sync_topo.specs.Hops.{hops_by}
-use Rattle.cycle_plan.specs.Rings.{IsLeft, IsLowOn}
+use Rattle.cycle_plan.specs.private.Rings.{IsLeft, IsLowOn}
 use Rattle.cycle_plan.proofs.ranking.Ranking.lowest_of_ring.Given as goal
 
 abbrev pub invariant-loop-step : goal.invariant-loop-step

@@ -4,10 +4,10 @@ use Rattle.cycle_plan.proofs.ranking.Ranking.peel.Goals as goal
 
 pub loop-element-preserved : goal.loop-element-preserved
 loop-element-preserved c = record {
-  peeling = c.in_ok-settle.ensures.more.peeling;
+  peeling = c.in_ok-rank_lines_out.ensures.more.peeling;
   kept =
-      kept_after c.args.returns c.args.plan.now c.loop-element.self (record c.loop-element.self { waiting = c.pop.new.self }) c.settle.new.self c.in-Some.element
-      c.loop-element.invariant.kept refl c.in-Some.ensures.items c.in_ok-settle.ensures.more c.in_ok-settle.ensures.settled;
+      kept_after c.args.returns c.args.plan.now c.loop-element.self (record c.loop-element.self { waiting = c.pop.new.self }) c.rank_lines_out.new.self c.in-Some.element
+      c.loop-element.invariant.kept refl c.in-Some.ensures.items c.in_ok-rank_lines_out.ensures.more c.in_ok-rank_lines_out.ensures.settled;
 }
 
 pub returns-clause-peeled : goal.returns-clause-peeled

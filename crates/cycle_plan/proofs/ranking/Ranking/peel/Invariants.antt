@@ -1,4 +1,4 @@
-use Rattle.cycle_plan.specs.Peeling.{IsPeeling, AreKept, work}
+use Rattle.cycle_plan.specs.private.Peeling.{IsPeeling, AreKept, work}
 use Rattle.cycle_plan.proofs.ranking.Ranking.peel.Given as goal
 
 abbrev pub invariant-loop-element : goal.invariant-loop-element

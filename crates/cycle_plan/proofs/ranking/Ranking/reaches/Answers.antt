@@ -1,6 +1,6 @@
 use Rattle.std.proofs.Common.{◌≡◌, length, ap, subst, ◌∙◌, arith}
 use Rattle.std.specs.Prelude.{replicate}
-use Rattle.cycle_plan.specs.Mosts.{no_reach, AreReaches}
+use Rattle.cycle_plan.specs.private.Mosts.{no_reach, AreReaches}
 use Rattle.cycle_plan.proofs.ReachLemmas.{AreReaches-none}
 use Rattle.cycle_plan.proofs.ranking.Ranking.reaches.Goals as goal
 

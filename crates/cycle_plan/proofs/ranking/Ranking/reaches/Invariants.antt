@@ -1,4 +1,4 @@
-use Rattle.cycle_plan.specs.Mosts.{AreReaches}
+use Rattle.cycle_plan.specs.private.Mosts.{AreReaches}
 use Rattle.cycle_plan.proofs.ranking.Ranking.reaches.Given as goal
 
 abbrev pub invariant-loop-place : goal.invariant-loop-place

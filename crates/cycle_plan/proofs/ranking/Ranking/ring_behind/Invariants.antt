@@ -1,7 +1,7 @@
 use Rattle.std.proofs.Common.{◌-◌, length}
 use Rattle.sync_topo.specs.Lines.{line_count}
 use Rattle.sync_topo.specs.Hops.{hops_by}
-use Rattle.cycle_plan.specs.Rings.{IsLeft, IsWalked}
+use Rattle.cycle_plan.specs.private.Rings.{IsLeft, IsWalked}
 use Rattle.cycle_plan.proofs.ranking.Ranking.ring_behind.Given as goal
 
 abbrev pub invariant-loop-returns : goal.invariant-loop-returns

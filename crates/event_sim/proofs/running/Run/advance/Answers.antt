@@ -4,8 +4,9 @@ use Rattle.sync_topo.specs.declared.event.Event.{Event}
 use Rattle.sync_topo.specs.Topology.{Topology}
 use Rattle.sync_topo.specs.Events.{Fits}
 use Rattle.sync_net.specs.NetState.{NetState}
-use Rattle.event_times.specs.EventTimes.{AreWithin, AreHere}
-use Rattle.event_sim.specs.Running.{RunStands, IsCut, IsAfterTurn}
+use Rattle.event_times.specs.EventTimes.{AreWithin}
+use Rattle.event_times.specs.private.EventTimes.{AreHere}
+use Rattle.event_sim.specs.private.Running.{RunStands, IsCut, IsAfterTurn}
 use Rattle.event_sim.proofs.BoundLaws.{bound-more}
 use Rattle.event_times.proofs.EventTimes.{within-from}
 use Rattle.event_sim.proofs.RunLaws.{IsTurn, the-turn, kept-more, run-until, turn-here, turn-counted}

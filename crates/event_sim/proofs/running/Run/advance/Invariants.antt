@@ -4,7 +4,7 @@ use Rattle.event_sim.specs.Changes.{IsChangeOf}
 use Rattle.sync_topo.specs.declared.event.Event.{Event}
 use Rattle.net_rules.specs.Signals.{events_at}
 use Rattle.event_times.specs.EventTimes.{AreTold, AreWithin}
-use Rattle.event_sim.specs.Running.{IsOpen, IsKeptBy, RunStands, IsBound}
+use Rattle.event_sim.specs.private.Running.{IsOpen, IsKeptBy, RunStands, IsBound}
 use Rattle.event_sim.proofs.running.Run.advance.Given as goal
 
 -- the run may go on; the events that are left are those from the next millisecond on; and for all

@@ -4,8 +4,8 @@ use Rattle.sync_topo.specs.Topology.{Topology}
 use Rattle.event_sim.specs.Changes.{IsChangeOf}
 use Rattle.event_sim.specs.declared.change.Watch.{Watch}
 use Rattle.event_sim.specs.declared.change.Watch.TheVariants.{Changes}
-use Rattle.event_sim.specs.Showing.{AreShown, AreShownIf, AreNoted}
-use Rattle.event_sim.specs.Running.{RunStands, IsAfterTurn}
+use Rattle.event_sim.specs.private.Showing.{AreShown, AreShownIf, AreNoted}
+use Rattle.event_sim.specs.private.Running.{RunStands, IsAfterTurn}
 use Rattle.event_sim.proofs.RowLaws.{shown-then}
 use Rattle.event_sim.proofs.RunLaws.{turn-noted, turn-cost, turn-late, noted-of-plan}
 use Rattle.event_sim.proofs.running.Run.take_turn.Goals as goal

@@ -4,7 +4,8 @@ use Rattle.sync_ql.specs.Messages.{line_until}
 use Rattle.link_model.specs.Calls.{with_level}
 use Rattle.link_model.specs.Kept.{WordsKept, words_kept, all_words, due_of}
 use Rattle.link_model.specs.StandsFor.{StandsFor, AreOfOption}
-use Rattle.link_model.specs.Whole.{next_of, kept_in, IsWhole}
+use Rattle.link_model.specs.Whole.{next_of, kept_in}
+use Rattle.link_model.specs.private.Whole.{IsWhole}
 use Rattle.link_model.proofs.Called.{words_said, is_other_now, given, stands-said}
 use Rattle.link_model.proofs.Replies.{IsOf, stands-as, whole-said, due-said, option-said}
 use Rattle.link_model.proofs.line.Line.say.Goals as goal

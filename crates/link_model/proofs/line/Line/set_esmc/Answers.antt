@@ -2,9 +2,11 @@ use Rattle.std.proofs.Common.{◌≡◌, ◌≤◌, ◌<◌, ◌*◌, ◌+◌, s
 use Rattle.sync_text.specs.Each.{Each}
 use Rattle.sync_ql.specs.Messages.{line_until}
 use Rattle.link_model.specs.Calls.{turned, with_esmc}
-use Rattle.link_model.specs.Kept.{WordsKept, words_kept, all_words, due_of, ended, ended_arrived}
+use Rattle.link_model.specs.Kept.{WordsKept, words_kept, all_words, due_of}
+use Rattle.link_model.specs.private.Kept.{ended, ended_arrived}
 use Rattle.link_model.specs.StandsFor.{StandsFor, AreOfOption}
-use Rattle.link_model.specs.Whole.{next_of, kept_in, IsWhole}
+use Rattle.link_model.specs.Whole.{next_of, kept_in}
+use Rattle.link_model.specs.private.Whole.{IsWhole}
 use Rattle.link_model.proofs.Ordering.{kept_words}
 use Rattle.link_model.proofs.Called.{words_esmc, stands-esmc}
 use Rattle.link_model.proofs.Replies.{IsOf, stands-as, whole-esmc, due-esmc, option-esmc}

@@ -3,7 +3,8 @@ use Rattle.sync_text.specs.Each.{Each}
 use Rattle.sync_ql.specs.Messages.{line_until}
 use Rattle.link_model.specs.Kept.{WordsKept, words_kept, all_words, due_of, heard_of}
 use Rattle.link_model.specs.StandsFor.{StandsFor, AreOfOption}
-use Rattle.link_model.specs.Whole.{next_of, kept_in, IsWhole}
+use Rattle.link_model.specs.Whole.{next_of, kept_in}
+use Rattle.link_model.specs.private.Whole.{IsWhole}
 use Rattle.link_model.proofs.Standing.{taken}
 use Rattle.link_model.proofs.Called.{stands-taken, came-taken}
 use Rattle.link_model.proofs.Replies.{IsOf, stands-as, whole-taken, due-taken, option-taken}

@@ -12,8 +12,8 @@ loop-alloc-preserved c =
       up_to = c.in_ok-go_on.ensures.up_to;
       holds = λ rows until away room stands.
           c.in_ok-go_on.ensures.holds rows until
-          (away-later c.args.plan.now c.args.place c.args.self.now.next c.loop-alloc.self.next c.args.to rows before.later away) room
-          (going-stands c.args.plan.now c.args.place until c.loop-alloc.self.next rows c.loop-alloc.self going (before.holds rows until away room stands));
+          (away-later c.args.plan.now c.args.element c.args.self.now.next c.loop-alloc.self.next c.args.to rows before.later away) room
+          (going-stands c.args.plan.now c.args.element until c.loop-alloc.self.next rows c.loop-alloc.self going (before.holds rows until away room stands));
     }
 
 pub returns-clause-next : goal.returns-clause-next
@@ -24,7 +24,7 @@ returns-clause-next c = λ going.
 
 pub returns-clause-holds : goal.returns-clause-holds
 returns-clause-holds c = λ rows until away room stands.
-    came-to c.args.plan.now c.args.place until c.loop-alloc.self.next c.args.to rows _ (λ going.
+    came-to c.args.plan.now c.args.element until c.loop-alloc.self.next c.args.to rows _ (λ going.
     (let end = c.goes_on.ensures.ended c.loop-alloc-test.false going in
     let up_to = c.loop-alloc.invariant.up_to in
     omega (arith, end, up_to)))

@@ -25,11 +25,11 @@ returns-clause-run c =
       due = run.due;
       steady = λ m low high. run.steady m (omega (arith, low, later)) high;
       seconds = λ m low high. run.seconds m (omega (arith, low, later)) high;
-      given = λ some. run.given (has-begun c.args.plan.now c.args.place c.args.self.now run c.requires.quiet);
+      given = λ some. run.given (has-begun c.args.plan.now c.args.element c.args.self.now run c.requires.quiet);
     }
 
 pub returns-clause-stands : goal.returns-clause-stands
 returns-clause-stands c = λ rows away stands.
     let later = c.earlier-self.ensures.from (c.args.self.now.next + 1) (let to = c.requires.to in omega (arith, to)) (let quiet = c.requires.quiet in omega (arith, quiet)) in
-    passed-stands c.args.plan.now c.args.place c.args.to c.earlier-self.result rows c.args.self.now _ c.requires.run away
+    passed-stands c.args.plan.now c.args.element c.args.to c.earlier-self.result rows c.args.self.now _ c.requires.run away
     (omega (arith, later)) c.earlier-self.ensures.up_to c.earlier-self.ensures.until_due refl refl refl refl refl stands

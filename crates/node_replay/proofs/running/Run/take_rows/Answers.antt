@@ -4,9 +4,9 @@ use Rattle.std.specs.List.{All}
 use Rattle.sync_ql.specs.Told.{FitsElement}
 use Rattle.net_rules.specs.History.{settings_of}
 use Rattle.sync_topo.specs.Lines.{inputs_of, line_count}
-use Rattle.node_replay.specs.declared.outs.OutKept.{OutKept}
-use Rattle.node_replay.specs.Keeping.{input_after}
-use Rattle.node_replay.specs.Telling.{all_told}
+use Rattle.node_replay.specs.declared.outs.LineOut.{LineOut}
+use Rattle.node_replay.specs.private.Keeping.{input_after}
+use Rattle.node_replay.specs.private.Telling.{all_told}
 use Rattle.node_replay.proofs.KeptLevels.{kept-all, ids-after, lines-within}
 use Rattle.node_replay.proofs.FittingWords.{words-fit}
 use Rattle.node_replay.proofs.running.Run.take_rows.Goals as goal
@@ -14,7 +14,7 @@ use Rattle.node_replay.proofs.running.Run.take_rows.Goals as goal
 pub step_alone-requires-clause-fits : goal.step_alone-requires-clause-fits
 step_alone-requires-clause-fits c =
     let plan = c.args.plan.now in
-    let place = c.args.place in
+    let place = c.args.element in
     let here = c.args.here.now in
     let run = c.requires.run in
     let inputs = map (input_after here c.args.self.now.next) c.args.self.now.inputs.items in
@@ -35,5 +35,5 @@ step_alone-requires-clause-fits c =
 
 pub note_outs-requires-clause-lines : goal.note_outs-requires-clause-lines
 note_outs-requires-clause-lines c =
-    subst (All (λ (out : OutKept). out.line.0 < line_count c.args.plan.now)) (sym c.as_mut_slice-2.ensures.value)
-    (lines-within c.args.plan.now c.args.place c.args.self.now.outs.items c.requires.run.lines)
+    subst (All (λ (out : LineOut). out.line.0 < line_count c.args.plan.now)) (sym c.as_mut_slice-2.ensures.value)
+    (lines-within c.args.plan.now c.args.element c.args.self.now.outs.items c.requires.run.lines)

@@ -1,4 +1,4 @@
-use Rattle.nominate.specs.Searching.{IsSearching, AreKept, work}
+use Rattle.nominate.specs.private.Searching.{IsSearching, AreKept, work}
 use Rattle.nominate.proofs.search.Search.run.Given as goal
 
 abbrev pub invariant-loop-element : goal.invariant-loop-element

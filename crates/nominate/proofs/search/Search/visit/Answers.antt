@@ -3,7 +3,7 @@ use Rattle.std.specs.List.{All}
 use Rattle.std.proofs.lemmas.List.Elements.{All-more, All-weaker}
 use Rattle.sync_topo.specs.declared.input.LineId.{LineId}
 use Rattle.sync_topo.specs.Lines.{receiver_of}
-use Rattle.nominate.specs.Searching.{IsClose}
+use Rattle.nominate.specs.private.Searching.{IsClose}
 use Rattle.nominate.proofs.SearchLemmas.{IsMore-trans, close-grows}
 use Rattle.nominate.proofs.search.Search.visit.Goals as goal
 

@@ -1,7 +1,7 @@
 use Rattle.std.proofs.Common.{take}
 use Rattle.std.specs.List.{All}
 use Rattle.sync_topo.specs.Lines.{receiver_of}
-use Rattle.nominate.specs.Searching.{IsMore, IsClose}
+use Rattle.nominate.specs.private.Searching.{IsMore, IsClose}
 use Rattle.nominate.proofs.search.Search.visit.Given as goal
 
 abbrev pub invariant-loop-line : goal.invariant-loop-line

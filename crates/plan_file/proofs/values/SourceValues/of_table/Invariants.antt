@@ -3,8 +3,8 @@ use Rattle.toml.specs.View.{members_view, table_view}
 use Rattle.sync_topo.specs.declared.place.Section.TheVariants.{Sources}
 use Rattle.plan_file.specs.declared.version.Version.TheVariants.{Two}
 use Rattle.plan_file.specs.Format.{keys_of}
-use Rattle.plan_file.specs.Slots.{no_slots, taken}
-use Rattle.plan_file.specs.Values.{source_slots}
+use Rattle.plan_file.specs.private.Slots.{no_slots, taken}
+use Rattle.plan_file.specs.private.Values.{source_slots}
 use Rattle.plan_file.proofs.values.SourceValues.of_table.Given as goal
 
 -- the members left, put into the slots, give what all of them give

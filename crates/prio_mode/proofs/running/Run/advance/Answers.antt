@@ -1,6 +1,6 @@
 use Rattle.std.proofs.Common.{◌≡◌, suc, subst, arith}
 use Rattle.event_times.proofs.EventTimes.{within-from}
-use Rattle.prio_mode.specs.Running.{HasRun}
+use Rattle.prio_mode.specs.private.Running.{HasRun}
 use Rattle.prio_mode.proofs.Advancing.{run-later, dues-from, on-way}
 use Rattle.prio_mode.proofs.running.Run.advance.Goals as goal
 

@@ -1,5 +1,5 @@
 use Rattle.std.proofs.Common.{◌+◌, ◌-◌}
-use Rattle.prio_mode.specs.Running.{IsOnWay}
+use Rattle.prio_mode.specs.private.Running.{IsOnWay}
 use Rattle.prio_mode.proofs.running.Run.advance.Given as goal
 
 -- all before the next millisecond was made, and the rest of the events stand from there on

@@ -1,7 +1,7 @@
 use Rattle.std.proofs.Common.{◌<◌, ℕ, List, length, slice_index, take, sym, subst, arith}
 use Rattle.std.proofs.lemmas.List.{take_more}
 use Rattle.agenda.proofs.MarkedPlaces.{not_before}
-use Rattle.prio_mode.specs.Visiting.{CanStep, AreVisited}
+use Rattle.prio_mode.specs.private.Visiting.{CanStep, AreVisited}
 use Rattle.prio_mode.proofs.Turning.{walk-next}
 use Rattle.prio_mode.proofs.running.Run.visit_all.Goals as goal
 

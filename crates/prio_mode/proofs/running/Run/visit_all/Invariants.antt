@@ -1,5 +1,5 @@
 use Rattle.std.proofs.Common.{take}
-use Rattle.prio_mode.specs.Visiting.{AreVisited}
+use Rattle.prio_mode.specs.private.Visiting.{AreVisited}
 use Rattle.prio_mode.proofs.running.Run.visit_all.Given as goal
 
 -- those behind were visited

@@ -9,5 +9,5 @@ unfolding StandsFor
 returns c = record {
   locked =
       rw (← c.self.view_is)
-      (λ past n stands in_time. c.locked.ensures.value ∙ locked_until (element_state c.self.inside) c.self.invariant c.args.i past n stands in_time);
+      (λ past n stands in_time. c.locked.ensures.value ∙ locked_until (element_state c.self.inside) c.self.invariant c.args.input past n stands in_time);
 }

@@ -7,17 +7,17 @@ pub returns-clause-stands : goal.returns-clause-stands
 unfolding StandsFor
 returns-clause-stands c = λ all n is.
     rw c.get.ensures
-    (line-read c.args.self.now c.self.inside.plan.now c.self.inside.spent c.self.inside.parts c.args.l.0 c.index.result.now c.in-Some.line c.self.view_is c.index.ensures c.in-Some.is
+    (line-read c.args.self.now c.self.inside.plan.now c.self.inside.spent c.self.inside.parts c.args.line.0 c.index.result.now c.in-Some.kept c.self.view_is c.index.ensures c.in-Some.is
     (c.self.invariant (ap (λ s. s.spent) c.self.view_is ∙ c.requires.live)).lines_count c.requires.nominated all n is)
 
 pub returns-clause-turn : goal.returns-clause-turn
 returns-clause-turn c =
     rw c.get.ensures
     ((seen_line c.args.self.now c.self.inside.plan.now c.self.inside.spent c.self.inside.parts c.self.view_is c.requires.live c.self.invariant
-    c.args.l.0 c.index.result.now c.in-Some.line c.index.ensures c.in-Some.is c.requires.nominated).0)
+    c.args.line.0 c.index.result.now c.in-Some.kept c.index.ensures c.in-Some.is c.requires.nominated).0)
 
 pub returns-clause-in_time : goal.returns-clause-in_time
 returns-clause-in_time c =
     rw c.get.ensures
     ((seen_line c.args.self.now c.self.inside.plan.now c.self.inside.spent c.self.inside.parts c.self.view_is c.requires.live c.self.invariant
-    c.args.l.0 c.index.result.now c.in-Some.line c.index.ensures c.in-Some.is c.requires.nominated).1)
+    c.args.line.0 c.index.result.now c.in-Some.kept c.index.ensures c.in-Some.is c.requires.nominated).1)

@@ -1,5 +1,5 @@
 use Rattle.std.proofs.Common.{◌<◌, ◌-◌, ℕ, arith}
-use Rattle.sync_sweep.specs.Counts.{with_place}
+use Rattle.sync_sweep.specs.private.Counts.{with_place}
 use Rattle.sync_sweep.proofs.Tallies.{any-level, has-place}
 use Rattle.sync_sweep.proofs.counted_levels.CountedLevels.greatest_place.Goals as goal
 

@@ -9,6 +9,6 @@ pub returns-clause-lowest : goal.returns-clause-lowest
 returns-clause-lowest c =
     let links = c.self.inside.parts.links.items in
     let count = ap (λ (plan : Topology). length plan.links) c.self.view_is in
-    let within : c.args.k < length links = omega (arith, c.requires, count) in
-    let is : c.lowest.result ≡ lowest_of_bundle links c.args.k = same_Some _ _ (sym c.lowest.ensures ∙ c.self.invariant.bundles_kept.kept c.args.k within) in
-    omega (arith, is, (lowest-there links c.args.k within).at_most)
+    let within : c.args.link < length links = omega (arith, c.requires, count) in
+    let is : c.bundle_of.result ≡ lowest_of_bundle links c.args.link = same_Some _ _ (sym c.bundle_of.ensures ∙ c.self.invariant.bundles_kept.kept c.args.link within) in
+    omega (arith, is, (lowest-there links c.args.link within).at_most)

@@ -5,4 +5,4 @@ use Rattle.sync_topo.proofs.plan.Plan.place_of.Goals as goal
 
 pub returns-then-not-nominated-clause-place : goal.returns-then-not-nominated-clause-place
 returns-then-not-nominated-clause-place c =
-    sym (not-placed c.args.self.now (element_of c.args.self.now c.args.i) c.args.i (sym c.nominated.ensures.nominated ∙ c.if-not-nominated.true))
+    sym (not-placed c.args.self.now (element_of c.args.self.now c.args.input) c.args.input (sym c.nominated.ensures.nominated ∙ c.if-not-nominated.true))

@@ -7,7 +7,7 @@ pub returns-clause-fits : goal.returns-clause-fits
 returns-clause-fits c =
     let kept = c.self.inside.parts.sources.items in
     let count = ap (λ (plan : Topology). length plan.sources) c.self.view_is in
-    let there : c.args.j < length kept = omega (arith, c.requires, count) in
-    let read : slice_get kept c.args.j ≡ Some c.index.result.now
-    = slice_get-get_or kept c.args.j c.index.result.now there ∙ ap Some (sym c.index.ensures) in
-    rw (← c.self.view_is) (c.self.invariant.well_formed.sources_fit c.args.j c.index.result.now read)
+    let there : c.args.source < length kept = omega (arith, c.requires, count) in
+    let read : slice_get kept c.args.source ≡ Some c.index.result.now
+    = slice_get-get_or kept c.args.source c.index.result.now there ∙ ap Some (sym c.index.ensures) in
+    rw (← c.self.view_is) (c.self.invariant.well_formed.sources_fit c.args.source c.index.result.now read)

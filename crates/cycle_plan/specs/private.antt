@@ -1,0 +1,9 @@
+-- What no public clause rests on: who reads contracts alone need not read it.
+pub mod Agreed
+pub mod BoundParts
+pub mod Inputs
+pub mod Mosts
+pub mod Numbers
+pub mod Peeling
+pub mod Rings
+pub mod Tops

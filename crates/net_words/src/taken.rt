@@ -1,0 +1,63 @@
+//! What one element of a plan takes, and a step of it that nobody counts.
+
+ghost use Rattle.std.specs.Prelude.{◌≡◌, ◌≤◌, ◌<◌, ℕ, List, All, IfSome, length, option_and_then, slice_get};
+ghost use Rattle.sync_ql.specs.Moment.{Moment};
+ghost use Rattle.sync_ql.specs.Told.{FitsElement, moments_until};
+ghost use Rattle.sync_element.specs.ElementState.{IsInTime};
+ghost use Rattle.sync_element.specs.StandsAfter.{IsStepped};
+ghost use Rattle.sync_element.specs.StandsFor.{StandsFor};
+ghost use Rattle.sync_topo.specs.Lines.{IsInput};
+ghost use Rattle.net_rules.specs.Settings.{taken_with};
+
+use std::marker::Brand;
+use std::sync::ledger::{Blank, Ledger};
+use sync_element::{Element, InputEvent};
+use sync_ql::limits::LAST_MILLISECOND;
+use sync_text::Steps;
+use sync_topo::{InputId, Plan};
+
+/// The input of the plan that an element takes. After G.781, selection.
+pub fn taken_of(plan: &Plan, place: u32, element: &Element) -> Option<InputId>
+    requires { place < length plan.now.elements }
+    ensures taken { (past : List Moment) (n : ℕ) → StandsFor element.now past →
+        IsInTime element.now n → result ≡ taken_with plan.now element.now.settings place
+        (moments_until element.now.settings n past) }
+    ensures input { IfSome result (IsInput plan.now) }
+{
+    input_at(plan.inputs(place), element.selected())
+}
+
+/// The input at a place.
+fn input_at(inputs: &[InputId], place: Option<u32>) -> Option<InputId>
+    ensures { result ≡ option_and_then (slice_get inputs.now) place }
+{
+    match place {
+        Some(place) => inputs.get(place as usize).copied(),
+        None => None,
+    }
+}
+
+/// Lets an element make a step in which it is told this. This project's own.
+pub fn step_alone(element: &mut Element, now: u64, told: &[InputEvent])
+    requires in_time { IsInTime element.old now }
+    requires in_range { now ≤ LAST_MILLISECOND }
+    requires fits { All (FitsElement element.old.settings) told.now }
+    ensures stepped { IsStepped now told.now element.old element.new }
+{
+    step::<Brand>(element, now, told, Blank::new(1));
+}
+
+/// A step that nobody counts.
+fn step<L: Ledger>(element: &mut Element, now: u64, told: &[InputEvent], blank: Blank)
+    requires name { blank.name ≡ L.name }
+    requires parts { blank.parts ≡ L.parts }
+    requires some { 0 < blank.parts }
+    requires in_time { IsInTime element.old now }
+    requires in_range { now ≤ LAST_MILLISECOND }
+    requires fits { All (FitsElement element.old.settings) told.now }
+    ensures stepped { IsStepped now told.now element.old element.new }
+{
+    let mut steps = Steps::<L>::new(blank);
+    element.step(now, told, &mut steps);
+    let _due = element.due();
+}

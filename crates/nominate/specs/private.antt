@@ -1,0 +1,6 @@
+-- What no public clause rests on: who reads contracts alone need not read it.
+pub mod Examples
+pub mod Marks
+pub mod Numbering
+pub mod Placing
+pub mod Searching

@@ -1,0 +1,6 @@
+-- What no public clause rests on: who reads contracts alone need not read it.
+pub mod Examples
+pub mod Pcap
+pub mod Refusal
+pub mod Steps
+pub mod WrittenSoFar

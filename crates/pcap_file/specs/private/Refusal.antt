@@ -1,0 +1,10 @@
+-- Beside specs/Refusal.antt, under no public clause: what a refusal of a capture is printed with, and what a call
+-- answers that may refuse.
+use Rattle.std.specs.Prelude.{Result}
+use Rattle.sync_text.specs.Gives.{RefusesBut}
+use Rattle.pcap_file.specs.declared.error.PcapErr.{PcapErr}
+use Rattle.pcap_file.specs.Refusal.{is_want}
+
+-- the refusal is the definition's; want of memory says nothing
+abbrev pub Refuses : {A : Type 0} → PcapErr → Result A PcapErr → Type 0
+Refuses error answer = RefusesBut is_want error answer

@@ -1,0 +1,5 @@
+-- What no public clause rests on: who reads contracts alone need not read it.
+pub mod OrderlyExamples
+pub mod Searched
+pub mod Trying
+pub mod Walking

@@ -1,0 +1,10 @@
+-- Beside specs/Refusal.antt, under no public clause: what a refusal of a certificate is printed with, and what a call
+-- answers that may refuse.
+use Rattle.std.specs.Prelude.{Result}
+use Rattle.sync_text.specs.Gives.{RefusesBut}
+use Rattle.rank_cert.specs.declared.error.CertErr.{CertErr}
+use Rattle.rank_cert.specs.Refusal.{is_want}
+
+-- the refusal is the definition's; want of memory says nothing
+abbrev pub Refuses : {A : Type 0} → CertErr → Result A CertErr → Type 0
+Refuses error answer = RefusesBut is_want error answer
