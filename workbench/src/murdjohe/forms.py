@@ -168,7 +168,7 @@ _ALL = (
         "protect",
         (_PLAN,),
         PLANNING,
-        "gives a plan priorities by which no single failure cuts anybody off",
+        "gives a plan priorities by which no one failure cuts anybody off",
         (0, 1, 3, 7, 9),
         (_MAKE, "murdjohe protect plan.toml > protecting.toml", "murdjohe protected protecting.toml"),
     ),
