@@ -31,7 +31,7 @@ def fail_each(program: str, words: list[str], shim: str, folder: str) -> int:
 
     usual = run(0)[:2]
     print(f"{' '.join(words[1:])}: usual answer: status {usual[0]}, {usual[1][:100]!r}")
-    want_of_memory = same = wrong = at = 0
+    no_memory_left = same = wrong = at = 0
     while True:
         at += 1
         if at > GREATEST:
@@ -40,13 +40,13 @@ def fail_each(program: str, words: list[str], shim: str, folder: str) -> int:
         if fewer:
             break
         if (status, text) == (10, b""):
-            want_of_memory += 1
+            no_memory_left += 1
         elif (status, text) == usual:
             same += 1
         else:
             wrong += 1
             print(f"allocation {at}: status {status}, {text[:200]!r}")
-    told = f"{want_of_memory} want of memory with nothing written, {same} the usual answer, {wrong} wrong"
+    told = f"{no_memory_left} out of memory with nothing written, {same} the usual answer, {wrong} wrong"
     print(f"{at - 1} allocations: {told}", flush=True)
     return wrong
 

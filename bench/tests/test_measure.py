@@ -7,7 +7,7 @@ from pathlib import Path
 import pytest
 
 from bench import programs, repository
-from bench.measure import failing, faults, gate_time, ladder, limits, survey_rates, swinging, times, works
+from bench.measure import failing, faults, gate_time, ladder, limits, step_costs, survey_rates, swinging, times, works
 from bench.program import TOP
 from bench.reference.plan import ladder as reference_ladder, read_plan
 from bench.reference.runs_by_hand import CHAIN
@@ -117,8 +117,39 @@ def test_works_name_their_files() -> None:
 
 
 def test_each_program_is_there() -> None:
-    names = ["element_histories", "line_histories", "network_steps", "network_sizes", "node_pieces"]
+    names = ["element_histories", "line_histories", "network_steps", "node_pieces"]
     assert all("fn " in programs.text(f"{name}.rt.txt") for name in names)
+
+
+PROFILE = """fn=(1) main
+cfn=(2) sync_net::net::Net::step
+calls=3 80
++4 900
+16 5
+fn=(2)
+20 100
+cfn=(3) sync_element::element::Element::step
+calls=4 90
++1 800
+fn=(1)
+cfn=(2)
+calls=1 80
++9 300
+"""
+
+
+def test_calls_are_counted_with_what_they_call() -> None:
+    assert step_costs.calls_of(PROFILE, step_costs.NETWORK) == (4, 1_200)
+    assert step_costs.calls_of(PROFILE, step_costs.ELEMENT) == (4, 800)
+    assert step_costs.calls_of(PROFILE, "main") == (0, 0)
+
+
+def test_as_many_sources_change_as_are_asked_for() -> None:
+    plan, events = step_costs.busy_element(64, 1)
+    assert (len(plan.sources), len(events)) == (64, 64_000)
+    assert len({(event.target, event.level) for event in events}) == 65
+    plan, events = step_costs.busy_network(250)
+    assert (plan.sources[2].at, [event.at for event in events[:2]]) == (240, [21_000, 21_001])
 
 
 def test_a_survey_is_rated_by_the_processors_that_it_has() -> None:

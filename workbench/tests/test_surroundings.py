@@ -132,7 +132,7 @@ def test_want_of_memory_is_told_as_the_program_does(tmp_path: Path) -> None:
     other.write_text("#!/bin/sh\nexit 10\n")
     other.chmod(0o755)
     ran = murdjohe("gen", "3", MURDJOHE_CORE=str(other))
-    assert (ran.status, ran.out) == (10, b"") and "memory ran out" in ran.err
+    assert (ran.status, ran.out) == (10, b"") and "out of memory" in ran.err
 
 
 def test_a_program_that_can_not_be_run_is_told(tmp_path: Path) -> None:

@@ -1,4 +1,4 @@
--- Private to this crate: what is true of the times that are kept.
+-- What is true of the times that are kept.
 use Rattle.std.specs.Prelude.{ℕ, List, Option}
 use Rattle.agenda.specs.declared.due_times.DueTimes.TheInside.{Inside}
 use Rattle.agenda.specs.EarlierDue.{times_by}

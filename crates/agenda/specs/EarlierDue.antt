@@ -1,4 +1,4 @@
--- Private to this crate: how the times of objects are kept, and by which numbers they stand in a
+-- How the times of objects are kept, and by which numbers they stand in a
 -- tournament.
 use Rattle.std.specs.Prelude.{◌+◌, ℕ, Bool, true, false, List, length, map, slice_index_or, Option, None, Some}
 use Rattle.std.specs.List.{range_with_len}

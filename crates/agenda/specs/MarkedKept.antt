@@ -1,4 +1,4 @@
--- Private to this crate: what is true of the marks that are kept.
+-- What is true of the marks that are kept.
 use Rattle.agenda.specs.Marked.{Marked}
 use Rattle.agenda.specs.declared.marks.Marks.TheInside.{Inside}
 

@@ -21,7 +21,7 @@ pub enum CaptureErr {
     /// The line is no row.
     #[error("line {0}: no row of three or seven fields")]
     Row(u64),
-    /// Memory ran out.
+    /// Out of memory.
     #[error("out of memory")]
     NoMemory,
 }
@@ -29,7 +29,7 @@ pub enum CaptureErr {
 impl CaptureErr {
     /// The number by which the refusal is printed, from 12 to 14.
     ///
-    /// `None` where memory ran out, which refuses no line.
+    /// `None` when out of memory, which refuses no line.
     /// This project's own.
     pub fn number(self) -> Option<u8>
         ensures { result ≡ number_of self }

@@ -216,7 +216,7 @@ fn forget(count: u32, met: &mut Vec<bool>, known: &mut Vec<Option<Ending>>) -> R
 /// It takes time by the number of elements and lines of the plan, however long the traces are. It is
 /// quick where most elements come in the order behind those that they take their timing from; any list
 /// serves as an order. What stood in the two lists is forgotten.
-/// `NoMemory` comes for want of memory alone. This project's own.
+/// `NoMemory` comes only when out of memory. This project's own.
 pub fn find_endings(
     alloc: Global,
     plan: &Plan,
@@ -249,7 +249,7 @@ pub fn find_endings(
 /// How the trace of each element ends, by the element's number: of how many lines it is, and where.
 ///
 /// It takes time by the number of elements and lines of the plan, however long the traces are.
-/// `NoMemory` comes for want of memory alone. This project's own.
+/// `NoMemory` comes only when out of memory. This project's own.
 pub fn endings_of(
     alloc: Global,
     plan: &Plan,

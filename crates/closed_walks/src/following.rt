@@ -52,7 +52,7 @@ pub fn next_of(taken: Option<InputId>, element: u32) -> Next
 /// Follows what is taken from an element on, up to one that is marked, or that takes no line. Each
 /// that is passed is marked.
 ///
-/// `NoMemory` comes for want of memory alone. This project's own.
+/// `NoMemory` comes only when out of memory. This project's own.
 pub fn follow(
     alloc: Global,
     plan: &Plan,
@@ -98,7 +98,7 @@ pub fn follow(
 
 /// So many elements, none of which is marked.
 ///
-/// `NoMemory` comes for want of memory alone. This project's own.
+/// `NoMemory` comes only when out of memory. This project's own.
 pub fn no_marks(alloc: Global, count: u32) -> Result<Vec<bool>, NoMemory>
     ensures { IfOk result (λ met. met.items ≡ replicate count false) }
 {

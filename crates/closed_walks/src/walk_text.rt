@@ -13,7 +13,7 @@ use sync_topo::{InputId, LineId, Plan};
 
 /// Puts a row for each closed walk, in their order: its lines with blanks between them.
 ///
-/// `NoMemory` comes for want of memory alone; a part may then stand at the end, so the text isn't
+/// `NoMemory` comes only when out of memory; a part may then stand at the end, so the text isn't
 /// used again. This project's own.
 pub fn put_walks(
     alloc: Global,

@@ -4,7 +4,7 @@ use Rattle.csv.specs.Reading.{default_config, records_from, source_of}
 use Rattle.csv.specs.declared.parser.State.{State}
 use Rattle.csv.specs.declared.reader.Reader.{Reader}
 
--- a reader of records: the record that it took last, the records that it has left, and whether it stopped for want of memory
+-- a reader of records: the record that it took last, the records that it has left, and whether it stopped out of memory
 pub record Stream : Type 0 where
   pub taken : List (List ℕ)
   pub left : List (List (List ℕ))

@@ -15,7 +15,7 @@ use sync_text::NoMemory;
 ///
 /// It holds one record at a time. Fields are parted by commas and may be quoted, spaces are part of
 /// a field, records may differ in length, the first record is one like the others, and a byte order
-/// mark at the start is passed over. No text is refused; an error is want of memory.
+/// mark at the start is passed over. No text is refused; an error is `NoMemory`.
 /// After RFC 4180, as the crate `csv` reads it.
 #[derive(Drop)]
 pub struct Records<'a> {
@@ -57,7 +57,7 @@ impl<'a> Records<'a> {
 
     /// Takes the next record, and says whether there was one.
     ///
-    /// After want of memory it is spent.
+    /// When out of memory, it is spent.
     pub fn advance(&mut self) -> Result<bool, NoMemory>
         requires { self.old.spent ≡ false }
         ensures found { result ≡ Ok true → self.old.left ≡ self.new.taken ∷ self.new.left }
@@ -75,7 +75,7 @@ impl<'a> Records<'a> {
                 self.ended = true;
                 Ok(false)
             }
-            Err(error) => Err(want_of_memory(error)),
+            Err(error) => Err(no_memory_left(error)),
         }
     }
 
@@ -87,10 +87,10 @@ impl<'a> Records<'a> {
     }
 }
 
-/// Want of memory, as the one reason that is left for a reader to stop: the bytes are in memory.
+/// Out of memory, as the one reason that is left for a reader to stop: the bytes are in memory.
 ///
 /// An error of the records themselves stops no reader.
-fn want_of_memory(error: Error) -> NoMemory
+fn no_memory_left(error: Error) -> NoMemory
     requires { stops_reader (error_kind error) ≡ true }
 {
     let _ = error;

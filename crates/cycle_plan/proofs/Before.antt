@@ -16,7 +16,7 @@ use Rattle.sync_topo.specs.Hops.{HopsBy, hops_by}
 use Rattle.cycle_plan.specs.private.Numbers.{number_in, number_out}
 use Rattle.cycle_plan.specs.private.Inputs.{line_at, IsOpenLine, AreFirstOpen}
 use Rattle.cycle_plan.specs.private.Peeling.{IsPeeled}
-use Rattle.cycle_plan.specs.private.Rings.{IsLeft, HasRound}
+use Rattle.cycle_plan.specs.private.GoingBack.{IsLeft, HasRound}
 use Rattle.cycle_plan.proofs.Back.{comes_round}
 use Rattle.cycle_plan.specs.declared.inputs.OpenInputs.{OpenInputs}
 use Rattle.cycle_plan.proofs.HopFacts.{line_at_within, hop_parts, hop_from, input_is, inputs_rise}

@@ -23,7 +23,7 @@ walk_from returns plan first (next ∷ rest) last leads = (leads.0.hops, walk_fr
 -- the first cycle is a cycle of hops
 pub IsCycle-first : (returns : ReturnRule) (plan : Topology) (lines : List ℕ) → IsFirstCycle (hops_by returns plan) lines → Circles (hops_by returns plan) lines
 IsCycle-first returns plan [] never = never
-IsCycle-first returns plan (line ∷ rest) first = walk_from returns plan line rest line first.ring
+IsCycle-first returns plan (line ∷ rest) first = walk_from returns plan line rest line first.closes
 
 -- the test of ranks finds nothing else of rising ranks than that they rise
 pub rising_is_accepted : (plan : Topology) (ranks : Ranks) → IsRising plan (rank_of ranks) → (verdict : Verdict) → Judges plan ranks verdict → verdict ≡ Rising
@@ -42,4 +42,4 @@ all_within returns plan first (next ∷ rest) last leads =
 
 pub All_within-first : (returns : ReturnRule) (plan : Topology) (lines : List ℕ) → IsFirstCycle (hops_by returns plan) lines → All (λ line. line < line_count plan) lines
 All_within-first returns plan [] never = absurd never
-All_within-first returns plan (line ∷ rest) first = all_within returns plan line rest line first.ring
+All_within-first returns plan (line ∷ rest) first = all_within returns plan line rest line first.closes

@@ -85,8 +85,8 @@ cycle_repeats hop low rest line first stands =
     let start = first.met.0 in
     let steps = first.met.1 in
     let taken : StepsBack hop steps start low = first.met.3 in
-    let onward = steps_to hop low rest low line first.ring stands in
-    let round : StepsBack hop (length rest + 1) low low = leads_back hop low rest low first.ring in
+    let onward = steps_to hop low rest low line first.closes stands in
+    let round : StepsBack hop (length rest + 1) low low = leads_back hop low rest low first.closes in
     record {
       start = start;
       lowest = first.met.2;
@@ -124,7 +124,7 @@ repeats_on_cycle hop low rest line first repeats =
         let onward = repeats.once + far.0 - first.met.1 in
         let all : StepsBack hop (first.met.1 + onward) first.met.0 line =
         back_at hop (repeats.once + far.0) (first.met.1 + onward) first.met.0 line (omega (arith, enough)) (back_add hop far.0 repeats.once first.met.0 line line comes far.2) in
-        ring_back hop low rest first.ring onward onward line (omega arith) (back_rest hop onward first.met.1 first.met.0 low line first.met.3 all)
+        ring_back hop low rest first.closes onward onward line (omega arith) (back_rest hop onward first.met.1 first.met.0 low line first.met.3 all)
 
 -- so two first cycles begin at one line
 low_below : (hop : HopTest) (low : ℕ) (rest : List ℕ) (other : ℕ) (others : List ℕ) → IsFirstCycleFrom hop low rest → IsFirstCycleFrom hop other others → low ≤ other
@@ -140,7 +140,7 @@ not_longer : (hop : HopTest) (low : ℕ) (rest others : List ℕ) → IsFirstCyc
 not_longer hop low rest others first second = elim (cases_lt (length others) (length rest)) [
   | inl longer ↦
       let stands : Contains rest low =
-      rest_back hop low rest low (length others + 1) low first.ring (omega arith) (omega (arith, longer)) (leads_back hop low others low second.ring) in
+      rest_back hop low rest low (length others + 1) low first.closes (omega arith) (omega (arith, longer)) (leads_back hop low others low second.closes) in
       let less : low < low = All-contains (λ l. low < l) rest low first.lowest stands in
       absurd (omega (arith, less))
   | inr fits ↦ fits
@@ -171,7 +171,7 @@ one_cycle hop (low ∷ rest) (other ∷ others) first second =
         let moved : IsFirstCycleFrom hop other rest = subst (λ l. IsFirstCycleFrom hop l rest) same first in
         let short = not_longer hop other rest others moved second in
         let long = not_longer hop other others rest second moved in
-        let lines = same_lines hop other other rest others other (omega (arith, short, long)) moved.ring second.ring in
+        let lines = same_lines hop other other rest others other (omega (arith, short, long)) moved.closes second.closes in
         rw (same, lines.1) refl
 
 -- its lines are those that repeat

@@ -7,7 +7,7 @@ use Rattle.std.proofs.lemmas.List.Elements.{All-cons}
 use Rattle.sync_topo.specs.declared.input.LineId.{LineId}
 use Rattle.sync_topo.specs.Ranks.{HopTest, IsBefore, StepsBack, IsLowestResidue, IsFirstCycleFrom}
 use Rattle.sync_topo.specs.Lines.{numbers}
-use Rattle.cycle_plan.specs.private.Rings.{HasRound, IsLowOn, IsLowest, IsWalked}
+use Rattle.cycle_plan.specs.private.GoingBack.{HasRound, IsLowOn, IsLowest, IsWalked}
 use Rattle.cycle_plan.proofs.Back.{back_same, back_at, back_add, back_rest, round_kept}
 
 -- one more step
@@ -104,7 +104,7 @@ walked_short hop low at n lines round walked = elim (cases_lt (length lines) rou
 pub first_from : (hop : HopTest) (start n on low : ℕ) (lines : List LineId) → IsLowestResidue hop start → StepsBack hop n start on → IsLowOn hop on n low
     → IsWalked hop low low lines → IsFirstCycleFrom hop low (reverse (numbers lines))
 first_from hop start n on low lines lowest taken lows walked = record {
-  ring = walked.chain;
+  closes = walked.chain;
   met = (start, n + lows.met.0, lowest, back_add hop lows.met.0 n start on low taken lows.met.1);
   lowest = walked.higher;
 }

@@ -5,5 +5,5 @@ pub mod Inputs
 pub mod Mosts
 pub mod Numbers
 pub mod Peeling
-pub mod Rings
+pub mod GoingBack
 pub mod Tops

@@ -39,7 +39,7 @@ pub enum Agreement {
 /// wait-to-restore times and of five seconds and the greatest delay; plus, for each level that is
 /// better than every own clock and once more, the greatest delay for each rank from 0 to the
 /// greatest; plus the greatest delay. What it promises is `agree_law` of reach_rules. The work is
-/// that of [`rank_plan`](crate::rank_plan). `NoMemory` comes for want of memory alone.
+/// that of [`rank_plan`](crate::rank_plan). `NoMemory` comes only when out of memory.
 ///
 /// This project's own, over the times of G.781 and G.8264.
 pub fn agree(alloc: Global, plan: &Plan) -> Result<Agreement, NoMemory>
@@ -86,8 +86,8 @@ fn high_levels(plan: &Plan) -> u64
     ensures few { result ≤ 13 }
 {
     let mut high = level_count(plan.option());
-    for e in 0..plan.elements() {
-        high = lesser(high, u64::from(plan.element(e).own.place));
+    for element in 0..plan.elements() {
+        high = lesser(high, u64::from(plan.element(element).own.place));
     }
     high
 }

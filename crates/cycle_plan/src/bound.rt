@@ -133,8 +133,8 @@ pub(crate) fn longest_wait(plan: &Plan, delay: u64) -> u64
     ensures at_most { result ≤ GREATEST_WTR }
 {
     let mut longest = HEARING_TIME + delay;
-    for e in 0..plan.elements() {
-        longest = greater(longest, longer_time(plan.element(e)));
+    for element in 0..plan.elements() {
+        longest = greater(longest, longer_time(plan.element(element)));
     }
     longest
 }

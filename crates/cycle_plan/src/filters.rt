@@ -11,11 +11,11 @@ use sync_topo::Plan;
 /// option II, QL-ST3E.
 ///
 /// After G.803, which counts the clocks of synchronization supply units apart.
-pub(crate) fn is_filter(plan: &Plan, e: u32) -> bool
-    requires { e < length plan.now.elements }
-    ensures { result ≡ is_filter plan.now e }
+pub(crate) fn is_filter(plan: &Plan, element: u32) -> bool
+    requires { element < length plan.now.elements }
+    ensures { result ≡ is_filter plan.now element }
 {
-    is_filter_level(plan.element(e).own)
+    is_filter_level(plan.element(element).own)
 }
 
 /// Whether a clock of this level is a filter.

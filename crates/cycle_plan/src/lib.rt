@@ -13,7 +13,7 @@
 //!
 //! Lines get their ranks one after another, each once all lines that hop to it have theirs; an
 //! element's inputs are looked at anew only from where they had ranks before. Where lines are
-//! left over, one goes back from line to line until a ring closes. Chains are counted in the
+//! left over, one goes back from line to line until a cycle closes. Chains are counted in the
 //! order in which lines got their ranks, and of each element the greatest counts alone are kept.
 //!
 //! The tests are worked plans.
@@ -24,6 +24,7 @@ mod bound;
 mod chain_rows;
 mod chaining;
 mod filters;
+mod first_cycle;
 mod inputs;
 mod laws;
 mod most;
@@ -31,7 +32,6 @@ mod numbers;
 mod ranked;
 mod ranking;
 mod reach;
-mod ring;
 mod top;
 
 pub use agreement::{Agreement, agree};

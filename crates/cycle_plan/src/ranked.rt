@@ -28,7 +28,7 @@ pub enum Ranked {
 /// A line's least rank is the greatest number of hops of a walk that ends in it. The first cycle
 /// is what repeats when one goes back from line to line, each time to the lowest-numbered line
 /// that hops there and in which walks of every length end; it begins at the lowest-numbered such
-/// line. It is the ring of elements that could take timing from one another. The work grows with
+/// line. It is the cycle of elements that could take timing from one another. The work grows with
 /// the lines and elements, and not with the hops. This project's own.
 pub fn rank_plan(alloc: Global, plan: &Plan) -> Result<Ranked, NoMemory>
     ensures least { IfRanks result (λ ranks. AreLeastRanks (hops plan.now)

@@ -6,7 +6,7 @@ ghost use Rattle.sync_topo.specs.Hops.{hops_by};
 ghost use Rattle.cycle_plan.specs.private.Numbers.{number_out};
 ghost use Rattle.cycle_plan.specs.private.Inputs.{AreFirstOpen};
 ghost use Rattle.cycle_plan.specs.private.Tops.{rank_after};
-ghost use Rattle.cycle_plan.specs.private.Rings.{IsDone};
+ghost use Rattle.cycle_plan.specs.private.GoingBack.{IsDone};
 ghost use Rattle.cycle_plan.specs.private.Peeling.{IsRanking, IsPeeling, IsPeeled, IsMore, IsNext, IsSettled, AreKept, IsWatched, is_among, IsAmong, AreFree, IsTopOf};
 
 use crate::inputs::{OpenInputs, first_open, inputs_of, line_at};

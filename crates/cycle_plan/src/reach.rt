@@ -2,7 +2,7 @@
 
 ghost use Rattle.std.specs.Prelude.{◌≡◌, ◌<◌, ◌≤◌, ◌+◌, ◌^◌, IfOk, length};
 ghost use Rattle.sync_topo.specs.declared.returns.ReturnRule.{ReturnRule};
-ghost use Rattle.cycle_plan.specs.private.Rings.{IsDone};
+ghost use Rattle.cycle_plan.specs.private.GoingBack.{IsDone};
 ghost use Rattle.cycle_plan.specs.Mosts.{row_of};
 ghost use Rattle.cycle_plan.specs.private.Mosts.{no_reach, AreReaches, since_step, clocks_step, over, raised_reach, most_but};
 

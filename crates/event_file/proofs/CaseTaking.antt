@@ -6,7 +6,7 @@ use Rattle.std.proofs.lemmas.Bool.{lt-ltb, le-ltb}
 use Rattle.std.proofs.lemmas.List.{length-map}
 use Rattle.std.proofs.lemmas.List.Concat.{length-flat_map}
 use Rattle.std.proofs.lemmas.List.Elements.{All-append, All-nil}
-use Rattle.sync_text.specs.Gives.{UnlessWanting}
+use Rattle.sync_text.specs.Gives.{UnlessNoMemory}
 use Rattle.csv_records.specs.Fields.{five_of}
 use Rattle.csv_records.proofs.FirstRefusals.{first_refusal-some, first_refusal-none}
 use Rattle.sync_topo.specs.declared.event.Case.{Case}
@@ -17,7 +17,7 @@ use Rattle.event_file.specs.declared.case_file.Cases.{Cases}
 use Rattle.event_file.specs.declared.error.EventErr.{EventErr}
 use Rattle.event_file.specs.declared.error.EventErr.TheVariants as refusal
 use Rattle.event_file.specs.declared.progress.CasesSoFar.{CasesSoFar}
-use Rattle.event_file.specs.Refusal.{is_want}
+use Rattle.event_file.specs.Refusal.{is_no_memory}
 use Rattle.event_file.specs.private.Refusal.{Refuses}
 use Rattle.event_file.specs.Rows.{Fields, event_in, time_in, event_limit, last_time, row_refusal}
 use Rattle.event_file.specs.private.Rows.{event_row}
@@ -28,12 +28,12 @@ use Rattle.event_file.specs.private.CasesTaken.{with_current, with_event, AreSor
 use Rattle.event_file.proofs.CaseRowLaws.{five_row, refusal-said, refusal-before, refusal-here}
 use Rattle.event_file.proofs.Sorting.{names-are, all-cases, all-timely, put-taken}
 
--- what holds unless memory ran out may be followed by more
-pub unless-more : {P Q : Type 0} (want : Bool) → (P → Q) → UnlessWanting want P → UnlessWanting want Q
+-- what holds unless out of memory may be followed by more
+pub unless-more : {P Q : Type 0} (want : Bool) → (P → Q) → UnlessNoMemory want P → UnlessNoMemory want Q
 unless-more true more holds = tt
 unless-more false more holds = more holds
 
-if_not_wanted : {P : Type 0} (want : Bool) → P → UnlessWanting want P
+if_not_wanted : {P : Type 0} (want : Bool) → P → UnlessNoMemory want P
 if_not_wanted true holds = tt
 if_not_wanted false holds = holds
 
@@ -65,14 +65,14 @@ module _ (plan : Topology) (done : List Fields) (row : Fields) (name at word tar
       rw (by_fields, le-ltb event_limit (length done + 1) (omega (arith, few, numbered)), may, numbered) refl
 
   pub apart-broken : (kept : CasesSoFar) (error : EventErr) → AreCasesTaken plan done kept → kept.rows + 1 ≤ event_limit → may_follow done name ≡ true
-      → UnlessWanting (is_want error) ((is_apart done name ≡ true) × (error ≡ refusal.Apart (kept.rows + 1)))
-      → UnlessWanting (is_want error) (case_refusal plan done (length done + 1) row ≡ Some error)
+      → UnlessNoMemory (is_no_memory error) ((is_apart done name ≡ true) × (error ≡ refusal.Apart (kept.rows + 1)))
+      → UnlessNoMemory (is_no_memory error) (case_refusal plan done (length done + 1) row ≡ Some error)
   unfolding case_refusal
   apart-broken kept error taken few may stood =
       let numbered = taken.sorted.numbered in
       let of_row : is_apart done name ≡ true → case_refusal plan done (length done + 1) row ≡ Some (refusal.Apart (kept.rows + 1))
       = λ apart. rw (by_fields, le-ltb event_limit (length done + 1) (omega (arith, few, numbered)), may, apart, numbered) refl in
-      unless-more (is_want error) (λ parts. of_row parts.0 ∙ ap Some (sym parts.1)) stood
+      unless-more (is_no_memory error) (λ parts. of_row parts.0 ∙ ap Some (sym parts.1)) stood
 
   said-is : (kept : CasesSoFar) (rows : ℕ) → AreSorted plan done name kept → rows ≡ length done → rows + 1 ≤ event_limit → may_follow done name ≡ true → is_apart done name ≡ false
       → case_refusal plan done (length done + 1) row ≡ row_refusal plan (rows + 1) kept.before (event_row at word target value)
@@ -84,9 +84,9 @@ module _ (plan : Topology) (done : List Fields) (row : Fields) (name at word tar
 
   pub said-broken : (kept : CasesSoFar) (rows : ℕ) (error : EventErr) → AreSorted plan done name kept → rows ≡ length done → rows + 1 ≤ event_limit → may_follow done name ≡ true
       → is_apart done name ≡ false → row_refusal plan (rows + 1) kept.before (event_row at word target value) ≡ Some error
-      → UnlessWanting (is_want error) (case_refusal plan done (length done + 1) row ≡ Some error)
+      → UnlessNoMemory (is_no_memory error) (case_refusal plan done (length done + 1) row ≡ Some error)
   said-broken kept rows error sorted numbered few may together broken =
-      if_not_wanted (is_want error) (said-is kept rows sorted numbered few may together ∙ broken)
+      if_not_wanted (is_no_memory error) (said-is kept rows sorted numbered few may together ∙ broken)
 
   -- and the one that breaks none
   pub row-taken : (kept : CasesSoFar) (rows : ℕ) (event : Event) → AreSorted plan done name kept → rows ≡ length done → rows + 1 ≤ event_limit → may_follow done name ≡ true
@@ -151,9 +151,9 @@ AreCasesLeft-more plan rows row rest kept after left taken = record {
 -- the first row that breaks a rule is the refusal of all
 pub cases_refused : (plan : Topology) (rows : List Fields) (row : Fields) (rest : List Fields) (kept : CasesSoFar) (error : EventErr)
     → AreCasesLeft plan rows (row ∷ rest) kept
-    → ((done : List Fields) → AreCasesTaken plan done kept → UnlessWanting (is_want error) (case_refusal plan done (length done + 1) row ≡ Some error))
+    → ((done : List Fields) → AreCasesTaken plan done kept → UnlessNoMemory (is_no_memory error) (case_refusal plan done (length done + 1) row ≡ Some error))
     → Refuses error (cases_of_rows plan rows)
-cases_refused plan rows row rest kept error left broken = unless-more (is_want error) answer (broken left.done left.taken)
+cases_refused plan rows row rest kept error left broken = unless-more (is_no_memory error) answer (broken left.done left.taken)
   where
     within : length left.done < length rows
     within =

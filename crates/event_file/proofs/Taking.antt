@@ -77,7 +77,7 @@ AreTaken-more plan rows n before row rest events event taken sound is time after
     one_event : (plan : Topology) (row : Row) (event : Event) → event_in plan row ≡ Some event → events_in plan (row ∷ []) ≡ event ∷ []
     one_event plan row event is = rw is refl
 
--- a refusal that is the answer, unless memory ran out
+-- a refusal that is the answer, unless out of memory
 pub refused : {A : Type 0} (answer : Result A EventErr) (e : EventErr) → answer ≡ Err e → Refuses e answer
 refused answer Header is = is
 refused answer (Fields k) is = is

@@ -4,7 +4,7 @@ use Rattle.sync_text.specs.Gives.{GivesBut}
 use Rattle.event_file.specs.declared.error.EventErr.{EventErr}
 use Rattle.event_file.specs.declared.error.EventErr.TheVariants.{Header, Fields, Time, Order, What, Target, Value, Limit, Name, Apart, NoMemory}
 
--- the number by which a refusal is printed; want of memory has none. This project's own
+-- the number by which a refusal is printed; out of memory has none. This project's own
 abbrev pub number_of : EventErr → Option ℕ
 number_of Header = Some 26
 number_of (Fields n) = Some 27
@@ -18,11 +18,11 @@ number_of (Name n) = Some 51
 number_of (Apart n) = Some 52
 number_of NoMemory = None
 
--- memory ran out
-abbrev pub is_want : EventErr → Bool
-is_want NoMemory = true
-is_want refusal = false
+-- out of memory
+abbrev pub is_no_memory : EventErr → Bool
+is_no_memory NoMemory = true
+is_no_memory refusal = false
 
--- the answer is the definition's, value or refusal; want of memory says nothing
+-- the answer is the definition's, value or refusal; out of memory says nothing
 abbrev pub Gives : {A : Type 0} → Result A EventErr → Result A EventErr → Type 0
-Gives result answer = GivesBut is_want result answer
+Gives result answer = GivesBut is_no_memory result answer

@@ -43,7 +43,7 @@ pub enum EventErr {
     /// The case stood before, and the row before is of another one.
     #[error("row {0}: apart from the other rows of its case")]
     Apart(u64),
-    /// Memory ran out.
+    /// Out of memory.
     #[error("out of memory")]
     NoMemory,
 }
@@ -51,7 +51,7 @@ pub enum EventErr {
 impl EventErr {
     /// The number by which the refusal is printed, from 26 to 33, and 51 and 52 for cases alone.
     ///
-    /// `None` where memory ran out, which refuses no text.
+    /// `None` when out of memory, which refuses no text.
     /// This project's own.
     pub fn number(self) -> Option<u8>
         ensures { result ≡ number_of self }

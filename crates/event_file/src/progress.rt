@@ -1,10 +1,10 @@
 // The cases of the rows so far.
 
 ghost use Rattle.std.specs.Prelude.{◌≡◌, ◌≤◌, ◌<◌, ◌+◌, [], ◌∷◌, ◌++◌, true, false, List, None, Some, IfOk, IfErr, OnOk, length};
-ghost use Rattle.sync_text.specs.Gives.{UnlessWanting};
+ghost use Rattle.sync_text.specs.Gives.{UnlessNoMemory};
 ghost use Rattle.sync_topo.specs.Names.{is_named};
 ghost use Rattle.sync_topo.specs.Topology.{Topology};
-ghost use Rattle.event_file.specs.Refusal.{is_want};
+ghost use Rattle.event_file.specs.Refusal.{is_no_memory};
 ghost use Rattle.event_file.specs.Rows.{Fields, event_limit};
 ghost use Rattle.event_file.specs.CaseRows.{may_follow, is_apart, case_refusal};
 ghost use Rattle.event_file.specs.private.CasesTaken.{with_current, with_event, AreSorted, AreCasesTaken};
@@ -63,7 +63,7 @@ impl CasesSoFar {
         ensures taken { (done : List Fields) → AreCasesTaken plan.now done self.old →
             OnOk result (AreCasesTaken plan.now (done ++ row.now ∷ []) self.new) }
         ensures refused { (done : List Fields) → AreCasesTaken plan.now done self.old →
-            IfErr result (λ error. UnlessWanting (is_want error)
+            IfErr result (λ error. UnlessNoMemory (is_no_memory error)
             (case_refusal plan.now done (length done + 1) row.now ≡ Some error)) }
     {
         let number = self.rows + 1;
@@ -104,7 +104,7 @@ impl CasesSoFar {
         ensures sorted { (plan : Topology) (done : List Fields) → AreCasesTaken plan done self.old →
             may_follow done name.now ≡ true → OnOk result (AreSorted plan done name.now self.new) }
         ensures apart { (plan : Topology) (done : List Fields) → AreCasesTaken plan done self.old →
-            IfErr result (λ error. UnlessWanting (is_want error)
+            IfErr result (λ error. UnlessNoMemory (is_no_memory error)
             ((is_apart done name.now ≡ true) × (error ≡ EventErr.Apart number))) }
     {
         if name.is_empty() {

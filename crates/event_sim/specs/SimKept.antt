@@ -1,4 +1,4 @@
--- Private to this crate: what contracts see of a simulator, and what is true of each.
+-- What contracts see of a simulator, and what is true of each.
 use Rattle.event_sim.specs.declared.sim.Sim.TheInside.{Inside}
 use Rattle.event_sim.specs.SimState.{SimState}
 

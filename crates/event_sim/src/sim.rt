@@ -53,7 +53,7 @@ impl<'a> Model for Sim<'a> {
 impl<'a> Sim<'a> {
     /// A simulator of a plan before 0. It takes memory by the size of the plan.
     ///
-    /// `NoMemory` comes for want of memory alone.
+    /// `NoMemory` comes only when out of memory.
     pub fn new(alloc: Global, plan: &'a Plan, watch: Watch) -> Result<Sim<'a>, NoMemory>
         ensures plan { IfOk result (λ sim. sim.net.plan ≡ plan.now) }
         ensures watch { IfOk result (λ sim. sim.watch ≡ watch) }
@@ -86,7 +86,7 @@ impl<'a> Sim<'a> {
     /// The same simulator once more, as far as it has come, over the same plan. It takes memory by
     /// the size of the plan and the number of changes.
     ///
-    /// `NoMemory` comes for want of memory alone. This project's own.
+    /// `NoMemory` comes only when out of memory. This project's own.
     pub fn try_clone(&self, alloc: Global) -> Result<Sim<'a>, NoMemory>
         ensures { IfOk result (λ sim. sim ≡ self.now) }
     {
@@ -106,7 +106,7 @@ impl<'a> Sim<'a> {
     /// it answers `Stopped` with the last millisecond up to which all fit, and its network stands
     /// one millisecond later. After the first step it makes no more than there are milliseconds that are
     /// busy or are `until`, and each element makes no more than those in which it is active. `NoMemory`
-    /// comes for want of memory alone, and then the simulator is spent. This project's own.
+    /// comes only when out of memory, and then the simulator is spent. This project's own.
     pub fn advance<L: Ledger>(
         &mut self,
         events: &[Event],

@@ -48,40 +48,40 @@ pub(crate) fn put_elements(
 {
     text.put(b"elements\n")?;
     let plan = net.plan();
-    for e in 0..plan.elements() {
-        let it = inspected(plan, e, net.element(e));
-        put_row(alloc, text, plan, e, it)?;
+    for element in 0..plan.elements() {
+        let it = inspected(plan, element, net.element(element));
+        put_row(alloc, text, plan, element, it)?;
     }
     Ok(())
 }
 
 /// What an element of a plan chose, from its last step up to but not at `due`, if nothing is told.
 #[tactic(auto, unfolding(crate::specs::Inspection::element_after))]
-fn inspected(plan: &Plan, e: u32, element: &Element) -> InspectedElement
-    requires within { e < length plan.now.elements }
+fn inspected(plan: &Plan, number: u32, element: &Element) -> InspectedElement
+    requires within { number < length plan.now.elements }
     ensures chose { (past : List Moment) (n : ℕ) → ElementStandsFor element.now past →
-        IsInTime element.now n → result ≡ element_after plan.now e element.now.settings
+        IsInTime element.now n → result ≡ element_after plan.now number element.now.settings
         (moments_until element.now.settings n past) }
     ensures switched { IfSome result.switched (IsInput plan.now) }
     ensures taken { IfSome result.taken (IsInput plan.now) }
 {
     InspectedElement {
         mode: element.mode(),
-        switched: input_at(plan, e, element.switched()),
-        taken: taken_of(plan, e, element),
+        switched: input_at(plan, number, element.switched()),
+        taken: taken_of(plan, number, element),
         level: element.level(),
         state: element.state(),
     }
 }
 
 /// The input at a place of an element.
-fn input_at(plan: &Plan, e: u32, place: Option<u32>) -> Option<InputId>
-    requires within { e < length plan.now.elements }
-    ensures input { result ≡ option_and_then (slice_get (inputs_of plan.now e)) place }
+fn input_at(plan: &Plan, element: u32, place: Option<u32>) -> Option<InputId>
+    requires within { element < length plan.now.elements }
+    ensures input { result ≡ option_and_then (slice_get (inputs_of plan.now element)) place }
     ensures within { IfSome result (IsInput plan.now) }
 {
     match place {
-        Some(place) => plan.inputs(e).get(place as usize).copied(),
+        Some(place) => plan.inputs(element).get(place as usize).copied(),
         None => None,
     }
 }
@@ -91,15 +91,15 @@ fn put_row(
     alloc: Global,
     text: &mut Text,
     plan: &Plan,
-    e: u32,
+    element: u32,
     it: InspectedElement,
 ) -> Result<(), NoMemory>
-    requires within { e < length plan.now.elements }
+    requires within { element < length plan.now.elements }
     requires switched { IfSome it.switched (IsInput plan.now) }
     requires taken { IfSome it.taken (IsInput plan.now) }
-    ensures put { OnOk result (text.new ≡ text.old ++ element_row plan.now e it) }
+    ensures put { OnOk result (text.new ≡ text.old ++ element_row plan.now element it) }
 {
-    put_choice(alloc, text, plan, e, it.mode, it.switched)?;
+    put_choice(alloc, text, plan, element, it.mode, it.switched)?;
     text.put(b",")?;
     put_taken(alloc, text, plan, it.taken)?;
     text.put(b",")?;

@@ -43,8 +43,8 @@ pub(crate) fn put_inputs(
 {
     text.put(b"inputs\n")?;
     let plan = net.plan();
-    for e in 0..plan.elements() {
-        put_element(alloc, text, plan, e, net.element(e), until)?;
+    for element in 0..plan.elements() {
+        put_element(alloc, text, plan, element, net.element(element), until)?;
     }
     Ok(())
 }
@@ -54,18 +54,18 @@ fn put_element(
     alloc: Global,
     text: &mut Text,
     plan: &Plan,
-    e: u32,
+    number: u32,
     element: &Element,
     until: u64,
 ) -> Result<(), NoMemory>
-    requires within { e < length plan.now.elements }
-    requires settings { element.now.settings ≡ settings_of plan.now e }
+    requires within { number < length plan.now.elements }
+    requires settings { element.now.settings ≡ settings_of plan.now number }
     ensures put { OnOk result ((all : List Event) → ElementStands plan.now (signals_by plan.now all)
-        (out_at plan.now (signals_by plan.now all)) e (until + 1) element.now →
+        (out_at plan.now (signals_by plan.now all)) number (until + 1) element.now →
         text.new ≡ text.old ++ rows_in plan.now (signals_by plan.now all)
-        (out_at plan.now (signals_by plan.now all)) until e) }
+        (out_at plan.now (signals_by plan.now all)) until number) }
 {
-    let inputs = plan.inputs(e);
+    let inputs = plan.inputs(number);
     let passed = passed_until(element, inputs.len() as u32, until);
     for (place, input) in inputs.iter().enumerate() {
         let it = InspectedInput {
@@ -73,7 +73,7 @@ fn put_element(
             level: element.level_of(place as u32),
             verdict: verdict_of(element, place as u32),
         };
-        put_row(alloc, text, plan, e, *input, it)?;
+        put_row(alloc, text, plan, number, *input, it)?;
     }
     Ok(())
 }
@@ -83,15 +83,15 @@ fn put_row(
     alloc: Global,
     text: &mut Text,
     plan: &Plan,
-    e: u32,
+    element: u32,
     input: InputId,
     it: InspectedInput,
 ) -> Result<(), NoMemory>
-    requires within { e < length plan.now.elements }
+    requires within { element < length plan.now.elements }
     requires input { IsInput plan.now input }
-    ensures put { OnOk result (text.new ≡ text.old ++ inspected_row plan.now e input it) }
+    ensures put { OnOk result (text.new ≡ text.old ++ inspected_row plan.now element input it) }
 {
-    put_condition(alloc, text, plan, e, input, it.condition)?;
+    put_condition(alloc, text, plan, element, input, it.condition)?;
     text.put(b",")?;
     text.put(level_word(it.level))?;
     text.put(b",")?;

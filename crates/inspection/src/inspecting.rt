@@ -29,7 +29,7 @@ use sync_topo::{Event, Plan};
 /// comes a row for each element: its mode, the input that is switched to, the one that is taken,
 /// its level, and what its clock follows. After the line `inputs` comes a row for each input of
 /// each element: its condition, what is left of it, the level that is heard on it or that its
-/// source has, and why it is taken or isn't. `NoMemory` comes for want of memory alone. After
+/// source has, and why it is taken or isn't. `NoMemory` comes only when out of memory. After
 /// G.781, external commands, selection, signal fail and quality level; the text is this project's
 /// own.
 pub fn inspect(alloc: Global, plan: &Plan, events: &[Event], at: u64) -> Result<Text, NoMemory>

@@ -1,4 +1,4 @@
--- Private to this crate: what a line keeps, and what becomes of it. No clause elsewhere looks into it.
+-- What a line keeps, and what becomes of it. No clause elsewhere looks into it.
 use Rattle.std.specs.Prelude.{◌+◌, ◌-◌, ℕ, nat_lt, nat_le, if◌then◌else◌, List, [], ◌∷◌, Option, None, Some}
 use Rattle.sync_ql.specs.declared.levels.Level.{Level}
 use Rattle.sync_ql.specs.Messages.{LineMoment, hearing_time}

@@ -1,4 +1,4 @@
--- Private to this crate: how a line is seen, and what is true of every one.
+-- How a line is seen, and what is true of every one.
 use Rattle.std.specs.Prelude.{ℕ, ◌+◌, ◌/◌}
 use Rattle.link_model.specs.declared.line.Line.TheInside.{Inside}
 use Rattle.link_model.specs.Kept.{Kept, words_kept, due_of}

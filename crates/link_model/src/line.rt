@@ -167,7 +167,7 @@ impl Line {
     /// Gives the line its level from a millisecond on.
     ///
     /// A message goes out with it where the line speaks and said another level, or none. `Err` is
-    /// answered only for want of memory, and then the line is as before.
+    /// answered only when out of memory, and then the line is as before.
     /// After G.8264, event messages.
     pub fn say(&mut self, now: u64, level: Level) -> Result<(), NoMemory>
         requires turn { self.old.turn ≤ 4 * now + 3 }

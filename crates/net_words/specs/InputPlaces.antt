@@ -1,4 +1,4 @@
--- Private to this crate: where an input stands.
+-- Where an input stands.
 use Rattle.std.specs.Prelude.{ℕ, nat_eq, if◌then◌else◌, Option, None, Some}
 use Rattle.net_words.specs.declared.places.InputPlace.{InputPlace}
 

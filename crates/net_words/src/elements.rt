@@ -27,8 +27,8 @@ pub fn new_elements(alloc: Global, plan: &Plan, chooses: Chooses) -> Result<Vec<
         AreEach (IsNewElement (setting_of chooses plan.now) plan.now) (length plan.now.elements) elements.items) }
 {
     let mut elements = Rows::with_capacity(alloc, plan.elements() as usize)?;
-    for place in 0..plan.elements() {
-        elements.push(new_element(alloc, plan, place, chooses)?)?;
+    for element in 0..plan.elements() {
+        elements.push(new_element(alloc, plan, element, chooses)?)?;
     }
     Ok(elements.into_vec())
 }
@@ -37,15 +37,15 @@ pub fn new_elements(alloc: Global, plan: &Plan, chooses: Chooses) -> Result<Vec<
 pub fn new_element(
     alloc: Global,
     plan: &Plan,
-    place: u32,
+    number: u32,
     chooses: Chooses,
 ) -> Result<Element, NoMemory>
-    requires { place < length plan.now.elements }
-    ensures { IfOk result (IsNewElement (setting_of chooses plan.now) plan.now place) }
+    requires { number < length plan.now.elements }
+    ensures { IfOk result (IsNewElement (setting_of chooses plan.now) plan.now number) }
 {
-    let inputs = input_configs(alloc, plan, place, chooses)?;
-    let floor = floor_by(plan, place, chooses);
-    let planned = plan.element(place);
+    let inputs = input_configs(alloc, plan, number, chooses)?;
+    let floor = floor_by(plan, number, chooses);
+    let planned = plan.element(number);
     let element = Element::new(
         alloc,
         Config {
@@ -61,13 +61,13 @@ pub fn new_element(
 }
 
 /// The floor by which an element chooses.
-fn floor_by(plan: &Plan, place: u32, chooses: Chooses) -> Option<Level>
-    requires { place < length plan.now.elements }
-    ensures floor { result ≡ (setting_of chooses plan.now).floor place }
+fn floor_by(plan: &Plan, element: u32, chooses: Chooses) -> Option<Level>
+    requires { element < length plan.now.elements }
+    ensures floor { result ≡ (setting_of chooses plan.now).floor element }
     ensures of_option { IsOfOption plan.now.option result }
 {
     match chooses {
-        Chooses::ByLevel => plan.element(place).floor,
+        Chooses::ByLevel => plan.element(element).floor,
         Chooses::ByPriority => None,
     }
 }
@@ -76,15 +76,15 @@ fn floor_by(plan: &Plan, place: u32, chooses: Chooses) -> Option<Level>
 fn input_configs(
     alloc: Global,
     plan: &Plan,
-    place: u32,
+    element: u32,
     chooses: Chooses,
 ) -> Result<Rows<InputConfig>, NoMemory>
-    requires { place < length plan.now.elements }
+    requires { element < length plan.now.elements }
     ensures { IfOk result (λ inputs.
-        inputs ≡ map (config_by (setting_of chooses plan.now) plan.now) (inputs_of plan.now place)) }
+        inputs ≡ map (config_by (setting_of chooses plan.now) plan.now) (inputs_of plan.now element)) }
 {
-    let mut inputs = Rows::with_capacity(alloc, plan.inputs(place).len())?;
-    for input in plan.inputs(place) {
+    let mut inputs = Rows::with_capacity(alloc, plan.inputs(element).len())?;
+    for input in plan.inputs(element) {
         inputs.push(input_config(plan, *input, chooses))?;
     }
     Ok(inputs)

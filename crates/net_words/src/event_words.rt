@@ -16,7 +16,7 @@ use sync_topo::{Event, InputId, LineId, Part, Plan, What};
 
 /// Tells elements of events in their order: of all but levels.
 ///
-/// After want of memory a part of it may be told, so the tellings aren't used again. This project's own.
+/// When out of memory, a part of it may be told, so the tellings aren't used again. This project's own.
 pub fn tell_events(plan: &Plan, tellings: &mut Tellings, events: &[Event]) -> Result<(), NoMemory>
     requires fit { All (Fits plan.now) events.now }
     requires lists { length tellings.old.changes.items ≡ length plan.now.elements }
@@ -81,7 +81,7 @@ fn tell_link(plan: &Plan, tellings: &mut Tellings, link: u32, up: bool) -> Resul
     tell_input(plan, tellings, second, Saying::IsUp(up))
 }
 
-/// Tells the element of an input, if it is nominated there, what is said of it. After want of memory a
+/// Tells the element of an input, if it is nominated there, what is said of it. When out of memory, a
 /// part of it may be told. This project's own.
 pub fn tell_input(
     plan: &Plan,

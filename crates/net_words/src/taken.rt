@@ -17,14 +17,14 @@ use sync_text::Steps;
 use sync_topo::{InputId, Plan};
 
 /// The input of the plan that an element takes. After G.781, selection.
-pub fn taken_of(plan: &Plan, place: u32, element: &Element) -> Option<InputId>
-    requires { place < length plan.now.elements }
+pub fn taken_of(plan: &Plan, number: u32, element: &Element) -> Option<InputId>
+    requires { number < length plan.now.elements }
     ensures taken { (past : List Moment) (n : ℕ) → StandsFor element.now past →
-        IsInTime element.now n → result ≡ taken_with plan.now element.now.settings place
+        IsInTime element.now n → result ≡ taken_with plan.now element.now.settings number
         (moments_until element.now.settings n past) }
     ensures input { IfSome result (IsInput plan.now) }
 {
-    input_at(plan.inputs(place), element.selected())
+    input_at(plan.inputs(number), element.selected())
 }
 
 /// The input at a place.

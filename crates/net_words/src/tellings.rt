@@ -23,7 +23,7 @@ pub struct Tellings {
 }
 
 impl Tellings {
-    /// An element is told of an event more; where memory runs out, nothing changes. This project's
+    /// An element is told of an event more; when out of memory, nothing changes. This project's
     /// own.
     pub fn tell(&mut self, element: u32, event: InputEvent) -> Result<(), NoMemory>
         requires list { element < length self.old.changes.items }

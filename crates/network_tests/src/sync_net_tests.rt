@@ -1,4 +1,4 @@
-//! What no run of the program shows of a network: what is heard and due, its traces, going back, and want of memory.
+//! What no run of the program shows of a network: what is heard and due, its traces, going back, and out of memory.
 
 ghost use Rattle.std.specs.Prelude.{◌≡◌, ◌<◌};
 

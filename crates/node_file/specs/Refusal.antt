@@ -3,7 +3,7 @@ use Rattle.std.specs.Prelude.{ℕ, Option, Some, None}
 use Rattle.node_file.specs.declared.error.NodeErr.{NodeErr}
 use Rattle.node_file.specs.declared.error.NodeErr.TheVariants.{Fields, Time, Order, What, Target, Value, Frame, NoMemory}
 
--- the number by which a refusal is printed; want of memory has none. This project's own
+-- the number by which a refusal is printed; out of memory has none. This project's own
 abbrev pub number_of : NodeErr → Option ℕ
 number_of (Fields n) = Some 43
 number_of (Time n) = Some 44

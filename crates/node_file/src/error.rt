@@ -33,7 +33,7 @@ pub enum NodeErr {
     /// The octets of the fourth field are no ESMC frame.
     #[error("line {0}: {1}")]
     Frame(u64, FrameErr),
-    /// Memory ran out.
+    /// Out of memory.
     #[error("out of memory")]
     NoMemory,
 }
@@ -41,7 +41,7 @@ pub enum NodeErr {
 impl NodeErr {
     /// The number by which the refusal is printed, from 43 to 49.
     ///
-    /// `None` where memory ran out, which refuses no file.
+    /// `None` when out of memory, which refuses no file.
     /// This project's own.
     pub fn number(self) -> Option<u8>
         ensures { result ≡ number_of self }

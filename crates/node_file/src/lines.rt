@@ -67,7 +67,7 @@ impl<'a> NodeLines<'a> {
     /// there, if it ends and says something, and the bytes behind it.
     ///
     /// A refusal is that of the first line that breaks a rule; it comes with the line's end, or with the
-    /// first byte that is too many. `NoMemory` comes for want of memory alone. After either the lines
+    /// first byte that is too many. `NoMemory` comes only when out of memory. After either the lines
     /// aren't used any more. This project's own.
     pub fn take<'b>(
         &mut self,

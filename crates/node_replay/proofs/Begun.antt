@@ -21,7 +21,7 @@ use Rattle.net_words.proofs.SplitWords.{none-before-0}
 use Rattle.node_file.specs.declared.row.NodeRow.{NodeRow}
 use Rattle.node_file.specs.NodeRow.{events_in}
 use Rattle.node_replay.specs.declared.inputs.InputNow.{InputNow}
-use Rattle.node_replay.specs.declared.outs.LineOut.{LineOut}
+use Rattle.node_replay.specs.declared.lines_out.LineOut.{LineOut}
 use Rattle.node_replay.specs.declared.running.Run.{Run}
 use Rattle.node_rules.specs.Replay.{signals_in, heard_in}
 use Rattle.node_rules.specs.NodeText.{lines_out}
@@ -43,7 +43,7 @@ new-kept plan (Line line) well = record { level = tt; last = tt }
 new-kept plan (Source source) well = record { level = planned-option plan source well; last = planned-option plan source well }
 
 pub begun : (plan : Topology) (place : ℕ) (run : Run) → IsWellFormed plan → IsNewElement (by_levels plan) plan place run.element → Shows plan place run.element run.shown
-    → run.inputs.items ≡ map (new_input plan) (inputs_of plan place) → run.outs.items ≡ map new_out (lines_out plan place)
+    → run.inputs.items ≡ map (new_input plan) (inputs_of plan place) → run.lines_out.items ≡ map new_out (lines_out plan place)
     → run.next ≡ 0 → run.wake ≡ 0 → run.rows ≡ 0 → IsRun plan place run
 unfolding settings_of
 begun plan place run well new shows inputs outs next wake rows = record {
@@ -91,13 +91,13 @@ new-past plan place rows element new =
     stands-new (settings_of plan place) (moment_at plan (signals_in plan rows) (heard_in plan rows) place) element new.settings new.next new.due new.stands
 
 pub begun-stands : (plan : Topology) (place : ℕ) (run : Run) → IsNewElement (by_levels plan) plan place run.element
-    → run.inputs.items ≡ map (new_input plan) (inputs_of plan place) → run.outs.items ≡ map new_out (lines_out plan place)
+    → run.inputs.items ≡ map (new_input plan) (inputs_of plan place) → run.lines_out.items ≡ map new_out (lines_out plan place)
     → run.text ≡ [] → run.rows ≡ 0 → (rows : List NodeRow) → RunStands plan rows place 0 run
 begun-stands plan place run new inputs outs text count rows = record {
   element = new-past plan place rows run.element new;
   inputs = subst (Each (IsInputAt plan rows 0)) (sym inputs)
       (Each-made (IsInputAt plan rows 0) (new_input plan) (inputs_of plan place) (Each-any (λ input. IsInputAt plan rows 0 (new_input plan input)) (new-input-at plan rows) (inputs_of plan place)));
-  outs = subst (Each (IsOutAt plan rows place 0)) (sym outs)
+  lines_out = subst (Each (IsOutAt plan rows place 0)) (sym outs)
       (Each-made (IsOutAt plan rows place 0) new_out (lines_out plan place) (Each-any (λ line. IsOutAt plan rows place 0 (new_out line)) (new-out-at plan rows place) (lines_out plan place)));
   text = text;
   count = count;

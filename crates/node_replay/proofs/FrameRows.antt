@@ -14,7 +14,7 @@ use Rattle.sync_topo.specs.Topology.{Topology}
 use Rattle.sync_topo.specs.Lines.{line_name}
 use Rattle.esmc_frame.specs.Frame.{written_frame}
 use Rattle.node_file.specs.declared.row.NodeRow.{NodeRow}
-use Rattle.node_replay.specs.declared.outs.LineOut.{LineOut}
+use Rattle.node_replay.specs.declared.lines_out.LineOut.{LineOut}
 use Rattle.node_replay.specs.declared.frames.Sent.{Sent}
 use Rattle.node_rules.specs.Replay.{node_out, out_moment, out_past, sends_frame}
 use Rattle.node_rules.specs.NodeText.{carried, frame_row, sending_at, lines_out}

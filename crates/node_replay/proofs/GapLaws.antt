@@ -19,7 +19,7 @@ use Rattle.node_file.specs.declared.row.NodeRow.{NodeRow}
 use Rattle.node_file.specs.NodeRow.{rows_at}
 use Rattle.node_replay.specs.declared.inputs.LastLevel.{LastLevel}
 use Rattle.node_replay.specs.declared.inputs.InputNow.{InputNow}
-use Rattle.node_replay.specs.declared.outs.LineOut.{LineOut}
+use Rattle.node_replay.specs.declared.lines_out.LineOut.{LineOut}
 use Rattle.node_replay.specs.declared.shown.Shown.{Shown}
 use Rattle.node_replay.specs.declared.running.Run.{Run}
 use Rattle.node_rules.specs.NodeText.{frame_row, sending_at, rows_before}
@@ -121,22 +121,22 @@ module _ (plan : Topology) (place : ℕ) (rows : List NodeRow) (run : Run) (is :
       stands.element
 
   outs-quiet : (k : ℕ) → run.next ≤ suc k → suc k < run.wake → rows_at (suc k) rows ≡ [] → RunStands plan rows place (suc k) run
-      → Each (λ out. IsOutAt plan rows place (suc (suc k)) out × IsSaid plan rows place (suc k) out) (map (out_after plan [] run.shown) run.outs.items)
+      → Each (λ out. IsOutAt plan rows place (suc (suc k)) out × IsSaid plan rows place (suc k) out) (map (out_after plan [] run.shown) run.lines_out.items)
   outs-quiet k low high none stands =
       outs-step plan rows [] place (suc k) run.shown list.in_order none
       (gives plan rows place (suc (suc k)) run.element run.shown is.shows (element-quiet k low high none stands))
-      run.outs.items stands.outs (outs-lines plan place run.outs.items is.lines)
+      run.lines_out.items stands.lines_out (outs-lines plan place run.lines_out.items is.lines)
 
   rows-quiet : (k : ℕ) → run.next ≤ suc k → suc k < run.wake → rows_at (suc k) rows ≡ [] → RunStands plan rows place (suc k) run
       → rows_before plan rows place (suc (suc k)) ≡ rows_before plan rows place (suc k)
   rows-quiet k low high none stands =
       let given = is.given (begun (suc k) low high) in
-      let sent : map (sent_row plan place (suc k)) (filter_map (frame_of (suc k)) (map (out_after plan [] run.shown) run.outs.items)) ≡ map (frame_row plan rows place (suc k)) (sending_at plan rows place (suc k)) =
-      sent-rows plan rows place (suc k) (map (out_after plan [] run.shown) run.outs.items) (lines-after plan [] run.shown run.outs.items ∙ is.lines)
+      let sent : map (sent_row plan place (suc k)) (filter_map (frame_of (suc k)) (map (out_after plan [] run.shown) run.lines_out.items)) ≡ map (frame_row plan rows place (suc k)) (sending_at plan rows place (suc k)) =
+      sent-rows plan rows place (suc k) (map (out_after plan [] run.shown) run.lines_out.items) (lines-after plan [] run.shown run.lines_out.items ∙ is.lines)
       (Each-map (λ out. IsOutAt plan rows place (suc (suc k)) out × IsSaid plan rows place (suc k) out) (IsSaid plan rows place (suc k)) (λ out both. both.1)
-      (map (out_after plan [] run.shown) run.outs.items) (outs-quiet k low high none stands)) in
+      (map (out_after plan [] run.shown) run.lines_out.items) (outs-quiet k low high none stands)) in
       ap (λ more. rows_before plan rows place (suc k) ++ more)
-      (sym sent ∙ ap (map (sent_row plan place (suc k))) (no-frames plan run.shown (suc k) run.outs.items (is.seconds (suc k) low high) given))
+      (sym sent ∙ ap (map (sent_row plan place (suc k))) (no-frames plan run.shown (suc k) run.lines_out.items (is.seconds (suc k) low high) given))
       ∙ append-nil (rows_before plan rows place (suc k))
 
   quiet-one : (k : ℕ) → run.next ≤ suc k → suc k < run.wake → rows_at (suc k) rows ≡ [] → RunStands plan rows place (suc k) run
@@ -144,7 +144,7 @@ module _ (plan : Topology) (place : ℕ) (rows : List NodeRow) (run : Run) (is :
   quiet-one k low high none stands = record {
     element = element-quiet k low high none stands;
     inputs = inputs-quiet (suc k) low high none stands;
-    outs = outs-same plan rows place (suc (suc k)) (suc k) run.shown run.outs.items (is.given (begun (suc k) low high)) (outs-quiet k low high none stands);
+    lines_out = outs-same plan rows place (suc (suc k)) (suc k) run.shown run.lines_out.items (is.given (begun (suc k) low high)) (outs-quiet k low high none stands);
     text = stands.text ∙ sym (ap concat (rows-quiet k low high none stands));
     count = stands.count ∙ sym (ap length (rows-quiet k low high none stands));
   }
@@ -166,7 +166,7 @@ module _ (plan : Topology) (place : ℕ) (rows : List NodeRow) (run : Run) (is :
 -- a run that passes over quiet milliseconds
 pub passed-stands : (plan : Topology) (place to next : ℕ) (rows : List NodeRow) (run after : Run) → IsRun plan place run → AreAway plan place run.next to rows
     → run.next ≤ next → next ≤ to → next ≤ run.wake
-    → after.element ≡ run.element → after.inputs.items ≡ run.inputs.items → after.outs.items ≡ run.outs.items → after.text ≡ run.text → after.rows ≡ run.rows
+    → after.element ≡ run.element → after.inputs.items ≡ run.inputs.items → after.lines_out.items ≡ run.lines_out.items → after.text ≡ run.text → after.rows ≡ run.rows
     → RunStands plan rows place run.next run → RunStands plan rows place next after
 passed-stands plan place to next rows run after is away low until high element inputs outs text count stands =
     let same : run.next + (next - run.next) ≡ next = omega (arith, low) in
@@ -175,7 +175,7 @@ passed-stands plan place to next rows run after is away low until high element i
     record {
       element = subst (IsOfPast plan rows place next) (sym element) gap.element;
       inputs = subst (Each (IsInputAt plan rows next)) (sym inputs) gap.inputs;
-      outs = subst (Each (IsOutAt plan rows place next)) (sym outs) gap.outs;
+      lines_out = subst (Each (IsOutAt plan rows place next)) (sym outs) gap.lines_out;
       text = text ∙ gap.text;
       count = count ∙ gap.count;
     }

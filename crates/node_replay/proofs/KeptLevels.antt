@@ -23,7 +23,7 @@ use Rattle.node_file.specs.declared.row.NodeRow.{NodeRow}
 use Rattle.node_file.specs.NodeRow.{IsRowOf, IsWordOf, events_in, frames_on}
 use Rattle.node_replay.specs.declared.inputs.LastLevel.{LastLevel}
 use Rattle.node_replay.specs.declared.inputs.InputNow.{InputNow}
-use Rattle.node_replay.specs.declared.outs.LineOut.{LineOut}
+use Rattle.node_replay.specs.declared.lines_out.LineOut.{LineOut}
 use Rattle.node_rules.specs.Replay.{last_of}
 use Rattle.node_rules.specs.NodeText.{lines_out}
 use Rattle.node_replay.specs.Keeping.{word_or, said_in}

@@ -18,7 +18,7 @@ use Rattle.net_words.specs.Before.{up_before, esmc_before}
 use Rattle.net_words.proofs.SplitWords.{word-until}
 use Rattle.node_file.specs.declared.row.NodeRow.{NodeRow}
 use Rattle.node_file.specs.NodeRow.{events_in, rows_at}
-use Rattle.node_replay.specs.declared.outs.LineOut.{LineOut}
+use Rattle.node_replay.specs.declared.lines_out.LineOut.{LineOut}
 use Rattle.node_replay.specs.declared.shown.Shown.{Shown}
 use Rattle.node_rules.specs.Replay.{node_past, node_out, out_past}
 use Rattle.node_replay.specs.Rows.{AreInOrder}

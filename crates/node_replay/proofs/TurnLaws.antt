@@ -20,7 +20,7 @@ use Rattle.node_file.specs.declared.row.NodeRow.{NodeRow}
 use Rattle.node_file.specs.NodeRow.{IsRowOf}
 use Rattle.node_replay.specs.declared.inputs.LastLevel.{LastLevel}
 use Rattle.node_replay.specs.declared.inputs.InputNow.{InputNow}
-use Rattle.node_replay.specs.declared.outs.LineOut.{LineOut}
+use Rattle.node_replay.specs.declared.lines_out.LineOut.{LineOut}
 use Rattle.node_replay.specs.declared.shown.Shown.{Shown}
 use Rattle.node_replay.specs.declared.frames.Sent.{Sent}
 use Rattle.node_replay.specs.declared.running.Run.{Run}
@@ -74,7 +74,7 @@ taken-run plan place here before after run in_range rows taken = record {
   settings = taken.stepped.settings ∙ run.settings;
   ids = ap (map (λ (input : InputNow). input.id)) taken.inputs ∙ ids-after here before.next before.inputs.items ∙ run.ids;
   options = subst (Each (IsKeptOf plan.option)) (sym taken.inputs) (kept-all plan place here before.next before.inputs.items rows run.options);
-  lines = ap (map (λ (out : LineOut). out.line.0)) taken.outs ∙ lines-after plan here after.shown before.outs.items ∙ run.lines;
+  lines = ap (map (λ (out : LineOut). out.line.0)) taken.lines_out ∙ lines-after plan here after.shown before.lines_out.items ∙ run.lines;
   shows = taken.shows;
   rows = subst (λ n. n ≤ MOST_ROWS) (sym taken.rows) run.rows;
   in_range = (let next = taken.next in omega (arith, next, in_range));
@@ -91,7 +91,7 @@ taken-run plan place here before after run in_range rows taken = record {
       (each-all (λ (input : InputNow). heard_of input.last m ≡ heard_of input.last before.next) after.inputs.items
       (taken.wake.heard m (omega (arith, next, low)) high))));
   seconds = λ m low high. (let next = taken.next in taken.wake.seconds m (omega (arith, next, low)) high);
-  given = λ some. subst (AreGiven plan after.shown) (sym taken.outs) (given-after plan here after.shown before.outs.items);
+  given = λ some. subst (AreGiven plan after.shown) (sym taken.lines_out) (given-after plan here after.shown before.lines_out.items);
 }
 
 -- and after its frames are written
@@ -108,7 +108,7 @@ written-run plan place now frames before after run written = record {
   settings = ap (λ (e : ElementState). e.settings) written.element ∙ run.settings;
   ids = ap (map (λ (input : InputNow). input.id)) written.inputs ∙ run.ids;
   options = subst (Each (IsKeptOf plan.option)) (sym written.inputs) run.options;
-  lines = ap (map (λ (out : LineOut). out.line.0)) written.outs ∙ run.lines;
+  lines = ap (map (λ (out : LineOut). out.line.0)) written.lines_out ∙ run.lines;
   shows = subst (λ e. Shows plan place e after.shown) (sym written.element) (subst (Shows plan place before.element) (sym written.shown) run.shows);
   rows = elim (fits-or-not (before.rows + length frames) MOST_ROWS) [
     | inl fits ↦ (let is = (written.fits fits).0 in omega (arith, is, fits))
@@ -125,7 +125,7 @@ written-run plan place now frames before after run written = record {
       subst (λ inputs. AreSteady inputs m) (sym written.inputs) (run.steady m (omega (arith, next, low)) (omega (arith, wake, high))));
   seconds = λ m low high. (let next = written.next in let wake = written.wake in run.seconds m (omega (arith, next, low)) (omega (arith, wake, high)));
   given = λ some. (let next = written.next in
-      subst (AreGiven plan after.shown) (sym written.outs) (subst (λ s. AreGiven plan s before.outs.items) (sym written.shown) (run.given (omega (arith, next, some)))));
+      subst (AreGiven plan after.shown) (sym written.lines_out) (subst (λ s. AreGiven plan s before.lines_out.items) (sym written.shown) (run.given (omega (arith, next, some)))));
 }
 
 -- the frames of one millisecond are few
@@ -196,50 +196,50 @@ module _ (plan : Topology) (place : ℕ) (here rows : List NodeRow) (before mid 
       (moment-told plan rows here place before.next mid.inputs.items run_mid.ids inputs-then
       (events-here plan rows here before.next is_here.list.in_order is_here.stand))
 
-  outs-then : Each (λ out. IsOutAt plan rows place (suc now) out × IsSaid plan rows place now out) mid.outs.items
+  outs-then : Each (λ out. IsOutAt plan rows place (suc now) out × IsSaid plan rows place now out) mid.lines_out.items
   unfolding now
-  outs-then = subst (Each (λ out. IsOutAt plan rows place (suc before.next) out × IsSaid plan rows place before.next out)) (sym taken.outs)
+  outs-then = subst (Each (λ out. IsOutAt plan rows place (suc before.next) out × IsSaid plan rows place before.next out)) (sym taken.lines_out)
       (outs-step plan rows here place before.next mid.shown is_here.list.in_order is_here.stand
       (gives plan rows place (suc before.next) mid.element mid.shown taken.shows element-then)
-      before.outs.items stands.outs (outs-lines plan place before.outs.items run.lines))
+      before.lines_out.items stands.lines_out (outs-lines plan place before.lines_out.items run.lines))
 
-  rows-then : map (sent_row plan place now) (filter_map (frame_of now) mid.outs.items) ≡ map (frame_row plan rows place now) (sending_at plan rows place now)
+  rows-then : map (sent_row plan place now) (filter_map (frame_of now) mid.lines_out.items) ≡ map (frame_row plan rows place now) (sending_at plan rows place now)
   unfolding now
-  rows-then = sent-rows plan rows place before.next mid.outs.items run_mid.lines
-      (Each-map (λ out. IsOutAt plan rows place (suc before.next) out × IsSaid plan rows place before.next out) (IsSaid plan rows place before.next) (λ out both. both.1) mid.outs.items outs-then)
+  rows-then = sent-rows plan rows place before.next mid.lines_out.items run_mid.lines
+      (Each-map (λ out. IsOutAt plan rows place (suc before.next) out × IsSaid plan rows place before.next out) (IsSaid plan rows place before.next) (λ out both. both.1) mid.lines_out.items outs-then)
 
-  count-then : length (rows_before plan rows place (suc now)) ≡ mid.rows + length (filter_map (frame_of now) mid.outs.items)
+  count-then : length (rows_before plan rows place (suc now)) ≡ mid.rows + length (filter_map (frame_of now) mid.lines_out.items)
   unfolding now
   count-then =
       length-append (rows_before plan rows place before.next) (map (frame_row plan rows place before.next) (sending_at plan rows place before.next))
       ∙ ap (λ n. n + length (map (frame_row plan rows place before.next) (sending_at plan rows place before.next))) (sym (taken.rows ∙ stands.count))
       ∙ ap (λ xs. mid.rows + length xs) (sym rows-then)
-      ∙ ap (λ n. mid.rows + n) (length-map (filter_map (frame_of before.next) mid.outs.items) (sent_row plan place before.next))
+      ∙ ap (λ n. mid.rows + n) (length-map (filter_map (frame_of before.next) mid.lines_out.items) (sent_row plan place before.next))
 
-  text-then : concat (rows_before plan rows place (suc now)) ≡ mid.text ++ concat (map (sent_row plan place now) (filter_map (frame_of now) mid.outs.items))
+  text-then : concat (rows_before plan rows place (suc now)) ≡ mid.text ++ concat (map (sent_row plan place now) (filter_map (frame_of now) mid.lines_out.items))
   unfolding now
   text-then =
       concat-append (rows_before plan rows place before.next) (map (frame_row plan rows place before.next) (sending_at plan rows place before.next))
       ∙ ap (λ front. front ++ concat (map (frame_row plan rows place before.next) (sending_at plan rows place before.next))) (sym (taken.text ∙ stands.text))
       ∙ ap (λ xs. mid.text ++ concat xs) (sym rows-then)
 
-  pub turn-holds : (until : ℕ) → before.next ≤ until → before.stopped ≡ None → IsWritten plan place before.next (filter_map (frame_of before.next) mid.outs.items) mid after
+  pub turn-holds : (until : ℕ) → before.next ≤ until → before.stopped ≡ None → IsWritten plan place before.next (filter_map (frame_of before.next) mid.lines_out.items) mid after
       → RunHolds plan rows place until (suc before.next) after after.stopped
   unfolding now
-  turn-holds until early going written = elim (fits-or-not (mid.rows + length (filter_map (frame_of before.next) mid.outs.items)) MOST_ROWS) [
+  turn-holds until early going written = elim (fits-or-not (mid.rows + length (filter_map (frame_of before.next) mid.lines_out.items)) MOST_ROWS) [
     | inl fits ↦
         let fitted = written.fits fits in
         subst (RunHolds plan rows place until (suc before.next) after) (sym (fitted.2 ∙ taken.stopped ∙ going)) (record {
           element = subst (IsOfPast plan rows place (suc before.next)) (sym written.element) element-then;
           inputs = subst (Each (IsInputAt plan rows (suc before.next))) (sym written.inputs) inputs-then;
-          outs = subst (Each (IsOutAt plan rows place (suc before.next))) (sym written.outs)
-              (Each-map (λ out. IsOutAt plan rows place (suc before.next) out × IsSaid plan rows place before.next out) (IsOutAt plan rows place (suc before.next)) (λ out both. both.0) mid.outs.items outs-then);
+          lines_out = subst (Each (IsOutAt plan rows place (suc before.next))) (sym written.lines_out)
+              (Each-map (λ out. IsOutAt plan rows place (suc before.next) out × IsSaid plan rows place before.next out) (IsOutAt plan rows place (suc before.next)) (λ out both. both.0) mid.lines_out.items outs-then);
           text = fitted.1 ∙ sym text-then;
           count = fitted.0 ∙ sym count-then;
         })
     | inr full ↦
         let is_full = written.full full in
-        let few = few-frames plan place before.next mid.outs.items run.well_formed run_mid.lines in
+        let few = few-frames plan place before.next mid.lines_out.items run.well_formed run_mid.lines in
         let begun : 0 < before.next = later (cases before.next refl) few full in
         let same : suc (before.next - 1) ≡ before.next = omega (arith, begun) in
         subst (RunHolds plan rows place until (suc before.next) after) (sym is_full.2) (record {
@@ -256,7 +256,7 @@ module _ (plan : Topology) (place : ℕ) (here rows : List NodeRow) (before mid 
       cases zero is = inr (taken.rows ∙ stands.count ∙ ap (λ n. length (rows_before plan rows place n)) is)
       cases (suc n) is = inl (omega arith)
 
-      later : (0 < before.next) ⊎ (mid.rows ≡ 0) → length (filter_map (frame_of before.next) mid.outs.items) ≤ 8000
-          → MOST_ROWS < mid.rows + length (filter_map (frame_of before.next) mid.outs.items) → 0 < before.next
+      later : (0 < before.next) ⊎ (mid.rows ≡ 0) → length (filter_map (frame_of before.next) mid.lines_out.items) ≤ 8000
+          → MOST_ROWS < mid.rows + length (filter_map (frame_of before.next) mid.lines_out.items) → 0 < before.next
       later (inl some) few full = some
       later (inr none) few full = absurd (omega (arith, none, few, full))

@@ -1,4 +1,4 @@
--- Private to this crate: what a run and the rows that are collected have to do with all rows that were taken.
+-- What a run and the rows that are collected have to do with all rows that were taken.
 use Rattle.std.specs.Prelude.{◌≡◌, ◌≢◌, ◌≤◌, ℕ, List, [], ◌∷◌, ◌++◌, None}
 use Rattle.sync_text.specs.Each.{Each}
 use Rattle.sync_topo.specs.Topology.{Topology}

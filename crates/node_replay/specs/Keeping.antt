@@ -1,4 +1,4 @@
--- Private to this crate: what is kept of the element's inputs and of the lines out of it, and what the rows of a
+-- What is kept of the element's inputs and of the lines out of it, and what the rows of a
 -- millisecond make of it.
 use Rattle.std.specs.Prelude.{ℕ, Option, None, Some, option_and_then}
 use Rattle.sync_ql.specs.declared.levels.Level.{Level}

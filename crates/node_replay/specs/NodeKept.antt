@@ -1,4 +1,4 @@
--- Private to this crate: how an element that is replayed is seen, and what is true of every one that isn't spent.
+-- How an element that is replayed is seen, and what is true of every one that isn't spent.
 use Rattle.node_replay.specs.declared.node.Node.TheInside.{Inside}
 use Rattle.node_replay.specs.NodeState.{NodeState}
 

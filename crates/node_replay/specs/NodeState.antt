@@ -6,7 +6,7 @@ use Rattle.node_file.specs.Cutting.{LinesRead, HaveRead}
 use Rattle.node_replay.specs.Rows.{IsRowList}
 use Rattle.node_replay.specs.ReplayState.{ReplayState, StandsFor}
 
--- the lines that are read, the replay of their rows, and whether the bytes were refused or memory ran out
+-- the lines that are read, the replay of their rows, and whether the bytes were refused or it is out of memory
 pub record NodeState : Type 0 where
   pub lines : LinesRead
   pub replay : ReplayState

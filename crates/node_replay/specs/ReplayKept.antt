@@ -1,4 +1,4 @@
--- Private to this crate: how a replay is seen, and what is true of every one.
+-- How a replay is seen, and what is true of every one.
 use Rattle.node_replay.specs.declared.replaying.Replay.TheInside.{Inside}
 use Rattle.node_replay.specs.ReplayState.{ReplayState}
 

@@ -5,7 +5,7 @@ use Rattle.node_file.specs.declared.row.NodeRow.{NodeRow}
 use Rattle.node_replay.specs.declared.parts.Collected.{Collected}
 use Rattle.node_replay.specs.Collecting.{IsAfter}
 
--- the plan, the number of the element, the last millisecond, whether memory ran out, and what it keeps, into which no
+-- the plan, the number of the element, the last millisecond, whether it is out of memory, and what it keeps, into which no
 -- clause looks: of that `StandsFor` speaks alone
 pub record ReplayState : Type 0 where
   pub plan : Topology

@@ -1,4 +1,4 @@
--- Private to this crate: what a run keeps, and how far it has come.
+-- What a run keeps, and how far it has come.
 use Rattle.std.specs.Prelude.{◌≡◌, ℕ, zero, suc, List, length, Option, None, Some, option_and_then}
 use Rattle.std.specs.List.{concat}
 use Rattle.sync_text.specs.Each.{Each}
@@ -17,7 +17,7 @@ use Rattle.node_file.specs.declared.row.NodeRow.{NodeRow}
 use Rattle.node_file.specs.NodeRow.{events_in}
 use Rattle.node_replay.specs.declared.inputs.LastLevel.{LastLevel}
 use Rattle.node_replay.specs.declared.inputs.InputNow.{InputNow}
-use Rattle.node_replay.specs.declared.outs.LineOut.{LineOut}
+use Rattle.node_replay.specs.declared.lines_out.LineOut.{LineOut}
 use Rattle.node_replay.specs.declared.running.Run.{Run}
 use Rattle.node_rules.specs.Replay.{counted, signals_in, heard_in, out_past}
 use Rattle.node_rules.specs.NodeText.{rows_before, IsLastFit, whole_text}
@@ -25,8 +25,8 @@ use Rattle.node_replay.specs.Keeping.{word_or, said_in}
 
 -- the element after n milliseconds of what its rows bring it
 abbrev pub IsOfPast : Topology → List NodeRow → ℕ → ℕ → ElementState → Type 0
-IsOfPast plan rows place n element =
-    StandsAfter (settings_of plan place) (moment_at plan (signals_in plan rows) (heard_in plan rows) place) n element
+IsOfPast plan rows number n element =
+    StandsAfter (settings_of plan number) (moment_at plan (signals_in plan rows) (heard_in plan rows) number) n element
 
 -- the last frame that counts on a line in the first n milliseconds
 abbrev pub last_counted : Topology → List NodeRow → ℕ → ℕ → Option LastLevel
@@ -48,24 +48,24 @@ pub record IsInputAt (plan : Topology) (rows : List NodeRow) (n : ℕ) (input : 
   pub level : input.level ≡ level_before plan rows input.id n
   pub last : IsLast plan rows n input.id input.last
 
-pub record IsOutAt (plan : Topology) (rows : List NodeRow) (place n : ℕ) (out : LineOut) : Type 0 where
+pub record IsOutAt (plan : Topology) (rows : List NodeRow) (number n : ℕ) (out : LineOut) : Type 0 where
   pub up : out.up ≡ up_before (events_in rows) (Line out.line) n
   pub esmc : out.esmc ≡ esmc_before (events_in rows) out.line.0 n
-  pub said : out.said ≡ said (out_past plan rows place out.line.0 n)
+  pub said : out.said ≡ said (out_past plan rows number out.line.0 n)
 
 -- it is as the rows have it after n milliseconds
-pub record RunStands (plan : Topology) (rows : List NodeRow) (place n : ℕ) (run : Run) : Type 0 where
-  pub element : IsOfPast plan rows place n run.element
+pub record RunStands (plan : Topology) (rows : List NodeRow) (number n : ℕ) (run : Run) : Type 0 where
+  pub element : IsOfPast plan rows number n run.element
   pub inputs : Each (IsInputAt plan rows n) run.inputs.items
-  pub outs : Each (IsOutAt plan rows place n) run.outs.items
-  pub text : run.text ≡ concat (rows_before plan rows place n)
-  pub count : run.rows ≡ length (rows_before plan rows place n)
+  pub lines_out : Each (IsOutAt plan rows number n) run.lines_out.items
+  pub text : run.text ≡ concat (rows_before plan rows number n)
+  pub count : run.rows ≡ length (rows_before plan rows number n)
 
 -- or it has stopped, since the rows don't fit
-pub record RunStopped (plan : Topology) (rows : List NodeRow) (place until last : ℕ) (run : Run) : Type 0 where
-  pub fit : IsLastFit plan rows place last until
-  pub text : run.text ≡ whole_text plan rows place last
+pub record RunStopped (plan : Topology) (rows : List NodeRow) (number until last : ℕ) (run : Run) : Type 0 where
+  pub fit : IsLastFit plan rows number last until
+  pub text : run.text ≡ whole_text plan rows number last
 
 abbrev pub RunHolds : Topology → List NodeRow → ℕ → ℕ → ℕ → Run → Option ℕ → Type 0
-RunHolds plan rows place until n run None = RunStands plan rows place n run
-RunHolds plan rows place until n run (Some last) = RunStopped plan rows place until last run
+RunHolds plan rows number until n run None = RunStands plan rows number n run
+RunHolds plan rows number until n run (Some last) = RunStopped plan rows number until last run

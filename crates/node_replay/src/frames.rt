@@ -9,7 +9,7 @@ ghost use Rattle.esmc_frame.specs.Frame.{written_frame};
 ghost use Rattle.node_rules.specs.NodeText.{address_of, extended_for, carried};
 ghost use Rattle.node_replay.specs.private.Keeping.{frame_of, sent_row};
 
-use crate::outs::LineOut;
+use crate::lines_out::LineOut;
 use esmc_frame::{Extended, FRAME, Pdu, encode};
 use std::alloc::Global;
 use sync_ql::limits::SECOND;
@@ -44,11 +44,15 @@ pub(crate) fn frame_of(now: u64, out: LineOut) -> Option<Sent>
 }
 
 /// The frames that go out in a millisecond, in order of lines.
-pub(crate) fn frames_of(alloc: Global, outs: &[LineOut], now: u64) -> Result<Rows<Sent>, NoMemory>
-    ensures { IfOk result (λ frames. frames ≡ filter_map (frame_of now) outs.now) }
+pub(crate) fn frames_of(
+    alloc: Global,
+    lines_out: &[LineOut],
+    now: u64,
+) -> Result<Rows<Sent>, NoMemory>
+    ensures { IfOk result (λ frames. frames ≡ filter_map (frame_of now) lines_out.now) }
 {
     let mut frames = Rows::new(alloc);
-    for out in outs {
+    for out in lines_out {
         push_some(&mut frames, frame_of(now, *out))?;
     }
     Ok(frames)

@@ -32,7 +32,7 @@ const PIECE: usize = 4096;
 pub struct Node<'a> {
     lines: NodeLines<'a>,
     replay: Replay<'a>,
-    /// Whether the bytes were refused, or memory ran out.
+    /// Whether the bytes were refused, or it is out of memory.
     spent: bool,
 }
 
@@ -78,7 +78,7 @@ impl<'a> Node<'a> {
     /// Takes a piece of the file.
     ///
     /// A refusal is that of the first line that breaks a rule; it comes with the piece that brings the
-    /// line's end, or the first byte that is too many. `NoMemory` comes for want of memory alone. After
+    /// line's end, or the first byte that is too many. `NoMemory` comes only when out of memory. After
     /// either it is spent. This project's own.
     pub fn feed(&mut self, piece: &[u8]) -> Result<(), NodeErr>
         requires live { self.old.spent ≡ false }
@@ -102,7 +102,7 @@ impl<'a> Node<'a> {
         }
     }
 
-    /// Whether the bytes were refused, or memory ran out. This project's own.
+    /// Whether the bytes were refused, or it is out of memory. This project's own.
     pub fn spent(&self) -> bool
         ensures { result ≡ self.now.spent }
     {
@@ -222,7 +222,7 @@ fn take_row(replay: &mut Replay<'_>, row: Option<NodeRow>) -> Result<(), NodeErr
 /// The frames that an element sends by the bytes of a file, up to and with a millisecond, at most
 /// 86,400,000, or the first refusal.
 ///
-/// `NoMemory` comes for want of memory alone. The frames are after G.8264; the file and the rows are this
+/// `NoMemory` comes only when out of memory. The frames are after G.8264; the file and the rows are this
 /// project's own.
 pub fn replay(
     alloc: Global,

@@ -25,7 +25,7 @@ pub struct Replay<'a> {
     alloc: Global,
     plan: &'a Plan,
     parts: Collected,
-    /// Whether memory ran out, after which nothing else is said.
+    /// Whether it is out of memory, after which nothing else is said.
     spent: bool,
 }
 
@@ -71,7 +71,7 @@ impl<'a> Replay<'a> {
 
     /// Takes a row of the element. Rows come in order of time; those after the end have no effect.
     ///
-    /// Where memory runs out, it is spent. This project's own.
+    /// When out of memory, it is spent. This project's own.
     pub fn take(&mut self, row: NodeRow) -> Result<(), NoMemory>
         requires live { self.old.spent ≡ false }
         requires row { IsRowOf self.old.plan self.old.element row }
@@ -90,7 +90,7 @@ impl<'a> Replay<'a> {
         Ok(())
     }
 
-    /// Whether memory ran out. This project's own.
+    /// Whether it is out of memory. This project's own.
     pub fn spent(&self) -> bool
         ensures { result ≡ self.now.spent }
     {

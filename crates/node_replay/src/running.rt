@@ -13,7 +13,7 @@ ghost use Rattle.node_replay.specs.private.Turning.{IsWake, IsTaken, IsWritten};
 
 use crate::frames::{Sent, frames_of, put_frames};
 use crate::inputs::{InputNow, loss_of, note_inputs};
-use crate::outs::{LineOut, note_outs};
+use crate::lines_out::{LineOut, note_lines_out};
 use crate::shown::{Shown, shown_of};
 use crate::told::tell_all;
 use net_words::step_alone;
@@ -31,7 +31,7 @@ pub(crate) struct Run {
     pub(crate) element: Element,
     pub(crate) shown: Shown,
     pub(crate) inputs: Vec<InputNow>,
-    pub(crate) outs: Vec<LineOut>,
+    pub(crate) lines_out: Vec<LineOut>,
     /// What the element was told last, which keeps its room.
     pub(crate) told: Rows<InputEvent>,
     /// The first millisecond that isn't made.
@@ -106,7 +106,7 @@ impl Run {
         tell_all(&mut self.told, plan.inputs(element), element, here, inputs)?;
         step_alone(&mut self.element, now, self.told.as_slice());
         let shown = shown_of(plan, element, &self.element);
-        note_outs(plan, self.outs.as_mut_slice(), here, shown);
+        note_lines_out(plan, self.lines_out.as_mut_slice(), here, shown);
         self.shown = shown;
         self.wake = next_wake(&self.element, self.inputs.as_slice(), now);
         self.next = now + 1;
@@ -135,7 +135,7 @@ impl Run {
     {
         let now = self.next;
         self.take_rows(plan, element, here)?;
-        let frames = frames_of(alloc, self.outs.as_slice(), now)?;
+        let frames = frames_of(alloc, self.lines_out.as_slice(), now)?;
         self.send(alloc, plan, element, now, frames.as_slice())?;
         Ok(())
     }

@@ -19,13 +19,13 @@ pub(crate) struct Shown {
 }
 
 /// What an element of the plan takes, and its level.
-pub(crate) fn shown_of(plan: &Plan, place: u32, element: &Element) -> Shown
-    requires within { place < length plan.now.elements }
-    requires settings { element.now.settings ≡ settings_of plan.now place }
-    ensures { Shows plan.now place element.now result }
+pub(crate) fn shown_of(plan: &Plan, number: u32, element: &Element) -> Shown
+    requires within { number < length plan.now.elements }
+    requires settings { element.now.settings ≡ settings_of plan.now number }
+    ensures { Shows plan.now number element.now result }
 {
     Shown {
-        taken: taken_of(plan, place, element),
+        taken: taken_of(plan, number, element),
         level: element.level(),
     }
 }

@@ -10,7 +10,7 @@ ghost use Rattle.node_replay.specs.Running.{RunStands};
 ghost use Rattle.node_replay.specs.private.Running.{IsRun};
 
 use crate::inputs::{InputNow, LastLevel};
-use crate::outs::LineOut;
+use crate::lines_out::LineOut;
 use crate::running::Run;
 use crate::shown::shown_of;
 use net_words::{Chooses, new_element};
@@ -20,23 +20,23 @@ use sync_text::{NoMemory, Rows, Text};
 use sync_topo::{InputId, LineId, Plan};
 
 /// A run of an element of a plan, to which nothing happened.
-pub(crate) fn new_run(alloc: Global, plan: &Plan, place: u32) -> Result<Run, NoMemory>
-    requires { place < length plan.now.elements }
-    ensures run { IfOk result (IsRun plan.now place) }
+pub(crate) fn new_run(alloc: Global, plan: &Plan, number: u32) -> Result<Run, NoMemory>
+    requires { number < length plan.now.elements }
+    ensures run { IfOk result (IsRun plan.now number) }
     ensures next { IfOk result (λ run. run.next ≡ 0) }
     ensures going { IfOk result (λ run. run.stopped ≡ None) }
-    ensures stands { IfOk result (λ run. (rows : List NodeRow) → RunStands plan.now rows place 0 run) }
+    ensures stands { IfOk result (λ run. (rows : List NodeRow) → RunStands plan.now rows number 0 run) }
 {
     let _elements = plan.elements();
-    let element = new_element(alloc, plan, place, Chooses::ByLevel)?;
-    let shown = shown_of(plan, place, &element);
-    let inputs = new_inputs(alloc, plan, place)?;
-    let outs = new_outs(alloc, plan, place)?;
+    let element = new_element(alloc, plan, number, Chooses::ByLevel)?;
+    let shown = shown_of(plan, number, &element);
+    let inputs = new_inputs(alloc, plan, number)?;
+    let lines = new_lines_out(alloc, plan, number)?;
     Ok(Run {
         element,
         shown,
         inputs: inputs.into_vec(),
-        outs: outs.into_vec(),
+        lines_out: lines.into_vec(),
         told: Rows::new(alloc),
         next: 0,
         wake: 0,
@@ -47,12 +47,12 @@ pub(crate) fn new_run(alloc: Global, plan: &Plan, place: u32) -> Result<Run, NoM
 }
 
 /// The inputs, to which nothing happened.
-fn new_inputs(alloc: Global, plan: &Plan, place: u32) -> Result<Rows<InputNow>, NoMemory>
-    requires { place < length plan.now.elements }
-    ensures { IfOk result (λ inputs. inputs ≡ map (new_input plan.now) (inputs_of plan.now place)) }
+fn new_inputs(alloc: Global, plan: &Plan, element: u32) -> Result<Rows<InputNow>, NoMemory>
+    requires { element < length plan.now.elements }
+    ensures { IfOk result (λ inputs. inputs ≡ map (new_input plan.now) (inputs_of plan.now element)) }
 {
     let mut inputs = Rows::new(alloc);
-    for input in plan.inputs(place) {
+    for input in plan.inputs(element) {
         inputs.push(new_input(plan, *input))?;
     }
     Ok(inputs)
@@ -96,27 +96,32 @@ fn first_word(level: Option<Level>) -> Option<LastLevel>
 }
 
 /// The lines out of the element, which have said nothing.
-fn new_outs(alloc: Global, plan: &Plan, place: u32) -> Result<Rows<LineOut>, NoMemory>
-    requires { place < length plan.now.elements }
-    ensures { IfOk result (λ outs. outs ≡ map new_out (lines_out plan.now place)) }
+fn new_lines_out(alloc: Global, plan: &Plan, element: u32) -> Result<Rows<LineOut>, NoMemory>
+    requires { element < length plan.now.elements }
+    ensures { IfOk result (λ lines. lines ≡ map new_out (lines_out plan.now element)) }
 {
-    let mut outs = Rows::new(alloc);
+    let mut lines = Rows::new(alloc);
     for number in 0..plan.lines() {
-        add_out(plan, place, &mut outs, LineId(number))?;
+        add_line_out(plan, element, &mut lines, LineId(number))?;
     }
-    Ok(outs)
+    Ok(lines)
 }
 
 /// One line more, if it leads out of the element.
-fn add_out(plan: &Plan, place: u32, outs: &mut Rows<LineOut>, line: LineId) -> Result<(), NoMemory>
+fn add_line_out(
+    plan: &Plan,
+    element: u32,
+    lines: &mut Rows<LineOut>,
+    line: LineId,
+) -> Result<(), NoMemory>
     requires { line.0 < line_count plan.now }
-    ensures { OnOk result (outs.new ≡ outs.old
-        ++ (if sender_of plan.now line.0 == place then new_out line.0 ∷ [] else [])) }
+    ensures { OnOk result (lines.new ≡ lines.old
+        ++ (if sender_of plan.now line.0 == element then new_out line.0 ∷ [] else [])) }
 {
-    if plan.from(line) != place {
+    if plan.from(line) != element {
         return Ok(());
     }
-    outs.push(LineOut {
+    lines.push(LineOut {
         line,
         up: true,
         esmc: true,

@@ -136,7 +136,7 @@ module _ (plan : Topology) (events : List Event) (element until : ℕ) (rows : L
   replayed t early = record {
     selection = ap (taken_by plan element) (same-past (suc t) (omega (arith, early)));
     level = ap (clock_level_at (settings_of plan element)) (same-past (suc t) (omega (arith, early)));
-    outs = λ line from. gives line t from early;
+    lines_out = λ line from. gives line t from early;
     frames = λ line from. ap is_sent (carries line (suc t) from (omega (arith, early)));
     words = λ line from. carries line (suc t) from (omega (arith, early));
   }

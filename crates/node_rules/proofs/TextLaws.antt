@@ -35,7 +35,7 @@ lines_out-begin plan element =
 module _ (plan : Topology) (events : List Event) (element until : ℕ) (rows : List NodeRow) (well : IsWellFormed plan) (is : IsNodeFile plan events element until rows) where
   row-same : (t line : ℕ) → IsReplayed plan events element rows t → sender_of plan line ≡ element
       → frame_row plan rows element t line ≡ network_row plan events element t line
-  row-same t line here from = row-of _ _ _ _ (here.outs line from) (here.words line from)
+  row-same t line here from = row-of _ _ _ _ (here.lines_out line from) (here.words line from)
     where
       row-of : (level other : Level) (past past_then : List LineMoment) → level ≡ other → past ≡ past_then
           → decimal t ++ codes "," ++ line_name plan line ++ codes "," ++ encode_lower (written_frame (carried element level (is_event past))) ++ codes "\n"

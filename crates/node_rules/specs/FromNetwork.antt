@@ -109,7 +109,7 @@ pub record IsNodeFile (plan : Topology) (events : List Event) (element until : �
 pub record IsReplayed (plan : Topology) (events : List Event) (element : ℕ) (rows : List NodeRow) (t : ℕ) : Type 0 where
   pub selection : node_taken plan rows element t ≡ taken_at plan (signals_by plan events) (network_out plan events) element t
   pub level : node_level plan rows element t ≡ level_at plan (signals_by plan events) (network_out plan events) element t
-  pub outs : (line : ℕ) → sender_of plan line ≡ element → node_out plan rows element line t ≡ network_out plan events line t
+  pub lines_out : (line : ℕ) → sender_of plan line ≡ element → node_out plan rows element line t ≡ network_out plan events line t
   pub frames : (line : ℕ) → sender_of plan line ≡ element →
       sends_frame plan rows element line t ≡ is_sent (network_past plan events line (suc t))
   -- each line out of it was the same so far, so its frame is an event message where the network's message is news

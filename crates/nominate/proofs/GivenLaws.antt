@@ -7,7 +7,7 @@ use Rattle.sync_topo.specs.declared.link.Link.{Link}
 use Rattle.sync_topo.specs.declared.rows.PlanRows.{PlanRows}
 use Rattle.sync_topo.specs.declared.error.PlanErr.{PlanErr}
 use Rattle.sync_topo.specs.declared.error.PlanErr.TheVariants.{NoMemory}
-use Rattle.sync_topo.specs.Gives.{is_want}
+use Rattle.sync_topo.specs.Gives.{is_no_memory}
 use Rattle.sync_topo.specs.private.Gives.{Refuses}
 use Rattle.sync_topo.specs.PlanRows.{plan_of_rows}
 use Rattle.sync_topo.specs.RowValues.{link_from, plan_from}
@@ -34,10 +34,10 @@ said-with plan f well =
     (with-said (plan_from (rows_of_plan plan)).elements plan f 0 plan.links)
     ∙ ap (λ (said : Topology). plan_with said f) (plan_from-rows_of_plan plan well)
 
--- rows that are refused, but for want of memory, say a plan that breaks a rule
+-- rows that are refused, but when out of memory, say a plan that breaks a rule
 pub refused-with : (plan : Topology) (f : ℕ → ℕ) (rows : PlanRows) (error : PlanErr) → rows ≡ rows_of_plan (plan_with plan f)
     → ((p : Topology) → IsWellFormed p → plan_of_rows (rows_of_plan p) ≡ Ok p)
-    → Refuses error (plan_of_rows rows) → is_want error ≡ false → ¬ IsWellFormed (plan_with plan f)
+    → Refuses error (plan_of_rows rows) → is_no_memory error ≡ false → ¬ IsWellFormed (plan_with plan f)
 refused-with plan f rows error are again refuses wants well =
     let wanted : error ≡ NoMemory = only_memory error (plan_of_rows rows) (plan_with plan f) (ap plan_of_rows are ∙ again (plan_with plan f) well) refuses in
-    true≢false (sym (ap is_want wanted) ∙ wants)
+    true≢false (sym (ap is_no_memory wanted) ∙ wants)

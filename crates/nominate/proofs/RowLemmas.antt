@@ -30,7 +30,7 @@ links-more make f links i link rows whole at is =
     ∙ sym (ap (λ rest. rows ++ map make (with_priorities f i rest)) (drop-at links i link at))
     ∙ is
 
--- where the rows give a plan, only want of memory is left
+-- where the rows give a plan, only NoMemory is left
 pub only_memory : {A : Type 0} (error : PlanErr) (answer : Result A PlanErr) (value : A) → answer ≡ Ok value → Refuses error answer → error ≡ NoMemory
 only_memory (Limit place) answer value is refuses = cc
 only_memory (Name place) answer value is refuses = cc

@@ -38,12 +38,12 @@ pub fn nominate(alloc: Global, plan: &Plan) -> Result<Plan, NoMemory>
     let rows = rows_with(alloc, plan, priorities.as_slice())?;
     match Plan::new(alloc, rows) {
         Ok(nominated) => Ok(nominated),
-        Err(error) => Err(want_of_memory(error)),
+        Err(error) => Err(no_memory_left(error)),
     }
 }
 
-/// Want of memory, as the one reason that is left: the nominated plan keeps every rule.
-fn want_of_memory(error: PlanErr) -> NoMemory
+/// Out of memory, as the one reason that is left: the nominated plan keeps every rule.
+fn no_memory_left(error: PlanErr) -> NoMemory
     requires { error ≡ PlanErr.NoMemory }
 {
     let _ = error;

@@ -1,5 +1,5 @@
 ghost use Rattle.std.specs.Prelude.{◌≡◌, length, slice_index, IfOk, IfSome, IsNone};
-ghost use Rattle.sync_topo.specs.Gives.{is_want};
+ghost use Rattle.sync_topo.specs.Gives.{is_no_memory};
 ghost use Rattle.sync_topo.specs.Lines.{line_count};
 ghost use Rattle.sync_topo.specs.WellFormed.{IsWellFormed};
 ghost use Rattle.nominate.specs.Nomination.{plan_with};
@@ -31,7 +31,7 @@ pub fn with_priorities(
     match Plan::new(alloc, rows) {
         Ok(other) => Ok(Some(other)),
         Err(error) => {
-            if is_want(error) {
+            if is_no_memory(error) {
                 return Err(NoMemory);
             }
             Ok(None)
@@ -39,9 +39,9 @@ pub fn with_priorities(
     }
 }
 
-/// Memory ran out.
-fn is_want(error: PlanErr) -> bool
-    ensures { result ≡ is_want error }
+/// Out of memory.
+fn is_no_memory(error: PlanErr) -> bool
+    ensures { result ≡ is_no_memory error }
 {
     match error {
         PlanErr::NoMemory => true,

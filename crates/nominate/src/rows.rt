@@ -29,8 +29,8 @@ fn element_rows(alloc: Global, plan: &Plan) -> Result<Rows<ElementRow>, NoMemory
     ensures { IfOk result (λ rows. rows ≡ map row_of_element plan.now.elements) }
 {
     let mut rows = Rows::new(alloc);
-    for e in 0..plan.elements() {
-        rows.push(element_row(alloc, plan.element(e))?)?;
+    for element in 0..plan.elements() {
+        rows.push(element_row(alloc, plan.element(element))?)?;
     }
     Ok(rows)
 }
@@ -42,12 +42,12 @@ fn link_rows(alloc: Global, plan: &Plan, priorities: &[u8]) -> Result<Rows<LinkR
         (with_priorities (λ line. slice_index priorities.now line) 0 plan.now.links)) }
 {
     let mut rows = Rows::new(alloc);
-    for k in 0..plan.links() {
-        let line = 2 * k as usize;
+    for link in 0..plan.links() {
+        let line = 2 * link as usize;
         let row = link_row(
             alloc,
             plan,
-            plan.link(k),
+            plan.link(link),
             priorities[line + 1],
             priorities[line],
         )?;
@@ -61,8 +61,8 @@ fn source_rows(alloc: Global, plan: &Plan) -> Result<Rows<SourceRow>, NoMemory>
     ensures { IfOk result (λ rows. rows ≡ map (row_of_source plan.now) plan.now.sources) }
 {
     let mut rows = Rows::new(alloc);
-    for j in 0..plan.sources() {
-        rows.push(source_row(alloc, plan, plan.source(j))?)?;
+    for source in 0..plan.sources() {
+        rows.push(source_row(alloc, plan, plan.source(source))?)?;
     }
     Ok(rows)
 }

@@ -21,7 +21,7 @@ pub enum PcapErr {
     /// The record isn't whole. Records count from 1.
     #[error("record {0} isn't whole")]
     Record(u64),
-    /// Memory ran out.
+    /// Out of memory.
     #[error("out of memory")]
     NoMemory,
 }
@@ -29,7 +29,7 @@ pub enum PcapErr {
 impl PcapErr {
     /// The number by which the refusal is printed, from 40 to 42.
     ///
-    /// `None` where memory ran out, which refuses no capture.
+    /// `None` when out of memory, which refuses no capture.
     /// This project's own.
     pub fn number(self) -> Option<u8>
         ensures { result ≡ number_of self }

@@ -151,7 +151,7 @@ plan_law bytes plan = rows_law bytes (Ok plan)
 pub refused_rows_law : (bytes : List ℕ) (error : PlanErr) → (plan_of bytes ≡ Err (Plan error)) ↔ GivesRows bytes (Err error)
 refused_rows_law bytes error = rows_law bytes (Err error)
 
--- what the definition refuses is refused, unless memory ran out
+-- what the definition refuses is refused, unless out of memory
 pub refuses_where : {A : Type 0} (result answer : Result A PlanFileErr) (refusal : PlanFileErr) (Fact : Type 0)
     → Gives result answer → ((answer ≡ Err refusal) ↔ Fact) → RefusesWhere result refusal Fact
 refuses_where (Ok value) answer refusal Fact gives law =

@@ -11,15 +11,15 @@ abbrev pub file_error : PlanErr → PlanFileErr
 file_error rows.NoMemory = NoMemory
 file_error error = Plan error
 
--- memory ran out
-abbrev pub is_want : PlanFileErr → Bool
-is_want NoMemory = true
-is_want refusal = false
+-- out of memory
+abbrev pub is_no_memory : PlanFileErr → Bool
+is_no_memory NoMemory = true
+is_no_memory refusal = false
 
--- the answer is the definition's, value or refusal; want of memory says nothing
+-- the answer is the definition's, value or refusal; out of memory says nothing
 abbrev pub Gives : {A : Type 0} → Result A PlanFileErr → Result A PlanFileErr → Type 0
-Gives result answer = GivesBut is_want result answer
+Gives result answer = GivesBut is_no_memory result answer
 
--- unless memory ran out, the answer is this refusal exactly where the fact holds
+-- unless out of memory, the answer is this refusal exactly where the fact holds
 abbrev pub RefusesWhere : {A : Type 0} → Result A PlanFileErr → PlanFileErr → Type 0 → Type 0
 RefusesWhere result refusal Fact = (result ≡ Err NoMemory) ⊎ ((result ≡ Err refusal) ↔ Fact)

@@ -3,7 +3,7 @@ use Rattle.std.specs.Prelude.{ℕ, Option, Some, None}
 use Rattle.plan_file.specs.declared.error.PlanFileErr.{PlanFileErr}
 use Rattle.plan_file.specs.declared.error.PlanFileErr.TheVariants.{Syntax, Key, Kind, Plan, NoMemory}
 
--- the number by which a refusal is printed; want of memory has none. This project's own
+-- the number by which a refusal is printed; out of memory has none. This project's own
 abbrev pub number_of : PlanFileErr → Option ℕ
 number_of Syntax = Some 22
 number_of (Key place) = Some 23

@@ -22,7 +22,7 @@ pub enum PlanFileErr {
     /// The rows break a rule for plans.
     #[error("{0}")]
     Plan(PlanErr),
-    /// Memory ran out.
+    /// Out of memory.
     #[error("out of memory")]
     NoMemory,
 }
@@ -31,7 +31,7 @@ impl PlanFileErr {
     /// The number by which the refusal is printed, from 22 to 25. That of a rule for plans, 25, is
     /// followed by the rule's own.
     ///
-    /// `None` where memory ran out, which refuses no file. This project's own.
+    /// `None` when out of memory, which refuses no file. This project's own.
     pub fn number(self) -> Option<u8>
         ensures { result ≡ number_of self }
     {

@@ -28,7 +28,7 @@ use toml::Table;
 /// no TOML document in UTF-8. Then each table in order, the head, the elements, the links and the
 /// sources: `Key` where it has an unknown key or lacks one that it must have, and otherwise `Kind`
 /// where it is no table or a value is not of its key's kind. Then `Plan`, the refusal of the rows,
-/// which never is want of memory. After TOML 1.1; the keys are this project's own.
+/// which never is `NoMemory`. After TOML 1.1; the keys are this project's own.
 pub fn read_plan(alloc: Global, bytes: &[u8]) -> Result<Plan, PlanFileErr>
     ensures exact { Gives result (plan_of bytes.now) }
     ensures well_formed { IfOk result (λ plan. IsWellFormed plan) }
@@ -36,7 +36,7 @@ pub fn read_plan(alloc: Global, bytes: &[u8]) -> Result<Plan, PlanFileErr>
     // A plan comes only where no table breaks a rule, and it is the plan of the rows.
     ensures ok { IfOk result (λ plan. GivesRows bytes.now (Ok plan)) }
 
-    // Unless memory ran out, a table is refused exactly where it breaks that rule and no table before
+    // Unless out of memory, a table is refused exactly where it breaks that rule and no table before
     // it breaks one, and the rows are refused exactly where no table breaks a rule.
     ensures syntax { RefusesWhere result refusal.Syntax (document_of bytes.now ≡ None) }
     ensures key { (place : Place) → RefusesWhere result (refusal.Key place)

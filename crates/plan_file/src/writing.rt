@@ -82,8 +82,8 @@ fn put_version(text: &mut Text, second: bool) -> Result<(), NoMemory>
 fn names_bundle(plan: &Plan) -> bool
     ensures { result ≡ names_bundle plan.now }
 {
-    for k in 0..plan.links() {
-        if plan.link(k).bundle.is_some() {
+    for link in 0..plan.links() {
+        if plan.link(link).bundle.is_some() {
             return true;
         }
     }
@@ -95,8 +95,8 @@ fn put_elements(text: &mut Text, plan: &Plan) -> Result<(), NoMemory>
     ensures { OnOk result (text.new
         ≡ text.old ++ rows_text (codes "element") element_table plan.now.elements) }
 {
-    for e in 0..plan.elements() {
-        put_element(text, plan.element(e))?;
+    for element in 0..plan.elements() {
+        put_element(text, plan.element(element))?;
     }
     Ok(())
 }
@@ -106,8 +106,8 @@ fn put_links(text: &mut Text, plan: &Plan) -> Result<(), NoMemory>
     ensures { OnOk result (text.new
         ≡ text.old ++ rows_text (codes "link") (link_table plan.now) plan.now.links) }
 {
-    for k in 0..plan.links() {
-        put_link(text, plan, plan.link(k))?;
+    for link in 0..plan.links() {
+        put_link(text, plan, plan.link(link))?;
     }
     Ok(())
 }
@@ -117,8 +117,8 @@ fn put_sources(text: &mut Text, plan: &Plan) -> Result<(), NoMemory>
     ensures { OnOk result (text.new
         ≡ text.old ++ rows_text (codes "source") (source_table plan.now) plan.now.sources) }
 {
-    for j in 0..plan.sources() {
-        put_source(text, plan, plan.source(j))?;
+    for source in 0..plan.sources() {
+        put_source(text, plan, plan.source(source))?;
     }
     Ok(())
 }
@@ -186,11 +186,11 @@ fn put_source(text: &mut Text, plan: &Plan, source: &Source) -> Result<(), NoMem
 }
 
 /// The name of an element.
-fn element_name(plan: &Plan, e: u32) -> &[u8]
-    requires { e < length plan.now.elements }
-    ensures { result.now ≡ element_name plan.now e }
+fn element_name(plan: &Plan, element: u32) -> &[u8]
+    requires { element < length plan.now.elements }
+    ensures { result.now ≡ element_name plan.now element }
 {
-    plan.element(e).name.bytes()
+    plan.element(element).name.bytes()
 }
 
 /// Puts the line of a name: what stands before it up to the first quote, and then the name.

@@ -121,7 +121,7 @@ plan_of_rows-ladder n low high =
     let same = said n low well in
     plan_of_rows-kept (ladder_rows n) (subst IsWellFormed (sym same) well) (fit n low) ∙ ap Ok same
 
--- where rows give a plan, only want of memory can be answered in its place
+-- where rows give a plan, only NoMemory can be answered in its place
 pub only_memory : (error : PlanErr) (answer : Result Topology PlanErr) (plan : Topology) → Refuses error answer → answer ≡ Ok plan → error ≡ NoMemory
 only_memory (Limit place) answer plan refused given = absurd (cc)
 only_memory (Name place) answer plan refused given = absurd (cc)

@@ -22,12 +22,12 @@ pub fn generate(alloc: Global, elements: u32) -> Result<Plan, NoMemory>
     let rows = ladder_rows(alloc, elements)?;
     match Plan::new(alloc, rows) {
         Ok(plan) => Ok(plan),
-        Err(error) => Err(want_of_memory(error)),
+        Err(error) => Err(no_memory_left(error)),
     }
 }
 
-/// Want of memory, as the one reason that is left: the ladder's rows break no rule for plans.
-fn want_of_memory(error: PlanErr) -> NoMemory
+/// Out of memory, as the one reason that is left: the ladder's rows break no rule for plans.
+fn no_memory_left(error: PlanErr) -> NoMemory
     requires { error ≡ refusal.NoMemory }
 {
     let _ = error;

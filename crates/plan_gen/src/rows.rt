@@ -13,36 +13,36 @@ use sync_topo::{ElementRow, LinkRow, PlanRows, SourceRow};
 /// How many milliseconds a message takes on each line.
 const DELAY: i64 = 10;
 
-/// What is said of the ladder of `n` elements.
-pub(crate) fn ladder_rows(alloc: Global, n: u32) -> Result<PlanRows, NoMemory>
-    ensures { IfOk result (λ rows. rows ≡ ladder_rows n) }
+/// What is said of the ladder of so many elements.
+pub(crate) fn ladder_rows(alloc: Global, elements: u32) -> Result<PlanRows, NoMemory>
+    ensures { IfOk result (λ rows. rows ≡ ladder_rows elements) }
 {
     Ok(PlanRows {
         option: NetOption::I,
-        elements: element_rows(alloc, n)?,
-        links: link_rows(alloc, n)?,
+        elements: element_rows(alloc, elements)?,
+        links: link_rows(alloc, elements)?,
         sources: source_rows(alloc)?,
     })
 }
 
 /// The elements, by number.
 #[tactic(auto, using(crate::proofs::RowLaws::element_rows_more))]
-fn element_rows(alloc: Global, n: u32) -> Result<Rows<ElementRow>, NoMemory>
-    ensures { IfOk result (λ rows. rows ≡ map element_row (range_with_len 0 n)) }
+fn element_rows(alloc: Global, elements: u32) -> Result<Rows<ElementRow>, NoMemory>
+    ensures { IfOk result (λ rows. rows ≡ map element_row (range_with_len 0 elements)) }
 {
-    let mut rows = Rows::with_capacity(alloc, n as usize)?;
-    for j in 0..n {
-        rows.push(element_row(alloc, j)?)?;
+    let mut rows = Rows::with_capacity(alloc, elements as usize)?;
+    for element in 0..elements {
+        rows.push(element_row(alloc, element)?)?;
     }
     Ok(rows)
 }
 
-/// Element `j`: only its name is said.
-fn element_row(alloc: Global, j: u32) -> Result<ElementRow, NoMemory>
-    ensures { IfOk result (λ row. row ≡ element_row j) }
+/// One element: only its name is said.
+fn element_row(alloc: Global, element: u32) -> Result<ElementRow, NoMemory>
+    ensures { IfOk result (λ row. row ≡ element_row element) }
 {
     Ok(ElementRow {
-        name: numbered(alloc, b"E", j)?,
+        name: numbered(alloc, b"E", element)?,
         own: None,
         floor: None,
         holdoff: None,
@@ -52,44 +52,44 @@ fn element_row(alloc: Global, j: u32) -> Result<ElementRow, NoMemory>
 
 /// The links up to each element in turn.
 #[tactic(auto, using(crate::proofs::RowLaws::link_rows_more))]
-fn link_rows(alloc: Global, n: u32) -> Result<Rows<LinkRow>, NoMemory>
-    ensures { IfOk result (λ rows. rows ≡ flat_map link_rows_up_to (range_with_len 0 n)) }
+fn link_rows(alloc: Global, elements: u32) -> Result<Rows<LinkRow>, NoMemory>
+    ensures { IfOk result (λ rows. rows ≡ flat_map link_rows_up_to (range_with_len 0 elements)) }
 {
-    let mut rows = Rows::with_capacity(alloc, 2 * n as usize)?;
-    for j in 0..n {
-        put_links_up_to(alloc, &mut rows, j)?;
+    let mut rows = Rows::with_capacity(alloc, 2 * elements as usize)?;
+    for element in 0..elements {
+        put_links_up_to(alloc, &mut rows, element)?;
     }
     Ok(rows)
 }
 
-/// Puts the links up to element `j` at the end.
-fn put_links_up_to(alloc: Global, rows: &mut Rows<LinkRow>, j: u32) -> Result<(), NoMemory>
-    ensures { OnOk result (rows.new ≡ rows.old ++ link_rows_up_to j) }
+/// Puts the links up to an element at the end.
+fn put_links_up_to(alloc: Global, rows: &mut Rows<LinkRow>, element: u32) -> Result<(), NoMemory>
+    ensures { OnOk result (rows.new ≡ rows.old ++ link_rows_up_to element) }
 {
-    if j == 0 {
+    if element == 0 {
         return Ok(());
     }
-    rows.push(link_row(alloc, b"S", j - 1, j, 2)?)?;
-    if j == 1 {
+    rows.push(link_row(alloc, b"S", element - 1, element, 2)?)?;
+    if element == 1 {
         return Ok(());
     }
-    rows.push(link_row(alloc, b"R", j - 2, j, 1)?)
+    rows.push(link_row(alloc, b"R", element - 2, element, 1)?)
 }
 
-/// A link from an earlier element up to element `j`, which alone gives a priority to its line.
+/// A link from an earlier element up to another, which alone gives a priority to its line.
 fn link_row(
     alloc: Global,
     letter: &[u8],
     from: u32,
-    j: u32,
+    to: u32,
     priority: i64,
 ) -> Result<LinkRow, NoMemory>
-    ensures { IfOk result (λ row. row ≡ link_row letter.now from j priority) }
+    ensures { IfOk result (λ row. row ≡ link_row letter.now from to priority) }
 {
     Ok(LinkRow {
-        name: numbered(alloc, letter, j)?,
+        name: numbered(alloc, letter, to)?,
         a: numbered(alloc, b"E", from)?,
-        b: numbered(alloc, b"E", j)?,
+        b: numbered(alloc, b"E", to)?,
         priority_a: None,
         priority_b: Some(priority),
         delay_a: Some(DELAY),

@@ -215,14 +215,14 @@ forced-valid plan lines followed = record {
 pub first_is_forced_loop : (plan : Topology) (lines : List ℕ) → IsFirstCycle (hops_any plan) lines → IsForcedLoop plan lines
 first_is_forced_loop plan [] cycle = absurd cycle
 first_is_forced_loop plan (line ∷ rest) cycle =
-    let followed = each_followed (hops_any plan) line rest line cycle.ring in
+    let followed = each_followed (hops_any plan) line rest line cycle.closes in
     let apart = ring_apart (hops_any plan) line rest cycle in
     let receivers = receivers_apart plan (line ∷ rest) followed apart in
     record {
       receivers_apart = receivers;
       valid = forced-valid plan (line ∷ rest) followed;
       closed = record {
-        joined = ring_joins plan line rest line cycle.ring;
+        joined = ring_joins plan line rest line cycle.closes;
         each_taken = each-taken plan (line ∷ rest) (line ∷ rest) receivers (among-all (line ∷ rest)) followed;
         apart = apart;
       };

@@ -73,7 +73,7 @@ receivers_apart plan (line ∷ rest) each apart =
 
 pub ring_apart : (hop : HopTest) (line : ℕ) (rest : List ℕ) → IsFirstCycleFrom hop line rest → AreApart (line ∷ rest)
 ring_apart hop line rest cycle =
-    stand_once (IsBefore hop) (λ x one other. before_same hop x one other) line rest line cycle.ring
+    stand_once (IsBefore hop) (λ x one other. before_same hop x one other) line rest line cycle.closes
     (λ among.
     let above = each-one (λ other. line < other) rest line
     (each-all (λ other. line < other) rest cycle.lowest) among in

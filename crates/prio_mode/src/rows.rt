@@ -16,18 +16,18 @@ pub(crate) fn put_if_other(
     text: &mut Text,
     plan: &Plan,
     now: u64,
-    place: u32,
+    element: u32,
     was: Shown,
     shown: Shown,
 ) -> Result<(), NoMemory>
-    requires within { place < length plan.now.elements }
+    requires within { element < length plan.now.elements }
     requires input { IfSome shown.input (IsInput plan.now) }
-    ensures put { OnOk result (text.new ≡ text.old ++ row_between plan.now now place was shown) }
+    ensures put { OnOk result (text.new ≡ text.old ++ row_between plan.now now element was shown) }
 {
     if !shows_other(was, shown) {
         return Ok(());
     }
-    put_change(alloc, text, plan, now, place, shown)
+    put_change(alloc, text, plan, now, element, shown)
 }
 
 /// Puts one change.
@@ -36,16 +36,16 @@ fn put_change(
     text: &mut Text,
     plan: &Plan,
     now: u64,
-    place: u32,
+    element: u32,
     shown: Shown,
 ) -> Result<(), NoMemory>
-    requires within { place < length plan.now.elements }
+    requires within { element < length plan.now.elements }
     requires input { IfSome shown.input (IsInput plan.now) }
-    ensures put { OnOk result (text.new ≡ text.old ++ change_row plan.now now place shown) }
+    ensures put { OnOk result (text.new ≡ text.old ++ change_row plan.now now element shown) }
 {
     text.put_number(now)?;
     text.put(b",")?;
-    put_choice(alloc, text, plan, place, shown.mode, shown.input)?;
+    put_choice(alloc, text, plan, element, shown.mode, shown.input)?;
     text.put(b",")?;
     text.put(state_word(shown.state))?;
     text.put(b"\n")

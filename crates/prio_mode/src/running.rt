@@ -64,23 +64,23 @@ impl Run {
         &mut self,
         alloc: Global,
         plan: &Plan,
-        place: u32,
+        element: u32,
         now: u64,
         text: &mut Text,
     ) -> Result<(), NoMemory>
         requires counted { AreCounted plan.now self.old }
-        requires within { place < length plan.now.elements }
+        requires within { element < length plan.now.elements }
         requires in_range { now ≤ LAST_MILLISECOND }
-        requires can_step { CanStep plan.now now place (kept_at plan.now self.old place) }
+        requires can_step { CanStep plan.now now element (kept_at plan.now self.old element) }
         ensures { OnOk result
-            (IsAloneVisited plan.now now place self.old self.new text.old text.new) }
+            (IsAloneVisited plan.now now element self.old self.new text.old text.new) }
     {
-        let i = place as usize;
+        let i = element as usize;
         let was = self.seen[i].shown;
         let changes = &mut self.tellings.changes[i];
-        let (shown, due) = step_told(plan, place, &mut self.seen[i], changes, now);
-        self.dues.set(place, due);
-        put_if_other(alloc, text, plan, now, place, was, shown)
+        let (shown, due) = step_told(plan, element, &mut self.seen[i], changes, now);
+        self.dues.set(element, due);
+        put_if_other(alloc, text, plan, now, element, was, shown)
     }
 
     /// Lets some elements do so, one after another.
@@ -101,8 +101,8 @@ impl Run {
         ensures { OnOk result
             (AreVisited plan.now now order.now self.old self.new text.old text.new) }
     {
-        for place in order {
-            self.visit(alloc, plan, *place, now, text)?;
+        for element in order {
+            self.visit(alloc, plan, *element, now, text)?;
         }
         Ok(())
     }

@@ -28,14 +28,14 @@ pub(crate) struct Seen {
 
 /// What an element of the plan shows.
 #[tactic(auto, unfolding(crate::specs::PriorityRows::shown_after))]
-pub(crate) fn shown_of(plan: &Plan, place: u32, element: &Element) -> Shown
-    requires within { place < length plan.now.elements }
-    requires settings { element.now.settings ≡ priority_settings plan.now place }
-    ensures { Shows plan.now place element.now result }
+pub(crate) fn shown_of(plan: &Plan, number: u32, element: &Element) -> Shown
+    requires within { number < length plan.now.elements }
+    requires settings { element.now.settings ≡ priority_settings plan.now number }
+    ensures { Shows plan.now number element.now result }
 {
     Shown {
         mode: element.mode(),
-        input: taken_of(plan, place, element),
+        input: taken_of(plan, number, element),
         state: element.state(),
     }
 }

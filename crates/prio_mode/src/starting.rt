@@ -34,18 +34,18 @@ fn all_seen(alloc: Global, plan: &Plan) -> Result<Vec<Seen>, NoMemory>
         (λ seen. AreEach (IsNewSeen plan.now) (length plan.now.elements) seen.items) }
 {
     let mut seen = Rows::with_capacity(alloc, plan.elements() as usize)?;
-    for place in 0..plan.elements() {
-        seen.push(new_seen(alloc, plan, place)?)?;
+    for element in 0..plan.elements() {
+        seen.push(new_seen(alloc, plan, element)?)?;
     }
     Ok(seen.into_vec())
 }
 
 /// One element, with what it shows.
-fn new_seen(alloc: Global, plan: &Plan, place: u32) -> Result<Seen, NoMemory>
-    requires { place < length plan.now.elements }
-    ensures { IfOk result (IsNewSeen plan.now place) }
+fn new_seen(alloc: Global, plan: &Plan, number: u32) -> Result<Seen, NoMemory>
+    requires { number < length plan.now.elements }
+    ensures { IfOk result (IsNewSeen plan.now number) }
 {
-    let element = new_element(alloc, plan, place, Chooses::ByPriority)?;
-    let shown = shown_of(plan, place, &element);
+    let element = new_element(alloc, plan, number, Chooses::ByPriority)?;
+    let shown = shown_of(plan, number, &element);
     Ok(Seen { element, shown })
 }

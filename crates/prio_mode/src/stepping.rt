@@ -18,25 +18,25 @@ use sync_topo::Plan;
 /// is due next.
 pub(crate) fn step_told(
     plan: &Plan,
-    place: u32,
+    element: u32,
     one: &mut Seen,
     told: &mut Rows<InputEvent>,
     now: u64,
 ) -> (Shown, Option<u64>)
-    requires within { place < length plan.now.elements }
-    requires settings { one.old.element.settings ≡ priority_settings plan.now place }
+    requires within { element < length plan.now.elements }
+    requires settings { one.old.element.settings ≡ priority_settings plan.now element }
     requires in_time { IsInTime one.old.element now }
     requires in_range { now ≤ LAST_MILLISECOND }
     requires fits { All (FitsElement one.old.element.settings) told.old }
     ensures stepped { IsStepped now told.old one.old.element one.new.element }
     ensures told { told.new ≡ [] }
-    ensures shows { Shows plan.now place one.new.element one.new.shown }
+    ensures shows { Shows plan.now element one.new.element one.new.shown }
     ensures shown { result.0 ≡ one.new.shown }
     ensures due { result.1 ≡ one.new.element.due }
 {
     step_alone(&mut one.element, now, told.as_slice());
     told.clear();
-    let shown = shown_of(plan, place, &one.element);
+    let shown = shown_of(plan, element, &one.element);
     one.shown = shown;
     (shown, one.element.due())
 }

@@ -6,9 +6,9 @@ use Rattle.std.proofs.lemmas.Bool.Decides.{eqb_tells}
 use Rattle.std.proofs.lemmas.Option.{none-some, same_Some}
 use Rattle.sync_topo.specs.Topology.{Topology}
 use Rattle.rank_cert.specs.Ranks.{Ranks}
-use Rattle.sync_text.specs.Gives.{UnlessWanting}
+use Rattle.sync_text.specs.Gives.{UnlessNoMemory}
 use Rattle.rank_cert.specs.declared.error.CertErr.{CertErr}
-use Rattle.rank_cert.specs.Refusal.{is_want}
+use Rattle.rank_cert.specs.Refusal.{is_no_memory}
 use Rattle.rank_cert.specs.private.Refusal.{Refuses}
 use Rattle.rank_cert.specs.Rows.{Fields, rank_in_row, line_in_row, rank_for, rank_by_rows}
 use Rattle.rank_cert.specs.CertificateText.{row_refusal, refusal_at, unless}
@@ -88,8 +88,8 @@ all_taken (y ∷ ys) (suc n) is = omega (arith, all_taken ys n is)
 
 -- the refusal of the first row that breaks a rule
 pub Refuses-first : (first : Option CertErr) (e : CertErr) → first ≡ Some e → Refuses e (unless first)
-Refuses-first first e is = rw is (same (is_want e))
+Refuses-first first e is = rw is (same (is_no_memory e))
   where
-    same : (want : Bool) → UnlessWanting want (unless (Some e) ≡ Err e)
+    same : (want : Bool) → UnlessNoMemory want (unless (Some e) ≡ Err e)
     same true = tt
     same false = refl

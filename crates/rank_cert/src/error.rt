@@ -27,7 +27,7 @@ pub enum CertErr {
     /// No row has this nominated line, and each one of lower number has a row.
     #[error("line {} has no row", .0.0)]
     Missing(LineId),
-    /// Memory ran out.
+    /// Out of memory.
     #[error("out of memory")]
     NoMemory,
 }
@@ -35,7 +35,7 @@ pub enum CertErr {
 impl CertErr {
     /// The number by which the refusal is printed, from 34 to 38.
     ///
-    /// `None` where memory ran out, which refuses no text.
+    /// `None` when out of memory, which refuses no text.
     /// This project's own.
     pub fn number(self) -> Option<u8>
         ensures { result ≡ refusal_number self }

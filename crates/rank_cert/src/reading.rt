@@ -30,7 +30,7 @@ pub fn read_cert(alloc: Global, plan: &Plan, bytes: &[u8]) -> Result<Cert, CertE
     ensures ranked { IfOk result (IsRanked plan.now) }
     ensures no_other { IfOk result (RanksNoOther plan.now) }
 
-    // A refusal comes exactly where its rule is the first that is broken, unless memory runs out.
+    // A refusal comes exactly where its rule is the first that is broken, unless out of memory.
     ensures refused { IfErr result (λ e. e ≢ CertErr.NoMemory → IsFirstBroken plan.now (records_of bytes.now) e) }
     ensures refuses { (e : CertErr) → IsFirstBroken plan.now (records_of bytes.now) e → Gives result (Err e) }
     ensures named { IfErr result (NamesLine plan.now) }

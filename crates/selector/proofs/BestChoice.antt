@@ -39,12 +39,12 @@ first_is_least inputs i k first best =
       | no after ↦ omega arith
     ]
 
-pub IsBestChoice-best_choice : (inputs : List Candidate) (best current : Option ℕ) → IsFirstBest inputs (length inputs) best → IsBestChoice inputs current (best_choice inputs current)
-IsBestChoice-best_choice inputs None current none =
-    rw (none_taken inputs current none) (record {
+pub IsBestChoice-best_choice : (inputs : List Candidate) (best taken : Option ℕ) → IsFirstBest inputs (length inputs) best → IsBestChoice inputs taken (best_choice inputs taken)
+IsBestChoice-best_choice inputs None taken none =
+    rw (none_taken inputs taken none) (record {
       best = tt;
       none = λ is i eligible. let not_eligible = none_eligible inputs none i in cc;
-      current_stays = never_best current;
+      taken_stays = never_best taken;
       least = λ other. tt;
     })
   where
@@ -55,34 +55,34 @@ IsBestChoice-best_choice inputs (Some i) None first =
     rw (position-first inputs (Some i) first) (record {
       best = first_is_best inputs i first;
       none = λ is. absurd (cc);
-      current_stays = tt;
+      taken_stays = tt;
       least = λ other k best. first_is_least inputs i k first best;
     })
-IsBestChoice-best_choice inputs (Some i) (Some current) first = of (is_good inputs i current) refl
+IsBestChoice-best_choice inputs (Some i) (Some taken) first = of (is_good inputs i taken) refl
   where
-    of : (b : Bool) → is_good inputs i current ≡ b → IsBestChoice inputs (Some current) (best_choice inputs (Some current))
+    of : (b : Bool) → is_good inputs i taken ≡ b → IsBestChoice inputs (Some taken) (best_choice inputs (Some taken))
     of true good =
-        let parts = and_parts (is_eligible (candidate inputs current)) (not (beats (candidate inputs i) (candidate inputs current))) good in
-        rw (stays inputs i current first good) (record {
-          best = unbeaten_is_best inputs i current first parts.0 (not-true (beats (candidate inputs i) (candidate inputs current)) parts.1);
+        let parts = and_parts (is_eligible (candidate inputs taken)) (not (beats (candidate inputs i) (candidate inputs taken))) good in
+        rw (stays inputs i taken first good) (record {
+          best = unbeaten_is_best inputs i taken first parts.0 (not-true (beats (candidate inputs i) (candidate inputs taken)) parts.1);
           none = λ is. absurd (cc);
-          current_stays = λ best. refl;
+          taken_stays = λ best. refl;
           least = λ other. absurd (other refl);
         })
     of false bad =
-        rw (first_taken inputs i current first bad) (record {
+        rw (first_taken inputs i taken first bad) (record {
           best = first_is_best inputs i first;
           none = λ is. absurd (cc);
-          current_stays = λ best. let good = best_is_good inputs i current first best in absurd (cc);
+          taken_stays = λ best. let good = best_is_good inputs i taken first best in absurd (cc);
           least = λ other k best. first_is_least inputs i k first best;
         })
 
 -- the input that is taken is eligible
-pub eligible_choice : (inputs : List Candidate) (current answer : Option ℕ) → IsBestChoice inputs current answer → IfSome answer (IsEligible inputs)
-eligible_choice inputs current None is = tt
-eligible_choice inputs current (Some i) is = is.best.eligible
+pub eligible_choice : (inputs : List Candidate) (taken answer : Option ℕ) → IsBestChoice inputs taken answer → IfSome answer (IsEligible inputs)
+eligible_choice inputs taken None is = tt
+eligible_choice inputs taken (Some i) is = is.best.eligible
 
 -- and one of the inputs
-pub place_choice : (inputs : List Candidate) (current answer : Option ℕ) → IsBestChoice inputs current answer → IfSome answer (λ i. i < length inputs)
-place_choice inputs current None is = tt
-place_choice inputs current (Some i) is = eligible_within inputs i is.best.eligible
+pub place_choice : (inputs : List Candidate) (taken answer : Option ℕ) → IsBestChoice inputs taken answer → IfSome answer (λ i. i < length inputs)
+place_choice inputs taken None is = tt
+place_choice inputs taken (Some i) is = eligible_within inputs i is.best.eligible

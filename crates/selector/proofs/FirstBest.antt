@@ -61,18 +61,18 @@ position-first inputs (Some i) first =
         of true eligible = is_best-first inputs i first (candidate inputs k) ∙ rw (eligible, first.beats_earlier k before eligible) refl
         of false not_eligible = rw not_eligible refl
 
--- the current input stays where it is eligible and the best one doesn't beat it
+-- the input taken so far stays where it is eligible and the best one doesn't beat it
 abbrev pub is_good : List Candidate → ℕ → ℕ → Bool
-is_good inputs i current = is_eligible (candidate inputs current) && not (beats (candidate inputs i) (candidate inputs current))
+is_good inputs i taken = is_eligible (candidate inputs taken) && not (beats (candidate inputs i) (candidate inputs taken))
 
-pub stays : (inputs : List Candidate) (i current : ℕ) → IsFirstBestAt inputs (length inputs) i → is_good inputs i current ≡ true → best_choice inputs (Some current) ≡ Some current
-stays inputs i current first good = rw (is_best-first inputs i first (candidate inputs current), good) refl
+pub stays : (inputs : List Candidate) (i taken : ℕ) → IsFirstBestAt inputs (length inputs) i → is_good inputs i taken ≡ true → best_choice inputs (Some taken) ≡ Some taken
+stays inputs i taken first good = rw (is_best-first inputs i first (candidate inputs taken), good) refl
 
 -- and else the best one is taken
-pub first_taken : (inputs : List Candidate) (i current : ℕ) → IsFirstBestAt inputs (length inputs) i → is_good inputs i current ≡ false → best_choice inputs (Some current) ≡ Some i
-first_taken inputs i current first bad = rw (is_best-first inputs i first (candidate inputs current), bad) (position-first inputs (Some i) first)
+pub first_taken : (inputs : List Candidate) (i taken : ℕ) → IsFirstBestAt inputs (length inputs) i → is_good inputs i taken ≡ false → best_choice inputs (Some taken) ≡ Some i
+first_taken inputs i taken first bad = rw (is_best-first inputs i first (candidate inputs taken), bad) (position-first inputs (Some i) first)
 
 -- or none, where none is eligible
-pub none_taken : (inputs : List Candidate) (current : Option ℕ) → IsFirstBest inputs (length inputs) None → best_choice inputs current ≡ None
+pub none_taken : (inputs : List Candidate) (taken : Option ℕ) → IsFirstBest inputs (length inputs) None → best_choice inputs taken ≡ None
 none_taken inputs None none = position-first inputs None none
-none_taken inputs (Some current) none = rw (none_eligible inputs none current) (position-first inputs None none)
+none_taken inputs (Some taken) none = rw (none_eligible inputs none taken) (position-first inputs None none)

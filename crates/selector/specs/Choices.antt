@@ -10,15 +10,15 @@ unusable = record { level = None; priority = 0; usable = false }
 
 -- the input that is taken among these candidates, with a forced or manual switch, where one was taken
 -- so far; and whether the manual switch stands
-pub record IsChoice (inputs : List Candidate) (forced manual current : Option ℕ) (taken : Choice) : Type 0 where
-  pub exact : taken.input ≡ choice inputs forced (standing_manual inputs manual) current
-  pub exact_stands : taken.manual_stands ≡ manual_stands inputs manual
+pub record IsChoice (inputs : List Candidate) (forced manual taken : Option ℕ) (chosen : Choice) : Type 0 where
+  pub exact : chosen.input ≡ choice inputs forced (standing_manual inputs manual) taken
+  pub exact_stands : chosen.manual_stands ≡ manual_stands inputs manual
   -- the same in facts
-  pub place : IfSome taken.input (λ i. i < length inputs)
-  pub eligible : IfSome taken.input (IsEligible inputs)
-  pub forced_taken : IfSome forced (λ i. IsEligible inputs i → taken.input ≡ forced)
-  pub forced_fails : IfSome forced (λ i. ¬ IsEligible inputs i → taken.input ≡ None)
-  pub manual_taken : IsTrue taken.manual_stands → taken.input ≡ manual
-  pub stands : MatchOption manual (taken.manual_stands ≡ false)
-      (λ i. IsTrue taken.manual_stands ↔ ManualStands inputs i)
-  pub best : IsNone forced → ¬ IsTrue taken.manual_stands → IsBestChoice inputs current taken.input
+  pub place : IfSome chosen.input (λ i. i < length inputs)
+  pub eligible : IfSome chosen.input (IsEligible inputs)
+  pub forced_taken : IfSome forced (λ i. IsEligible inputs i → chosen.input ≡ forced)
+  pub forced_fails : IfSome forced (λ i. ¬ IsEligible inputs i → chosen.input ≡ None)
+  pub manual_taken : IsTrue chosen.manual_stands → chosen.input ≡ manual
+  pub stands : MatchOption manual (chosen.manual_stands ≡ false)
+      (λ i. IsTrue chosen.manual_stands ↔ ManualStands inputs i)
+  pub best : IsNone forced → ¬ IsTrue chosen.manual_stands → IsBestChoice inputs taken chosen.input

@@ -19,7 +19,7 @@ pub struct Choice {
 }
 
 /// The input to take, of at most 64, by place: the forced one if it may be taken, and else none;
-/// without one the manual one if its switch stands; else a best one, of which the current one
+/// without one the manual one if its switch stands; else a best one, of which the one taken
 /// stays, and otherwise the first is taken.
 ///
 /// An input may be taken where it is usable and has a level better than do-not-use. A manual
@@ -30,18 +30,18 @@ pub fn choose(
     inputs: &[Candidate],
     forced: Option<u32>,
     manual: Option<u32>,
-    current: Option<u32>,
+    taken: Option<u32>,
 ) -> Choice
     requires few { length inputs.now ≤ MOST_INPUTS }
     requires one_option { AreOfOneOption inputs.now }
     requires forced_place { IfSome forced (λ i. i < length inputs.now) }
     requires manual_place { IfSome manual (λ i. i < length inputs.now) }
-    requires current_place { IfSome current (λ i. i < length inputs.now) }
+    requires taken_place { IfSome taken (λ i. i < length inputs.now) }
     requires one_switch { IsNone forced ⊎ IsNone manual }
-    ensures { IsChoice inputs.now forced manual current result }
+    ensures { IsChoice inputs.now forced manual taken result }
 {
     let best = first_best(inputs);
-    choose_by(inputs, best, forced, manual, current)
+    choose_by(inputs, best, forced, manual, taken)
 }
 
 /// The same, where the first of the best is known.
@@ -50,22 +50,22 @@ pub(crate) fn choose_by(
     best: Option<u32>,
     forced: Option<u32>,
     manual: Option<u32>,
-    current: Option<u32>,
+    taken: Option<u32>,
 ) -> Choice
     requires one_option { AreOfOneOption inputs.now }
     requires best { IsFirstBest inputs.now (length inputs.now) best }
     requires forced_place { IfSome forced (λ i. i < length inputs.now) }
     requires manual_place { IfSome manual (λ i. i < length inputs.now) }
-    requires current_place { IfSome current (λ i. i < length inputs.now) }
+    requires taken_place { IfSome taken (λ i. i < length inputs.now) }
     requires one_switch { IsNone forced ⊎ IsNone manual }
-    ensures { IsChoice inputs.now forced manual current result }
+    ensures { IsChoice inputs.now forced manual taken result }
 {
     let manual_stands = stands(inputs, best, manual);
     let input = match forced {
         Some(forced) if is_eligible(&inputs[forced as usize]) => Some(forced),
         Some(_) => None,
         None if manual_stands => manual,
-        None => stay_or_take(inputs, best, current),
+        None => stay_or_take(inputs, best, taken),
     };
     Choice {
         input,
@@ -89,30 +89,30 @@ fn stands(inputs: &[Candidate], best: Option<u32>, manual: Option<u32>) -> bool
     }
 }
 
-/// The current input stays where no input that may be taken beats it.
+/// The input taken so far stays where no input that may be taken beats it.
 pub(crate) fn stay_or_take(
     inputs: &[Candidate],
     best: Option<u32>,
-    current: Option<u32>,
+    taken: Option<u32>,
 ) -> Option<u32>
-    requires place { IfSome current (λ i. i < length inputs.now) }
+    requires place { IfSome taken (λ i. i < length inputs.now) }
     requires one_option { AreOfOneOption inputs.now }
     requires best { IsFirstBest inputs.now (length inputs.now) best }
-    ensures { result ≡ best_choice inputs.now current }
+    ensures { result ≡ best_choice inputs.now taken }
 {
-    match (current, best) {
-        (Some(current), Some(best)) if is_as_good(inputs, current, best) => Some(current),
+    match (taken, best) {
+        (Some(taken), Some(best)) if is_as_good(inputs, taken, best) => Some(taken),
         _ => best,
     }
 }
 
-fn is_as_good(inputs: &[Candidate], current: u32, best: u32) -> bool
-    requires current { current < length inputs.now }
+fn is_as_good(inputs: &[Candidate], taken: u32, best: u32) -> bool
+    requires taken { taken < length inputs.now }
     requires best { best < length inputs.now }
     requires one_option { AreOfOneOption inputs.now }
-    ensures { result ≡ (is_eligible (candidate inputs.now current)
-        && not (beats (candidate inputs.now best) (candidate inputs.now current))) }
+    ensures { result ≡ (is_eligible (candidate inputs.now taken)
+        && not (beats (candidate inputs.now best) (candidate inputs.now taken))) }
 {
-    let current = &inputs[current as usize];
-    is_eligible(current) && !beats(&inputs[best as usize], current)
+    let taken = &inputs[taken as usize];
+    is_eligible(taken) && !beats(&inputs[best as usize], taken)
 }

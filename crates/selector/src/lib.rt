@@ -6,7 +6,7 @@
 //! over at most 64 inputs, and takes no memory. A [`Table`] keeps the candidates, and gives the
 //! same choice without that pass, however few of them were renewed; contracts see it as their list.
 //!
-//! After ITU-T G.781, selection by quality level and priority. That the current input stays on a
+//! After ITU-T G.781, selection by quality level and priority. That the one taken so far stays on a
 //! tie is of the standard; that the least place is taken else is this project's own. The tests go
 //! through ties, switches and levels, with choices written by hand.
 #![tactic(auto)]

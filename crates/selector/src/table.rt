@@ -94,32 +94,32 @@ impl Table {
     /// The input to take without a switch: what `choose` gives without a forced and a manual one.
     /// It takes the same time for any number of inputs, and no memory.
     ///
-    /// `None` exactly where no input may be taken. The current input stays where none beats it;
+    /// `None` exactly where no input may be taken. The one taken so far stays where none beats it;
     /// else the first of the best is taken.
     /// After G.781, selection by quality level and priority; the least place is this project's own.
-    pub fn best(&self, current: Option<u32>) -> Option<u32>
-        requires current_place { IfSome current (λ i. i < length self.now) }
-        ensures exact { result ≡ choice self.now None None current }
+    pub fn best(&self, taken: Option<u32>) -> Option<u32>
+        requires taken_place { IfSome taken (λ i. i < length self.now) }
+        ensures exact { result ≡ choice self.now None None taken }
         ensures place { IfSome result (λ i. i < length self.now) }
-        ensures best { IsBestChoice self.now current result }
+        ensures best { IsBestChoice self.now taken result }
     {
         let best = self.first();
-        stay_or_take(self.inputs.as_slice(), best, current)
+        stay_or_take(self.inputs.as_slice(), best, taken)
     }
 
     /// The input to take with a forced or manual switch, exactly as `choose` does, in the same time
     /// for any number of inputs.
     ///
     /// After G.781, selection by quality level and priority, forced switch and manual switch.
-    pub fn choose(&self, forced: Option<u32>, manual: Option<u32>, current: Option<u32>) -> Choice
+    pub fn choose(&self, forced: Option<u32>, manual: Option<u32>, taken: Option<u32>) -> Choice
         requires forced_place { IfSome forced (λ i. i < length self.now) }
         requires manual_place { IfSome manual (λ i. i < length self.now) }
-        requires current_place { IfSome current (λ i. i < length self.now) }
+        requires taken_place { IfSome taken (λ i. i < length self.now) }
         requires one_switch { IsNone forced ⊎ IsNone manual }
-        ensures { IsChoice self.now forced manual current result }
+        ensures { IsChoice self.now forced manual taken result }
     {
         let best = self.first();
-        choose_by(self.inputs.as_slice(), best, forced, manual, current)
+        choose_by(self.inputs.as_slice(), best, forced, manual, taken)
     }
 
     /// The first of the inputs that no other beats.

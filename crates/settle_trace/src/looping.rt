@@ -22,7 +22,7 @@ use sync_text::{NoMemory, Rows};
 /// in the order of these.
 ///
 /// The network isn't spent, and has stepped. It takes time by the number of elements and lines of the
-/// plan. `NoMemory` comes for want of memory alone. After G.781 and G.803, that timing must not go
+/// plan. `NoMemory` comes only when out of memory. After G.781 and G.803, that timing must not go
 /// round; the order is this project's own.
 pub fn loops(alloc: Global, net: &Net<'_>) -> Result<Rows<Walk>, NoMemory>
     requires live { net.now.spent ≡ false }

@@ -93,8 +93,8 @@ fn are_inputs_steady(net: &Net<'_>) -> bool
         IsTrue (is_nominated_input net.now.plan input) →
         IsSteady net.now.plan (signals_of net.now all) input (net.now.next - 1)) }
 {
-    for e in 0..net.plan().elements() {
-        if !none_ends(net.element(e)) {
+    for element in 0..net.plan().elements() {
+        if !none_ends(net.element(element)) {
             return false;
         }
     }

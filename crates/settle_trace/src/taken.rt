@@ -17,7 +17,7 @@ use sync_topo::InputId;
 
 /// The input that each element takes, by the element's number; none before the first step.
 ///
-/// The network isn't spent. `NoMemory` comes for want of memory alone. After G.781, selection.
+/// The network isn't spent. `NoMemory` comes only when out of memory. After G.781, selection.
 pub fn taken_inputs(alloc: Global, net: &Net<'_>) -> Result<Vec<Option<InputId>>, NoMemory>
     requires live { net.now.spent ≡ false }
     ensures taken { IfOk result (λ inputs. AreTaken net.now.plan inputs.items) }
@@ -28,8 +28,8 @@ pub fn taken_inputs(alloc: Global, net: &Net<'_>) -> Result<Vec<Option<InputId>>
 {
     net_rules::taken_law();
     let mut inputs = Vec::with_capacity(alloc, net.plan().elements() as usize)?;
-    for e in 0..net.plan().elements() {
-        inputs.push(taken_input(net, e))?;
+    for element in 0..net.plan().elements() {
+        inputs.push(taken_input(net, element))?;
     }
     Ok(inputs)
 }

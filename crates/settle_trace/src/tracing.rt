@@ -24,7 +24,7 @@ use sync_topo::{InputId, Plan};
 /// backwards from the element.
 ///
 /// The network isn't spent, and has stepped, and the element is one of its plan. It takes time by the
-/// number of elements. `NoMemory` comes for want of memory alone. This project's own.
+/// number of elements. `NoMemory` comes only when out of memory. This project's own.
 pub fn trace(alloc: Global, net: &Net<'_>, element: u32) -> Result<Traced, NoMemory>
     requires live { net.now.spent ≡ false }
     requires stepped { 0 < net.now.next }

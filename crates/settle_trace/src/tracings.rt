@@ -19,7 +19,7 @@ use sync_text::{NoMemory, Rows};
 /// the elements: of how many lines it is, and where it ends.
 ///
 /// The network isn't spent, and has stepped. It takes time by the number of elements and lines of the
-/// plan, however long the traces are. `NoMemory` comes for want of memory alone. This project's own.
+/// plan, however long the traces are. `NoMemory` comes only when out of memory. This project's own.
 pub fn traces(alloc: Global, net: &Net<'_>) -> Result<Rows<Ending>, NoMemory>
     requires live { net.now.spent ≡ false }
     requires stepped { 0 < net.now.next }

@@ -38,7 +38,7 @@ pub fn state_word(state: ClockState) -> &'static [u8]
 /// Puts what an element of a plan chose: its name, its mode, and the name of the input that it takes, or
 /// that it takes none.
 ///
-/// `NoMemory` comes for want of memory alone; a part may then stand at the end, so the text isn't used
+/// `NoMemory` comes only when out of memory; a part may then stand at the end, so the text isn't used
 /// again. This project's own.
 pub fn put_choice(
     alloc: Global,
@@ -61,7 +61,7 @@ pub fn put_choice(
 
 /// Puts the name of an input of a plan, as one that is taken, or that there is none.
 ///
-/// `NoMemory` comes for want of memory alone; the text isn't used again then. This project's own.
+/// `NoMemory` comes only when out of memory; the text isn't used again then. This project's own.
 pub fn put_taken(
     alloc: Global,
     text: &mut Text,

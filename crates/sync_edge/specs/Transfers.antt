@@ -28,7 +28,7 @@ AreRead most None name left = ⊤
 AreRead most (Some files) name None = ⊥
 AreRead most (Some files) name (Some left) = IsSomeAnd (get files name) (λ bytes. length bytes ≤ most + length left)
 
--- a start was tried once, or, where memory ran out, at most once
+-- a start was tried once, or, when out of memory, at most once
 abbrev pub IsTriedOnce : {T : Type 0} → ℕ → ℕ → Result T ReadErr → Type 0
 IsTriedOnce before now (Err Failed) = now ≡ one_more before
 IsTriedOnce before now (Err TooLong) = now ≡ one_more before

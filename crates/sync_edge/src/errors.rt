@@ -21,7 +21,7 @@ pub enum ReadErr {
     #[error("too long")]
     TooLong,
 
-    /// Memory ran out.
+    /// Out of memory.
     #[error("out of memory")]
     NoMemory,
 }

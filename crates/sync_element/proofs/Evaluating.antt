@@ -28,7 +28,7 @@ pub record Evaluation : Type 0 where
   pub inputs : List Candidate
   pub commands : Switches
   pub switches : Switches
-  pub current : Option ℕ
+  pub taken : Option ℕ
   pub selection : Option ℕ
   pub was : Bool
   pub was_then : Bool
@@ -38,8 +38,8 @@ pub record IsEvaluated (settings : Settings) (now : Moment) (before : List Momen
   pub seen_is : v.inputs ≡ candidates_at settings v.commands (now ∷ before)
   pub commanded_is : v.commands ≡ commanded settings now before
   pub ended : v.switches ≡ at_end v.inputs v.commands
-  pub chosen : v.selection ≡ choice v.inputs v.switches.forced v.switches.manual v.current
-  pub current_is : v.current ≡ selection_at settings before
+  pub chosen : v.selection ≡ choice v.inputs v.switches.forced v.switches.manual v.taken
+  pub taken_is : v.taken ≡ selection_at settings before
   pub was_is : v.was ≡ was_locked settings before
   pub ever : v.was_then ≡ (is_some v.selection || v.was)
 
@@ -56,9 +56,9 @@ selection_evaluated settings now before v is =
     let s : Switches = switches_at settings past in
     let same : candidates_at settings v.switches past ≡ candidates_at settings v.commands past = ap (λ u. candidates_at settings u past) is.ended in
     is.chosen
-    ∙ ap (λ c. choice c v.switches.forced v.switches.manual v.current) (is.seen_is ∙ sym same)
-    ∙ ap (λ u. choice (candidates_at settings u past) u.forced u.manual v.current) (switches_evaluated settings now before v is)
-    ∙ ap (choice (candidates_at settings s past) s.forced s.manual) is.current_is
+    ∙ ap (λ c. choice c v.switches.forced v.switches.manual v.taken) (is.seen_is ∙ sym same)
+    ∙ ap (λ u. choice (candidates_at settings u past) u.forced u.manual v.taken) (switches_evaluated settings now before v is)
+    ∙ ap (choice (candidates_at settings s past) s.forced s.manual) is.taken_is
     ∙ sym (selection_at-cons settings now before)
 
 pub was_locked_evaluated : (settings : Settings) (now : Moment) (before : List Moment) (v : Evaluation) → IsEvaluated settings now before v → v.was_then ≡ was_locked settings (now ∷ before)

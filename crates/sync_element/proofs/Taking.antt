@@ -232,7 +232,7 @@ evaluation e t = record {
   inputs = t.inputs.candidates;
   commands = t.commands;
   switches = t.switches;
-  current = e.kept.selection;
+  taken = e.kept.selection;
   selection = t.selection;
   was = e.kept.was_locked;
   was_then = t.was_locked;
@@ -250,7 +250,7 @@ evaluated e past now events t whole stands in_time taken =
           ∙ ap (after_commands (switches_at e.settings (waited e past now))) (sym (commands_after e.settings (waited e past now) events));
       ended = taken.ended;
       chosen = taken.chosen;
-      current_is = stands.kept.selection ∙ sym stays.selection;
+      taken_is = stands.kept.selection ∙ sym stays.selection;
       was_is = stands.kept.was_locked ∙ sym stays.was_locked;
       ever = taken.ever_locked;
     }

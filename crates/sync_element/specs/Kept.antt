@@ -1,4 +1,4 @@
--- Private to this crate: what an element keeps of its inputs. No clause elsewhere looks into it.
+-- What an element keeps of its inputs. No clause elsewhere looks into it.
 use Rattle.std.specs.Prelude.{◌≡◌, ◌≤◌, ℕ, Bool, true, false, List, length, slice_index_or, Option, None}
 use Rattle.sync_ql.specs.declared.rules.Cond.TheVariants.{Good}
 use Rattle.sync_ql.specs.declared.rules.Candidate.{Candidate}

@@ -1,4 +1,4 @@
--- Private to this crate: how an element is seen, and what is true of every one.
+-- How an element is seen, and what is true of every one.
 use Rattle.sync_element.specs.declared.element.Element.TheInside.{Inside}
 use Rattle.sync_element.specs.declared.inputs.Inputs.{Inputs}
 use Rattle.sync_element.specs.Configured.{settings_of}

@@ -18,15 +18,15 @@ use sync_ql::rules::{Candidate, ClockState, Mode};
 use sync_ql::{Level, do_not_use};
 
 /// Chooses an input, and ends a manual switch that does not stand.
-pub(crate) fn evaluate(table: &Table, commands: &mut Cmds, current: Option<u32>) -> Option<u32>
+pub(crate) fn evaluate(table: &Table, commands: &mut Cmds, taken: Option<u32>) -> Option<u32>
     requires locked_length { length commands.old.locked ≡ length table.now }
-    requires current_place { IfSome current (λ i. i < length table.now) }
+    requires taken_place { IfSome taken (λ i. i < length table.now) }
     ensures input { result ≡
-        choice table.now commands.new.forced commands.new.manual current }
+        choice table.now commands.new.forced commands.new.manual taken }
     ensures switches { commands.new ≡ at_end table.now commands.old }
     ensures place { IfSome result (λ i. i < length table.now) }
 {
-    let choice = table.choose(commands.forced(), commands.manual(), current);
+    let choice = table.choose(commands.forced(), commands.manual(), taken);
     if !choice.manual_stands {
         commands.drop_manual();
     }

@@ -176,7 +176,7 @@ begun-stands plan parts begun events = record {
   heards = heards-begin plan parts begun events;
 }
 
--- what holds where there is no want of memory
+-- what holds unless out of memory
 pub if-ok : (P Q : NetParts → Type 0) (result : Result NetParts NoMemory) → ((parts : NetParts) → P parts → Q parts) → IfOk result P → IfOk result Q
 if-ok P Q (Ok parts) f holds = f parts holds
 if-ok P Q (Err error) f holds = tt

@@ -68,10 +68,10 @@ or-here true b is = refl
 or-here false b is = absurd (cc)
 
 -- one element more
-pub evaluated-next : (now n m place : ℕ) (outs : ℕ → ℕ → Bool) (done done_then : ℕ → Bool) (s t u : Workplace) → done place ≡ false →
+pub evaluated-next : (now n m place : ℕ) (is_out : ℕ → ℕ → Bool) (done done_then : ℕ → Bool) (s t u : Workplace) → done place ≡ false →
     ((e : ℕ) → done_then e ≡ (done e || nat_eq e place)) →
-    AreEvaluated now n outs done s t → m ≡ n → AreEvaluated now m outs (λ e. nat_eq e place) t u → AreEvaluated now n outs done_then s u
-evaluated-next now n m place outs done done_then s t u fresh next all same one_of = record {
+    AreEvaluated now n is_out done s t → m ≡ n → AreEvaluated now m is_out (λ e. nat_eq e place) t u → AreEvaluated now n is_out done_then s u
+evaluated-next now n m place is_out done done_then s t u fresh next all same one_of = record {
   elements_count = one.elements_count ∙ all.elements_count;
   changes_count = one.changes_count ∙ all.changes_count;
   dues_count = one.dues_count ∙ all.dues_count;
@@ -84,8 +84,8 @@ evaluated-next now n m place outs done done_then s t u fresh next all same one_o
     | inr out ↦ inr (out.0, next out.0 ∙ or-second (done out.0) (nat_eq out.0 place) out.1, out.2)
   ];
   evaluated = λ e within is. elim (one-of (done e) (nat_eq e place) (sym (next e) ∙ is)) [
-    | inl before ↦ evaluated-left now (outs e) e s t u (all.evaluated e within before) (one.others e within (apart e before (nat_eq e place) refl)) one.called
-    | inr now_is ↦ left-evaluated now (outs e) e s t u (all.others e within now_is.0) (one.evaluated e within now_is.1)
+    | inl before ↦ evaluated-left now (is_out e) e s t u (all.evaluated e within before) (one.others e within (apart e before (nat_eq e place) refl)) one.called
+    | inr now_is ↦ left-evaluated now (is_out e) e s t u (all.others e within now_is.0) (one.evaluated e within now_is.1)
   ];
   others = λ e within is. let both = none-of (done e) (nat_eq e place) (sym (next e) ∙ is) in
       let first = all.others e within both.0 in
@@ -98,15 +98,15 @@ evaluated-next now n m place outs done done_then s t u fresh next all same one_o
   lines = λ k high. one.lines k high ∙ all.lines k high;
 }
   where
-    one : AreEvaluated now n outs (λ e. nat_eq e place) t u
-    one = subst (λ k. AreEvaluated now k outs (λ e. nat_eq e place) t u) same one_of
+    one : AreEvaluated now n is_out (λ e. nat_eq e place) t u
+    one = subst (λ k. AreEvaluated now k is_out (λ e. nat_eq e place) t u) same one_of
 
     apart : (e : ℕ) → done e ≡ true → (b : Bool) → nat_eq e place ≡ b → nat_eq e place ≡ false
     apart e before false is = is
     apart e before true is = absurd (let same : e ≡ place = is-place e place is in let other : done e ≡ false = ap done same ∙ fresh in cc)
 
-pub evaluated-none : (now n : ℕ) (outs : ℕ → ℕ → Bool) (done : ℕ → Bool) (s : Workplace) → ((e : ℕ) → done e ≡ false) → AreEvaluated now n outs done s s
-evaluated-none now n outs done s none = record {
+pub evaluated-none : (now n : ℕ) (is_out : ℕ → ℕ → Bool) (done : ℕ → Bool) (s : Workplace) → ((e : ℕ) → done e ≡ false) → AreEvaluated now n is_out done s s
+evaluated-none now n is_out done s none = record {
   elements_count = refl;
   changes_count = refl;
   dues_count = refl;
@@ -118,9 +118,9 @@ evaluated-none now n outs done s none = record {
 }
 
 -- an element that isn't done yet can still make its step
-pub can-step-still : (now n e : ℕ) (outs : ℕ → ℕ → Bool) (done : ℕ → Bool) (s t : Workplace) (other : ElementState) → e < n → done e ≡ false → AreEvaluated now n outs done s t →
+pub can-step-still : (now n e : ℕ) (is_out : ℕ → ℕ → Bool) (done : ℕ → Bool) (s t : Workplace) (other : ElementState) → e < n → done e ≡ false → AreEvaluated now n is_out done s t →
     CanStep now (slice_index_or s.elements e other) (changes_of s.changes e) → CanStep now (slice_index_or t.elements e other) (changes_of t.changes e)
-can-step-still now n e outs done s t other within fresh all can =
+can-step-still now n e is_out done s t other within fresh all can =
     let left = all.others e within fresh in
     subst (λ c. CanStep now (slice_index_or t.elements e other) c) (sym left.changes)
     (subst (λ x. CanStep now x (changes_of s.changes e)) (sym (left.element other)) can)

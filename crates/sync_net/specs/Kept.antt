@@ -1,4 +1,4 @@
--- Private to this crate: what a network keeps of what comes to its lines and sources from outside,
+-- What a network keeps of what comes to its lines and sources from outside,
 -- and of what is heard. No clause elsewhere looks into it.
 use Rattle.std.specs.Prelude.{ℕ, true, List, slice_index_or, Option, None}
 use Rattle.sync_ql.specs.declared.levels.NetOption.TheVariants.{I}

@@ -1,4 +1,4 @@
--- Private to this crate: what contracts see of a network, and what is true of each that isn't
+-- What contracts see of a network, and what is true of each that isn't
 -- spent.
 use Rattle.sync_net.specs.declared.net.Net.TheInside.{Inside}
 use Rattle.sync_net.specs.NetState.{NetState}

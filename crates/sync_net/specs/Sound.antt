@@ -1,4 +1,4 @@
--- Private to this crate: what is known of elements and lines that aren't called.
+-- What is known of elements and lines that aren't called.
 use Rattle.std.specs.Prelude.{◌≡◌, ◌<◌, ℕ, List, length, slice_index_or, IsSome, IfSome}
 use Rattle.sync_ql.specs.Moment.{Moment}
 use Rattle.sync_ql.specs.Messages.{LineMoment, IsLineDue}

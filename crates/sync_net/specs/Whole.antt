@@ -1,4 +1,4 @@
--- Private to this crate: how a network is seen, and what is true of every one that isn't spent.
+-- How a network is seen, and what is true of every one that isn't spent.
 use Rattle.std.specs.Prelude.{Bool}
 use Rattle.sync_topo.specs.Topology.{Topology}
 use Rattle.sync_net.specs.declared.parts.NetParts.{NetParts}

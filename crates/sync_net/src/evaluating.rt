@@ -43,8 +43,8 @@ pub(crate) fn evaluate_elements<L: Ledger>(
         (record { elements = elements.new; changes = changes.new; dues = dues.new; called = called.new.flags })) }
     ensures ticks { OnOk result (steps.new ≡ steps.old + length active.now.listed) }
 {
-    for place in active.listed() {
-        evaluate(plan, *place, elements, changes, dues, called, now, steps)?;
+    for element in active.listed() {
+        evaluate(plan, *element, elements, changes, dues, called, now, steps)?;
     }
     Ok(())
 }
@@ -52,7 +52,7 @@ pub(crate) fn evaluate_elements<L: Ledger>(
 /// Lets one element make its step.
 fn evaluate<L: Ledger>(
     plan: &Plan,
-    place: u32,
+    number: u32,
     elements: &mut [SharedElement<'_>],
     changes: &mut [Rows<InputEvent>],
     dues: &mut DueTimes,
@@ -61,25 +61,25 @@ fn evaluate<L: Ledger>(
     steps: &mut Steps<L>,
 ) -> Result<(), NoMemory>
     requires in_range { now ≤ LAST_MILLISECOND }
-    requires place { place < length elements.old }
+    requires number { number < length elements.old }
     requires changes { length changes.old ≡ length elements.old }
     requires elements { length elements.old ≡ length plan.now.elements }
     requires dues { length elements.old ≤ length dues.old }
-    requires lines { All (λ line. line.0 < length called.old.flags) (lines_out plan.now place) }
+    requires lines { All (λ line. line.0 < length called.old.flags) (lines_out plan.now number) }
     requires can_step { (other : ElementState) →
-        CanStep now (slice_index_or elements.old place other) (changes_of changes.old place) }
-    ensures evaluated { OnOk result (AreEvaluated now (length elements.old) (is_out_of plan.now) (λ e. nat_eq e place)
+        CanStep now (slice_index_or elements.old number other) (changes_of changes.old number) }
+    ensures evaluated { OnOk result (AreEvaluated now (length elements.old) (is_out_of plan.now) (λ e. nat_eq e number)
         (record { elements = elements.old; changes = changes.old; dues = dues.old; called = called.old.flags })
         (record { elements = elements.new; changes = changes.new; dues = dues.new; called = called.new.flags })) }
     ensures ticks { OnOk result (steps.new ≡ steps.old + 1) }
 {
-    let i = place as usize;
+    let i = number as usize;
     let element = &mut elements[i];
     let gives_other = element.step(now, changes[i].as_slice(), steps)?;
-    dues.set(place, element.due());
+    dues.set(number, element.due());
     changes[i].clear();
     if gives_other {
-        mark_all(called, plan.lines_out(place));
+        mark_all(called, plan.lines_out(number));
     }
     Ok(())
 }

@@ -40,26 +40,26 @@ pub(crate) fn mark_due(
         (record { dues = dues.new; elements = elements.new.flags; lines = lines.new.flags }) }
     ensures later { AreLater now dues.new }
 {
-    while let Some(place) = dues.take(now) {
-        mark_object(count, elements, lines, place);
+    while let Some(object) = dues.take(now) {
+        mark_object(count, elements, lines, object);
     }
 }
 
 /// Marks an object: an element, or else a line.
-fn mark_object(count: u32, elements: &mut Marks, lines: &mut Marks, place: u32)
+fn mark_object(count: u32, elements: &mut Marks, lines: &mut Marks, object: u32)
     requires elements { length elements.old.flags ≡ count }
-    requires place { place < count + length lines.old.flags }
+    requires object { object < count + length lines.old.flags }
     ensures elements_kept { KeepsMarks elements.old.flags elements.new.flags }
     ensures lines_kept { KeepsMarks lines.old.flags lines.new.flags }
-    ensures element { place < count → elements.new.flags ≡ slice_set elements.old.flags place true }
-    ensures element_alone { place < count → lines.new ≡ lines.old }
-    ensures line { count ≤ place → lines.new.flags ≡ slice_set lines.old.flags (place - count) true }
-    ensures line_alone { count ≤ place → elements.new ≡ elements.old }
+    ensures element { object < count → elements.new.flags ≡ slice_set elements.old.flags object true }
+    ensures element_alone { object < count → lines.new ≡ lines.old }
+    ensures line { count ≤ object → lines.new.flags ≡ slice_set lines.old.flags (object - count) true }
+    ensures line_alone { count ≤ object → elements.new ≡ elements.old }
 {
-    if place < count {
-        elements.mark(place);
+    if object < count {
+        elements.mark(object);
     } else {
-        lines.mark(place - count);
+        lines.mark(object - count);
     }
 }
 

@@ -112,7 +112,7 @@ impl<'a> Net<'a> {
     /// and lines alone.
     ///
     /// It takes memory and time by these elements and lines, and a little time by the size of the
-    /// plan. `NoMemory` comes for want of memory alone, and then the network is spent. This project's
+    /// plan. `NoMemory` comes only when out of memory, and then the network is spent. This project's
     /// own.
     pub fn return_to(
         &mut self,
@@ -163,7 +163,7 @@ impl<'a> Net<'a> {
     /// order in which they touch each element counts. Two elements that take their timing from each
     /// other afterwards have done so for less than five seconds and the delay of the line, where no event
     /// switches it, and for less than the delay alone, where the line speaks all the while.
-    /// `NoMemory` comes for want of memory alone, and then the network is spent.
+    /// `NoMemory` comes only when out of memory, and then the network is spent.
     /// After G.781, selection, and G.8264, ESMC messages.
     pub fn step<L: Ledger>(
         &mut self,

@@ -15,7 +15,7 @@ use sync_text::NoMemory;
 use sync_topo::Plan;
 
 /// The parts become those of another network over the same plan, from which they differ in some
-/// elements and lines alone; what is told, places and outs are the same for all of a plan.
+/// elements and lines alone; what is told, places and lines out are the same for all of a plan.
 pub(crate) fn return_parts(
     alloc: Global,
     plan: &Plan,

@@ -68,18 +68,18 @@ fn new_elements<'a>(alloc: Global, plan: &Plan) -> Result<Vec<SharedElement<'a>>
         AreEach (IsNewElement (by_levels plan.now) plan.now) (length plan.now.elements) elements.items) }
 {
     let mut elements = Rows::with_capacity(alloc, plan.elements() as usize)?;
-    for place in 0..plan.elements() {
-        elements.push(own_element(alloc, plan, place)?)?;
+    for element in 0..plan.elements() {
+        elements.push(own_element(alloc, plan, element)?)?;
     }
     Ok(elements.into_vec())
 }
 
 /// An element that was told nothing.
-fn own_element<'a>(alloc: Global, plan: &Plan, place: u32) -> Result<SharedElement<'a>, NoMemory>
-    requires { place < length plan.now.elements }
-    ensures { IfOk result (IsNewElement (by_levels plan.now) plan.now place) }
+fn own_element<'a>(alloc: Global, plan: &Plan, number: u32) -> Result<SharedElement<'a>, NoMemory>
+    requires { number < length plan.now.elements }
+    ensures { IfOk result (IsNewElement (by_levels plan.now) plan.now number) }
 {
-    let element = new_element(alloc, plan, place, Chooses::ByLevel)?;
+    let element = new_element(alloc, plan, number, Chooses::ByLevel)?;
     let own = SharedElement::new(alloc, element)?;
     Ok(own)
 }

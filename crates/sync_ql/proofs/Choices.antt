@@ -25,23 +25,23 @@ first_again inputs (Some i) is =
     let best : is_best inputs (candidate inputs i) ≡ true = (position-Some (is_best inputs) inputs i nobody (sym is)).1 in
     rw best refl
 
-best_choice-again : (inputs : List Candidate) (current : Option ℕ) → best_choice inputs (best_choice inputs current) ≡ best_choice inputs current
+best_choice-again : (inputs : List Candidate) (taken : Option ℕ) → best_choice inputs (best_choice inputs taken) ≡ best_choice inputs taken
 best_choice-again inputs None = first_again inputs (position (is_best inputs) inputs) refl
-best_choice-again inputs (Some current) = of (is_best inputs (candidate inputs current)) refl
+best_choice-again inputs (Some taken) = of (is_best inputs (candidate inputs taken)) refl
   where
-    of : (b : Bool) → is_best inputs (candidate inputs current) ≡ b → best_choice inputs (best_choice inputs (Some current)) ≡ best_choice inputs (Some current)
+    of : (b : Bool) → is_best inputs (candidate inputs taken) ≡ b → best_choice inputs (best_choice inputs (Some taken)) ≡ best_choice inputs (Some taken)
     of true best =
-        let stays : best_choice inputs (Some current) ≡ Some current = rw best refl in
+        let stays : best_choice inputs (Some taken) ≡ Some taken = rw best refl in
         ap (best_choice inputs) stays
     of false other =
-        let first : best_choice inputs (Some current) ≡ position (is_best inputs) inputs = rw other refl in
+        let first : best_choice inputs (Some taken) ≡ position (is_best inputs) inputs = rw other refl in
         ap (best_choice inputs) first ∙ first_again inputs (position (is_best inputs) inputs) refl ∙ sym first
 
 -- the choice, made again from itself, is the same
-pub choice-again : (inputs : List Candidate) (forced manual current : Option ℕ) → choice inputs forced manual (choice inputs forced manual current) ≡ choice inputs forced manual current
-choice-again inputs (Some forced) manual current = refl
-choice-again inputs None (Some manual) current = refl
-choice-again inputs None None current = best_choice-again inputs current
+pub choice-again : (inputs : List Candidate) (forced manual taken : Option ℕ) → choice inputs forced manual (choice inputs forced manual taken) ≡ choice inputs forced manual taken
+choice-again inputs (Some forced) manual taken = refl
+choice-again inputs None (Some manual) taken = refl
+choice-again inputs None None taken = best_choice-again inputs taken
 
 abbrev pub IsWithin : List Candidate → Option ℕ → Type 0
 IsWithin inputs place = IfSome place (λ i. i < length inputs)
@@ -65,23 +65,23 @@ within_first : (inputs : List Candidate) (found : Option ℕ) → found ≡ posi
 within_first inputs None is = tt
 within_first inputs (Some i) is = best_within inputs i ((position-Some (is_best inputs) inputs i nobody (sym is)).1)
 
-within_best_choice : (inputs : List Candidate) (current : Option ℕ) → IsWithin inputs (best_choice inputs current)
+within_best_choice : (inputs : List Candidate) (taken : Option ℕ) → IsWithin inputs (best_choice inputs taken)
 within_best_choice inputs None = within_first inputs (position (is_best inputs) inputs) refl
-within_best_choice inputs (Some current) = of (is_best inputs (candidate inputs current)) refl
+within_best_choice inputs (Some taken) = of (is_best inputs (candidate inputs taken)) refl
   where
-    of : (b : Bool) → is_best inputs (candidate inputs current) ≡ b → IsWithin inputs (best_choice inputs (Some current))
-    of true best = rw best (best_within inputs current best)
+    of : (b : Bool) → is_best inputs (candidate inputs taken) ≡ b → IsWithin inputs (best_choice inputs (Some taken))
+    of true best = rw best (best_within inputs taken best)
     of false other = rw other (within_first inputs (position (is_best inputs) inputs) refl)
 
-within_choice : (inputs : List Candidate) (forced manual current : Option ℕ) → IsWithin inputs manual → IsWithin inputs (choice inputs forced manual current)
-within_choice inputs (Some forced) manual current within = of (is_eligible (candidate inputs forced)) refl
+within_choice : (inputs : List Candidate) (forced manual taken : Option ℕ) → IsWithin inputs manual → IsWithin inputs (choice inputs forced manual taken)
+within_choice inputs (Some forced) manual taken within = of (is_eligible (candidate inputs forced)) refl
   where
-    of : (b : Bool) → is_eligible (candidate inputs forced) ≡ b → IsWithin inputs (choice inputs (Some forced) manual current)
+    of : (b : Bool) → is_eligible (candidate inputs forced) ≡ b → IsWithin inputs (choice inputs (Some forced) manual taken)
     of true eligible = rw eligible (eligible_within inputs forced eligible)
     of false other = rw other tt
-within_choice inputs None (Some manual) current within = within
-within_choice inputs None None current within = within_best_choice inputs current
+within_choice inputs None (Some manual) taken within = within
+within_choice inputs None None taken within = within_best_choice inputs taken
 
 -- what is chosen with a manual switch that stands is one of the inputs
-pub choice-within : (inputs : List Candidate) (forced manual current : Option ℕ) → IsWithin inputs (choice inputs forced (standing_manual inputs manual) current)
-choice-within inputs forced manual current = within_choice inputs forced (standing_manual inputs manual) current (within_standing inputs manual)
+pub choice-within : (inputs : List Candidate) (forced manual taken : Option ℕ) → IsWithin inputs (choice inputs forced (standing_manual inputs manual) taken)
+choice-within inputs forced manual taken = within_choice inputs forced (standing_manual inputs manual) taken (within_standing inputs manual)

@@ -72,7 +72,7 @@ eligible_alike : (inputs others : List Candidate) → AllAlike inputs others →
 eligible_alike inputs others alike i =
     tests_alike is_eligible is_eligible (λ c. refl) (λ c out. out) (candidate inputs i) (candidate others i) (place_alike inputs others alike i)
 
-best_choice_alike : (inputs others : List Candidate) → AllAlike inputs others → (current : Option ℕ) → best_choice inputs current ≡ best_choice others current
+best_choice_alike : (inputs others : List Candidate) → AllAlike inputs others → (taken : Option ℕ) → best_choice inputs taken ≡ best_choice others taken
 best_choice_alike inputs others alike None = first_alike inputs others alike
 best_choice_alike inputs others alike (Some i) = rw (best_at_alike inputs others alike i, first_alike inputs others alike) refl
 
@@ -90,10 +90,10 @@ pub standing_alike : (inputs others : List Candidate) → AllAlike inputs others
 standing_alike inputs others alike None = refl
 standing_alike inputs others alike (Some i) = ap (λ stands. if stands then Some i else None) (stands_alike inputs others alike i)
 
-pub choice_alike : (inputs others : List Candidate) → AllAlike inputs others → (forced manual current : Option ℕ) → choice inputs forced manual current ≡ choice others forced manual current
-choice_alike inputs others alike (Some forced) manual current = ap (λ eligible. if eligible then Some forced else None) (eligible_alike inputs others alike forced)
-choice_alike inputs others alike None (Some manual) current = refl
-choice_alike inputs others alike None None current = best_choice_alike inputs others alike current
+pub choice_alike : (inputs others : List Candidate) → AllAlike inputs others → (forced manual taken : Option ℕ) → choice inputs forced manual taken ≡ choice others forced manual taken
+choice_alike inputs others alike (Some forced) manual taken = ap (λ eligible. if eligible then Some forced else None) (eligible_alike inputs others alike forced)
+choice_alike inputs others alike None (Some manual) taken = refl
+choice_alike inputs others alike None None taken = best_choice_alike inputs others alike taken
 
 -- what is chosen is eligible
 eligible_if : (inputs : List Candidate) (i : ℕ) (stands : Bool) → (stands ≡ true → is_eligible (candidate inputs i) ≡ true) → IfSome (if stands then Some i else None) (IsEligible inputs)
@@ -108,7 +108,7 @@ first_eligible : (inputs : List Candidate) (found : Option ℕ) → position (is
 first_eligible inputs None is = tt
 first_eligible inputs (Some i) is = (and_parts _ _ (position-Some (is_best inputs) inputs i nobody is).1).0
 
-best_choice_eligible : (inputs : List Candidate) (current : Option ℕ) → IfSome (best_choice inputs current) (IsEligible inputs)
+best_choice_eligible : (inputs : List Candidate) (taken : Option ℕ) → IfSome (best_choice inputs taken) (IsEligible inputs)
 best_choice_eligible inputs None = first_eligible inputs (position (is_best inputs) inputs) refl
 best_choice_eligible inputs (Some i) = of (is_best inputs (candidate inputs i)) refl
   where
@@ -116,10 +116,10 @@ best_choice_eligible inputs (Some i) = of (is_best inputs (candidate inputs i)) 
     of true best = (and_parts _ _ best).0
     of false other = first_eligible inputs (position (is_best inputs) inputs) refl
 
-chosen_eligible : (inputs : List Candidate) (forced standing current : Option ℕ) → IfSome standing (IsEligible inputs) → IfSome (choice inputs forced standing current) (IsEligible inputs)
-chosen_eligible inputs (Some forced) standing current stands = eligible_if inputs forced (is_eligible (candidate inputs forced)) (λ is. is)
-chosen_eligible inputs None (Some i) current stands = stands
-chosen_eligible inputs None None current stands = best_choice_eligible inputs current
+chosen_eligible : (inputs : List Candidate) (forced standing taken : Option ℕ) → IfSome standing (IsEligible inputs) → IfSome (choice inputs forced standing taken) (IsEligible inputs)
+chosen_eligible inputs (Some forced) standing taken stands = eligible_if inputs forced (is_eligible (candidate inputs forced)) (λ is. is)
+chosen_eligible inputs None (Some i) taken stands = stands
+chosen_eligible inputs None None taken stands = best_choice_eligible inputs taken
 
-pub choice_eligible : (inputs : List Candidate) (forced manual current : Option ℕ) → IfSome (choice inputs forced (standing_manual inputs manual) current) (IsEligible inputs)
-choice_eligible inputs forced manual current = chosen_eligible inputs forced (standing_manual inputs manual) current (standing_eligible inputs manual)
+pub choice_eligible : (inputs : List Candidate) (forced manual taken : Option ℕ) → IfSome (choice inputs forced (standing_manual inputs manual) taken) (IsEligible inputs)
+choice_eligible inputs forced manual taken = chosen_eligible inputs forced (standing_manual inputs manual) taken (standing_eligible inputs manual)

@@ -36,12 +36,12 @@ beats a b = is_better a.level b.level || is_as_good a.level b.level && nat_lt a.
 abbrev pub is_best : List Candidate → Candidate → Bool
 is_best inputs c = is_eligible c && list_all (λ other. not (is_eligible other && beats other c)) inputs
 
--- without a switch the current input is taken while it is best, and else the best of least place,
+-- without a switch the input taken so far stays while it is best, and else the best of least place,
 -- if there is one. The least place is this project's own
 abbrev pub best_choice : List Candidate → Option ℕ → Option ℕ
 best_choice inputs None = position (is_best inputs) inputs
-best_choice inputs (Some current) =
-    if is_best inputs (candidate inputs current) then Some current
+best_choice inputs (Some taken) =
+    if is_best inputs (candidate inputs taken) then Some taken
     else position (is_best inputs) inputs
 
 -- a manual switch stands while its input is eligible and no eligible input has a better level
@@ -57,10 +57,10 @@ standing_manual inputs manual = if manual_stands inputs manual then manual else 
 
 -- with a forced input that one or none is taken, and with a manual one that one
 abbrev pub choice : List Candidate → Option ℕ → Option ℕ → Option ℕ → Option ℕ
-choice inputs (Some forced) manual current =
+choice inputs (Some forced) manual taken =
     if is_eligible (candidate inputs forced) then Some forced else None
-choice inputs None (Some manual) current = Some manual
-choice inputs None None current = best_choice inputs current
+choice inputs None (Some manual) taken = Some manual
+choice inputs None None taken = best_choice inputs taken
 
 -- the same in facts, by place: an input may be taken; one beats another; one is best
 abbrev pub IsEligible : List Candidate → ℕ → Type 0
@@ -74,11 +74,11 @@ pub record IsBest (inputs : List Candidate) (i : ℕ) : Type 0 where
   pub unbeaten : (k : ℕ) → IsEligible inputs k → ¬ Beats inputs k i
 
 -- what is taken without a switch
-pub record IsBestChoice (inputs : List Candidate) (current answer : Option ℕ) : Type 0 where
+pub record IsBestChoice (inputs : List Candidate) (taken answer : Option ℕ) : Type 0 where
   pub best : IfSome answer (IsBest inputs)
   pub none : IsNone answer → (i : ℕ) → ¬ IsEligible inputs i
-  pub current_stays : IfSome current (λ i. IsBest inputs i → answer ≡ Some i)
-  pub least : answer ≢ current → IfSome answer (λ i. (k : ℕ) → IsBest inputs k → i ≤ k)
+  pub taken_stays : IfSome taken (λ i. IsBest inputs i → answer ≡ Some i)
+  pub least : answer ≢ taken → IfSome answer (λ i. (k : ℕ) → IsBest inputs k → i ≤ k)
 
 -- a manual switch to an input stands
 pub record ManualStands (inputs : List Candidate) (manual : ℕ) : Type 0 where

@@ -17,14 +17,14 @@ ghost use Rattle.sync_ql.specs.Messages.{LineMoment, said_in, came, heard_at, he
 /// nothing; and candidates that are alike place by place, each the same or none of both eligible,
 /// give one choice, and the same manual switch stands.
 pub fn choice_law()
-    ensures eligible { (inputs : List Candidate) (forced manual current : Option ℕ) →
-        IfSome (choice inputs forced (standing_manual inputs manual) current) (IsEligible inputs) }
-    ensures again { (inputs : List Candidate) (forced manual current : Option ℕ) →
-        choice inputs forced manual (choice inputs forced manual current)
-        ≡ choice inputs forced manual current }
+    ensures eligible { (inputs : List Candidate) (forced manual taken : Option ℕ) →
+        IfSome (choice inputs forced (standing_manual inputs manual) taken) (IsEligible inputs) }
+    ensures again { (inputs : List Candidate) (forced manual taken : Option ℕ) →
+        choice inputs forced manual (choice inputs forced manual taken)
+        ≡ choice inputs forced manual taken }
     ensures alike { (inputs others : List Candidate) → AllAlike inputs others →
-        (forced manual current : Option ℕ) →
-        choice inputs forced manual current ≡ choice others forced manual current }
+        (forced manual taken : Option ℕ) →
+        choice inputs forced manual taken ≡ choice others forced manual taken }
     ensures manual { (inputs others : List Candidate) → AllAlike inputs others →
         (manual : Option ℕ) → standing_manual inputs manual ≡ standing_manual others manual }
 {}

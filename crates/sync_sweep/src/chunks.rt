@@ -60,7 +60,7 @@ pub(crate) fn worked_in(
     Ok(worked)
 }
 
-/// What all parts give in order, unless memory ran out for one.
+/// What all parts give in order, unless out of memory for one.
 pub(crate) fn join_worked(
     alloc: Global,
     parts: &[Result<Rows<Worked>, NoMemory>],

@@ -51,8 +51,8 @@ fn all_states(alloc: Global, net: &Net<'_>) -> Result<CountedStates, NoMemory>
     ensures { IfOk result (λ states. AreStates net.now states) }
 {
     let mut states = CountedStates::new(alloc);
-    for e in 0..net.plan().elements() {
-        states.push(state_of(net.element(e)))?;
+    for element in 0..net.plan().elements() {
+        states.push(state_of(net.element(element)))?;
     }
     Ok(states)
 }
@@ -62,8 +62,8 @@ fn all_levels(alloc: Global, net: &Net<'_>) -> Result<CountedLevels, NoMemory>
     ensures { IfOk result (λ levels. AreLevels net.now levels) }
 {
     let mut levels = CountedLevels::new(alloc);
-    for e in 0..net.plan().elements() {
-        levels.push(level_of(net.element(e)))?;
+    for element in 0..net.plan().elements() {
+        levels.push(level_of(net.element(element)))?;
     }
     Ok(levels)
 }

@@ -37,7 +37,7 @@ pub struct StudyRow {
 /// processors, and each calls the gate once, before its first case. A row doesn't depend on which
 /// chunk it is worked in, nor on the other cases. Where a row has a settling bound that is not after
 /// `until`, it is settled.
-/// `NoMemory` comes for want of memory alone. This project's own.
+/// `NoMemory` comes only when out of memory. This project's own.
 pub fn study<R: Threads + Sync, G: Gate + Sync>(
     rt: &R,
     alloc: Global,

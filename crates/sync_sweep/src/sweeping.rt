@@ -36,7 +36,7 @@ const CHUNKS: usize = 8;
 /// fewer; they run at once where there are processors, and each calls the gate once, before its
 /// first link. A row doesn't depend on which chunk it is worked in. Where a row has a settling bound
 /// that is not after `until`, it is settled.
-/// `NoMemory` comes for want of memory alone. This project's own.
+/// `NoMemory` comes only when out of memory. This project's own.
 pub fn sweep<R: Threads + Sync, G: Gate + Sync>(
     rt: &R,
     alloc: Global,

@@ -16,7 +16,7 @@ use sync_topo::Plan;
 /// whether it is settled, the numbers of elements in each state and of closed walks, the worst
 /// level, and the settling bound or `none`.
 ///
-/// The rows are of links of this plan. `NoMemory` comes for want of memory alone. This project's own.
+/// The rows are of links of this plan. `NoMemory` comes only when out of memory. This project's own.
 pub fn sweep_text(alloc: Global, plan: &Plan, rows: &Rows<SweepRow>) -> Result<Text, NoMemory>
     requires of_plan { All (λ row. row.link < length plan.now.links) rows.now }
     ensures text { IfOk result (λ text. text ≡ table_text plan.now rows.now) }

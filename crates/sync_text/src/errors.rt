@@ -3,7 +3,7 @@ ghost use Rattle.std.specs.Prelude.{◌≡◌};
 use std::alloc::{AllocError, AllocFailed};
 use thiserror::Error;
 
-/// Memory ran out.
+/// Out of memory.
 ///
 /// It is the one answer that comes freely: no clause ties it to a refused allocation.
 #[derive(Clone, Copy, Debug, PartialEq, Eq, Error)]
@@ -13,7 +13,7 @@ pub struct NoMemory;
 impl From<AllocError> for NoMemory {
     ghost from_gives = { λ _ made. made ≡ record {} };
 
-    /// A refused allocation is want of memory.
+    /// A refused allocation is out of memory.
     fn from(_: AllocError) -> NoMemory {
         NoMemory
     }
@@ -22,7 +22,7 @@ impl From<AllocError> for NoMemory {
 impl<T: Drop> From<AllocFailed<T>> for NoMemory {
     ghost from_gives = { λ _ made. made ≡ record {} };
 
-    /// A refused growth is want of memory. What it hands back is dropped.
+    /// A refused growth is out of memory. What it hands back is dropped.
     fn from(_: AllocFailed<T>) -> NoMemory {
         NoMemory
     }

@@ -1,6 +1,6 @@
 //! Texts and lists, numbers, and counts of steps: what every crate above stands on.
 //!
-//! - [`Text`] and [`Rows`] grow at their end; contracts see each as a list. Where memory runs out
+//! - [`Text`] and [`Rows`] grow at their end; contracts see each as a list. When out of memory
 //!   they answer [`NoMemory`], and stay as they were.
 //! - [`read_number`] reads the one form of number that all texts of the program have (`number_of`).
 //! - [`Steps`] counts the steps of a work for contracts alone, at no cost.

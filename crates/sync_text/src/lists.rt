@@ -3,15 +3,17 @@ ghost use Rattle.std.specs.Fmt.{decimal};
 
 use crate::errors::NoMemory;
 use itoa::Buffer;
+use smallvec::SmallVec;
 use std::alloc::Global;
 use std::marker::Model;
 
 /// Bytes that grow at their end. Contracts see the list of the bytes.
 ///
-/// A text keeps its allocator. It need not be UTF-8.
+/// A text keeps its allocator, and up to 16 bytes in itself: most names of a plan are no longer, and take
+/// no memory. It need not be UTF-8.
 #[derive(Debug, Drop)]
 pub struct Text {
-    kept: Vec<u8>,
+    kept: SmallVec<u8, 16>,
 }
 
 impl Model for Text {
@@ -28,11 +30,11 @@ impl Text {
         ensures { result ≡ [] }
     {
         Text {
-            kept: Vec::new(alloc),
+            kept: SmallVec::new(alloc),
         }
     }
 
-    /// A text of its own with these bytes.
+    /// A text of its own with these bytes. Up to 16 take no memory.
     pub fn from_bytes(alloc: Global, bytes: &[u8]) -> Result<Text, NoMemory>
         ensures { IfOk result (λ text. text ≡ bytes.now) }
     {
@@ -76,7 +78,9 @@ impl From<Vec<u8>> for Text {
 
     /// The text of these bytes. It takes no memory.
     fn from(bytes: Vec<u8>) -> Text {
-        Text { kept: bytes }
+        Text {
+            kept: SmallVec::from_vec(bytes),
+        }
     }
 }
 

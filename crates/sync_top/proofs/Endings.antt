@@ -146,7 +146,7 @@ ended form outside tried tries see (Ended reply) has = record {
   first_alone = has.first_alone;
 }
 
--- words that are no form, and want of memory
+-- words that are no form, and out of memory
 pub no-form : (outside : Outside) (tried : ℕ) (text : List ℕ) → text ≡ text_line (codes "usage") → outside.now ≡ outside.before
     → Works None outside tried tried (Ok (record { status = Usage; text = text }))
 unfolding Works

@@ -63,7 +63,7 @@ file name files = within (get files name)
     within None = Err no_file
     within (Some bytes) = if nat_lt file_limit (length bytes) then Err (answered TooLong (text_line (codes "too long"))) else Ok bytes
 
--- the line on a refusal: what is refused, the refusal's number, and where; want of memory has no number and no line
+-- the line on a refusal: what is refused, the refusal's number, and where; out of memory has no number and no line
 abbrev pub refusal_line : List ℕ → Option ℕ → List ℕ → List ℕ
 refusal_line what None place = []
 refusal_line what (Some number) place = what ++ decimal number ++ place

@@ -18,7 +18,7 @@ exit_number TooLong = 9
 exit_number NoMemory = 10
 exit_number Stopped = 11
 
--- a fact for each status that tells an answer: no fault, and no want of memory
+-- a fact for each status that tells an answer: no fault, and not out of memory
 abbrev pub OnAnswer : Status → Type 0 → Type 0
 OnAnswer ReadFault P = ⊤
 OnAnswer WriteFault P = ⊤

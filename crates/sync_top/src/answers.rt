@@ -114,13 +114,17 @@ pub(crate) fn frames_found(
 }
 
 /// What is found of the ladder of `n` elements.
-pub(crate) fn ladder_found(alloc: Global, what: LadderForm, n: u32) -> Result<Found, NoMemory>
-    requires least { 2 ≤ n }
-    requires greatest { n ≤ MOST_ELEMENTS }
-    ensures { IfOk result (λ found. LadderAnswer what n (ends_in found.finding) found.text) }
+pub(crate) fn ladder_found(
+    alloc: Global,
+    what: LadderForm,
+    elements: u32,
+) -> Result<Found, NoMemory>
+    requires least { 2 ≤ elements }
+    requires greatest { elements ≤ MOST_ELEMENTS }
+    ensures { IfOk result (λ found. LadderAnswer what elements (ends_in found.finding) found.text) }
 {
     match what {
-        LadderForm::Gen => Ok(done(ladder_text(alloc, n)?)),
-        LadderForm::Trial => Ok(done(trial_text(alloc, n)?)),
+        LadderForm::Gen => Ok(done(ladder_text(alloc, elements)?)),
+        LadderForm::Trial => Ok(done(trial_text(alloc, elements)?)),
     }
 }

@@ -10,15 +10,15 @@ use std::alloc::Global;
 use sync_text::{NoMemory, Text};
 use sync_topo::MOST_ELEMENTS;
 
-/// The text of the ladder of `n` elements. It reads no file.
-pub(crate) fn ladder_text(alloc: Global, n: u32) -> Result<Text, NoMemory>
-    requires least { 2 ≤ n }
-    requires greatest { n ≤ MOST_ELEMENTS }
-    ensures text { IfOk result (IsPlanText (ladder n)) }
-    ensures spelled { IfOk result (λ text. text ≡ plan_text (ladder n)) }
+/// The text of the ladder of so many elements. It reads no file.
+pub(crate) fn ladder_text(alloc: Global, elements: u32) -> Result<Text, NoMemory>
+    requires least { 2 ≤ elements }
+    requires greatest { elements ≤ MOST_ELEMENTS }
+    ensures text { IfOk result (IsPlanText (ladder elements)) }
+    ensures spelled { IfOk result (λ text. text ≡ plan_text (ladder elements)) }
     ensures short { IfOk result (λ text. length text ≤ file_limit) }
 {
-    let plan = generate(alloc, n)?;
+    let plan = generate(alloc, elements)?;
     let text = write_plan(alloc, &plan)?;
     Ok(text)
 }

@@ -189,7 +189,7 @@ pub fn run<R: Threads + Sync, F: Folder, K: Sink, G: Gate + Sync>(
     ensures first_alone { IfSome (F.contents folder.old) (λ files. PlanEndsReading (form_of (map string_bytes words.now)) files
         → F.tries folder.new ≤ F.tries folder.old + 1) }
 
-    // Where the run ends neither in a fault nor for want of memory, no call of the folder failed: no
+    // Where the run ends neither in a fault nor out of memory, no call of the folder failed: no
     // absent file was tried after a refusal. A write failed only where a write fault is answered.
     ensures calm { OnAnswer result (F.faults folder.new ≡ F.faults folder.old) }
     ensures sink_calm { result ≢ Status.WriteFault → K.faults sink.new ≡ K.faults sink.old }
@@ -206,7 +206,7 @@ pub fn run<R: Threads + Sync, F: Folder, K: Sink, G: Gate + Sync>(
         (IsCut (map string_bytes words.now) (K.written sink.old) (K.written sink.new)
         (MayFault (map string_bytes words.now) (outside_of F.contents F.steady F.faults folder.old folder.new))) }
 
-    // Want of memory writes nothing.
+    // Out of memory writes nothing.
     ensures no_memory { result ≡ Status.NoMemory → sink.new ≡ sink.old }
 
     ensures keeps { KeepsFolder F.contents F.steady F.faults folder.old folder.new }

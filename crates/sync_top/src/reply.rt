@@ -18,7 +18,7 @@ pub(crate) struct Reply {
 pub(crate) enum Stop {
     /// The reply is known already.
     Ended(Reply),
-    /// Memory ran out.
+    /// Out of memory.
     NoMemory,
 }
 

@@ -27,7 +27,7 @@ pub enum Status {
     WriteFault,
     /// A file has more than 8,388,608 bytes.
     TooLong,
-    /// Memory ran out. Nothing was written.
+    /// Out of memory. Nothing was written.
     NoMemory,
     /// `sim`: the changes were too many, and the report ends before them; `node`: the rows were.
     Stopped,

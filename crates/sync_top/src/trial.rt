@@ -38,35 +38,35 @@ const EVENTS: [Event; 1] = [Event {
     what: What::Down(Part::Link(0)),
 }];
 
-/// The text of a trial of the ladder of `n` elements. It reads no file.
-pub(crate) fn trial_text(alloc: Global, n: u32) -> Result<Text, NoMemory>
-    requires least { 2 ≤ n }
-    requires greatest { n ≤ MOST_ELEMENTS }
-    ensures text { IfOk result (IsTrialText n (ladder n)) }
+/// The text of a trial of the ladder of so many elements. It reads no file.
+pub(crate) fn trial_text(alloc: Global, elements: u32) -> Result<Text, NoMemory>
+    requires least { 2 ≤ elements }
+    requires greatest { elements ≤ MOST_ELEMENTS }
+    ensures text { IfOk result (IsTrialText elements (ladder elements)) }
 {
-    let plan = generate(alloc, n)?;
-    tried(alloc, n, &plan)
+    let plan = generate(alloc, elements)?;
+    tried(alloc, elements, &plan)
 }
 
-/// The text of a trial of a plan of `n` elements in which each line leads up.
-fn tried(alloc: Global, n: u32, plan: &Plan) -> Result<Text, NoMemory>
+/// The text of a trial of a plan of so many elements in which each line leads up.
+fn tried(alloc: Global, elements: u32, plan: &Plan) -> Result<Text, NoMemory>
     requires leads_up { IsRising plan.now (receiver_of plan.now) }
     requires link { 0 < length plan.now.links }
-    ensures text { IfOk result (IsTrialText n plan.now) }
+    ensures text { IfOk result (IsTrialText elements plan.now) }
 {
     let ranks = accepted_ranks(alloc, plan)?;
-    ranked_text(alloc, n, plan, greatest_rank(plan, &ranks))
+    ranked_text(alloc, elements, plan, greatest_rank(plan, &ranks))
 }
 
 /// The text of a trial of a plan that was accepted, with the greatest of its least ranks.
-fn ranked_text(alloc: Global, n: u32, plan: &Plan, top: u64) -> Result<Text, NoMemory>
+fn ranked_text(alloc: Global, elements: u32, plan: &Plan, top: u64) -> Result<Text, NoMemory>
     requires accepted { IsLoopFree plan.now }
     requires top { IsGreatest (IsRank plan.now) top }
     requires link { 0 < length plan.now.links }
-    ensures text { IfOk result (IsTrialText n plan.now) }
+    ensures text { IfOk result (IsTrialText elements plan.now) }
 {
     let mut text = Text::new(alloc);
-    put_counted(&mut text, b"trial", u64::from(n))?;
+    put_counted(&mut text, b"trial", u64::from(elements))?;
     put_counted(&mut text, b"links", u64::from(plan.links()))?;
     put_counted(&mut text, b"top", top)?;
     put_run(alloc, &mut text, plan)?;

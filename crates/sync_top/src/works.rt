@@ -148,13 +148,13 @@ pub(crate) fn node<F: Folder>(
 }
 
 /// The work of a form on a ladder. It reads no file.
-pub(crate) fn on_ladder(alloc: Global, what: LadderForm, n: u32) -> Result<Reply, Stop>
-    requires least { 2 ≤ n }
-    requires greatest { n ≤ MOST_ELEMENTS }
+pub(crate) fn on_ladder(alloc: Global, what: LadderForm, elements: u32) -> Result<Reply, Stop>
+    requires least { 2 ≤ elements }
+    requires greatest { elements ≤ MOST_ELEMENTS }
     ensures works { (outside : Outside) → (tried : ℕ) → outside.now ≡ outside.before
-        → Works (Some (on_ladder what n)) outside tried tried result }
+        → Works (Some (on_ladder what elements)) outside tried tried result }
 {
-    replied(ladder_found(alloc, what, n))
+    replied(ladder_found(alloc, what, elements))
 }
 
 /// The answer to words that are no form.

@@ -25,14 +25,14 @@ last-item xs x i at = rw at (get_or-append_seam xs x [] 0)
 
 -- nothing is kept of no elements
 pub wired-empty : (plan : Topology) (wiring : Wiring) → plan.elements ≡ [] → plan.links ≡ [] → plan.sources ≡ []
-    → wiring.inputs.items ≡ [] → wiring.outs.items ≡ [] → wiring.line_places.items ≡ [] → wiring.source_places.items ≡ [] → IsWired plan wiring
-wired-empty plan wiring elements links sources inputs outs line_places source_places = record {
+    → wiring.inputs.items ≡ [] → wiring.lines_out.items ≡ [] → wiring.line_places.items ≡ [] → wiring.source_places.items ≡ [] → IsWired plan wiring
+wired-empty plan wiring elements links sources inputs outward line_places source_places = record {
   inputs_counted = rw (inputs, elements) refl;
-  outs_counted = rw (outs, elements) refl;
+  lines_out_counted = rw (outward, elements) refl;
   line_places_counted = rw (line_places, links) refl;
   source_places_counted = rw (source_places, sources) refl;
   inputs_kept = λ element. rw (inputs, links, sources) refl;
-  outs_kept = λ element. rw (outs, links) refl;
+  lines_out_kept = λ element. rw (outward, links) refl;
   places_kept = none;
 }
   where
@@ -45,11 +45,11 @@ pub wired-element : (plan : Topology) (element : Element) (before after : Wiring
     → IsWired (record plan { elements = plan.elements ++ element ∷ [] }) after
 wired-element plan element before after wired widened = record {
   inputs_counted = omega (arith, widened.inputs_counted, wired.inputs_counted, length-append plan.elements (element ∷ []));
-  outs_counted = omega (arith, widened.outs_counted, wired.outs_counted, length-append plan.elements (element ∷ []));
+  lines_out_counted = omega (arith, widened.lines_out_counted, wired.lines_out_counted, length-append plan.elements (element ∷ []));
   line_places_counted = ap length widened.line_places ∙ wired.line_places_counted;
   source_places_counted = ap length widened.source_places ∙ wired.source_places_counted;
   inputs_kept = λ e. widened.inputs e ∙ wired.inputs_kept e;
-  outs_kept = λ e. widened.outs e ∙ wired.outs_kept e;
+  lines_out_kept = λ e. widened.lines_out e ∙ wired.lines_out_kept e;
   places_kept = places;
 }
   where
@@ -64,7 +64,7 @@ pub wired-link : (plan : Topology) (link : Link) (before between after : Wiring)
     → IsWired (with_link plan link) after
 wired-link plan link before between after none apart wired to_b to_a = record {
   inputs_counted = to_a.inputs_counted ∙ to_b.inputs_counted ∙ wired.inputs_counted;
-  outs_counted = to_a.outs_counted ∙ to_b.outs_counted ∙ wired.outs_counted;
+  lines_out_counted = to_a.lines_out_counted ∙ to_b.lines_out_counted ∙ wired.lines_out_counted;
   line_places_counted = omega (
     arith,
     ap length kept,
@@ -75,7 +75,7 @@ wired-link plan link before between after none apart wired to_b to_a = record {
   );
   source_places_counted = ap length (to_a.source_places ∙ to_b.source_places) ∙ wired.source_places_counted;
   inputs_kept = λ e. rw (to_a.inputs e, to_b.inputs e, wired.inputs_kept e) (sym (inputs_of-link plan link e none));
-  outs_kept = λ e. rw (to_a.outs e, to_b.outs e, wired.outs_kept e) (sym (lines_out-link plan link e));
+  lines_out_kept = λ e. rw (to_a.lines_out e, to_b.lines_out e, wired.lines_out_kept e) (sym (lines_out-link plan link e));
   places_kept = places;
 }
   where
@@ -152,7 +152,7 @@ pub wired-source : (plan : Topology) (source : declared.Source) (before after : 
     → HasSource (length plan.sources) source.at source.priority before after → IsWired (with_source plan source) after
 wired-source plan source before after wired has_source = record {
   inputs_counted = has_source.inputs_counted ∙ wired.inputs_counted;
-  outs_counted = has_source.outs_counted ∙ wired.outs_counted;
+  lines_out_counted = has_source.lines_out_counted ∙ wired.lines_out_counted;
   line_places_counted = ap length has_source.line_places ∙ wired.line_places_counted;
   source_places_counted = omega (
     arith,
@@ -162,7 +162,7 @@ wired-source plan source before after wired has_source = record {
     length-append plan.sources (source ∷ []),
   );
   inputs_kept = λ e. rw (has_source.inputs e, wired.inputs_kept e) (sym (inputs_of-source plan source e));
-  outs_kept = λ e. has_source.outs e ∙ wired.outs_kept e;
+  lines_out_kept = λ e. has_source.lines_out e ∙ wired.lines_out_kept e;
   places_kept = places;
 }
   where

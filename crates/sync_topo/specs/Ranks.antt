@@ -64,7 +64,7 @@ Leads R first (next ∷ rest) last = R first next × Leads R next rest last
 -- the line and then the rest are the first cycle
 pub record IsFirstCycleFrom (hop : HopTest) (line : ℕ) (rest : List ℕ) : Type 0 where
   -- each is the line before the next, and the last is the line before the first
-  pub ring : Leads (IsBefore hop) line rest line
+  pub closes : Leads (IsBefore hop) line rest line
   -- it is come to by going back from the lowest-numbered line of the residue
   pub met : (start : ℕ) × (steps : ℕ) × IsLowestResidue hop start × StepsBack hop steps start line
   -- it is listed from its lowest-numbered line, once round

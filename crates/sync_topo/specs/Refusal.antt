@@ -4,7 +4,7 @@ use Rattle.sync_topo.specs.declared.place.Place.{Place}
 use Rattle.sync_topo.specs.declared.error.PlanErr.{PlanErr}
 use Rattle.sync_topo.specs.declared.error.PlanErr.TheVariants.{Limit, Name, Twice, NoElement, SelfLink, Range, Bundle, LevelName, NoMemory}
 
--- the number by which a refusal is printed; want of memory has none. This project's own
+-- the number by which a refusal is printed; out of memory has none. This project's own
 abbrev pub refusal_number : PlanErr → Option ℕ
 refusal_number (Limit place) = Some 15
 refusal_number (Name place) = Some 16

@@ -40,7 +40,7 @@ pub enum PlanErr {
     /// lowest level that an element accepts.
     #[error("{0}: a name is no level that may stand here")]
     LevelName(Place),
-    /// Memory ran out.
+    /// Out of memory.
     #[error("out of memory")]
     NoMemory,
 }
@@ -48,7 +48,7 @@ pub enum PlanErr {
 impl PlanErr {
     /// The number by which the refusal is printed: 15 to 21, and 39.
     ///
-    /// `None` where memory ran out, which refuses no row. This project's own.
+    /// `None` when out of memory, which refuses no row. This project's own.
     pub fn number(self) -> Option<u8>
         ensures { result ≡ refusal_number self }
     {
@@ -67,7 +67,7 @@ impl PlanErr {
 
     /// The row that breaks the rule.
     ///
-    /// `None` where memory ran out, which refuses no row. This project's own.
+    /// `None` when out of memory, which refuses no row. This project's own.
     pub fn place(self) -> Option<Place>
         ensures { result ≡ refused_place self }
     {

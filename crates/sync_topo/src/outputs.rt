@@ -12,7 +12,7 @@ use sync_text::NoMemory;
 /// For each element the lines out of it, nominated or not, in order of number: those over which it
 /// may send timing. [`Plan::lines_out`] has the nominated ones alone.
 ///
-/// `NoMemory` comes for want of memory alone. This project's own.
+/// `NoMemory` comes only when out of memory. This project's own.
 pub fn all_lines_out(alloc: Global, plan: &Plan) -> Result<Vec<Vec<LineId>>, NoMemory>
     ensures { IfOk result (λ outputs. AreOutputs plan.now (line_count plan.now) outputs.items) }
 {

@@ -231,13 +231,13 @@ impl Plan {
     }
 
     /// The priority that its receiver gives a line; 0 is not nominated.
-    pub(crate) fn line_priority(&self, l: LineId) -> u8
-        requires { l.0 < line_count self.now }
+    pub(crate) fn line_priority(&self, line: LineId) -> u8
+        requires { line.0 < line_count self.now }
         ensures well_formed { IsWellFormed self.now }
-        ensures priority { result ≡ priority_of self.now l.0 }
+        ensures priority { result ≡ priority_of self.now line.0 }
     {
-        let link = self.link(l.0 / 2);
-        if l.ends_at_b() {
+        let link = self.link(line.0 / 2);
+        if line.ends_at_b() {
             link.priority_b
         } else {
             link.priority_a
@@ -252,7 +252,7 @@ impl Plan {
         ensures priority { result ≡ input_priority self.now input }
     {
         match input {
-            InputId::Line(l) => self.line_priority(l),
+            InputId::Line(line) => self.line_priority(line),
             InputId::Source(j) => self.source(j).priority,
         }
     }
@@ -275,7 +275,7 @@ impl Plan {
     {
         let lines = self.lines();
         match input {
-            InputId::Line(l) => l.0,
+            InputId::Line(line) => line.0,
             InputId::Source(j) => lines + j,
         }
     }
@@ -299,7 +299,7 @@ impl Plan {
         ensures well_formed { IsWellFormed self.now }
         ensures lines { result.now ≡ lines_out self.now element }
     {
-        self.parts.wiring.outs[element as usize].as_slice()
+        self.parts.wiring.lines_out[element as usize].as_slice()
     }
 
     /// The element that an input brings timing to: a line's receiver, and a source's own.
@@ -310,7 +310,7 @@ impl Plan {
         ensures within { result < length self.now.elements }
     {
         match input {
-            InputId::Line(l) => self.to(l),
+            InputId::Line(line) => self.to(line),
             InputId::Source(j) => self.source(j).at,
         }
     }
@@ -326,7 +326,7 @@ impl Plan {
             return None;
         }
         let place = match input {
-            InputId::Line(l) => self.parts.wiring.line_places[l.0 as usize],
+            InputId::Line(line) => self.parts.wiring.line_places[line.0 as usize],
             InputId::Source(j) => self.parts.wiring.source_places[j as usize],
         };
         Some(u32::from(place))

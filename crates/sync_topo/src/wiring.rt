@@ -15,7 +15,7 @@ pub(crate) struct Wiring {
     /// For each element its inputs, in order of number.
     pub(crate) inputs: Vec<Vec<InputId>>,
     /// For each element the nominated lines out of it, in order of number.
-    pub(crate) outs: Vec<Vec<LineId>>,
+    pub(crate) lines_out: Vec<Vec<LineId>>,
     /// For each nominated line its place among the inputs of its receiver.
     pub(crate) line_places: Vec<u8>,
     /// For each nominated source its place among the inputs of its element.
@@ -28,13 +28,13 @@ impl Wiring {
     /// Nothing, of no elements.
     pub(crate) fn new(alloc: Global) -> Wiring
         ensures inputs { result.inputs.items ≡ [] }
-        ensures outs { result.outs.items ≡ [] }
+        ensures lines_out { result.lines_out.items ≡ [] }
         ensures line_places { result.line_places.items ≡ [] }
         ensures source_places { result.source_places.items ≡ [] }
     {
         Wiring {
             inputs: Vec::new(alloc),
-            outs: Vec::new(alloc),
+            lines_out: Vec::new(alloc),
             line_places: Vec::new(alloc),
             source_places: Vec::new(alloc),
         }
@@ -45,7 +45,7 @@ impl Wiring {
         ensures { OnOk result (IsWidened self.old self.new) }
     {
         push(&mut self.inputs, Vec::new(alloc))?;
-        push(&mut self.outs, Vec::new(alloc))
+        push(&mut self.lines_out, Vec::new(alloc))
     }
 
     /// One line more, by the priority that its receiver gives it.
@@ -56,7 +56,7 @@ impl Wiring {
         to: u32,
         priority: u8,
     ) -> Result<(), NoMemory>
-        requires from { from < length self.old.outs.items }
+        requires from { from < length self.old.lines_out.items }
         requires to { to < length self.old.inputs.items }
         requires few { length (held self.old.inputs.items to) ≤ input_limit }
         ensures { OnOk result (HasLine line from to priority self.old self.new) }
@@ -64,7 +64,7 @@ impl Wiring {
         let place = next_place(&self.inputs, to);
         push(&mut self.line_places, place)?;
         keep(&mut self.inputs, to, priority, InputId::Line(line))?;
-        keep(&mut self.outs, from, priority, line)
+        keep(&mut self.lines_out, from, priority, line)
     }
 
     /// One source more, by the priority that its element gives it.

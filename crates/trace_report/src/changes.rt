@@ -33,7 +33,7 @@ pub(crate) fn put_changes(
 /// Puts the row of one change of a plan: its millisecond, the element, what it chose, and its level and
 /// state.
 ///
-/// `NoMemory` comes for want of memory alone; a part of the row may then stand at the end, so the text
+/// `NoMemory` comes only when out of memory; a part of the row may then stand at the end, so the text
 /// isn't used again. This project's own.
 pub fn put_change(
     alloc: Global,

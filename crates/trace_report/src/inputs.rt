@@ -31,8 +31,8 @@ pub(crate) fn put_inputs(
 {
     text.put(b"inputs\n")?;
     let plan = net.plan();
-    for e in 0..plan.elements() {
-        put_element(alloc, text, plan, e, net.element(e), until)?;
+    for element in 0..plan.elements() {
+        put_element(alloc, text, plan, element, net.element(element), until)?;
     }
     Ok(())
 }
@@ -42,21 +42,21 @@ fn put_element(
     alloc: Global,
     text: &mut Text,
     plan: &Plan,
-    e: u32,
+    number: u32,
     element: &Element,
     until: u64,
 ) -> Result<(), NoMemory>
-    requires within { e < length plan.now.elements }
-    requires settings { element.now.settings ≡ settings_of plan.now e }
+    requires within { number < length plan.now.elements }
+    requires settings { element.now.settings ≡ settings_of plan.now number }
     ensures put { OnOk result ((all : List Event) →
-        ElementStands plan.now (signals_by plan.now all) (out_at plan.now (signals_by plan.now all)) e (until + 1) element.now →
-        text.new ≡ text.old ++ element_rows plan.now (conditions_at plan.now all until) e) }
+        ElementStands plan.now (signals_by plan.now all) (out_at plan.now (signals_by plan.now all)) number (until + 1) element.now →
+        text.new ≡ text.old ++ element_rows plan.now (conditions_at plan.now all until) number) }
 {
-    let inputs = plan.inputs(e);
+    let inputs = plan.inputs(number);
     let passed = passed_until(element, inputs.len() as u32, until);
     for (place, input) in inputs.iter().enumerate() {
         let condition = later(element.cond(place as u32), passed);
-        put_row(alloc, text, plan, e, *input, condition)?;
+        put_row(alloc, text, plan, number, *input, condition)?;
     }
     Ok(())
 }
@@ -66,36 +66,36 @@ fn put_row(
     alloc: Global,
     text: &mut Text,
     plan: &Plan,
-    e: u32,
+    element: u32,
     input: InputId,
     condition: Cond,
 ) -> Result<(), NoMemory>
-    requires within { e < length plan.now.elements }
+    requires within { element < length plan.now.elements }
     requires input { IsInput plan.now input }
-    ensures put { OnOk result (text.new ≡ text.old ++ input_row plan.now e input condition) }
+    ensures put { OnOk result (text.new ≡ text.old ++ input_row plan.now element input condition) }
 {
-    put_condition(alloc, text, plan, e, input, condition)?;
+    put_condition(alloc, text, plan, element, input, condition)?;
     text.put(b"\n")
 }
 
 /// Puts an input of an element in a condition: the names of both, the condition as a word, and how
 /// many milliseconds are left of it, 0 where it doesn't end by itself.
 ///
-/// `NoMemory` comes for want of memory alone; a part may then stand at the end, so the text isn't
+/// `NoMemory` comes only when out of memory; a part may then stand at the end, so the text isn't
 /// used again. This project's own.
 pub fn put_condition(
     alloc: Global,
     text: &mut Text,
     plan: &Plan,
-    e: u32,
+    element: u32,
     input: InputId,
     condition: Cond,
 ) -> Result<(), NoMemory>
-    requires within { e < length plan.now.elements }
+    requires within { element < length plan.now.elements }
     requires input { IsInput plan.now input }
-    ensures put { OnOk result (text.new ≡ text.old ++ condition_text plan.now e input condition) }
+    ensures put { OnOk result (text.new ≡ text.old ++ condition_text plan.now element input condition) }
 {
-    text.put(plan.element(e).name.bytes())?;
+    text.put(plan.element(element).name.bytes())?;
     text.put(b",")?;
     plan.put_input_name(alloc, text, input)?;
     text.put(b",")?;

@@ -59,19 +59,19 @@ fn put_traces(text: &mut Text, plan: &Plan, endings: &[Ending]) -> Result<(), No
     ensures put { OnOk result (text.new ≡ text.old ++ traces_part plan.now endings.now) }
 {
     text.put(b"traces\n")?;
-    for e in 0..plan.elements() {
-        put_trace(text, plan, e, endings[e as usize])?;
+    for element in 0..plan.elements() {
+        put_trace(text, plan, element, endings[element as usize])?;
     }
     Ok(())
 }
 
 /// Puts how the trace of one element ends.
-fn put_trace(text: &mut Text, plan: &Plan, e: u32, ending: Ending) -> Result<(), NoMemory>
-    requires within { e < length plan.now.elements }
+fn put_trace(text: &mut Text, plan: &Plan, element: u32, ending: Ending) -> Result<(), NoMemory>
+    requires within { element < length plan.now.elements }
     requires of_plan { IsEndOf plan.now ending }
-    ensures put { OnOk result (text.new ≡ text.old ++ trace_row plan.now e ending) }
+    ensures put { OnOk result (text.new ≡ text.old ++ trace_row plan.now element ending) }
 {
-    text.put(plan.element(e).name.bytes())?;
+    text.put(plan.element(element).name.bytes())?;
     text.put(b",")?;
     text.put_number(u64::from(ending.lines))?;
     text.put(b",")?;
@@ -114,7 +114,7 @@ fn put_loops(alloc: Global, text: &mut Text, plan: &Plan, walks: &[Walk]) -> Res
 
 /// Puts the line on whether a network is settled.
 ///
-/// `NoMemory` comes for want of memory alone, and leaves the text as it was. This project's own.
+/// `NoMemory` comes only when out of memory, and leaves the text as it was. This project's own.
 pub fn put_settled(text: &mut Text, settled: bool) -> Result<(), NoMemory>
     ensures put { OnOk result (text.new ≡ text.old ++ settled_part settled) }
     ensures unchanged { OnErr result (text.new ≡ text.old) }

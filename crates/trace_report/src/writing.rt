@@ -18,7 +18,7 @@ use sync_text::{NoMemory, Text};
 /// all fit, and the line `stopped,T`.
 ///
 /// The simulator watches changes and isn't spent, and `reach` is what its last advance answered.
-/// `NoMemory` comes for want of memory alone. This project's own.
+/// `NoMemory` comes only when out of memory. This project's own.
 pub fn report(alloc: Global, sim: &Sim<'_>, reach: Reach) -> Result<Text, NoMemory>
     requires live { sim.now.spent ≡ false }
     requires watching { sim.now.watch ≡ Watch.Changes }

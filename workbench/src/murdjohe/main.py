@@ -51,7 +51,7 @@ def guarded(words: list[str], output: Output) -> int:
     except KeyboardInterrupt:
         return INTERRUPTED
     except MemoryError:
-        streams.tell("memory ran out; free some, and run again")
+        streams.tell("out of memory; free some, and run again")
         return core.NO_MEMORY
     except Exception as mistake:
         from murdjohe import failure

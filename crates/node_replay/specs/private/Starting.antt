@@ -6,7 +6,7 @@ use Rattle.sync_topo.specs.Topology.{Topology}
 use Rattle.net_rules.specs.History.{first_level}
 use Rattle.node_replay.specs.declared.inputs.LastLevel.{LastLevel}
 use Rattle.node_replay.specs.declared.inputs.InputNow.{InputNow}
-use Rattle.node_replay.specs.declared.outs.LineOut.{LineOut}
+use Rattle.node_replay.specs.declared.lines_out.LineOut.{LineOut}
 
 -- the first word on a level, and an input to which nothing happened
 abbrev pub first_word : Option Level → Option LastLevel

@@ -22,11 +22,11 @@ pub record IsWake (now : ℕ) (due : Option ℕ) (inputs : List InputNow) (wake 
   pub seconds : (m : ℕ) → now < m → m < wake → nat_eq (m % second) 0 ≡ false
 
 -- the rows of the next millisecond are taken in, and the element has made its step
-pub record IsTaken (plan : Topology) (place : ℕ) (here : List NodeRow) (before after : Run) : Type 0 where
+pub record IsTaken (plan : Topology) (number : ℕ) (here : List NodeRow) (before after : Run) : Type 0 where
   pub inputs : after.inputs.items ≡ map (input_after here before.next) before.inputs.items
-  pub stepped : IsStepped before.next (all_told (inputs_of plan place) place here after.inputs.items) before.element after.element
-  pub shows : Shows plan place after.element after.shown
-  pub outs : after.outs.items ≡ map (out_after plan here after.shown) before.outs.items
+  pub stepped : IsStepped before.next (all_told (inputs_of plan number) number here after.inputs.items) before.element after.element
+  pub shows : Shows plan number after.element after.shown
+  pub lines_out : after.lines_out.items ≡ map (out_after plan here after.shown) before.lines_out.items
   pub wake : IsWake before.next after.element.due after.inputs.items after.wake
   pub next : after.next ≡ before.next + 1
   pub text : after.text ≡ before.text
@@ -34,15 +34,15 @@ pub record IsTaken (plan : Topology) (place : ℕ) (here : List NodeRow) (before
   pub stopped : after.stopped ≡ before.stopped
 
 -- the frames of a millisecond are written, or the run stops before it
-pub record IsWritten (plan : Topology) (place now : ℕ) (frames : List Sent) (before after : Run) : Type 0 where
+pub record IsWritten (plan : Topology) (number now : ℕ) (frames : List Sent) (before after : Run) : Type 0 where
   pub element : after.element ≡ before.element
   pub shown : after.shown ≡ before.shown
   pub inputs : after.inputs.items ≡ before.inputs.items
-  pub outs : after.outs.items ≡ before.outs.items
+  pub lines_out : after.lines_out.items ≡ before.lines_out.items
   pub next : after.next ≡ before.next
   pub wake : after.wake ≡ before.wake
   pub fits : before.rows + length frames ≤ MOST_ROWS
-      → (after.rows ≡ before.rows + length frames) × (after.text ≡ before.text ++ concat (map (sent_row plan place now) frames))
+      → (after.rows ≡ before.rows + length frames) × (after.text ≡ before.text ++ concat (map (sent_row plan number now) frames))
       × (after.stopped ≡ before.stopped)
   pub full : MOST_ROWS < before.rows + length frames
       → (after.rows ≡ before.rows) × (after.text ≡ before.text) × (after.stopped ≡ Some (now - 1))

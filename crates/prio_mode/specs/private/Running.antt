@@ -25,20 +25,20 @@ use Rattle.prio_mode.specs.PriorityRows.{shown_after, rows_until}
 
 -- an element of a plan shows this after any past for which it stands, and after the milliseconds that
 -- follow up to its due time, if nothing is told; and the input is one of the plan
-pub record Shows (plan : Topology) (place : ℕ) (element : ElementState) (shown : Shown) : Type 0 where
+pub record Shows (plan : Topology) (number : ℕ) (element : ElementState) (shown : Shown) : Type 0 where
   pub shows : (past : List Moment) (n : ℕ) → Element.StandsFor element past → IsInTime element n
-      → shown ≡ shown_after plan place (moments_until (priority_settings plan place) n past)
+      → shown ≡ shown_after plan number (moments_until (priority_settings plan number) n past)
   pub input : IfSome shown.input (IsInput plan)
 
 -- an element of a plan that was told nothing, with what it shows
-pub record IsNewSeen (plan : Topology) (place : ℕ) (one : Seen) : Type 0 where
-  pub new : IsNewElement (by_priority plan) plan place one.element
-  pub shows : Shows plan place one.element one.shown
+pub record IsNewSeen (plan : Topology) (number : ℕ) (one : Seen) : Type 0 where
+  pub new : IsNewElement (by_priority plan) plan number one.element
+  pub shows : Shows plan number one.element one.shown
 
 -- an element after n milliseconds of what it takes by priority alone
 abbrev pub IsOfPast : Topology → List Event → ℕ → ℕ → ElementState → Type 0
-IsOfPast plan events place n element =
-    StandsAfter (priority_settings plan place) (priority_moment plan (signals_by plan events) place) n element
+IsOfPast plan events number n element =
+    StandsAfter (priority_settings plan number) (priority_moment plan (signals_by plan events) number) n element
 
 -- the inputs that elements take, by what they show
 abbrev pub inputs_shown : List Seen → List (Option InputId)
@@ -83,10 +83,10 @@ pub record AreCounted (plan : Topology) (run : Run) : Type 0 where
   pub dues : length run.dues ≡ length plan.elements
 
 -- an element of a plan before a millisecond: nothing is told to it, and it is due when it says
-pub record IsReady (plan : Topology) (next place : ℕ) (kept : Kept) : Type 0 where
-  pub settings : kept.one.element.settings ≡ priority_settings plan place
+pub record IsReady (plan : Topology) (next number : ℕ) (kept : Kept) : Type 0 where
+  pub settings : kept.one.element.settings ≡ priority_settings plan number
   pub in_time : IsInTime kept.one.element next
-  pub shows : Shows plan place kept.one.element kept.one.shown
+  pub shows : Shows plan number kept.one.element kept.one.shown
   pub untold : kept.told ≡ []
   pub due : kept.due ≡ kept.one.element.due
 

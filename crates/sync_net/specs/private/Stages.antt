@@ -79,13 +79,13 @@ pub record IsNotEvaluated (e : ℕ) (s t : Workplace) : Type 0 where
   pub due : due_in t.dues e ≡ due_in s.dues e
 
 -- so each of n elements is
-pub record AreEvaluated (now n : ℕ) (outs : ℕ → ℕ → Bool) (done : ℕ → Bool) (s t : Workplace) : Type 0 where
+pub record AreEvaluated (now n : ℕ) (is_out : ℕ → ℕ → Bool) (done : ℕ → Bool) (s t : Workplace) : Type 0 where
   pub elements_count : length t.elements ≡ length s.elements
   pub changes_count : length t.changes ≡ length s.changes
   pub dues_count : length t.dues ≡ length s.dues
   pub called : KeepsMarks s.called t.called
-  pub cause : (l : ℕ) → is_marked t.called l ≡ true → (is_marked s.called l ≡ true) ⊎ ((e : ℕ) × (done e ≡ true) × (outs e l ≡ true))
-  pub evaluated : (e : ℕ) → e < n → done e ≡ true → IsEvaluated now (outs e) e s t
+  pub cause : (l : ℕ) → is_marked t.called l ≡ true → (is_marked s.called l ≡ true) ⊎ ((e : ℕ) × (done e ≡ true) × (is_out e l ≡ true))
+  pub evaluated : (e : ℕ) → e < n → done e ≡ true → IsEvaluated now (is_out e) e s t
   pub others : (e : ℕ) → e < n → done e ≡ false → IsNotEvaluated e s t
   pub lines : (k : ℕ) → n ≤ k → due_in t.dues k ≡ due_in s.dues k
 

@@ -12,7 +12,7 @@ use Rattle.sync_topo.specs.declared.error.PlanErr.TheVariants.{Limit, Name, Twic
 use Rattle.sync_topo.specs.Rules.{Rule, element_rules, link_rules, source_rules}
 use Rattle.sync_topo.specs.PlanRows.{first_broken}
 
--- the refusal is this one; want of memory says nothing
+-- the refusal is this one; out of memory says nothing
 abbrev pub Tells : PlanErr → Option PlanErr → Type 0
 Tells (Limit place) refusal = refusal ≡ Some (Limit place)
 Tells (Name place) refusal = refusal ≡ Some (Name place)

@@ -17,37 +17,37 @@ kept_place wiring (Source source) = slice_index wiring.source_places.items sourc
 -- it is what the plan says of its elements
 pub record IsWired (plan : Topology) (wiring : Wiring) : Type 0 where
   pub inputs_counted : length wiring.inputs.items ≡ length plan.elements
-  pub outs_counted : length wiring.outs.items ≡ length plan.elements
+  pub lines_out_counted : length wiring.lines_out.items ≡ length plan.elements
   pub line_places_counted : length wiring.line_places.items ≡ line_count plan
   pub source_places_counted : length wiring.source_places.items ≡ length plan.sources
   pub inputs_kept : (element : ℕ) → held wiring.inputs.items element ≡ inputs_of plan element
-  pub outs_kept : (element : ℕ) → held wiring.outs.items element ≡ lines_out plan element
+  pub lines_out_kept : (element : ℕ) → held wiring.lines_out.items element ≡ lines_out plan element
   pub places_kept : (input : InputId) → IsInput plan input → IsTrue (is_nominated_input plan input)
       → place_at plan (element_of plan input) input ≡ Some (kept_place wiring input)
 
 -- one element more, without inputs and lines
 pub record IsWidened (before after : Wiring) : Type 0 where
   pub inputs_counted : length after.inputs.items ≡ length before.inputs.items + 1
-  pub outs_counted : length after.outs.items ≡ length before.outs.items + 1
+  pub lines_out_counted : length after.lines_out.items ≡ length before.lines_out.items + 1
   pub line_places : after.line_places.items ≡ before.line_places.items
   pub source_places : after.source_places.items ≡ before.source_places.items
   pub inputs : (element : ℕ) → held after.inputs.items element ≡ held before.inputs.items element
-  pub outs : (element : ℕ) → held after.outs.items element ≡ held before.outs.items element
+  pub lines_out : (element : ℕ) → held after.lines_out.items element ≡ held before.lines_out.items element
 
 -- one line more
 pub record HasLine (line : LineId) (from to priority : ℕ) (before after : Wiring) : Type 0 where
   pub inputs_counted : length after.inputs.items ≡ length before.inputs.items
-  pub outs_counted : length after.outs.items ≡ length before.outs.items
+  pub lines_out_counted : length after.lines_out.items ≡ length before.lines_out.items
   pub line_places : after.line_places.items ≡ before.line_places.items ++ length (held before.inputs.items to) ∷ []
   pub source_places : after.source_places.items ≡ before.source_places.items
   pub inputs : (element : ℕ) → held after.inputs.items element ≡ held before.inputs.items element ++ taken to priority (Line line) element
-  pub outs : (element : ℕ) → held after.outs.items element ≡ held before.outs.items element ++ taken from priority line element
+  pub lines_out : (element : ℕ) → held after.lines_out.items element ≡ held before.lines_out.items element ++ taken from priority line element
 
 -- one source more
 pub record HasSource (source at priority : ℕ) (before after : Wiring) : Type 0 where
   pub inputs_counted : length after.inputs.items ≡ length before.inputs.items
-  pub outs_counted : length after.outs.items ≡ length before.outs.items
+  pub lines_out_counted : length after.lines_out.items ≡ length before.lines_out.items
   pub line_places : after.line_places.items ≡ before.line_places.items
   pub source_places : after.source_places.items ≡ before.source_places.items ++ length (held before.inputs.items at) ∷ []
   pub inputs : (element : ℕ) → held after.inputs.items element ≡ held before.inputs.items element ++ taken at priority (Source source) element
-  pub outs : (element : ℕ) → held after.outs.items element ≡ held before.outs.items element
+  pub lines_out : (element : ℕ) → held after.lines_out.items element ≡ held before.lines_out.items element

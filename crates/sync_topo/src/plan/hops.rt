@@ -42,14 +42,14 @@ impl Plan {
 
     /// Both lines are nominated, the second begins where the first ends, and it isn't the way back
     /// over the link or bundle of a last resort.
-    fn bears_on(&self, l: LineId, m: LineId) -> bool
-        requires from { l.0 < line_count self.now }
-        requires to { m.0 < line_count self.now }
+    fn bears_on(&self, line: LineId, next: LineId) -> bool
+        requires from { line.0 < line_count self.now }
+        requires to { next.0 < line_count self.now }
         ensures well_formed { IsWellFormed self.now }
-        ensures bears { result ≡ bears_on self.now l.0 m.0 }
+        ensures bears { result ≡ bears_on self.now line.0 next.0 }
     {
-        let returns = self.bundle(l.0 / 2) == self.bundle(m.0 / 2);
-        self.meet(l, m) && !(returns && self.last_resort(l))
+        let returns = self.bundle(line.0 / 2) == self.bundle(next.0 / 2);
+        self.meet(line, next) && !(returns && self.last_resort(line))
     }
 
     /// A line is the last resort of the element in which it ends: each of the element's inputs that is
@@ -70,27 +70,27 @@ impl Plan {
     }
 
     /// An input has a smaller number than the line, or it is a line of the line's bundle.
-    fn comes_first(&self, l: LineId, input: InputId) -> bool
-        requires line { l.0 < line_count self.now }
+    fn comes_first(&self, line: LineId, input: InputId) -> bool
+        requires line { line.0 < line_count self.now }
         requires input { IsInput self.now input }
         ensures well_formed { IsWellFormed self.now }
-        ensures first { result ≡ comes_first self.now l.0 input }
+        ensures first { result ≡ comes_first self.now line.0 input }
     {
         let bundled = match input {
-            InputId::Line(m) => self.bundle(m.0 / 2) == self.bundle(l.0 / 2),
+            InputId::Line(other) => self.bundle(other.0 / 2) == self.bundle(line.0 / 2),
             InputId::Source(_) => false,
         };
-        bundled || self.priority(input) < self.line_priority(l)
+        bundled || self.priority(input) < self.line_priority(line)
     }
 
     /// Both lines are nominated, and the second begins where the first ends.
-    pub(crate) fn meet(&self, l: LineId, m: LineId) -> bool
-        requires from { l.0 < line_count self.now }
-        requires to { m.0 < line_count self.now }
+    pub(crate) fn meet(&self, line: LineId, next: LineId) -> bool
+        requires from { line.0 < line_count self.now }
+        requires to { next.0 < line_count self.now }
         ensures well_formed { IsWellFormed self.now }
-        ensures meet { result ≡ hops_any self.now l.0 m.0 }
+        ensures meet { result ≡ hops_any self.now line.0 next.0 }
     {
-        let both = self.line_priority(l) > 0 && self.line_priority(m) > 0;
-        both && self.to(l) == self.from(m)
+        let both = self.line_priority(line) > 0 && self.line_priority(next) > 0;
+        both && self.to(line) == self.from(next)
     }
 }

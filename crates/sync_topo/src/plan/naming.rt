@@ -69,21 +69,21 @@ impl Plan {
         // sign tells the link.
         let _parts = &self.parts;
         let (link, receiver) = cut_at_sign(name)?;
-        let k = self.parts.link_names.place_of(link)?;
-        self.line_into(k as u32, receiver)
+        let number = self.parts.link_names.place_of(link)?;
+        self.line_into(number as u32, receiver)
     }
 
     /// The line of a link into the element of a name.
-    fn line_into(&self, k: u32, receiver: &[u8]) -> Option<LineId>
-        requires { k < length self.now.links }
-        ensures line { option_map (λ line. line.0) result ≡ line_into self.now k receiver.now }
+    fn line_into(&self, number: u32, receiver: &[u8]) -> Option<LineId>
+        requires { number < length self.now.links }
+        ensures line { option_map (λ line. line.0) result ≡ line_into self.now number receiver.now }
         ensures within { IfSome result (λ line. line.0 < line_count self.now) }
     {
-        let link = self.link(k);
+        let link = self.link(number);
         if self.element(link.b).name.bytes() == receiver {
-            Some(LineId(2 * k))
+            Some(LineId(2 * number))
         } else if self.element(link.a).name.bytes() == receiver {
-            Some(LineId(2 * k + 1))
+            Some(LineId(2 * number + 1))
         } else {
             None
         }

@@ -14,7 +14,7 @@ from murdjohe.sentences import frames, plan as plan_sentences, records
 
 # The files that stand beside a plan, as they are told where the two are swapped.
 BESIDE = {forms.CERTIFICATE: "a certificate", forms.EVENTS: "an event list", forms.CASES: "a list of cases"}
-NO_MEMORY = "memory ran out, and nothing is written; free some, and run again"
+NO_MEMORY = "out of memory, and nothing is written; free some, and run again"
 
 
 def word_fault(word: forms.Word, text: str) -> str | None:

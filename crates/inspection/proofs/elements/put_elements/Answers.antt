@@ -8,15 +8,15 @@ use Rattle.inspection.specs.Inspection.{element_after, element_in, element_row}
 use Rattle.inspection.proofs.Accessors.{at-until}
 use Rattle.inspection.proofs.elements.put_elements.Goals as goal
 
-pub loop-e-preserved : goal.loop-e-preserved
-loop-e-preserved c = λ all is.
+pub loop-element-preserved : goal.loop-element-preserved
+loop-element-preserved c = λ all is.
     let plan = c.args.net.now.plan in
     let signals = signals_by plan all in
     let out = out_at plan signals in
-    let e = c.loop-e.e in
+    let e = c.loop-element.element in
     let seen : c.inspected-it.result ≡ element_in plan signals out c.args.until e =
     at-until (element_after plan e) plan signals out e c.args.until c.element.result.now c.inspected-it.result (c.element.ensures.stands all (c.args.until + 1) is)
     (λ past n stands in_time later. (rw c.plan-plan.ensures at c.inspected-it.ensures.chose) past n stands in_time) in
     c.in_ok-put_row.ensures.put
-    ∙ one-number (λ element. element_row plan element (element_in plan signals out c.args.until element)) e (c.args.text.now ++ codes "elements\n") c.loop-e.text _ (c.loop-e.invariant all is)
+    ∙ one-number (λ element. element_row plan element (element_in plan signals out c.args.until element)) e (c.args.text.now ++ codes "elements\n") c.loop-element.text _ (c.loop-element.invariant all is)
     (ap (λ (p : Topology). element_row p e c.inspected-it.result) c.plan-plan.ensures ∙ ap (element_row plan e) seen)

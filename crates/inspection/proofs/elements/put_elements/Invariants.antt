@@ -9,7 +9,7 @@ use Rattle.inspection.specs.Inspection.{element_in, element_row}
 use Rattle.inspection.proofs.elements.put_elements.Given as goal
 
 -- the rows of the elements so far
-abbrev pub invariant-loop-e : goal.invariant-loop-e
-invariant-loop-e l = (all : List Event) → StandsFor l.net all (l.until + 1)
+abbrev pub invariant-loop-element : goal.invariant-loop-element
+invariant-loop-element l = (all : List Event) → StandsFor l.net all (l.until + 1)
     → l.text ≡ l.fn.text ++ codes "elements\n"
-    ++ concat (map (λ element. element_row l.net.plan element (element_in l.net.plan (signals_by l.net.plan all) (out_at l.net.plan (signals_by l.net.plan all)) l.until element)) (range_with_len 0 l.e))
+    ++ concat (map (λ element. element_row l.net.plan element (element_in l.net.plan (signals_by l.net.plan all) (out_at l.net.plan (signals_by l.net.plan all)) l.until element)) (range_with_len 0 l.element))

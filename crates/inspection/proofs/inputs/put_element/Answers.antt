@@ -15,22 +15,22 @@ use Rattle.inspection.proofs.inputs.put_element.Goals as goal
 
 pub passed_until-passed-requires : goal.passed_until-passed-requires
 passed_until-passed-requires c = record {
-  inputs = ap (λ xs. length xs) c.inputs-inputs.ensures.inputs ∙ inputs-count c.args.plan.now c.args.e c.args.element.now c.requires.settings;
+  inputs = ap (λ xs. length xs) c.inputs-inputs.ensures.inputs ∙ inputs-count c.args.plan.now c.args.number c.args.element.now c.requires.settings;
 }
 
 pub cond-requires : goal.cond-requires
 cond-requires c = record {
-  place = omega (arith, c.loop-place-test.true, ap (λ xs. length xs) c.inputs-inputs.ensures.inputs ∙ inputs-count c.args.plan.now c.args.e c.args.element.now c.requires.settings);
+  place = omega (arith, c.loop-place-test.true, ap (λ xs. length xs) c.inputs-inputs.ensures.inputs ∙ inputs-count c.args.plan.now c.args.number c.args.element.now c.requires.settings);
 }
 
 pub level_of-requires : goal.level_of-requires
 level_of-requires c = record {
-  place = omega (arith, c.loop-place-test.true, ap (λ xs. length xs) c.inputs-inputs.ensures.inputs ∙ inputs-count c.args.plan.now c.args.e c.args.element.now c.requires.settings);
+  place = omega (arith, c.loop-place-test.true, ap (λ xs. length xs) c.inputs-inputs.ensures.inputs ∙ inputs-count c.args.plan.now c.args.number c.args.element.now c.requires.settings);
 }
 
 pub verdict_of-requires : goal.verdict_of-requires
 verdict_of-requires c = record {
-  place = omega (arith, c.loop-place-test.true, ap (λ xs. length xs) c.inputs-inputs.ensures.inputs ∙ inputs-count c.args.plan.now c.args.e c.args.element.now c.requires.settings);
+  place = omega (arith, c.loop-place-test.true, ap (λ xs. length xs) c.inputs-inputs.ensures.inputs ∙ inputs-count c.args.plan.now c.args.number c.args.element.now c.requires.settings);
 }
 
 pub loop-place-preserved : goal.loop-place-preserved
@@ -38,7 +38,7 @@ loop-place-preserved c = λ all stands.
     let plan = c.args.plan.now in
     let signals = signals_by plan all in
     let out = out_at plan signals in
-    let e = c.args.e in
+    let e = c.args.number in
     let place = c.loop-place.place in
     let until = c.args.until in
     let element = c.args.element.now in

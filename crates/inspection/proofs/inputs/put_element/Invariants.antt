@@ -10,5 +10,5 @@ use Rattle.inspection.proofs.inputs.put_element.Given as goal
 -- the rows of the inputs so far
 abbrev pub invariant-loop-place : goal.invariant-loop-place
 invariant-loop-place l = (all : List Event)
-    → ElementStands l.plan (signals_by l.plan all) (out_at l.plan (signals_by l.plan all)) l.e (l.until + 1) l.element
-    → l.text ≡ l.initial.text ++ concat (map (row_in l.plan (signals_by l.plan all) (out_at l.plan (signals_by l.plan all)) l.until l.e) (range_with_len 0 l.place))
+    → ElementStands l.plan (signals_by l.plan all) (out_at l.plan (signals_by l.plan all)) l.number (l.until + 1) l.element
+    → l.text ≡ l.initial.text ++ concat (map (row_in l.plan (signals_by l.plan all) (out_at l.plan (signals_by l.plan all)) l.until l.number) (range_with_len 0 l.place))

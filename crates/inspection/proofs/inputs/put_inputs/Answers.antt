@@ -8,11 +8,11 @@ use Rattle.trace_report.proofs.ReportLaws.{one-number}
 use Rattle.inspection.specs.Inspection.{rows_in}
 use Rattle.inspection.proofs.inputs.put_inputs.Goals as goal
 
-pub loop-e-preserved : goal.loop-e-preserved
-loop-e-preserved c = λ all is.
+pub loop-element-preserved : goal.loop-element-preserved
+loop-element-preserved c = λ all is.
     let plan = c.args.net.now.plan in
-    let stands = subst (λ (p : Topology). ElementStands p (signals_by p all) (out_at p (signals_by p all)) c.loop-e.e (c.args.until + 1) c.element.result.now)
+    let stands = subst (λ (p : Topology). ElementStands p (signals_by p all) (out_at p (signals_by p all)) c.loop-element.element (c.args.until + 1) c.element.result.now)
     (sym c.plan-plan.ensures) (c.element.ensures.stands all (c.args.until + 1) is) in
     c.in_ok-put_element.ensures.put all stands
-    ∙ one-number (rows_in plan (signals_by plan all) (out_at plan (signals_by plan all)) c.args.until) c.loop-e.e (c.args.text.now ++ codes "inputs\n") c.loop-e.text _ (c.loop-e.invariant all is)
-    (ap (λ (p : Topology). rows_in p (signals_by p all) (out_at p (signals_by p all)) c.args.until c.loop-e.e) c.plan-plan.ensures)
+    ∙ one-number (rows_in plan (signals_by plan all) (out_at plan (signals_by plan all)) c.args.until) c.loop-element.element (c.args.text.now ++ codes "inputs\n") c.loop-element.text _ (c.loop-element.invariant all is)
+    (ap (λ (p : Topology). rows_in p (signals_by p all) (out_at p (signals_by p all)) c.args.until c.loop-element.element) c.plan-plan.ensures)

@@ -10,7 +10,7 @@ pub returns-clause-taken : goal.returns-clause-taken
 returns-clause-taken c = λ past n is on_time.
     c.input_at.ensures ∙ ap (λ inputs. option_and_then (slice_get inputs) c.selected.result)
     c.inputs.ensures.inputs
-    ∙ ap (option_and_then (slice_get (inputs_of c.args.plan.now c.args.place)))
+    ∙ ap (option_and_then (slice_get (inputs_of c.args.plan.now c.args.number)))
     (c.selected.ensures.selected past n is on_time)
 
 pub returns-clause-input : goal.returns-clause-input

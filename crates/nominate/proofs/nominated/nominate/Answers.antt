@@ -34,8 +34,8 @@ returns-in-Ok-clause-one_way c =
     subst IsOneWay (sym (returns-in-Ok-clause-nominated c).is)
     (nominated-one_way c.args.plan.now c.in_ok-hops.hops c.in_ok-priorities.ensures.well_formed c.in_ok-hops.ensures.least)
 
-pub want_of_memory-requires : goal.want_of_memory-requires
-want_of_memory-requires c =
+pub no_memory_left-requires : goal.no_memory_left-requires
+no_memory_left-requires c =
     let rows = nominated-rows c.args.plan.now c.in_ok-hops.hops c.in_ok-priorities.ensures.well_formed c.in_ok-hops.ensures.least c.as_slice.result.now c.in_ok-rows.rows
     (rw c.as_slice.ensures.value c.in_ok-priorities.ensures.given) c.in_ok-rows.ensures c.in-Err.ensures.again in
     only_memory c.in-Err.error (plan_of_rows c.in_ok-rows.rows) (nominated_plan c.args.plan.now c.in_ok-hops.hops) rows c.in-Err.ensures.exact

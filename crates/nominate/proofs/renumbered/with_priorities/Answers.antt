@@ -9,7 +9,7 @@ returns-in-Ok-clause-plan c =
     c.in-Ok.ensures.plan ∙ ap plan_from c.in_ok-rows.ensures
     ∙ said-with c.args.plan.now (λ line. slice_index c.args.priorities.now line) c.lines-lines.ensures.well_formed
 
-pub returns-else-is_want-clause-none : goal.returns-else-is_want-clause-none
-returns-else-is_want-clause-none c = λ none.
+pub returns-else-is_no_memory-clause-none : goal.returns-else-is_no_memory-clause-none
+returns-else-is_no_memory-clause-none c = λ none.
     refused-with c.args.plan.now (λ line. slice_index c.args.priorities.now line) c.in_ok-rows.rows c.in-Err.error c.in_ok-rows.ensures
-    c.in-Err.ensures.again c.in-Err.ensures.exact (sym c.if-is_want.ensures)
+    c.in-Err.ensures.again c.in-Err.ensures.exact (sym c.if-is_no_memory.ensures)

@@ -4,7 +4,7 @@ use Rattle.sync_topo.specs.RowsOfPlan.{row_of_link}
 use Rattle.nominate.specs.Nomination.{with_priorities}
 use Rattle.nominate.proofs.rows.link_rows.Given as goal
 
-abbrev pub invariant-loop-k : goal.invariant-loop-k
-invariant-loop-k l =
-    l.rows ++ map (row_of_link l.plan) (with_priorities (λ line. slice_index l.priorities line) l.k (drop l.k l.plan.links))
+abbrev pub invariant-loop-link : goal.invariant-loop-link
+invariant-loop-link l =
+    l.rows ++ map (row_of_link l.plan) (with_priorities (λ line. slice_index l.priorities line) l.link (drop l.link l.plan.links))
     ≡ map (row_of_link l.plan) (with_priorities (λ line. slice_index l.priorities line) 0 l.plan.links)

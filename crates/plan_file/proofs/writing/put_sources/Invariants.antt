@@ -3,5 +3,5 @@ use Rattle.plan_file.specs.Writing.{source_table}
 use Rattle.plan_file.specs.Spelling.{rows_text}
 use Rattle.plan_file.proofs.writing.put_sources.Given as goal
 
-abbrev pub invariant-loop-j : goal.invariant-loop-j
-invariant-loop-j l = l.text ≡ l.fn.text ++ rows_text (codes "source") (source_table l.fn.plan) (take l.j l.fn.plan.sources)
+abbrev pub invariant-loop-source : goal.invariant-loop-source
+invariant-loop-source l = l.text ≡ l.fn.text ++ rows_text (codes "source") (source_table l.fn.plan) (take l.source l.fn.plan.sources)

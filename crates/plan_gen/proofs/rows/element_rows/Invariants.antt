@@ -3,5 +3,5 @@ use Rattle.std.specs.List.{range_with_len}
 use Rattle.plan_gen.specs.private.LadderRows.{element_row}
 use Rattle.plan_gen.proofs.rows.element_rows.Given as goal
 
-abbrev pub invariant-loop-j : goal.invariant-loop-j
-invariant-loop-j l = l.rows ≡ map element_row (range_with_len 0 l.j)
+abbrev pub invariant-loop-element : goal.invariant-loop-element
+invariant-loop-element l = l.rows ≡ map element_row (range_with_len 0 l.element)

@@ -3,5 +3,5 @@ use Rattle.prio_mode.specs.private.Running.{IsNewSeen}
 use Rattle.prio_mode.proofs.starting.all_seen.Given as goal
 
 -- the elements so far
-abbrev pub invariant-loop-place : goal.invariant-loop-place
-invariant-loop-place l = AreEach (IsNewSeen l.plan) l.place l.seen
+abbrev pub invariant-loop-element : goal.invariant-loop-element
+invariant-loop-element l = AreEach (IsNewSeen l.plan) l.element l.seen

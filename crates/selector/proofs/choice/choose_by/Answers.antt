@@ -5,12 +5,12 @@ use Rattle.selector.proofs.choice.choose_by.Goals as goal
 
 pub returns-in-None-2 : goal.returns-in-None-2
 returns-in-None-2 c =
-    let best = IsBestChoice-best_choice c.args.inputs.now c.args.best c.args.current c.requires.best in
+    let best = IsBestChoice-best_choice c.args.inputs.now c.args.best c.args.taken c.requires.best in
     record {
       exact = search rules;
       exact_stands = search rules;
-      place = rw c.stay_or_take-input.ensures (place_choice c.args.inputs.now c.args.current _ best);
-      eligible = rw c.stay_or_take-input.ensures (eligible_choice c.args.inputs.now c.args.current _ best);
+      place = rw c.stay_or_take-input.ensures (place_choice c.args.inputs.now c.args.taken _ best);
+      eligible = rw c.stay_or_take-input.ensures (eligible_choice c.args.inputs.now c.args.taken _ best);
       forced_taken = search rules;
       forced_fails = search rules;
       manual_taken = search rules;

@@ -11,24 +11,24 @@ use Rattle.settle_trace.proofs.settling.are_inputs_steady.Goals as goal
 pub returns-then-not-none_ends-clause-steady : goal.returns-then-not-none_ends-clause-steady
 returns-then-not-none_ends-clause-steady c = λ all stands.
     let net = c.args.net.now in
-    let answers = element-answers net.plan (signals_of net all) (out_of net all) c.loop-e.e net.next c.element.result.now c.none_ends.result c.requires.stepped
+    let answers = element-answers net.plan (signals_of net all) (out_of net all) c.loop-element.element net.next c.element.result.now c.none_ends.result c.requires.stepped
     (c.element.ensures.stands all net.next stands) c.none_ends.ensures.value c.none_ends.ensures.ends c.none_ends.ensures.next in (
       λ never. absurd (true≢false (sym never)),
-      λ steady. absurd (true≢false (sym (answers.1 (settled-element net.plan (signals_of net all) (net.next - 1) c.loop-e.e steady)) ∙ c.if-not-none_ends.true)),
+      λ steady. absurd (true≢false (sym (answers.1 (settled-element net.plan (signals_of net all) (net.next - 1) c.loop-element.element steady)) ∙ c.if-not-none_ends.true)),
     )
 
-pub loop-e-preserved : goal.loop-e-preserved
-loop-e-preserved c = λ all stands.
+pub loop-element-preserved : goal.loop-element-preserved
+loop-element-preserved c = λ all stands.
     let net = c.args.net.now in
-    let answers = element-answers net.plan (signals_of net all) (out_of net all) c.loop-e.e net.next c.element.result.now c.none_ends.result c.requires.stepped
+    let answers = element-answers net.plan (signals_of net all) (out_of net all) c.loop-element.element net.next c.element.result.now c.none_ends.result c.requires.stepped
     (c.element.ensures.stands all net.next stands) c.none_ends.ensures.value c.none_ends.ensures.ends c.none_ends.ensures.next in
-    one-more (AreSteady net.plan (signals_of net all) (net.next - 1)) c.loop-e.e (c.loop-e.invariant all stands) (answers.0 c.if-not-none_ends.false)
+    one-more (AreSteady net.plan (signals_of net all) (net.next - 1)) c.loop-element.element (c.loop-element.invariant all stands) (answers.0 c.if-not-none_ends.false)
 
 pub returns-clause-steady : goal.returns-clause-steady
 returns-clause-steady c = λ all stands.
     let net = c.args.net.now in
-    let well : IsWellFormed net.plan = subst IsWellFormed c.plan.ensures c.elements-e-end.ensures.well_formed in (
+    let well : IsWellFormed net.plan = subst IsWellFormed c.plan.ensures c.elements-element-end.ensures.well_formed in (
       λ _. all-steady net.plan (signals_of net all) (net.next - 1) well (λ k within.
-          c.loop-e.invariant all stands k (omega (arith, within, c.loop-e-test.false, c.elements-e-end.ensures.count, ap (λ p. length p.elements) c.plan.ensures))),
+          c.loop-element.invariant all stands k (omega (arith, within, c.loop-element-test.false, c.elements-element-end.ensures.count, ap (λ p. length p.elements) c.plan.ensures))),
       λ _. refl,
     )

@@ -6,6 +6,6 @@ use Rattle.settle_trace.specs.private.Resting.{AreSteady}
 use Rattle.settle_trace.proofs.settling.are_inputs_steady.Given as goal
 
 -- the inputs of the elements behind are steady
-abbrev pub invariant-loop-e : goal.invariant-loop-e
-invariant-loop-e l = (all : List Event) → StandsFor l.net all l.net.next
-    → (k : ℕ) → k < l.e → AreSteady l.net.plan (signals_of l.net all) (l.net.next - 1) k
+abbrev pub invariant-loop-element : goal.invariant-loop-element
+invariant-loop-element l = (all : List Event) → StandsFor l.net all l.net.next
+    → (k : ℕ) → k < l.element → AreSteady l.net.plan (signals_of l.net all) (l.net.next - 1) k

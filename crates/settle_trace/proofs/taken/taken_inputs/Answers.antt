@@ -7,13 +7,13 @@ use Rattle.settle_trace.specs.Taking.{IsTaking}
 use Rattle.settle_trace.proofs.TakenLaws.{pushed, pushed-count, own-pushed}
 use Rattle.settle_trace.proofs.taken.taken_inputs.Goals as goal
 
-pub loop-e-preserved : goal.loop-e-preserved
-loop-e-preserved c =
+pub loop-element-preserved : goal.loop-element-preserved
+loop-element-preserved c =
     let net = c.args.net.now in
-    let before = c.loop-e.inputs.items in
+    let before = c.loop-element.inputs.items in
     let after = c.push.new.self.items in
-    let e : ℕ = c.loop-e.e in
-    let is = c.loop-e.invariant in
+    let e : ℕ = c.loop-element.element in
+    let is = c.loop-element.invariant in
     let more = c.in_ok-push.ensures.items in
     record {
       count = pushed-count before after e c.taken_input.result is.count more;

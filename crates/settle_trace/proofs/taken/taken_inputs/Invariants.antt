@@ -9,10 +9,10 @@ use Rattle.closed_walks.specs.Taking.{taken_in_list}
 use Rattle.settle_trace.proofs.taken.taken_inputs.Given as goal
 
 -- the elements behind have what they take
-abbrev pub invariant-loop-e : goal.invariant-loop-e
-invariant-loop-e l = record {
-  count : length l.inputs.items ≡ l.e;
+abbrev pub invariant-loop-element : goal.invariant-loop-element
+invariant-loop-element l = record {
+  count : length l.inputs.items ≡ l.element;
   own : (k : ℕ) → IfSome (taken_in_list l.inputs.items k) (IsInputOf l.net.plan k);
-  taking : (k : ℕ) (element : ElementState) → k < l.e → IsTaking l.net.plan k (slice_index_or l.net.elements k element) (taken_in_list l.inputs.items k);
-  now : 0 < l.net.next → (all : List Event) → StandsFor l.net all l.net.next → (k : ℕ) → k < l.e → taken_in_list l.inputs.items k ≡ taken_now l.net all k;
+  taking : (k : ℕ) (element : ElementState) → k < l.element → IsTaking l.net.plan k (slice_index_or l.net.elements k element) (taken_in_list l.inputs.items k);
+  now : 0 < l.net.next → (all : List Event) → StandsFor l.net all l.net.next → (k : ℕ) → k < l.element → taken_in_list l.inputs.items k ≡ taken_now l.net all k;
 }

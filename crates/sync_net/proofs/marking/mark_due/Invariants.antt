@@ -3,8 +3,8 @@ use Rattle.agenda.specs.DueTimes.{due_count}
 use Rattle.sync_net.specs.private.Stages.{AreDueMarked}
 use Rattle.sync_net.proofs.marking.mark_due.Given as goal
 
-abbrev pub invariant-loop-place : goal.invariant-loop-place
-invariant-loop-place l = record {
+abbrev pub invariant-loop-object : goal.invariant-loop-object
+invariant-loop-object l = record {
   elements_count : length l.elements.flags ≡ l.count;
   objects : length l.dues ≡ l.count + length l.lines.flags;
   marked : AreDueMarked l.now l.count
@@ -12,5 +12,5 @@ invariant-loop-place l = record {
       (record { dues = l.dues; elements = l.elements.flags; lines = l.lines.flags });
 }
 
-abbrev pub decreases-loop-place : goal.decreases-loop-place
-decreases-loop-place l = due_count l.dues
+abbrev pub decreases-loop-object : goal.decreases-loop-object
+decreases-loop-object l = due_count l.dues

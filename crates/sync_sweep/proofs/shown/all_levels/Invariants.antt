@@ -5,8 +5,8 @@ use Rattle.sync_sweep.specs.private.ShownNow.{ShowsLevel}
 use Rattle.sync_sweep.proofs.shown.all_levels.Given as goal
 
 -- the elements behind show what is kept
-abbrev pub invariant-loop-e : goal.invariant-loop-e
-invariant-loop-e l = record {
-  count : length l.levels ≡ l.e;
-  each : (k : ℕ) (element : ElementState) (other : Level) → k < l.e → ShowsLevel (slice_index_or l.net.elements k element) (slice_index_or l.levels k other);
+abbrev pub invariant-loop-element : goal.invariant-loop-element
+invariant-loop-element l = record {
+  count : length l.levels ≡ l.element;
+  each : (k : ℕ) (element : ElementState) (other : Level) → k < l.element → ShowsLevel (slice_index_or l.net.elements k element) (slice_index_or l.levels k other);
 }

@@ -14,7 +14,7 @@ returns c =
         are_rows = run.1;
         settled = run.2.0;
         is_settled = run.2.1;
-        is = trial-text c.args.n c.args.plan.now c.args.top c.from.result c.from-2.result run.0 run.2.0 c.new-text.result
+        is = trial-text c.args.elements c.args.plan.now c.args.top c.from.result c.from-2.result run.0 run.2.0 c.new-text.result
             c.put_counted.new.text c.put_counted-2.new.text c.put_counted-3.new.text c.put_run.new.text c.new-text.ensures c.from.ensures
             (c.from-2.ensures ∙ c.links.ensures.count) c.in_ok-put_counted.ensures c.in_ok-put_counted-2.ensures c.in_ok-put_counted-3.ensures run.2.2;
       };

@@ -10,11 +10,11 @@ use Rattle.sync_top.proofs.trial.trial_text.Goals as goal
 
 pub tried-requires : goal.tried-requires
 tried-requires c = record {
-  leads_up = subst (λ (p : Topology). IsRising p (receiver_of p)) (sym c.in_ok-plan.ensures.ladder) (ladder_rises c.args.n);
-  link = subst (λ (p : Topology). 0 < length p.links) (sym c.in_ok-plan.ensures.ladder) (has_link c.args.n c.requires.least);
+  leads_up = subst (λ (p : Topology). IsRising p (receiver_of p)) (sym c.in_ok-plan.ensures.ladder) (ladder_rises c.args.elements);
+  link = subst (λ (p : Topology). 0 < length p.links) (sym c.in_ok-plan.ensures.ladder) (has_link c.args.elements c.requires.least);
 }
 
 pub returns : goal.returns
 returns c = record {
-  text = subst (λ (p : Topology). IfOk c.tried.result (IsTrialText c.args.n p)) c.in_ok-plan.ensures.ladder c.tried.ensures.text;
+  text = subst (λ (p : Topology). IfOk c.tried.result (IsTrialText c.args.elements p)) c.in_ok-plan.ensures.ladder c.tried.ensures.text;
 }

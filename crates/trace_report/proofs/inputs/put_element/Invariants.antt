@@ -11,5 +11,5 @@ use Rattle.trace_report.proofs.inputs.put_element.Given as goal
 -- the rows of the inputs so far
 abbrev pub invariant-loop-place : goal.invariant-loop-place
 invariant-loop-place l = (all : List Event)
-    → ElementStands l.plan (signals_by l.plan all) (out_at l.plan (signals_by l.plan all)) l.e (l.until + 1) l.element
-    → l.text ≡ l.initial.text ++ concat (map (λ input. input_row l.plan l.e input (conditions_at l.plan all l.until input)) (take l.place l.inputs))
+    → ElementStands l.plan (signals_by l.plan all) (out_at l.plan (signals_by l.plan all)) l.number (l.until + 1) l.element
+    → l.text ≡ l.initial.text ++ concat (map (λ input. input_row l.plan l.number input (conditions_at l.plan all l.until input)) (take l.place l.inputs))

@@ -4,7 +4,7 @@ use Rattle.std.specs.List.{All}
 use Rattle.sync_ql.specs.Told.{FitsElement}
 use Rattle.net_rules.specs.History.{settings_of}
 use Rattle.sync_topo.specs.Lines.{inputs_of, line_count}
-use Rattle.node_replay.specs.declared.outs.LineOut.{LineOut}
+use Rattle.node_replay.specs.declared.lines_out.LineOut.{LineOut}
 use Rattle.node_replay.specs.private.Keeping.{input_after}
 use Rattle.node_replay.specs.private.Telling.{all_told}
 use Rattle.node_replay.proofs.KeptLevels.{kept-all, ids-after, lines-within}
@@ -33,7 +33,7 @@ step_alone-requires-clause-fits c =
     (ids-after here c.args.self.now.next c.args.self.now.inputs.items ∙ run.ids)
     (kept-all plan place here c.args.self.now.next c.args.self.now.inputs.items c.requires.here run.options)))
 
-pub note_outs-requires-clause-lines : goal.note_outs-requires-clause-lines
-note_outs-requires-clause-lines c =
+pub note_lines_out-requires-clause-lines : goal.note_lines_out-requires-clause-lines
+note_lines_out-requires-clause-lines c =
     subst (All (λ (out : LineOut). out.line.0 < line_count c.args.plan.now)) (sym c.as_mut_slice-2.ensures.value)
-    (lines-within c.args.plan.now c.args.element c.args.self.now.outs.items c.requires.run.lines)
+    (lines-within c.args.plan.now c.args.element c.args.self.now.lines_out.items c.requires.run.lines)

@@ -12,7 +12,7 @@ send-requires-clause-lines c =
     let mid = taken-run c.args.plan.now c.args.element c.args.here.now c.args.self.now c.take_rows.new.self c.requires.run c.requires.in_range c.requires.here c.in_ok-take_rows.ensures in
     let frames = c.as_slice-2.ensures ∙ c.in_ok-frames.ensures ∙ ap (filter_map (frame_of c.args.self.now.next)) c.as_slice.ensures.value in
     subst (All (λ (sent : Sent). sent.line.0 < line_count c.args.plan.now)) (sym frames)
-    (frames-within c.args.plan.now c.args.element c.args.self.now.next c.take_rows.new.self.outs.items mid.lines)
+    (frames-within c.args.plan.now c.args.element c.args.self.now.next c.take_rows.new.self.lines_out.items mid.lines)
 
 pub returns-clause-run : goal.returns-clause-run
 returns-clause-run c =

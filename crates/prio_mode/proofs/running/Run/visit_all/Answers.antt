@@ -8,21 +8,21 @@ use Rattle.prio_mode.proofs.running.Run.visit_all.Goals as goal
 pub visit-requires-clause-can_step : goal.visit-requires-clause-can_step
 visit-requires-clause-can_step c =
     let order : List ℕ = c.args.order.now in
-    let i : ℕ = c.loop-place.place-index in
-    let inside : i < length order = omega (arith, c.loop-place-test.true) in
+    let i : ℕ = c.loop-element.element-index in
+    let inside : i < length order = omega (arith, c.loop-element-test.true) in
     subst (CanStep c.args.plan.now c.args.now (slice_index order i))
-    (sym (c.loop-place.invariant.others (slice_index order i)
+    (sym (c.loop-element.invariant.others (slice_index order i)
     (not_before i order c.requires.apart inside)))
     (c.requires.can_step (slice_index order i) (c.requires.within i 0 inside))
 
-pub loop-place-preserved : goal.loop-place-preserved
-loop-place-preserved c =
+pub loop-element-preserved : goal.loop-element-preserved
+loop-element-preserved c =
     let order : List ℕ = c.args.order.now in
-    let i : ℕ = c.loop-place.place-index in
-    let inside : i < length order = omega (arith, c.loop-place-test.true) in
+    let i : ℕ = c.loop-element.element-index in
+    let inside : i < length order = omega (arith, c.loop-element-test.true) in
     subst (λ done. AreVisited c.args.plan.now c.args.now done c.args.self.now c.visit.new.self
     c.args.text.now c.visit.new.text) (sym (take_more order i 0 inside))
     (walk-next c.args.plan.now c.args.now (slice_index order i) (take i order)
-    c.args.self.now c.loop-place.self c.visit.new.self c.args.text.now c.loop-place.text
+    c.args.self.now c.loop-element.self c.visit.new.self c.args.text.now c.loop-element.text
     c.visit.new.text
-    (not_before i order c.requires.apart inside) c.loop-place.invariant c.in_ok-visit.ensures)
+    (not_before i order c.requires.apart inside) c.loop-element.invariant c.in_ok-visit.ensures)

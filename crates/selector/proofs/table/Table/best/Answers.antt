@@ -4,9 +4,9 @@ use Rattle.selector.proofs.table.Table.best.Goals as goal
 pub returns-clause-best : goal.returns-clause-best
 returns-clause-best c =
     rw (c.stay_or_take.ensures, c.as_slice.ensures.value, c.self.view_is)
-    (IsBestChoice-best_choice c.args.self.now c.first-best.result c.args.current c.first-best.ensures)
+    (IsBestChoice-best_choice c.args.self.now c.first-best.result c.args.taken c.first-best.ensures)
 
 pub returns-clause-place : goal.returns-clause-place
 returns-clause-place c =
     rw (c.stay_or_take.ensures, c.as_slice.ensures.value, c.self.view_is)
-    (place_choice c.args.self.now c.args.current _ (IsBestChoice-best_choice c.args.self.now c.first-best.result c.args.current c.first-best.ensures))
+    (place_choice c.args.self.now c.args.taken _ (IsBestChoice-best_choice c.args.self.now c.first-best.result c.args.taken c.first-best.ensures))

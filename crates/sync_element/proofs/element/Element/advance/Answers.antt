@@ -35,8 +35,8 @@ pub evaluate-self-inside-requires-clause-locked_length : goal.evaluate-self-insi
 evaluate-self-inside-requires-clause-locked_length c =
     (told_before c).locked_count ∙ c.self.invariant.locked_length ∙ sym (count_before c)
 
-pub evaluate-self-inside-requires-clause-current_place : goal.evaluate-self-inside-requires-clause-current_place
-evaluate-self-inside-requires-clause-current_place c =
+pub evaluate-self-inside-requires-clause-taken_place : goal.evaluate-self-inside-requires-clause-taken_place
+evaluate-self-inside-requires-clause-taken_place c =
     subst (λ n. IfSome c.self.inside.selected (λ i. i < n)) (sym (count_before c)) c.self.invariant.selection_within
 
 -- the whole step

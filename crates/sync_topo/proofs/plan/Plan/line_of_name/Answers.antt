@@ -10,25 +10,25 @@ pub returns-in_err-link-clause-line : goal.returns-in_err-link-clause-line
 returns-in_err-link-clause-line c =
     rw c.from_residual.ensures (sym (unsigned-names_no_line c.args.self.now c.args.name.now (rw c.self.view_is at c.self.invariant.well_formed) c.in_err-link.ensures.none))
 
-pub returns-in_err-k-clause-line : goal.returns-in_err-k-clause-line
-returns-in_err-k-clause-line c =
+pub returns-in_err-number-clause-line : goal.returns-in_err-number-clause-line
+returns-in_err-number-clause-line c =
     let well = rw c.self.view_is at c.self.invariant.well_formed in
     let kept : c.self.inside.parts.link_names ≡ link_names c.args.self.now.links
     = c.self.invariant.link_names_kept ∙ ap (λ (plan : Topology). link_names plan.links) c.self.view_is in
-    let unknown : is_named (link_names c.args.self.now.links) c.in_ok-link.link.now ≡ false = rw kept at (sym c.in_err-k.ensures.found) in
-    rw c.from_residual-in_err-k.ensures (sym (unknown_link-names_no_line c.args.self.now c.args.name.now c.in_ok-link.link.now c.in_ok-link.receiver.now well c.in_ok-link.ensures.cut unknown))
+    let unknown : is_named (link_names c.args.self.now.links) c.in_ok-link.link.now ≡ false = rw kept at (sym c.in_err-number.ensures.found) in
+    rw c.from_residual-in_err-number.ensures (sym (unknown_link-names_no_line c.args.self.now c.args.name.now c.in_ok-link.link.now c.in_ok-link.receiver.now well c.in_ok-link.ensures.cut unknown))
 
 pub returns-clause-line : goal.returns-clause-line
 returns-clause-line c =
     let well = rw c.self.view_is at c.self.invariant.well_formed in
     let kept : c.self.inside.parts.link_names ≡ link_names c.args.self.now.links
     = c.self.invariant.link_names_kept ∙ ap (λ (plan : Topology). link_names plan.links) c.self.view_is in
-    let placed : place_of (link_names c.args.self.now.links) c.in_ok-link.link.now ≡ Some c.in_ok-k.k = rw kept at (sym c.in_ok-k.ensures.place) in
-    c.line_into.ensures.line ∙ known_link-names_line c.args.self.now c.args.name.now c.in_ok-link.link.now c.in_ok-link.receiver.now c.in_ok-k.k well c.in_ok-link.ensures.cut placed
+    let placed : place_of (link_names c.args.self.now.links) c.in_ok-link.link.now ≡ Some c.in_ok-number.number = rw kept at (sym c.in_ok-number.ensures.place) in
+    c.line_into.ensures.line ∙ known_link-names_line c.args.self.now c.args.name.now c.in_ok-link.link.now c.in_ok-link.receiver.now c.in_ok-number.number well c.in_ok-link.ensures.cut placed
 
-pub returns-in_err-k-clause-exact : goal.returns-in_err-k-clause-exact
-returns-in_err-k-clause-exact c =
-    rw (returns-in_err-k-clause-line c) (line-by-name c.args.self.now c.args.name.now (rw c.self.view_is at c.self.invariant.well_formed))
+pub returns-in_err-number-clause-exact : goal.returns-in_err-number-clause-exact
+returns-in_err-number-clause-exact c =
+    rw (returns-in_err-number-clause-line c) (line-by-name c.args.self.now c.args.name.now (rw c.self.view_is at c.self.invariant.well_formed))
 
 pub returns-clause-exact : goal.returns-clause-exact
 returns-clause-exact c =
