@@ -1,4 +1,4 @@
-//! What no run of the program shows of a simulator: a run in several advances, one that is not watched, and one that is stopped.
+//! What no run of the program shows of a simulator: a run in several advances, and one that is not watched.
 
 ghost use Rattle.std.specs.Prelude.{◌≡◌, ◌≤◌, ◌<◌, IsTrue};
 ghost use Rattle.event_sim.specs.SimState.{first_after};
@@ -16,9 +16,6 @@ use sync_ql::{Level, NetOption, level_of_name};
 use sync_text::{NoMemory, Steps};
 use sync_topo::{Event, InputId, LineId, Part, Plan, What};
 use test_makers::SOURCED_CHAIN;
-
-const PAIR: &[u8] = b"element = [{ name = 'A' }, { name = 'B' }]\n\
-link = [{ name = 'L1', a = 'A', b = 'B', priority_a = 1, priority_b = 1 }]\n";
 
 /// The millisecond, the element, the input, the level and the state of a row; all are selected
 /// automatically.
@@ -120,20 +117,6 @@ fn run_chain<L: Ledger>(
     Ok(())
 }
 
-/// Two elements that take their timing from each other change in each millisecond from 1 on.
-fn run_pair<L: Ledger>(
-    rt: &impl Abort,
-    sim: &mut Sim<'_>,
-    steps: &mut Steps<L>,
-) -> Result<(), NoMemory> {
-    assert!(rt; go_on(rt, sim, 600_000, steps)? == Reach::Stopped(100_000));
-    assert!(rt; sim.stopped());
-    assert!(rt; sim.reached() == Some(100_000));
-    assert!(rt; sim.changes().len() == 200_000);
-    assert!(rt; sim.net().now() == Some(100_001));
-    Ok(())
-}
-
 fn chain_changes<L: Ledger>(
     rt: &(impl Abort + AllocGlobal),
     plan: &Plan,
@@ -145,25 +128,10 @@ fn chain_changes<L: Ledger>(
     run_chain(rt, &mut sim, rows, steps)
 }
 
-fn pair_stops<L: Ledger>(
-    rt: &(impl Abort + AllocGlobal),
-    plan: &Plan,
-    steps: &mut Steps<L>,
-) -> Result<(), NoMemory> {
-    let mut sim = Sim::new(rt.alloc(), plan, Watch::Changes)?;
-    run_pair(rt, &mut sim, steps)
-}
-
 fn chains<L: Ledger>(rt: &(impl Abort + AllocGlobal), steps: &mut Steps<L>) -> Result<(), Fail> {
     let plan = read_plan(rt.alloc(), SOURCED_CHAIN)?;
     chain_changes(rt, &plan, Watch::Changes, &CHAIN_ROWS, steps)?;
     chain_changes(rt, &plan, Watch::Nothing, &[], steps)?;
-    Ok(())
-}
-
-fn pair<L: Ledger>(rt: &(impl Abort + AllocGlobal), steps: &mut Steps<L>) -> Result<(), Fail> {
-    let plan = read_plan(rt.alloc(), PAIR)?;
-    pair_stops(rt, &plan, steps)?;
     Ok(())
 }
 
@@ -173,8 +141,7 @@ fn run_all<L: Ledger>(rt: &(impl Abort + AllocGlobal), blank: Blank) -> Result<(
     requires some { 0 < blank.parts }
 {
     let mut steps = Steps::<L>::new(blank);
-    chains(rt, &mut steps)?;
-    pair(rt, &mut steps)
+    chains(rt, &mut steps)
 }
 
 #[test]

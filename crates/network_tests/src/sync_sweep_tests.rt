@@ -1,10 +1,6 @@
-//! That the chunks of a sweep run at once, and that its rows are those of plain runs; and the rows of
-//! studies.
+//! What no run of the program shows of a sweep: that its chunks run at once.
 
 ghost use Rattle.std.specs.Prelude.{◌<◌};
-
-mod plain;
-mod studied;
 
 use plan_gen::generate;
 use std::process::Abort;

@@ -35,10 +35,11 @@ abbrev pub with_bundle : Option (List ℕ) → Members → Members
 with_bundle None fields = fields
 with_bundle (Some bundle) fields = member (codes "bundle") (string bundle) fields
 
-abbrev pub link_table : Topology → Link → Members
-link_table plan link =
-    member (codes "a") (string (element_name plan link.a))
-    (member (codes "b") (string (element_name plan link.b))
+-- the table of a link between elements of these names
+abbrev pub table_between : List ℕ → List ℕ → Link → Members
+table_between a b link =
+    member (codes "a") (string a)
+    (member (codes "b") (string b)
     (with_bundle link.bundle
     (member (codes "delay_a") (integer (pos link.delay_a))
     (member (codes "delay_b") (integer (pos link.delay_b))
@@ -46,12 +47,19 @@ link_table plan link =
     (member (codes "priority_a") (integer (pos link.priority_a))
     (member (codes "priority_b") (integer (pos link.priority_b)) no_members)))))))
 
-abbrev pub source_table : Topology → Source → Members
-source_table plan source =
-    member (codes "at") (string (element_name plan source.at))
+abbrev pub link_table : Topology → Link → Members
+link_table plan link = table_between (element_name plan link.a) (element_name plan link.b) link
+
+-- the table of a source at an element of this name
+abbrev pub table_at : List ℕ → Source → Members
+table_at at source =
+    member (codes "at") (string at)
     (member (codes "level") (string (name_of source.level))
     (member (codes "name") (string source.name)
     (member (codes "priority") (integer (pos source.priority)) no_members)))
+
+abbrev pub source_table : Topology → Source → Members
+source_table plan source = table_at (element_name plan source.at) source
 
 -- a link of the plan names a bundle
 abbrev pub names_bundle : Topology → Bool

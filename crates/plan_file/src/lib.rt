@@ -19,4 +19,4 @@ mod writing;
 
 pub use error::PlanFileErr;
 pub use reading::read_plan;
-pub use writing::write_plan;
+pub use writing::{put_element, put_link, put_option, put_source, write_plan};

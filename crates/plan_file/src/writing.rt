@@ -4,9 +4,9 @@ ghost use Rattle.std.specs.Prelude.{◌≡◌, ◌<◌, ◌≤◌, ◌==◌, ◌
 ghost use Rattle.std.specs.Fmt.{decimal};
 ghost use Rattle.toml.specs.Data.{string, no_members};
 ghost use Rattle.sync_topo.specs.Lines.{element_name};
-ghost use Rattle.sync_topo.specs.WellFormed.{JoinsTwo, IsWellFormed};
+ghost use Rattle.sync_topo.specs.WellFormed.{IsWellFormed};
 ghost use Rattle.plan_file.specs.IsPlanText.{IsPlanText};
-ghost use Rattle.plan_file.specs.Writing.{option_name, with_floor, element_table, with_bundle, link_table, source_table, names_bundle, with_version};
+ghost use Rattle.plan_file.specs.Writing.{option_name, with_floor, element_table, with_bundle, table_between, link_table, table_at, source_table, names_bundle, with_version};
 ghost use Rattle.plan_file.specs.Spelling.{field_text, fields_text, row_text, rows_text, head_fields, plan_text, plan_size};
 
 use std::alloc::Global;
@@ -57,8 +57,10 @@ fn put_if_none(text: &mut Text, count: u32, line: &[u8]) -> Result<(), NoMemory>
     Ok(())
 }
 
-/// Puts the line of the option.
-fn put_option(text: &mut Text, option: NetOption) -> Result<(), NoMemory>
+/// Puts the line of the option at the end of a text of a plan.
+///
+/// This project's own.
+pub fn put_option(text: &mut Text, option: NetOption) -> Result<(), NoMemory>
     ensures { OnOk result (text.new
         ≡ text.old ++ field_text (codes "option") (string (option_name option))) }
 {
@@ -107,7 +109,13 @@ fn put_links(text: &mut Text, plan: &Plan) -> Result<(), NoMemory>
         ≡ text.old ++ rows_text (codes "link") (link_table plan.now) plan.now.links) }
 {
     for link in 0..plan.links() {
-        put_link(text, plan, plan.link(link))?;
+        let link = plan.link(link);
+        put_link(
+            text,
+            element_name(plan, link.a),
+            element_name(plan, link.b),
+            link,
+        )?;
     }
     Ok(())
 }
@@ -118,13 +126,16 @@ fn put_sources(text: &mut Text, plan: &Plan) -> Result<(), NoMemory>
         ≡ text.old ++ rows_text (codes "source") (source_table plan.now) plan.now.sources) }
 {
     for source in 0..plan.sources() {
-        put_source(text, plan, plan.source(source))?;
+        let source = plan.source(source);
+        put_source(text, element_name(plan, source.at), source)?;
     }
     Ok(())
 }
 
-/// Puts the table of an element.
-fn put_element(text: &mut Text, element: &Element) -> Result<(), NoMemory>
+/// Puts the table of an element at the end of a text of a plan.
+///
+/// This project's own.
+pub fn put_element(text: &mut Text, element: &Element) -> Result<(), NoMemory>
     ensures { OnOk result (text.new
         ≡ text.old ++ row_text (codes "element") (element_table element.now)) }
 {
@@ -146,14 +157,17 @@ fn put_floor(text: &mut Text, floor: Option<Level>) -> Result<(), NoMemory>
     }
 }
 
-/// Puts the table of a link of the plan.
-fn put_link(text: &mut Text, plan: &Plan, link: &Link) -> Result<(), NoMemory>
-    requires { JoinsTwo (length plan.now.elements) link.now }
-    ensures { OnOk result (text.new ≡ text.old ++ row_text (codes "link") (link_table plan.now link.now)) }
+/// Puts the table of a link between elements of the names `a` and `b` at the end of a text of a plan.
+/// The numbers of its elements aren't looked at.
+///
+/// This project's own.
+pub fn put_link(text: &mut Text, a: &[u8], b: &[u8], link: &Link) -> Result<(), NoMemory>
+    ensures { OnOk result (text.new
+        ≡ text.old ++ row_text (codes "link") (table_between a.now b.now link.now)) }
 {
     text.put(b"\n[[link]]\n")?;
-    put_name(text, b"a = \"", element_name(plan, link.a))?;
-    put_name(text, b"b = \"", element_name(plan, link.b))?;
+    put_name(text, b"a = \"", a)?;
+    put_name(text, b"b = \"", b)?;
     put_bundle(text, &link.bundle)?;
     put_number(text, b"delay_a = ", link.delay_a)?;
     put_number(text, b"delay_b = ", link.delay_b)?;
@@ -172,14 +186,16 @@ fn put_bundle(text: &mut Text, bundle: &Option<Text>) -> Result<(), NoMemory>
     }
 }
 
-/// Puts the table of a source of the plan.
-fn put_source(text: &mut Text, plan: &Plan, source: &Source) -> Result<(), NoMemory>
-    requires { source.now.at < length plan.now.elements }
+/// Puts the table of a source at an element of the name `at` at the end of a text of a plan. The number
+/// of its element isn't looked at.
+///
+/// This project's own.
+pub fn put_source(text: &mut Text, at: &[u8], source: &Source) -> Result<(), NoMemory>
     ensures { OnOk result (text.new
-        ≡ text.old ++ row_text (codes "source") (source_table plan.now source.now)) }
+        ≡ text.old ++ row_text (codes "source") (table_at at.now source.now)) }
 {
     text.put(b"\n[[source]]\n")?;
-    put_name(text, b"at = \"", element_name(plan, source.at))?;
+    put_name(text, b"at = \"", at)?;
     put_name(text, b"level = \"", name_of(source.level).as_bytes())?;
     put_name(text, b"name = \"", source.name.bytes())?;
     put_number(text, b"priority = ", u32::from(source.priority))

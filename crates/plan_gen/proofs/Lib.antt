@@ -2,3 +2,4 @@ pub mod Ranges
 pub mod LadderLinks
 pub mod LadderPlan
 pub mod RowLaws
+pub mod LadderText

@@ -45,7 +45,7 @@ all-flat_map P f start zero all = tt
 all-flat_map P f start (suc n) all = all-append P (f start) (flat_map f (range_with_len (start + 1) n)) (all start (omega arith)) (all-flat_map P f (start + 1) n (λ j inside. all j (omega arith)))
 
 -- a function over what is made from each number
-map-flat_map : {A B : Type 0} (g : A → B) (f : ℕ → List A) (h : ℕ → List B) (start n : ℕ) → ((j : ℕ) → j < start + n → map g (f j) ≡ h j)
+pub map-flat_map : {A B : Type 0} (g : A → B) (f : ℕ → List A) (h : ℕ → List B) (start n : ℕ) → ((j : ℕ) → j < start + n → map g (f j) ≡ h j)
     → map g (flat_map f (range_with_len start n)) ≡ flat_map h (range_with_len start n)
 map-flat_map g f h start zero same = refl
 map-flat_map g f h start (suc n) same =

@@ -121,7 +121,7 @@ fn source_row(alloc: Global, name: &[u8], at: &[u8], level: &[u8]) -> Result<Sou
 }
 
 /// A name of a letter and a number.
-fn numbered(alloc: Global, letter: &[u8], number: u32) -> Result<Text, NoMemory>
+pub(crate) fn numbered(alloc: Global, letter: &[u8], number: u32) -> Result<Text, NoMemory>
     ensures { IfOk result (λ text. text ≡ numbered letter.now number) }
 {
     let mut text = Text::from_bytes(alloc, letter)?;

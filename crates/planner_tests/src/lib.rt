@@ -1,9 +1,5 @@
-//! Tests of planning that no run of the program shows, over what its crates make public. No code stands here.
+//! What no run of the program shows of nomination, over what its crates make public. No code stands here.
 #![tactic(auto)]
 
 #[cfg(test)]
-mod cycle_plan_tests;
-#[cfg(test)]
 mod nominate_tests;
-#[cfg(test)]
-mod protection_tests;

@@ -1,4 +1,5 @@
 pub mod Number
+pub mod Kept
 pub mod Gives
 pub mod Chain
 pub mod Each

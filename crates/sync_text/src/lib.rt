@@ -10,6 +10,7 @@ mod crossing;
 mod errors;
 mod lists;
 mod numbers;
+mod short;
 mod steps;
 
 pub use errors::NoMemory;

@@ -2,10 +2,17 @@ ghost use Rattle.std.specs.Prelude.{◌≡◌, [], ◌∷◌, ◌++◌, IfOk, On
 ghost use Rattle.std.specs.Fmt.{decimal};
 
 use crate::errors::NoMemory;
+use crate::short::Short;
 use itoa::Buffer;
-use smallvec::SmallVec;
 use std::alloc::Global;
 use std::marker::Model;
+
+/// Where the bytes of a text stand.
+#[derive(Debug, Drop)]
+enum Bytes {
+    InPlace(Short),
+    Apart(Vec<u8>),
+}
 
 /// Bytes that grow at their end. Contracts see the list of the bytes.
 ///
@@ -13,15 +20,17 @@ use std::marker::Model;
 /// no memory. It need not be UTF-8.
 #[derive(Debug, Drop)]
 pub struct Text {
-    kept: SmallVec<u8, 16>,
+    alloc: Global,
+    kept: Bytes,
 }
 
 impl Model for Text {
     ghost use Rattle.std.specs.Prelude.{ℕ, List};
+    ghost use Rattle.sync_text.specs.Kept.{bytes_of};
 
     ghost Value = { List ℕ };
 
-    ghost view = { λ text. text.kept.items };
+    ghost view = { λ text. bytes_of text.kept };
 }
 
 impl Text {
@@ -30,7 +39,8 @@ impl Text {
         ensures { result ≡ [] }
     {
         Text {
-            kept: SmallVec::new(alloc),
+            alloc,
+            kept: Bytes::InPlace(Short::new()),
         }
     }
 
@@ -50,8 +60,19 @@ impl Text {
         ensures ok { OnOk result (self.new ≡ self.old ++ bytes.now) }
         ensures err { OnErr result (self.new ≡ self.old) }
     {
-        self.kept.extend_from_slice(bytes)?;
-        Ok(())
+        match &mut self.kept {
+            Bytes::Apart(kept) => {
+                kept.extend_from_slice(bytes)?;
+                Ok(())
+            }
+            Bytes::InPlace(kept) => {
+                if !kept.put(bytes) {
+                    let apart = moved_apart(self.alloc, kept.bytes(), bytes)?;
+                    self.kept = Bytes::Apart(apart);
+                }
+                Ok(())
+            }
+        }
     }
 
     /// Puts a number at the end, in decimal digits without a leading zero.
@@ -69,8 +90,20 @@ impl Text {
     pub fn bytes(&self) -> &[u8]
         ensures { result.now ≡ self.now }
     {
-        self.kept.as_slice()
+        match &self.kept {
+            Bytes::InPlace(kept) => kept.bytes(),
+            Bytes::Apart(kept) => kept.as_slice(),
+        }
     }
+}
+
+/// The bytes of a text, and behind them those for which it has no place, in memory of their own.
+fn moved_apart(alloc: Global, kept: &[u8], bytes: &[u8]) -> Result<Vec<u8>, NoMemory>
+    ensures { IfOk result (λ apart. apart.items ≡ kept.now ++ bytes.now) }
+{
+    let mut apart = Vec::from_slice(alloc, kept)?;
+    apart.extend_from_slice(bytes)?;
+    Ok(apart)
 }
 
 impl From<Vec<u8>> for Text {
@@ -78,9 +111,14 @@ impl From<Vec<u8>> for Text {
 
     /// The text of these bytes. It takes no memory.
     fn from(bytes: Vec<u8>) -> Text {
-        Text {
-            kept: SmallVec::from_vec(bytes),
-        }
+        let alloc = *bytes.allocator();
+        let mut short = Short::new();
+        let kept = if short.put(bytes.as_slice()) {
+            Bytes::InPlace(short)
+        } else {
+            Bytes::Apart(bytes)
+        };
+        Text { alloc, kept }
     }
 }
 

@@ -4,8 +4,7 @@ ghost use Rattle.plan_file.specs.Spelling.{plan_text};
 ghost use Rattle.plan_gen.specs.Ladder.{ladder};
 ghost use Rattle.sync_top.specs.Reading.{file_limit};
 
-use plan_file::write_plan;
-use plan_gen::generate;
+use plan_gen::write_ladder;
 use std::alloc::Global;
 use sync_text::{NoMemory, Text};
 use sync_topo::MOST_ELEMENTS;
@@ -18,7 +17,6 @@ pub(crate) fn ladder_text(alloc: Global, elements: u32) -> Result<Text, NoMemory
     ensures spelled { IfOk result (λ text. text ≡ plan_text (ladder elements)) }
     ensures short { IfOk result (λ text. length text ≤ file_limit) }
 {
-    let plan = generate(alloc, elements)?;
-    let text = write_plan(alloc, &plan)?;
+    let text = write_ladder(alloc, elements)?;
     Ok(text)
 }

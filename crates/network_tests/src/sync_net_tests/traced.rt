@@ -1,4 +1,4 @@
-//! The lines of a trace: to a source, to an own clock, round a pair and into a ring.
+//! The lines of a trace into a ring, of which a report has the number alone.
 
 use super::making::Told;
 use super::running::come_to;
@@ -10,7 +10,6 @@ use std::test::Fail;
 use sync_net::Net;
 use sync_text::{NoMemory, Steps};
 use sync_topo::LineId;
-use test_makers::{PAIR, SOURCED_CHAIN};
 
 /// A ring of three, and a fourth that takes its timing from the first.
 const RING: &[u8] =
@@ -36,33 +35,6 @@ fn is_traced(
     Ok(())
 }
 
-/// Once the levels have come, all follow the source.
-fn follow_chain<L: Ledger>(
-    rt: &(impl Abort + AllocGlobal),
-    net: &mut Net<'_>,
-    steps: &mut Steps<L>,
-) -> Result<(), Fail> {
-    come_to(rt, net, 0, &[], steps)?;
-    come_to(rt, net, 100, &[], steps)?;
-    is_traced(rt, net, 0, &[], End::Source(0))?;
-    is_traced(rt, net, 2, &[LineId(2), LineId(0)], End::Source(0))?;
-    Ok(())
-}
-
-/// Each follows the other, and then its own clock.
-fn follow_pair<L: Ledger>(
-    rt: &(impl Abort + AllocGlobal),
-    net: &mut Net<'_>,
-    steps: &mut Steps<L>,
-) -> Result<(), Fail> {
-    come_to(rt, net, 0, &[], steps)?;
-    come_to(rt, net, 15, &[], steps)?;
-    is_traced(rt, net, 0, &[LineId(1), LineId(0)], End::Loop(0))?;
-    come_to(rt, net, 20, &[], steps)?;
-    is_traced(rt, net, 1, &[], End::OwnClock(1))?;
-    Ok(())
-}
-
 /// Each of the three is forced to the one before it.
 fn follow_ring<L: Ledger>(
     rt: &(impl Abort + AllocGlobal),
@@ -77,34 +49,11 @@ fn follow_ring<L: Ledger>(
     Ok(())
 }
 
-/// A network of which plan is gone through.
-#[derive(Clone, Copy)]
-enum Shape {
-    Chain,
-    Pair,
-    Ring,
-}
-
-fn follow<L: Ledger>(
-    rt: &(impl Abort + AllocGlobal),
-    text: &[u8],
-    shape: Shape,
-    steps: &mut Steps<L>,
-) -> Result<(), Fail> {
-    let plan = read_plan(rt.alloc(), text)?;
-    let mut net = Net::new(rt.alloc(), &plan)?;
-    match shape {
-        Shape::Chain => follow_chain(rt, &mut net, steps),
-        Shape::Pair => follow_pair(rt, &mut net, steps),
-        Shape::Ring => follow_ring(rt, &mut net, steps),
-    }
-}
-
 pub fn are_followed<L: Ledger>(
     rt: &(impl Abort + AllocGlobal),
     steps: &mut Steps<L>,
 ) -> Result<(), Fail> {
-    follow(rt, SOURCED_CHAIN, Shape::Chain, steps)?;
-    follow(rt, PAIR, Shape::Pair, steps)?;
-    follow(rt, RING, Shape::Ring, steps)
+    let plan = read_plan(rt.alloc(), RING)?;
+    let mut net = Net::new(rt.alloc(), &plan)?;
+    follow_ring(rt, &mut net, steps)
 }

@@ -5,4 +5,4 @@ use Rattle.plan_file.proofs.writing.put_sources.Goals as goal
 
 pub loop-source-preserved : goal.loop-source-preserved
 loop-source-preserved c =
-    row_put (codes "source") (source_table c.args.plan.now) c.args.plan.now.sources c.loop-source.source c.source.result.now c.args.text.now c.loop-source.text c.put_source.new.text c.source.ensures.source c.loop-source.invariant c.in_ok-put_source.ensures
+    row_put (codes "source") (source_table c.args.plan.now) c.args.plan.now.sources c.loop-source.source c.source-source.result.now c.args.text.now c.loop-source.text c.put_source.new.text c.source-source.ensures.source c.loop-source.invariant (rw c.element_name.ensures at c.in_ok-put_source.ensures)
