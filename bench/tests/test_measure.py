@@ -7,7 +7,19 @@ from pathlib import Path
 import pytest
 
 from bench import programs, repository
-from bench.measure import failing, faults, gate_time, ladder, limits, step_costs, survey_rates, swinging, times, works
+from bench.measure import (
+    failing,
+    faults,
+    gate_time,
+    ladder,
+    limits,
+    proof_times,
+    step_costs,
+    survey_rates,
+    swinging,
+    times,
+    works,
+)
 from bench.program import TOP
 from bench.reference.plan import ladder as reference_ladder, read_plan
 from bench.reference.runs_by_hand import CHAIN
@@ -98,6 +110,33 @@ def test_the_example_clashes_and_its_mended_plan_agrees() -> None:
 def test_processes_below_one_are_found() -> None:
     found = {number: (parent, "", 0.0) for number, parent in ((2, 1), (3, 2), (4, 3), (5, 1))}
     assert sorted(gate_time.below(found, 2)) == [3, 4]
+
+
+def test_a_process_of_the_gate_is_told_by_its_words() -> None:
+    begun = "--jobs 1 --incremental /tmp/rt-edits-1-a"
+    words = {
+        "rattle build --crate-name a src/lib.rt": "proofs",
+        "rattle build --crate-name a --test src/lib.rt": "tests",
+        f"rattle check --crate-name a {begun}/seed": "first checks",
+        f"rattle check --crate-name a {begun}/3": "edits",
+        "rattle check --crate-name a": "edits",
+    }
+    assert {line: gate_time.kind_of(line) for line in words} == words
+    assert gate_time.told("a", {"proofs": 61.2, "edits": 9.0}) == "a: 70 s (proofs 61, edits 9)"
+
+
+def test_the_time_between_two_files_is_that_of_the_later_ones_function() -> None:
+    files = [
+        (10.0, "Rattle.Syntax.oantt"),
+        (11.0, "Rattle-a-proofs.parts.Table.of_rows.Lts.oantt"),
+        (11.5, "Rattle-a-proofs.parts.Table.of_rows.Tie.decls.oantt"),
+        (14.5, "Rattle-a-proofs.parts.Table.of_rows.Proof.decls.oantt"),
+        (15.0, "Rattle-a-proofs.Lemmas.oantt"),
+    ]
+    assert proof_times.shares_of(files) == {
+        "parts.Table.of_rows": {"translated": 1.0, "searched": 3.0, "other": 0.5},
+        "Lemmas": {"other": 0.5},
+    }
 
 
 def test_a_crate_brings_those_on_which_it_stands() -> None:

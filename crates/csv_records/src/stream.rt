@@ -17,11 +17,23 @@ use sync_text::NoMemory;
 /// a field, records may differ in length, the first record is one like the others, and a byte order
 /// mark at the start is passed over. No text is refused; an error is `NoMemory`.
 /// After RFC 4180, as the crate `csv` reads it.
-#[derive(Drop)]
 pub struct Records<'a> {
     reader: Reader<&'a [u8]>,
     taken: Record,
     ended: bool,
+}
+
+// Written out, so that a way out of a function drops the whole in one step and not field by field.
+impl<'a> Drop for Records<'a> {
+    fn drop(self) {
+        let Records {
+            reader,
+            taken,
+            ended: _,
+        } = self;
+        drop(reader);
+        drop(taken);
+    }
 }
 
 impl<'a> Model for Records<'a> {

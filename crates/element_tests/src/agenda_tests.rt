@@ -42,18 +42,18 @@ fn set(rt: &impl Abort, times: &mut DueTimes, row: Set)
         Some((at, place)) => Some(Due { at, place }),
         None => None,
     };
-    assert_eq!(rt; times.first(), expected, "after {place} {due:?}");
+    assert!(rt; times.first() == expected);
 }
 
 #[test]
 fn what_is_due_first_is_taken_first(rt: HostRuntime) -> Result<(), Fail> {
     let mut times = DueTimes::new(rt.alloc(), 5)?;
-    assert_eq!(rt; times.first(), None);
+    assert!(rt; times.first() == None);
     for row in SETS {
         set(&rt, &mut times, row);
     }
     for (now, expected) in TAKES {
-        assert_eq!(rt; times.take(now), expected, "at {now}");
+        assert!(rt; times.take(now) == expected);
     }
     Ok(())
 }
@@ -61,8 +61,8 @@ fn what_is_due_first_is_taken_first(rt: HostRuntime) -> Result<(), Fail> {
 #[test]
 fn no_objects_are_never_due(rt: HostRuntime) -> Result<(), Fail> {
     let mut times = DueTimes::new(rt.alloc(), 0)?;
-    assert_eq!(rt; times.first(), None);
-    assert_eq!(rt; times.take(u64::MAX), None);
+    assert!(rt; times.first() == None);
+    assert!(rt; times.take(u64::MAX) == None);
     Ok(())
 }
 
@@ -85,7 +85,7 @@ fn mark(rt: &impl Abort, marks: &mut Marks, place: u32, listed: &[u32])
     assert!(rt; place < 5);
     marks.mark(place);
     assert!(rt; marks.is_marked(place));
-    assert_eq!(rt; marks.listed(), listed, "after {place}");
+    assert!(rt; marks.listed() == listed);
 }
 
 #[test]
@@ -97,7 +97,7 @@ fn places_are_listed_in_the_order_of_marking(rt: HostRuntime) -> Result<(), Fail
     assert!(rt; !marks.is_marked(2));
     marks.clear();
     for place in 0..5 {
-        assert!(rt; !marks.is_marked(place), "at {place}");
+        assert!(rt; !marks.is_marked(place));
     }
     mark(&rt, &mut marks, 0, &[0]);
     mark(&rt, &mut marks, 2, &[0, 2]);

@@ -286,10 +286,10 @@ fn agrees(rt: &impl Abort, alloc: Global, case: &Case) -> Result<(), NoMemory> {
         );
         wait_until(rt, &mut line, next, now);
         let arrives = tell(rt, &mut line, now, row.1)?;
-        assert_eq!(rt; arrives, named(row.2), "{shows}: what arrives at {now}");
+        assert!(rt; arrives == named(row.2), "{shows}");
         let level = heard(rt, &line, now);
-        assert_eq!(rt; level, named(row.3), "{shows}: what is heard at {now}");
-        assert_eq!(rt; line.due(), row.4, "{shows}: what is due after {now}");
+        assert!(rt; level == named(row.3), "{shows}");
+        assert!(rt; line.due() == row.4, "{shows}");
         next = now + 1;
     }
     Ok(())
@@ -319,9 +319,9 @@ fn words_on_their_way(rt: HostRuntime) -> Result<(), Fail> {
         level: level(&rt, "QL-SSU-A"),
         until: None,
     };
-    assert_eq!(&rt; line.on_way().len(), 2);
-    assert_eq!(&rt; line.on_way().first(), Some(&first));
-    assert_eq!(&rt; line.on_way().last(), Some(&last));
+    assert!(&rt; line.on_way().len() == 2);
+    assert!(&rt; line.on_way().first() == Some(&first));
+    assert!(&rt; line.on_way().last() == Some(&last));
     assert!(&rt; line.up() && line.speaking());
     tell(&rt, &mut line, 120, Off)?;
     assert!(&rt; line.up() && !line.speaking());

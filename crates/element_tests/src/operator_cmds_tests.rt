@@ -127,10 +127,10 @@ fn commands_are_those_of_the_table(rt: HostRuntime) {
         for (command, applied, locked, forced, manual) in state.rows {
             let mut cmds = after(&rt, 3, state.before);
             assert!(rt; names_input(3, *command));
-            assert_eq!(rt; cmds.apply(*command), *applied, "{shows}: {command:?}");
-            assert_eq!(rt; cmds.locked(1), *locked, "{shows}: {command:?}, locked out");
-            assert_eq!(rt; cmds.forced(), *forced, "{shows}: {command:?}, forced");
-            assert_eq!(rt; cmds.manual(), *manual, "{shows}: {command:?}, manual");
+            assert!(rt; cmds.apply(*command) == *applied, "{shows}");
+            assert!(rt; cmds.locked(1) == *locked, "{shows}");
+            assert!(rt; cmds.forced() == *forced, "{shows}");
+            assert!(rt; cmds.manual() == *manual, "{shows}");
         }
     }
 }
@@ -140,8 +140,8 @@ fn last_of_64_inputs(rt: HostRuntime) {
     let mut cmds = after(&rt, 64, &[Lockout(63), Forced(62)]);
     cmds.drop_manual();
     assert!(rt; cmds.locked(63) && !cmds.locked(62) && !cmds.locked(0));
-    assert_eq!(rt; cmds.forced(), Some(62), "no manual switch is dropped");
+    assert!(rt; cmds.forced() == Some(62));
     let mut cmds = after(&rt, 64, &[Manual(63)]);
     cmds.drop_manual();
-    assert_eq!(rt; cmds.manual(), None, "the manual switch is dropped");
+    assert!(rt; cmds.manual() == None);
 }

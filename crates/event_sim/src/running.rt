@@ -42,9 +42,9 @@ impl<'a> Run<'a> {
         ensures shown { IfOk result (λ run. run.shown.items ≡ self.now.shown.items) }
         ensures changes { IfOk result (λ run. run.changes.items ≡ self.now.changes.items) }
     {
-        let net = self.net.try_clone(alloc)?;
         let shown = copy_shown(alloc, self.shown.as_slice())?;
         let changes = copy_changes(alloc, self.changes.as_slice())?;
+        let net = self.net.try_clone(alloc)?;
         Ok(Run {
             net,
             watch: self.watch,

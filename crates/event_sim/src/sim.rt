@@ -26,7 +26,7 @@ use sync_topo::{Event, Plan};
 ///
 /// It goes from one millisecond in which something happens to the next, and passes over the others.
 /// The network is after G.781 and G.8264; what is noted of it is this project's own.
-#[derive(Debug, Drop)]
+#[derive(Debug)]
 pub struct Sim<'a> {
     run: Run<'a>,
     /// The millisecond that is reached, up to which the changes are noted.
@@ -35,6 +35,19 @@ pub struct Sim<'a> {
     spent: bool,
     /// Whether the changes were too many.
     stopped: bool,
+}
+
+// Written out, so that a way out of a function drops the whole in one step and not field by field.
+impl<'a> Drop for Sim<'a> {
+    fn drop(self) {
+        let Sim {
+            run,
+            reached: _,
+            spent: _,
+            stopped: _,
+        } = self;
+        drop(run);
+    }
 }
 
 impl<'a> Model for Sim<'a> {

@@ -4,7 +4,7 @@ use plan_file::read_plan;
 use rank_cert::{Cert, CertErr, read_cert, write_cert};
 use std::test::Fail;
 use sync_topo::LineId;
-use test_makers::CHAIN;
+use test_makers::{CHAIN, is_printed_as};
 
 /// A to B over L1 and B to C over L2, both nominated where they end.
 #[test]
@@ -28,7 +28,7 @@ fn written_certificates_are_read_back(rt: HostRuntime) -> Result<(), Fail> {
     for (given, want) in rows {
         let cert = read_cert(alloc, &plan, given)?;
         let written = write_cert(alloc, &plan, &cert)?;
-        assert_eq!(&rt; written.bytes(), want);
+        assert!(&rt; written.bytes() == want);
     }
     Ok(())
 }
@@ -39,38 +39,31 @@ fn ranks_are_set_and_taken_away(rt: HostRuntime) -> Result<(), Fail> {
     let plan = read_plan(alloc, CHAIN)?;
     let mut cert = Cert::new(alloc, &plan)?;
     let line = plan.line_of_name(b"L2>C");
-    assert_eq!(&rt; line, Some(LineId(2)));
+    assert!(&rt; line == Some(LineId(2)));
     if let Some(line) = line {
-        assert_eq!(&rt; cert.rank(line), None);
+        assert!(&rt; cert.rank(line) == None);
         cert.set(line, Some(7));
-        assert_eq!(&rt; cert.rank(line), Some(7));
+        assert!(&rt; cert.rank(line) == Some(7));
         cert.set(line, None);
-        assert_eq!(&rt; cert.rank(line), None);
+        assert!(&rt; cert.rank(line) == None);
     }
     Ok(())
 }
 
 #[test]
 fn certificate_refusals_are_printed(rt: HostRuntime) -> Result<(), Fail> {
-    for (error, number, text) in [
-        (
-            CertErr::Header,
-            Some(34),
-            "the first record isn't line,rank",
-        ),
-        (CertErr::Row(7), Some(35), "row 7: not LINE,RANK"),
-        (CertErr::Line(1), Some(36), "row 1: not a nominated line"),
+    for (error, text) in [
+        (CertErr::Header, "the first record isn't line,rank"),
+        (CertErr::Row(7), "row 7: not LINE,RANK"),
+        (CertErr::Line(1), "row 1: not a nominated line"),
         (
             CertErr::Twice(20),
-            Some(37),
             "row 20: the line stands in an earlier row",
         ),
-        (CertErr::Missing(LineId(2)), Some(38), "line 2 has no row"),
-        (CertErr::NoMemory, None, "out of memory"),
+        (CertErr::Missing(LineId(2)), "line 2 has no row"),
+        (CertErr::NoMemory, "out of memory"),
     ] {
-        assert_eq!(&rt; error.number(), number, "{error}");
-        let printed = format!(in rt.alloc(); "{error}")?;
-        assert_eq!(&rt; printed.as_str(), text);
+        assert!(rt; is_printed_as(rt.alloc(), error, text)?);
     }
     Ok(())
 }

@@ -4,6 +4,4 @@
 #[cfg(test)]
 mod event_sim_tests;
 #[cfg(test)]
-mod sync_net_tests;
-#[cfg(test)]
 mod sync_sweep_tests;

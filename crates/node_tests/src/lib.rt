@@ -2,4 +2,6 @@
 #![tactic(auto)]
 
 #[cfg(test)]
+mod node_file_tests;
+#[cfg(test)]
 mod node_replay_tests;

@@ -60,8 +60,8 @@ fn last_piece_is_refused(
     let mut node = Node::new(rt.alloc(), plan, FED, 1000)?;
     let (before, piece) = file.split_at(file.len().saturating_sub(size));
     node.feed(before)?;
-    assert!(rt; !node.spent(), "before {want}");
-    assert_eq!(rt; node.feed(piece), Err(want));
-    assert!(rt; node.spent(), "after {want}");
+    assert!(rt; !node.spent());
+    assert!(rt; node.feed(piece) == Err(want));
+    assert!(rt; node.spent());
     Ok(())
 }

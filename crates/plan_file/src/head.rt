@@ -12,7 +12,7 @@ ghost use Rattle.plan_file.specs.private.Values.{head_slots, head_said, head_see
 ghost use Rattle.plan_file.specs.private.Gives.{GivesBy};
 
 use crate::error::PlanFileErr;
-use crate::kinds::{entries_in, fits_array};
+use crate::kinds::{entries_in, fits_array, refusal};
 use crate::values::HeadValues;
 use crate::version::Version;
 use std::alloc::Global;
@@ -135,13 +135,13 @@ fn head_said(alloc: Global, values: HeadValues) -> Head
 fn head_by(alloc: Global, place: Place, values: HeadValues) -> Result<Head, PlanFileErr>
     ensures { GivesBy head_seen result (said_by place (keys_of Two section.Head) head_said (head_slots values)) }
 {
-    if values.other {
-        return Err(PlanFileErr::Key(place));
+    match refusal(place, values.other, head_fits(&values)) {
+        None => Ok(head_said(alloc, values)),
+        Some(error) => {
+            drop(values);
+            Err(error)
+        }
     }
-    if !head_fits(&values) {
-        return Err(PlanFileErr::Kind(place));
-    }
-    Ok(head_said(alloc, values))
 }
 
 /// The head of a document.

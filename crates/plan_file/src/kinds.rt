@@ -1,9 +1,10 @@
 // Values of the document by their kinds.
 
-ghost use Rattle.std.specs.Prelude.{◌≡◌, [], true, map};
+ghost use Rattle.std.specs.Prelude.{◌≡◌, [], true, not, map, Some, None, if◌then◌else◌};
 ghost use Rattle.std.specs.Option.{option_map_or};
 ghost use Rattle.toml.specs.Data.{as_str, as_integer, as_array};
 ghost use Rattle.toml.specs.View.{view, table_view};
+ghost use Rattle.plan_file.specs.declared.error.PlanFileErr.TheVariants.{Key, Kind};
 ghost use Rattle.plan_file.specs.Format.{is_text, is_integer, is_array};
 ghost use Rattle.plan_file.specs.Rules.{data_of};
 ghost use Rattle.plan_file.specs.private.Slots.{seen, text_in, integer_in, name_in, entries_in};
@@ -46,9 +47,23 @@ pub(crate) fn fits_array(slot: &Option<Value>) -> bool
     }
 }
 
+/// The rule that a table breaks: it has an unknown key or lacks one, or what it has is not of its kinds.
+pub(crate) fn refusal(place: Place, lacks: bool, fits: bool) -> Option<PlanFileErr>
+    ensures { result ≡ (if lacks then Some (Key place) else if not fits then Some (Kind place) else None) }
+{
+    if lacks {
+        return Some(PlanFileErr::Key(place));
+    }
+    if fits {
+        None
+    } else {
+        Some(PlanFileErr::Kind(place))
+    }
+}
+
 /// The integer in a slot.
-pub(crate) fn integer_in(slot: &Option<Value>) -> Option<i64>
-    ensures { result ≡ integer_in (seen slot.now) }
+pub(crate) fn integer_in(slot: Option<Value>) -> Option<i64>
+    ensures { result ≡ integer_in (seen slot) }
 {
     match slot {
         Some(value) => value.as_integer(),
@@ -63,12 +78,7 @@ fn text_of(value: Value) -> Option<Text>
 {
     match value {
         Value::String(text) => Some(Text::from(text.into_bytes())),
-        Value::Integer(_) => None,
-        Value::Float(_) => None,
-        Value::Boolean(_) => None,
-        Value::Datetime(_) => None,
-        Value::Array(_) => None,
-        Value::Table(_) => None,
+        _ => None,
     }
 }
 
@@ -99,12 +109,7 @@ fn entries_of(alloc: Global, value: Value) -> Vec<Value>
 {
     match value {
         Value::Array(entries) => entries,
-        Value::String(_) => Vec::new(alloc),
-        Value::Integer(_) => Vec::new(alloc),
-        Value::Float(_) => Vec::new(alloc),
-        Value::Boolean(_) => Vec::new(alloc),
-        Value::Datetime(_) => Vec::new(alloc),
-        Value::Table(_) => Vec::new(alloc),
+        _ => Vec::new(alloc),
     }
 }
 
@@ -125,11 +130,6 @@ pub(crate) fn table_of(place: Place, entry: Value) -> Result<Table, PlanFileErr>
 {
     match entry {
         Value::Table(fields) => Ok(fields),
-        Value::String(_) => Err(PlanFileErr::Kind(place)),
-        Value::Integer(_) => Err(PlanFileErr::Kind(place)),
-        Value::Float(_) => Err(PlanFileErr::Kind(place)),
-        Value::Boolean(_) => Err(PlanFileErr::Kind(place)),
-        Value::Datetime(_) => Err(PlanFileErr::Kind(place)),
-        Value::Array(_) => Err(PlanFileErr::Kind(place)),
+        _ => Err(PlanFileErr::Kind(place)),
     }
 }

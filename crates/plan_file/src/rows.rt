@@ -13,7 +13,7 @@ ghost use Rattle.plan_file.specs.Gives.{Gives};
 
 use crate::error::PlanFileErr;
 use crate::head::head_of;
-use crate::kinds::{fits_integer, fits_text, integer_in, name_in, table_of, text_in};
+use crate::kinds::{fits_integer, fits_text, integer_in, name_in, refusal, table_of, text_in};
 use crate::values::{ElementValues, LinkValues, SourceValues};
 use crate::version::Version;
 use std::alloc::Global;
@@ -50,8 +50,8 @@ fn element_said(alloc: Global, values: ElementValues) -> ElementRow
         name: name_in(alloc, values.name),
         own: text_in(values.own),
         floor: text_in(values.floor),
-        holdoff: integer_in(&values.holdoff),
-        wtr: integer_in(&values.wtr),
+        holdoff: integer_in(values.holdoff),
+        wtr: integer_in(values.wtr),
     }
 }
 
@@ -59,13 +59,13 @@ fn element_said(alloc: Global, values: ElementValues) -> ElementRow
 fn element_by(alloc: Global, place: Place, values: ElementValues) -> Result<ElementRow, PlanFileErr>
     ensures { result ≡ said_by place (keys_of Two section.Elements) element_said (element_slots values) }
 {
-    if element_lacks(&values) {
-        return Err(PlanFileErr::Key(place));
+    match refusal(place, element_lacks(&values), element_fits(&values)) {
+        None => Ok(element_said(alloc, values)),
+        Some(error) => {
+            drop(values);
+            Err(error)
+        }
     }
-    if !element_fits(&values) {
-        return Err(PlanFileErr::Kind(place));
-    }
-    Ok(element_said(alloc, values))
 }
 
 /// The row that an entry of `element` says.
@@ -126,10 +126,10 @@ fn link_said(alloc: Global, values: LinkValues) -> LinkRow
         name: name_in(alloc, values.name),
         a: name_in(alloc, values.a),
         b: name_in(alloc, values.b),
-        priority_a: integer_in(&values.priority_a),
-        priority_b: integer_in(&values.priority_b),
-        delay_a: integer_in(&values.delay_a),
-        delay_b: integer_in(&values.delay_b),
+        priority_a: integer_in(values.priority_a),
+        priority_b: integer_in(values.priority_b),
+        delay_a: integer_in(values.delay_a),
+        delay_b: integer_in(values.delay_b),
         bundle: text_in(values.bundle),
     }
 }
@@ -138,13 +138,13 @@ fn link_said(alloc: Global, values: LinkValues) -> LinkRow
 fn link_by(alloc: Global, place: Place, values: LinkValues) -> Result<LinkRow, PlanFileErr>
     ensures { result ≡ said_by place (keys_of Two section.Links) link_said (link_slots values) }
 {
-    if link_lacks(&values) {
-        return Err(PlanFileErr::Key(place));
+    match refusal(place, link_lacks(&values), link_fits(&values)) {
+        None => Ok(link_said(alloc, values)),
+        Some(error) => {
+            drop(values);
+            Err(error)
+        }
     }
-    if !link_fits(&values) {
-        return Err(PlanFileErr::Kind(place));
-    }
-    Ok(link_said(alloc, values))
 }
 
 /// The row that an entry of `link` says.
@@ -209,7 +209,7 @@ fn source_said(alloc: Global, values: SourceValues) -> SourceRow
         name: name_in(alloc, values.name),
         at: name_in(alloc, values.at),
         level: name_in(alloc, values.level),
-        priority: integer_in(&values.priority),
+        priority: integer_in(values.priority),
     }
 }
 
@@ -217,13 +217,13 @@ fn source_said(alloc: Global, values: SourceValues) -> SourceRow
 fn source_by(alloc: Global, place: Place, values: SourceValues) -> Result<SourceRow, PlanFileErr>
     ensures { result ≡ said_by place (keys_of Two section.Sources) source_said (source_slots values) }
 {
-    if source_lacks(&values) {
-        return Err(PlanFileErr::Key(place));
+    match refusal(place, source_lacks(&values), source_fits(&values)) {
+        None => Ok(source_said(alloc, values)),
+        Some(error) => {
+            drop(values);
+            Err(error)
+        }
     }
-    if !source_fits(&values) {
-        return Err(PlanFileErr::Kind(place));
-    }
-    Ok(source_said(alloc, values))
 }
 
 /// The row that an entry of `source` says.

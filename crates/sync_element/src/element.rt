@@ -37,7 +37,7 @@ use sync_text::{NoMemory, Steps};
 /// step every input is up, good, and of its first level, and no input is taken.
 /// After G.781, selection, and hold-off and wait-to-restore times; the exact millisecond is this
 /// project's own.
-#[derive(Debug, Drop)]
+#[derive(Debug)]
 pub struct Element {
     config: Config,
     inputs: Inputs,
@@ -49,6 +49,25 @@ pub struct Element {
     next: u64,
     due: Option<u64>,
     later_steps: u64,
+}
+
+// Written out, so that a way out of a function drops the whole in one step and not field by field.
+impl Drop for Element {
+    fn drop(self) {
+        let Element {
+            config,
+            inputs,
+            commands,
+            selected: _,
+            was_locked: _,
+            next: _,
+            due: _,
+            later_steps: _,
+        } = self;
+        drop(config);
+        drop(inputs);
+        drop(commands);
+    }
 }
 
 impl Model for Element {

@@ -35,12 +35,24 @@ use sync_topo::{Event, LineId, Plan};
 /// After each step, and from there up to but not at [`Net::due`], it stands for its plan and all
 /// events so far: each element and line is as the rules have it.
 /// After G.781 and G.8264; the order within a millisecond is this project's own.
-#[derive(Debug, Drop)]
+#[derive(Debug)]
 pub struct Net<'a> {
     plan: &'a Plan,
     parts: NetParts<'a>,
     /// Whether a step was refused, after which nothing else of the network is said.
     spent: bool,
+}
+
+// Written out, so that a way out of a function drops the whole in one step and not field by field.
+impl<'a> Drop for Net<'a> {
+    fn drop(self) {
+        let Net {
+            plan: _,
+            parts,
+            spent: _,
+        } = self;
+        drop(parts);
+    }
 }
 
 impl<'a> Model for Net<'a> {

@@ -26,12 +26,28 @@ use sync_topo::Event;
 
 /// A network that runs on from another, which of its elements and lines a step since then touched, and
 /// what each element shows.
-#[derive(Debug, Drop)]
+#[derive(Debug)]
 pub struct Branch<'a> {
     pub net: Net<'a>,
     pub elements: Marks,
     pub lines: Marks,
     pub shown: Shown,
+}
+
+// Written out, so that a way out of a function drops the whole in one step and not field by field.
+impl<'a> Drop for Branch<'a> {
+    fn drop(self) {
+        let Branch {
+            net,
+            elements,
+            lines,
+            shown,
+        } = self;
+        drop(net);
+        drop(elements);
+        drop(lines);
+        drop(shown);
+    }
 }
 
 /// A network that goes on from another, of which nothing is touched.
@@ -41,10 +57,10 @@ pub(crate) fn new_branch<'a>(alloc: Global, base: &'a Net<'_>) -> Result<Branch<
     ensures net { IfOk result (λ branch. branch.net ≡ base.now) }
     ensures shown { IfOk result (λ branch. AreShown base.now branch.shown) }
 {
-    let net = base.share(alloc)?;
+    let elements = Marks::new(alloc, base.plan().elements() as usize)?;
+    let lines = Marks::new(alloc, base.plan().lines() as usize)?;
     let shown = all_shown(alloc, base)?;
-    let elements = Marks::new(alloc, net.plan().elements() as usize)?;
-    let lines = Marks::new(alloc, net.plan().lines() as usize)?;
+    let net = base.share(alloc)?;
     Ok(Branch {
         net,
         elements,

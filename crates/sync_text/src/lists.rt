@@ -18,10 +18,18 @@ enum Bytes {
 ///
 /// A text keeps its allocator, and up to 16 bytes in itself: most names of a plan are no longer, and take
 /// no memory. It need not be UTF-8.
-#[derive(Debug, Drop)]
+#[derive(Debug)]
 pub struct Text {
     alloc: Global,
     kept: Bytes,
+}
+
+// Written out, so that a way out of a function drops the whole in one step and not field by field.
+impl Drop for Text {
+    fn drop(self) {
+        let Text { alloc: _, kept } = self;
+        drop(kept);
+    }
 }
 
 impl Model for Text {

@@ -1,3 +1,4 @@
+pub mod EndRules
 pub mod Lists
 pub mod RowLoops
 pub mod RowRules

@@ -1,5 +1,5 @@
 -- The rules for rows are those of the plan that is made row by row.
-use Rattle.std.proofs.Common.{◌≡◌, List, [], ◌++◌, map, None, ap, sym, ◌∙◌}
+use Rattle.std.proofs.Common.{◌≡◌, List, [], ◌++◌, map, None, Result, Ok, Err, ap, sym, ◌∙◌}
 use Rattle.sync_ql.specs.declared.levels.NetOption.{NetOption}
 use Rattle.sync_topo.specs.declared.element.Element.{Element}
 use Rattle.sync_topo.specs.declared.link.Link.{Link}
@@ -13,7 +13,7 @@ use Rattle.sync_topo.specs.Topology.{Topology}
 use Rattle.sync_topo.specs.RowValues.{element_from, link_from, source_from}
 use Rattle.sync_topo.specs.Rules.{Rule, element_rules, link_rules, source_rules}
 use Rattle.sync_topo.specs.PlanRows.{each_row, element_row_rules, link_row_rules, source_row_rules, limits_of, rules_of, first_broken}
-use Rattle.sync_topo.specs.private.Steps.{Tells, rows_from, element_rules_after, link_rules_after, source_rules_after}
+use Rattle.sync_topo.specs.private.Steps.{Tells, Follows, rows_from, element_rules_after, link_rules_after, source_rules_after}
 use Rattle.sync_topo.proofs.RowLoops.{Tells-front, kept-front}
 use Rattle.sync_topo.proofs.RuleLemmas.{rows_from-each}
 
@@ -115,16 +115,15 @@ sources-last rows elements links own limits of_elements elements_kept of_links l
     let kept_C : first_broken C ≡ None = rw of_links at links_kept in
     kept-front (A ++ B ++ C) D (kept-front (A ++ B) C (kept-front A B limits ∙ kept_B) ∙ kept_C) ∙ ap first_broken (sym is)
 
-pub sources-told : (rows : PlanRows) (error : PlanErr) (elements links own : List Rule) → first_broken (limits_of rows) ≡ None
-    → elements ≡ each_row (element_row_rules rows) rows.elements → first_broken elements ≡ None
-    → links ≡ each_row (link_row_rules rows) rows.links → first_broken links ≡ None
-    → own ≡ each_row (source_row_rules rows) rows.sources → Tells error (first_broken own) → Tells error (first_broken (rules_of rows))
-sources-told rows error elements links own limits of_elements elements_kept of_links links_kept is tells =
-    rw (sources-last rows elements links own limits of_elements elements_kept of_links links_kept is) tells
+-- where the refusals are the same, a step that follows the one follows the other
+follows-same : {A : Type 0} (rules others : List Rule) (result : Result A PlanErr) → first_broken rules ≡ first_broken others
+    → Follows others result → Follows rules result
+follows-same rules others (Ok value) is kept = is ∙ kept
+follows-same rules others (Err error) is tells = rw is tells
 
-pub none-told : (rows : PlanRows) (elements links own : List Rule) → first_broken (limits_of rows) ≡ None
+pub sources-follow : {A : Type 0} (rows : PlanRows) (elements links own : List Rule) (result : Result A PlanErr) → first_broken (limits_of rows) ≡ None
     → elements ≡ each_row (element_row_rules rows) rows.elements → first_broken elements ≡ None
     → links ≡ each_row (link_row_rules rows) rows.links → first_broken links ≡ None
-    → own ≡ each_row (source_row_rules rows) rows.sources → first_broken own ≡ None → first_broken (rules_of rows) ≡ None
-none-told rows elements links own limits of_elements elements_kept of_links links_kept is kept =
-    sources-last rows elements links own limits of_elements elements_kept of_links links_kept is ∙ kept
+    → own ≡ each_row (source_row_rules rows) rows.sources → Follows own result → Follows (rules_of rows) result
+sources-follow rows elements links own result limits of_elements elements_kept of_links links_kept is =
+    follows-same (rules_of rows) own result (sources-last rows elements links own limits of_elements elements_kept of_links links_kept is)

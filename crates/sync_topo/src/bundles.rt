@@ -5,7 +5,7 @@ ghost use Rattle.sync_topo.specs.private.Kept.{first_beside, AreBundlesOf};
 
 use crate::names::Names;
 use std::alloc::Global;
-use sync_text::{NoMemory, Rows, Text};
+use sync_text::{NoMemory, Text};
 
 /// The bundles of some links: each bundle by its name, with its first link, and each link with the
 /// number of its bundle.
@@ -19,16 +19,25 @@ pub(crate) struct Bundles {
 }
 
 impl Bundles {
-    /// Of no links, with room for the bundles of so many, of which none need name one.
-    pub(crate) fn with_capacity(alloc: Global, links: usize) -> Result<Bundles, NoMemory>
-        ensures { IfOk result (λ made.
-            AreBundlesOf made.names made.firsts.items made.numbers.items []) }
+    /// Of no links. It takes no memory.
+    pub(crate) fn new(alloc: Global) -> Bundles
+        ensures { AreBundlesOf result.names result.firsts.items result.numbers.items [] }
     {
-        Ok(Bundles {
+        Bundles {
             names: Names::new(alloc),
             firsts: Vec::new(alloc),
-            numbers: Rows::with_capacity(alloc, links)?.into_vec(),
-        })
+            numbers: Vec::new(alloc),
+        }
+    }
+
+    /// Room for the bundles of so many links more, of which none need name one.
+    pub(crate) fn reserve(&mut self, links: usize) -> Result<(), NoMemory>
+        ensures names { self.new.names ≡ self.old.names }
+        ensures firsts { self.new.firsts.items ≡ self.old.firsts.items }
+        ensures numbers { self.new.numbers.items ≡ self.old.numbers.items }
+    {
+        self.numbers.reserve_exact(links)?;
+        Ok(())
     }
 
     /// The number of a link's bundle.

@@ -13,10 +13,17 @@ pub const MOST_NAME_BYTES: usize = 32;
 /// Names, each at its place in the order in which they came. Contracts see their list.
 ///
 /// A name is looked up without going through the others. This project's own.
-#[derive(Drop)]
 pub struct Names {
     alloc: Global,
     set: IndexSet<Vec<u8>>,
+}
+
+// Written out, so that a way out of a function drops the whole in one step and not field by field.
+impl Drop for Names {
+    fn drop(self) {
+        let Names { alloc: _, set } = self;
+        drop(set);
+    }
 }
 
 impl Model for Names {
@@ -38,14 +45,12 @@ impl Names {
         }
     }
 
-    /// No names, with room for so many.
-    pub fn with_capacity(alloc: Global, count: usize) -> Result<Names, NoMemory>
-        ensures { IfOk result (λ names. names ≡ []) }
+    /// Room for so many names more.
+    pub(crate) fn reserve(&mut self, more: usize) -> Result<(), NoMemory>
+        ensures { self.new ≡ self.old }
     {
-        let Ok(set) = IndexSet::with_capacity(alloc, count) else {
-            return Err(NoMemory);
-        };
-        Ok(Names { alloc, set })
+        self.set.reserve(more)?;
+        Ok(())
     }
 
     /// The place of a name, counted from 0.

@@ -1,10 +1,10 @@
 //! What a plan keeps, and how it is made.
 
-ghost use Rattle.std.specs.Prelude.{◌≡◌, [], ◌∷◌, ◌++◌, ◌<◌, ◌≤◌, ◌+◌, ◌^◌, ℕ, length, slice_get, Some, OnOk, IfOk, IfSome, is_some, nat_lt, nat_le, if◌then◌else◌};
+ghost use Rattle.std.specs.Prelude.{◌≡◌, [], ◌∷◌, ◌++◌, ◌<◌, ◌≤◌, ◌+◌, ◌^◌, ℕ, length, slice_get, Some, None, OnOk, IfOk, IfSome, is_some, nat_lt, nat_le, if◌then◌else◌};
 ghost use Rattle.sync_topo.specs.Limits.{element_limit, link_limit, source_limit, input_limit};
 ghost use Rattle.sync_topo.specs.Lines.{inputs_of};
 ghost use Rattle.sync_topo.specs.Names.{is_named, element_names};
-ghost use Rattle.sync_topo.specs.PlanRows.{limits_of, rules_of};
+ghost use Rattle.sync_topo.specs.PlanRows.{limits_of, rules_of, first_broken};
 ghost use Rattle.sync_topo.specs.RowValues.{element_of_name, plan_from};
 ghost use Rattle.sync_topo.specs.private.Steps.{Follows};
 
@@ -24,7 +24,7 @@ use crate::wiring::Wiring;
 use std::alloc::Global;
 use sync_ql::NetOption;
 use sync_ql::limits::MOST_INPUTS;
-use sync_text::{NoMemory, Rows, Text};
+use sync_text::{NoMemory, Text};
 
 /// The most elements that a plan may have. This project's own.
 pub const MOST_ELEMENTS: usize = 2000;
@@ -61,20 +61,50 @@ impl PlanTables {
         ensures no_links { IfOk result (λ parts. parts.links.items ≡ []) }
         ensures no_sources { IfOk result (λ parts. parts.sources.items ≡ []) }
     {
+        let mut parts = PlanTables {
+            option: rows.option,
+            elements: Vec::new(alloc),
+            links: Vec::new(alloc),
+            sources: Vec::new(alloc),
+            element_names: Names::new(alloc),
+            link_names: Names::new(alloc),
+            source_names: Names::new(alloc),
+            bundles: Bundles::new(alloc),
+            wiring: Wiring::new(alloc),
+        };
+        match parts.make_room(rows) {
+            Ok(()) => Ok(parts),
+            Err(error) => {
+                drop(parts);
+                Err(error)
+            }
+        }
+    }
+
+    /// Room for what the rows say.
+    fn make_room(&mut self, rows: &PlanRows) -> Result<(), NoMemory>
+        ensures option { self.new.option ≡ self.old.option }
+        ensures elements { self.new.elements.items ≡ self.old.elements.items }
+        ensures links { self.new.links.items ≡ self.old.links.items }
+        ensures sources { self.new.sources.items ≡ self.old.sources.items }
+        ensures element_names { self.new.element_names ≡ self.old.element_names }
+        ensures link_names { self.new.link_names ≡ self.old.link_names }
+        ensures source_names { self.new.source_names ≡ self.old.source_names }
+        ensures bundle_names { self.new.bundles.names ≡ self.old.bundles.names }
+        ensures bundle_firsts { self.new.bundles.firsts.items ≡ self.old.bundles.firsts.items }
+        ensures bundle_numbers { self.new.bundles.numbers.items ≡ self.old.bundles.numbers.items }
+        ensures wiring { self.new.wiring ≡ self.old.wiring }
+    {
         let elements = rows.elements.as_slice().len();
         let links = rows.links.as_slice().len();
         let sources = rows.sources.as_slice().len();
-        Ok(PlanTables {
-            option: rows.option,
-            elements: Rows::with_capacity(alloc, elements)?.into_vec(),
-            links: Rows::with_capacity(alloc, links)?.into_vec(),
-            sources: Rows::with_capacity(alloc, sources)?.into_vec(),
-            element_names: Names::with_capacity(alloc, elements)?,
-            link_names: Names::with_capacity(alloc, links)?,
-            source_names: Names::with_capacity(alloc, sources)?,
-            bundles: Bundles::with_capacity(alloc, links)?,
-            wiring: Wiring::new(alloc),
-        })
+        self.elements.reserve_exact(elements)?;
+        self.links.reserve_exact(links)?;
+        self.sources.reserve_exact(sources)?;
+        self.element_names.reserve(elements)?;
+        self.link_names.reserve(links)?;
+        self.source_names.reserve(sources)?;
+        self.bundles.reserve(links)
     }
 
     /// What the rows give, or the refusal of the first rule that they break.
@@ -85,10 +115,35 @@ impl PlanTables {
     {
         check_limits(&rows)?;
         let mut parts = PlanTables::with_room(alloc, &rows)?;
-        parts.add_elements(alloc, rows.elements)?;
-        parts.add_links(rows.links)?;
-        parts.add_sources(rows.sources)?;
-        Ok(parts)
+        match parts.add_rows(alloc, rows) {
+            Ok(()) => Ok(parts),
+            Err(error) => {
+                drop(parts);
+                Err(error)
+            }
+        }
+    }
+
+    /// Puts the rows of the three sections, in order, into parts that hold none yet.
+    ///
+    /// After a refusal the parts are spent.
+    fn add_rows(&mut self, alloc: Global, rows: PlanRows) -> Result<(), PlanErr>
+        requires indexed { IsIndexed self.old }
+        requires option { self.old.option ≡ rows.option }
+        requires no_elements { self.old.elements.items ≡ [] }
+        requires no_links { self.old.links.items ≡ [] }
+        requires no_sources { self.old.sources.items ≡ [] }
+        requires limits { first_broken (limits_of rows) ≡ None }
+        requires few_elements { length rows.elements ≤ element_limit }
+        requires few_links { length rows.links ≤ link_limit }
+        requires few_sources { length rows.sources ≤ source_limit }
+        ensures rules { Follows (rules_of rows) result }
+        ensures indexed { OnOk result (IsIndexed self.new) }
+        ensures plan { OnOk result (topology self.new ≡ plan_from rows) }
+    {
+        self.add_elements(alloc, rows.elements)?;
+        self.add_links(rows.links)?;
+        self.add_sources(rows.sources)
     }
 
     /// The number of the element of a name.

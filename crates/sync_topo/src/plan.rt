@@ -32,9 +32,16 @@ use sync_ql::NetOption;
 /// A plan that keeps every rule.
 ///
 /// Contracts see its option, its elements, its links and its sources.
-#[derive(Drop)]
 pub struct Plan {
     parts: PlanTables,
+}
+
+// Written out, so that a way out of a function drops the whole in one step and not field by field.
+impl Drop for Plan {
+    fn drop(self) {
+        let Plan { parts } = self;
+        drop(parts);
+    }
 }
 
 impl Model for Plan {

@@ -1,8 +1,9 @@
-//! What the tests of several crates are made of: plans that stand in more than one, and lists of
-//! numbers. No crate but those of tests stands on it.
+//! What the tests of several crates are made of: plans that stand in more than one, lists of numbers,
+//! and how a value is printed. No crate but those of tests stands on it.
 #![tactic(auto)]
 
 use std::alloc::Global;
+use std::fmt::Display;
 use sync_text::{NoMemory, Rows};
 
 /// Three elements in a row, each of which takes its timing from the one before it. There is no source.
@@ -29,4 +30,14 @@ pub fn numbers(alloc: Global, numbers: &[u32]) -> Result<Rows<u32>, NoMemory> {
         rows.push(*number)?;
     }
     Ok(rows)
+}
+
+/// Whether a value is printed as this text.
+pub fn is_printed_as<D: Display + Drop>(
+    alloc: Global,
+    value: D,
+    text: &str,
+) -> Result<bool, NoMemory> {
+    let printed = format!(in alloc; "{value}")?;
+    Ok(printed.as_str() == text)
 }

@@ -4,6 +4,7 @@ ghost use Rattle.std.specs.Prelude.{◌≡◌, [], ◌∷◌, ◌++◌, ◌<◌,
 ghost use Rattle.sync_topo.specs.Limits.{element_limit, least_holdoff, greatest_holdoff, greatest_wtr};
 ghost use Rattle.sync_topo.specs.RowValues.{number_or, clock_level, default_own, element_from};
 ghost use Rattle.sync_topo.specs.Rules.{is_outside, is_no_clock_level, element_rules};
+ghost use Rattle.sync_topo.specs.private.Ends.{element_with};
 ghost use Rattle.sync_topo.specs.private.Steps.{Follows, rows_from, element_rules_after};
 ghost use Rattle.sync_topo.specs.WellFormed.{IsClockLevel};
 
@@ -62,6 +63,24 @@ impl PlanTables {
         ensures element { IfOk result (λ element. element ≡ element_from self.now.option row) }
         ensures may_join { IfOk result (MayJoin (topology self.now)) }
     {
+        match self.values_of(&row) {
+            Ok(values) => Ok(values.element(row)),
+            Err(error) => {
+                drop(row);
+                Err(error)
+            }
+        }
+    }
+
+    /// The values of a row's element, where the row breaks no rule.
+    fn values_of(&self, row: &ElementRow) -> Result<ElementValues, PlanErr>
+        requires { IsIndexed self.now }
+        ensures rules { Follows (element_rules (topology self.now) row.now) result }
+        ensures element { IfOk result (λ values. element_with values row.now
+            ≡ element_from self.now.option row.now) }
+        ensures may_join { IfOk result
+            (λ values. MayJoin (topology self.now) (element_with values row.now)) }
+    {
         let place = row_after(Section::Elements, self.elements.len());
         if !is_name(row.name.bytes()) {
             return Err(PlanErr::Name(place));
@@ -69,19 +88,18 @@ impl PlanTables {
         if self.element_names.has(row.name.bytes()) {
             return Err(PlanErr::Twice(place));
         }
-        let Some((holdoff, wtr)) = times_of(&row) else {
+        let Some((holdoff, wtr)) = times_of(row) else {
             return Err(PlanErr::Range(place));
         };
-        let Some((own, floor)) = levels_of(self.option, &row) else {
-            return Err(PlanErr::LevelName(place));
-        };
-        Ok(Element {
-            name: row.name,
-            own,
-            floor,
-            holdoff,
-            wtr,
-        })
+        match levels_of(self.option, row) {
+            Some((own, floor)) => Ok(ElementValues {
+                own,
+                floor,
+                holdoff,
+                wtr,
+            }),
+            None => Err(PlanErr::LevelName(place)),
+        }
     }
 
     /// Puts an element at the end.
@@ -102,6 +120,30 @@ impl PlanTables {
             return Err(NoMemory);
         };
         Ok(())
+    }
+}
+
+/// What a row says of its element beside its name: its levels, and its times in milliseconds.
+#[derive(Clone, Copy)]
+struct ElementValues {
+    own: Level,
+    floor: Option<Level>,
+    holdoff: u32,
+    wtr: u32,
+}
+
+impl ElementValues {
+    /// The element of a row that has these values.
+    fn element(self, row: ElementRow) -> Element
+        ensures { result ≡ element_with self row }
+    {
+        Element {
+            name: row.name,
+            own: self.own,
+            floor: self.floor,
+            holdoff: self.holdoff,
+            wtr: self.wtr,
+        }
     }
 }
 

@@ -1,11 +1,14 @@
 //! The links of a plan, row by row.
 
-ghost use Rattle.std.specs.Prelude.{◌≡◌, ◌≢◌, [], ◌∷◌, ◌++◌, ◌<◌, ◌≤◌, ◌&&◌, ◌||◌, not, length, map, is_none, IfSome, IfOk, OnOk};
+ghost use Rattle.std.specs.Prelude.{◌≡◌, ◌≢◌, [], ◌∷◌, ◌++◌, ◌<◌, ◌≤◌, ◌&&◌, ◌||◌, not, false, length, map, is_none, IsTrue, IfSome, IfOk, OnOk};
 ghost use Rattle.sync_topo.specs.Limits.{link_limit, least_delay, greatest_delay, greatest_priority};
 ghost use Rattle.sync_topo.specs.RowValues.{number_or, link_from};
 ghost use Rattle.sync_topo.specs.Bundles.{join_same};
 ghost use Rattle.sync_topo.specs.Rules.{is_outside, is_bad_bundle, has_room, link_rules};
+ghost use Rattle.sync_topo.specs.private.Ends.{end_rules, link_with};
 ghost use Rattle.sync_topo.specs.private.Steps.{Follows, rows_from, link_rules_after};
+ghost use Rattle.sync_topo.specs.Names.{is_name, is_named, link_names};
+ghost use Rattle.sync_topo.specs.WellFormed.{JoinsTwo};
 
 use crate::error::PlanErr;
 use crate::input::LineId;
@@ -58,6 +61,38 @@ impl PlanTables {
         ensures may_link { IfOk result (MayLink (topology self.now)) }
     {
         let place = row_after(Section::Links, self.links.len());
+        let ends = match self.ends_of(&row) {
+            Ok(ends) => ends,
+            Err(error) => {
+                drop(row);
+                return Err(error);
+            }
+        };
+        let link = ends.link(row);
+        if !self.may_bundle(&link) {
+            drop(link);
+            return Err(PlanErr::Bundle(place));
+        }
+        if !self.has_room_for(&link) {
+            drop(link);
+            return Err(PlanErr::Limit(place));
+        }
+        Ok(link)
+    }
+
+    /// The ends of a row's link, where the row keeps the rules for its name, its ends and its numbers.
+    fn ends_of(&self, row: &LinkRow) -> Result<LinkEnds, PlanErr>
+        requires indexed { IsIndexed self.now }
+        ensures rules { Follows (end_rules (link_rules (topology self.now) row.now)) result }
+        ensures link { IfOk result (λ ends. link_with ends row.now
+            ≡ link_from self.now.elements.items row.now) }
+        ensures named { OnOk result (IsTrue (is_name row.now.name)) }
+        ensures fresh { OnOk result
+            (is_named (link_names self.now.links.items) row.now.name ≡ false) }
+        ensures joins { IfOk result
+            (λ ends. JoinsTwo (length self.now.elements.items) (link_with ends row.now)) }
+    {
+        let place = row_after(Section::Links, self.links.len());
         if !is_name(row.name.bytes()) {
             return Err(PlanErr::Name(place));
         }
@@ -73,26 +108,10 @@ impl PlanTables {
         if row.a.bytes() == row.b.bytes() {
             return Err(PlanErr::SelfLink(place));
         }
-        let Some(numbers) = numbers_of(&row) else {
-            return Err(PlanErr::Range(place));
-        };
-        let link = Link {
-            name: row.name,
-            a,
-            b,
-            priority_a: numbers.priority_a,
-            priority_b: numbers.priority_b,
-            delay_a: numbers.delay_a,
-            delay_b: numbers.delay_b,
-            bundle: row.bundle,
-        };
-        if !self.may_bundle(&link) {
-            return Err(PlanErr::Bundle(place));
+        match numbers_of(row) {
+            Some(numbers) => Ok(LinkEnds { a, b, numbers }),
+            None => Err(PlanErr::Range(place)),
         }
-        if !self.has_room_for(&link) {
-            return Err(PlanErr::Limit(place));
-        }
-        Ok(link)
     }
 
     /// The link names no bundle; or the bundle's name keeps the rule for names, and its earlier links
@@ -168,6 +187,33 @@ struct LinkNumbers {
     priority_b: u8,
     delay_a: u32,
     delay_b: u32,
+}
+
+/// The two elements that a link joins, and its numbers.
+#[derive(Clone, Copy)]
+struct LinkEnds {
+    a: u32,
+    b: u32,
+    numbers: LinkNumbers,
+}
+
+impl LinkEnds {
+    /// The link of a row that has these ends.
+    fn link(self, row: LinkRow) -> Link
+        ensures { result ≡ link_with self row }
+    {
+        let numbers = self.numbers;
+        Link {
+            name: row.name,
+            a: self.a,
+            b: self.b,
+            priority_a: numbers.priority_a,
+            priority_b: numbers.priority_b,
+            delay_a: numbers.delay_a,
+            delay_b: numbers.delay_b,
+            bundle: row.bundle,
+        }
+    }
 }
 
 /// The numbers of a link row; `None` where one is outside its limits.

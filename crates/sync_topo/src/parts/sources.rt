@@ -1,9 +1,12 @@
 //! The sources of a plan, row by row.
 
-ghost use Rattle.std.specs.Prelude.{◌≡◌, [], ◌∷◌, ◌++◌, ◌<◌, ◌≤◌, length, map, IfOk, OnOk};
+ghost use Rattle.std.specs.Prelude.{◌≡◌, [], ◌∷◌, ◌++◌, ◌<◌, ◌≤◌, false, length, map, IsTrue, IfOk, OnOk};
+ghost use Rattle.sync_topo.specs.Names.{is_name, is_named, link_names, source_names};
 ghost use Rattle.sync_topo.specs.Limits.{source_limit};
 ghost use Rattle.sync_topo.specs.RowValues.{source_from};
 ghost use Rattle.sync_topo.specs.Rules.{has_room, source_rules};
+ghost use Rattle.sync_topo.specs.WellFormed.{IsSourceOf};
+ghost use Rattle.sync_topo.specs.private.Ends.{end_rules, source_with};
 ghost use Rattle.sync_topo.specs.private.Steps.{Follows, rows_from, source_rules_after};
 
 use crate::error::PlanErr;
@@ -13,7 +16,7 @@ use crate::place::Section;
 use crate::rows::SourceRow;
 use crate::source::Source;
 use crate::values::priority_within;
-use sync_ql::level_of_name;
+use sync_ql::{Level, level_of_name};
 use sync_text::{NoMemory, Rows};
 
 impl PlanTables {
@@ -52,6 +55,36 @@ impl PlanTables {
         ensures may_feed { IfOk result (MayFeed (topology self.now)) }
     {
         let place = row_after(Section::Sources, self.sources.len());
+        let end = match self.end_of(&row) {
+            Ok(end) => end,
+            Err(error) => {
+                drop(row);
+                return Err(error);
+            }
+        };
+        let source = end.source(row);
+        if !self.has_room_at(&source) {
+            drop(source);
+            return Err(PlanErr::Limit(place));
+        }
+        Ok(source)
+    }
+
+    /// The end of a row's source, where the row keeps the rules for its name, its end and its values.
+    fn end_of(&self, row: &SourceRow) -> Result<SourceEnd, PlanErr>
+        requires { IsIndexed self.now }
+        ensures rules { Follows (end_rules (source_rules (topology self.now) row.now)) result }
+        ensures source { IfOk result (λ end. source_with end row.now
+            ≡ source_from self.now.option self.now.elements.items row.now) }
+        ensures named { OnOk result (IsTrue (is_name row.now.name)) }
+        ensures no_link { OnOk result
+            (is_named (link_names self.now.links.items) row.now.name ≡ false) }
+        ensures fresh { OnOk result
+            (is_named (source_names self.now.sources.items) row.now.name ≡ false) }
+        ensures fits { IfOk result (λ end. IsSourceOf self.now.option
+            (length self.now.elements.items) (source_with end row.now)) }
+    {
+        let place = row_after(Section::Sources, self.sources.len());
         let name = row.name.bytes();
         if !is_name(name) {
             return Err(PlanErr::Name(place));
@@ -68,19 +101,14 @@ impl PlanTables {
         let Some(priority) = priority_within(row.priority, 1) else {
             return Err(PlanErr::Range(place));
         };
-        let Some(level) = level_of_name(self.option, row.level.bytes()) else {
-            return Err(PlanErr::LevelName(place));
-        };
-        let source = Source {
-            name: row.name,
-            at,
-            level,
-            priority,
-        };
-        if !self.has_room_at(&source) {
-            return Err(PlanErr::Limit(place));
+        match level_of_name(self.option, row.level.bytes()) {
+            Some(level) => Ok(SourceEnd {
+                at,
+                level,
+                priority,
+            }),
+            None => Err(PlanErr::LevelName(place)),
         }
-        Ok(source)
     }
 
     /// The source's element doesn't get more inputs than an element may have.
@@ -113,5 +141,27 @@ impl PlanTables {
             return Err(NoMemory);
         };
         Ok(())
+    }
+}
+
+/// The element that a source is at, and what it gives it.
+#[derive(Clone, Copy)]
+struct SourceEnd {
+    at: u32,
+    level: Level,
+    priority: u8,
+}
+
+impl SourceEnd {
+    /// The source of a row that has this end.
+    fn source(self, row: SourceRow) -> Source
+        ensures { result ≡ source_with self row }
+    {
+        Source {
+            name: row.name,
+            at: self.at,
+            level: self.level,
+            priority: self.priority,
+        }
     }
 }

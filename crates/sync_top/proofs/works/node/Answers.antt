@@ -15,7 +15,7 @@ returns-in-Ok-clause-works g c =
     (λ read. (read.0, read.1, read.2)) (c.in-Ok.plan, c.in-Ok.element, c.in-Ok.bytes) c.replayed.result c.replied.result
     c.in-Ok.ensures.read
     (subst (λ bytes. IfOk c.replayed.result (λ found. IsNodeReply c.in-Ok.plan c.in-Ok.element bytes c.args.until (ends_in found.finding) found.text))
-    c.bytes-in-Ok.ensures c.replayed.ensures) c.replied.ensures
+    c.bytes.ensures c.replayed.ensures) c.replied.ensures
 
 pub returns-in-Err-clause-works : goal.returns-in-Err-clause-works
 returns-in-Err-clause-works g c =

@@ -15,7 +15,7 @@ returns-in-Ok-clause-works g c =
     (λ bytes. bytes) c.in-Ok.bytes c.frames_found.result c.replied.result
     (one-read (λ bytes. bytes) (outside_of F.contents F.steady F.faults c.args.folder.now c.file.new.folder) (F.tries c.args.folder.now) (F.tries c.file.new.folder) (Ok c.in-Ok.bytes) (file c.args.name.now) c.in-Ok.ensures.gets)
     (subst (λ bytes. IfOk c.frames_found.result (λ found. FramesAnswer c.args.what c.args.option bytes (ends_in found.finding) found.text))
-    c.bytes-in-Ok.ensures c.frames_found.ensures) c.replied.ensures
+    c.bytes.ensures c.frames_found.ensures) c.replied.ensures
 
 pub returns-in-Err-clause-works : goal.returns-in-Err-clause-works
 returns-in-Err-clause-works g c =

@@ -3,11 +3,10 @@ use Rattle.sync_topo.proofs.WellFormedLemmas.{IsIndexed-empty}
 use Rattle.sync_topo.proofs.WiringLaws.{wired-empty}
 use Rattle.sync_topo.proofs.parts.PlanTables.with_room.Goals as goal
 
-pub returns-clause-indexed : goal.returns-clause-indexed
-returns-clause-indexed c =
-    let made = c.new.ensures in
-    let elements = c.into_vec.ensures ∙ c.in_ok-with_capacity.ensures in
-    let links = c.into_vec-2.ensures ∙ c.in_ok-with_capacity-2.ensures in
-    let sources = c.into_vec-3.ensures ∙ c.in_ok-with_capacity-3.ensures in
-    IsIndexed-empty _ elements links sources c.in_ok-with_capacity-4.ensures c.in_ok-with_capacity-5.ensures c.in_ok-with_capacity-6.ensures
-    (wired-empty _ _ elements links sources made.inputs made.lines_out made.line_places made.source_places) c.in_ok-with_capacity-7.ensures
+pub returns-in-Ok-clause-indexed : goal.returns-in-Ok-clause-indexed
+returns-in-Ok-clause-indexed c =
+    let wired = c.new-8.ensures in let bundles = c.new-7.ensures in let room = c.make_room.ensures in
+    let elements = room.elements ∙ c.new.ensures.items in let links = room.links ∙ c.new-2.ensures.items in let sources = room.sources ∙ c.new-3.ensures.items in
+    IsIndexed-empty _ elements links sources (room.element_names ∙ c.new-4.ensures) (room.link_names ∙ c.new-5.ensures) (room.source_names ∙ c.new-6.ensures)
+    (rw room.wiring (wired-empty _ _ elements links sources wired.inputs wired.lines_out wired.line_places wired.source_places))
+    (rw (room.bundle_names, room.bundle_firsts, room.bundle_numbers) bundles)
