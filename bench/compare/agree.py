@@ -74,12 +74,39 @@ def bound_of(plan: Plan, top: int) -> int:
     return max([HEARING + delay, *waits]) + (high_levels(plan) + 1) * (top + 1) * delay + delay
 
 
+def times_of(plan: Plan, graph: "networkx.DiGraph[int]") -> dict[int, int]:
+    """The time of each nominated line: by the delays into its sender, and by the lines that bear on it."""
+    into: dict[int, int] = {}
+    for line in plan.nominated_lines:
+        into[plan.receiver_of[line]] = max(into.get(plan.receiver_of[line], 0), plan.delay_of[line])
+    times: dict[int, int] = {}
+    for line in networkx.topological_sort(graph):
+        over = [times[before] + plan.delay_of[before] for before in graph.predecessors(line)]
+        times[line] = max([into.get(plan.sender_of[line], 0), *over])
+    return times
+
+
+def levels_of_sources(plan: Plan) -> int:
+    """How many levels, better than every own clock, the plan's nominated sources have."""
+    table = LEVELS[plan.option]
+    places = {table.index(plan.source(i).level) for i in plan.nominated if not plan.is_line(i)}
+    return sum(place < high_levels(plan) for place in places)
+
+
+def failures_of(plan: Plan, graph: "networkx.DiGraph[int]") -> int:
+    """For how many milliseconds after the last failure a settled network may change."""
+    holdoff = max((element.holdoff for element in plan.elements), default=0)
+    longest = max(times_of(plan, graph).values(), default=0)
+    delay = max((plan.delay_of[line] for line in plan.nominated_lines), default=0)
+    return holdoff + levels_of_sources(plan) * longest + 2 * delay
+
+
 def expected(plan: Plan) -> tuple[int, str]:
     """The status and the text of `agree`."""
     graph = bearing(plan)
     if networkx.is_directed_acyclic_graph(graph):
         top = networkx.dag_longest_path_length(graph) if graph else 0
-        return 0, f"agreed\nbound {bound_of(plan, top)}\n"
+        return 0, f"agreed\nbound {bound_of(plan, top)}\nfailures {failures_of(plan, graph)}\n"
     return 1, " ".join(["clash", *(plan.input_name(line) for line in first_cycle(graph))]) + "\n"
 
 

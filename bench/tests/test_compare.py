@@ -5,14 +5,17 @@ import random
 import re
 from pathlib import Path
 
+import networkx
 import pytest
 
+from bench import networks
 from bench.compare import (
     accepted,
     agree,
     cases,
     chains,
     damage,
+    failures,
     fuzz,
     line,
     network,
@@ -24,7 +27,7 @@ from bench.compare import (
 from bench.levels import LEVELS
 from bench.program import TOP, answer, parts_of, put_files
 from bench.reference.node import node_text
-from bench.reference.plan import Event, Plan, ladder, read_plan
+from bench.reference.plan import Event, Plan, ladder, plan_text, read_plan
 from bench.reference.runs_by_hand import CHAIN, CHAIN_REPORT, PAIR, PAIR_FACES, TWO_SOURCES
 
 
@@ -221,3 +224,20 @@ def test_an_element_alone_gives_what_it_gave_in_its_network() -> None:
 def test_a_refusal_comes_with_the_piece_that_ends_its_line(sizes: list[int], after: int) -> None:
     assert node_pieces.came_after(b"abc\nde\nxyz", 2, sizes) == after
     assert node_pieces.came_after(b"abc\nde", 2, sizes) is None
+
+
+@pytest.mark.parametrize("kind", ["operator", "random", "ring"])
+@pytest.mark.parametrize("count", [2, 5, 40, 500])
+def test_a_network_has_so_many_elements_in_one_piece(kind: str, count: int) -> None:
+    plan = networks.network(kind, count)
+    assert len(plan.elements) == count and plan.sources
+    assert all(link.a != link.b for link in plan.links)
+    graph = networkx.Graph([(link.a, link.b) for link in plan.links])
+    assert graph.number_of_nodes() == count and networkx.is_connected(graph)
+    assert plan_text(plan) == plan_text(networks.network(kind, count))
+
+
+def test_a_failed_part_changes_no_later_than_its_bound_by_hand() -> None:
+    plan = read_plan(plan_text(networks.network("ring", 3)))
+    assert [event.what for event in failures.losses(random.Random(1), plan, 1000)] == ["down"] * 2
+    assert len(list(failures.single_failures(plan, 1))) == 3 + 1 + 3

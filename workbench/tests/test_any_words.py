@@ -95,7 +95,7 @@ def files(folder: Path) -> Path:
 def test_any_words_have_a_status(files: Path, capfd: pytest.CaptureFixture[str], words: list[str]) -> None:
     status = main.guarded(words, streams.Output(False))
     out, err = capfd.readouterr()
-    assert status in range(12), (words, err)
+    assert status in (*range(12), *range(20, 25)), (words, err)
     assert "Traceback" not in err and all(line.startswith("murdjohe: ") for line in err.splitlines()), (words, err)
     if "--json" in words and out.startswith("{"):
         assert json.loads(out)["status"] == status

@@ -157,7 +157,7 @@ def test_one_element() -> None:
         (5, 51, "1", "the bytes:2: ", lambda: murdjohe.study(PLAN, b"case,at,what,target,value\na b,5,down,L1,\n", 9)),
         (6, 13, "1", "the bytes:1: ", lambda: murdjohe.decode("I", b"00\n")),
         (7, None, None, "nosuch: ", lambda: murdjohe.rank("nosuch")),
-        (9, None, None, "the bytes: ", lambda: murdjohe.rank(b"#" * 8_388_609)),
+        (9, None, None, "the bytes: ", lambda: murdjohe.sim(PLAN, b"#" * 8_388_609, 9)),
         (2, None, None, "sim: UNTIL is ", lambda: murdjohe.sim(PLAN, b"", "soon")),
     ],
 )

@@ -77,7 +77,8 @@ def compared(folder: Path, said: Said, *words: str) -> Ran:
 
 def rows_of(ran: Ran) -> list[list[str]]:
     """The findings: milliseconds, line, what and which."""
-    lines = [line.split("  ") for line in ran.out.decode().splitlines()[1:]]
+    said = ran.out.decode().splitlines()
+    lines = [line.split("  ") for line in said[2 : said.index("reaction times")]]  # behind the verdict and the heads
     rows = [[field.strip() for field in line if field] for line in lines]
     return [[row[0], *row[2:]] for row in rows]
 
@@ -96,7 +97,14 @@ def test_the_file_for_node_is_what_was_received(folder: Path) -> None:
 
 def test_a_right_device_differs_nowhere(folder: Path) -> None:
     ran = compared(folder, played())
-    assert (ran.status, ran.out) == (0, b"no differences\n"), ran.out
+    first, *times = ran.out.decode().splitlines()
+    assert (ran.status, first) == (0, "pass: no differences"), ran.out
+    # (each change is told after the delay)
+    assert [" ".join(line.split()) for line in times[2:]] == [
+        "east>tester 3 20 20 20",
+        "south>tester 3 20 20 20",
+        "west>tester 2 20 20 20",
+    ]
     # (9 and 3 on south and on east, 8 and 3 on west, whose cable is out for a while; the tester speaks last, at 8600)
     assert "murdjohe: compared: 35 messages on 3 lines, from 0 to 8600 ms, with a tolerance of 100 ms\n" in ran.err
 
@@ -196,6 +204,27 @@ def test_a_device_that_says_what_nobody_asked(folder: Path) -> None:
     assert found["zero"] == ZERO * 10**6
 
 
+@pytest.mark.parametrize(("every", "rate"), [(500, "2.0"), (50, "20.0")])
+def test_a_device_that_sends_too_often(folder: Path, every: int, rate: str) -> None:
+    often = [(at, cable, octets) for at, cable, octets in played() if cable == "south" and not is_event(octets)]
+    said = sorted(
+        [*played(), *((at + more, cable, octets) for at, cable, octets in often for more in range(every, 999, every))]
+    )
+    ran = compared(folder, said)
+    rows = [row for row in rows_of(ran) if row[2] == "too many"]
+    assert ran.status == 1 and ran.out.startswith(b"fail: ") and rows and rows[0][1] == "south>tester"
+    assert any(f" {rate} a second, where one a second is asked" in row[3] for row in rows), rows
+    assert compared(folder, said, "--most", "9").status == 0
+
+
+def test_two_lines_of_one_source_are_refused(folder: Path) -> None:
+    (folder / "c").write_bytes(capture(played()))
+    words = ["--line", "west>tester=020000000001", "--line", "east>tester=02:00:00:00:00:01"]
+    ran = murdjohe("capture", "compare", str(BENCH / "plan.toml"), "device", "c", *words, folder=folder)
+    assert (ran.status, ran.out) == (2, b"") and "have the same source 020000000001" in ran.err
+    assert "name the interface of each too, as east>tester=020000000001@eth1" in ran.err
+
+
 def test_an_input_without_a_line_is_told(folder: Path) -> None:
     (folder / "c").write_bytes(capture(played()))
     words = ["--line", "west>device=@west", "--line", "west>tester=020000000001@west"]
@@ -215,8 +244,12 @@ def test_an_input_without_a_line_is_told(folder: Path) -> None:
         (["--line", "west>device=@west"], 2, "--line: none of the lines leads out of device"),
         (["--line", "west>tester=@west", "--from", "9s"], 2, "nothing can be compared: c is at its end at 8600 ms"),
         (["--tolerance", "soon"], 2, "'soon' is no time"),
-        (["--line", "west>tester=@west", "--events", "nosuch"], 2, "nosuch: No such file or directory"),
-        (["--line", "west>tester=@west", "--events", "bad"], 2, "bad:1: `at,what`: it doesn't begin with milliseconds"),
+        (["--line", "west>tester=@west", "--events", "nosuch"], 7, "nosuch: No such file or directory"),
+        (
+            ["--line", "west>tester=@west", "--events", "bad"],
+            24,
+            "bad:1: `at,what`: it doesn't begin with milliseconds",
+        ),
         (["--line", "west>tester=@west", "--events", "odd"], 2, "what device received is refused: "),
     ],
 )
@@ -278,7 +311,7 @@ def test_any_messages_are_compared(wanted: list[int], said: list[int], data: st.
     assert found == sorted(found)
     for finding in found:
         assert limits.begin <= finding.at <= limits.end and finding.line == "L>A"
-        assert finding.what in (device.MISSING, device.LATE, device.WRONG, device.UNEXPECTED)
+        assert finding.what in (device.MISSING, device.LATE, device.WRONG, device.UNEXPECTED, device.TOO_MANY)
 
 
 @settings(max_examples=20 * CASES)

@@ -29,7 +29,7 @@ DONE = {
         "8 frames carried a VLAN tag: taken off",
         f"8 frames {unwrapping.COOKED_HEAD}",
     ],
-    "before padding": ["8 frames had fewer than 60 octets, as before padding: padded with zeros"],
+    "before padding": ["8 frames had fewer than 60 bytes, as before padding: padded with zeros"],
     "cut behind the TLVs": ["8 frames had been cut by the capture behind the TLVs: padded with zeros"],
 }
 
@@ -60,7 +60,13 @@ time             source        port  from     to       by     after
 """,
     )
     said = "2 packets are no ESMC frames: 1 PTP (Ethertype 88f7), 1 slow protocol of subtype 01 (LACP)"
-    assert ran.err == f"murdjohe: {said}\n"
+    extended = "1 eEECs and 0 EECs since the clock 001b1dfffe00a1c3, flags 01, in 3 frames"
+    more = "0 eEECs and 0 EECs since the clock 001b1dfffe00a1c3, flags 00, in 3 frames"
+    assert ran.err.splitlines() == [
+        f"murdjohe: {said}",
+        f"murdjohe: 001b1d00a1c3 has an extended TLV: {extended}; {more}",
+        "murdjohe: 00107f0000ee says code-3, which the option doesn't know, in 1 frame",
+    ]
     assert murdjohe("capture", "read", "-q", "capture.pcap", folder=EXAMPLES / "lab").err == ""
     data = (EXAMPLES / "lab" / "capture.pcap").read_bytes()
     assert murdjohe("capture", "read", "-", stdin=data).out.partition(b"\n")[2] == ran.out.partition(b"\n")[2]
@@ -154,9 +160,9 @@ OTHERS = {
     "slow protocol of subtype 01 (LACP)": made.FRAMES[0][:14] + b"\x01" + made.FRAMES[0][15:],
     "slow protocol that has another OUI than 00-19-a7": made.FRAMES[0][:15] + b"\0\0\0" + made.FRAMES[0][18:],
     "slow protocol that goes to another address than 01-80-c2-00-00-02": b"\0" * 6 + made.FRAMES[0][6:],
-    "slow protocol that has no QL TLV of type 01 and length 0004 at octet 24": made.FRAMES[0][:24] + b"\0" * 36,
-    "slow protocol of 27 octets, which ends before its TLVs do": made.FRAMES[0][:27],
-    "slow protocol of 47 octets, which ends before its TLVs do": made.FRAMES[0][:47],
+    "slow protocol that has no QL TLV of type 01 and length 0004 at byte 24": made.FRAMES[0][:24] + b"\0" * 36,
+    "slow protocol of 27 bytes, which ends before its TLVs do": made.FRAMES[0][:27],
+    "slow protocol of 47 bytes, which ends before its TLVs do": made.FRAMES[0][:47],
 }
 
 
@@ -172,7 +178,7 @@ def test_a_level_that_may_have_been_cut_off_is_not_guessed(folder: Path) -> None
     records = [(at, data[:47]) for at, data in made.RECORDS]
     (folder / "c").write_bytes(made.classic(records, lengths=13))
     ran = murdjohe("capture", "read", "--rows", "c", folder=folder)
-    reason = "8 slow protocol, of which the capture holds 47 octets: capture at least 60"
+    reason = "8 slow protocol, of which the capture holds 47 bytes: capture at least 60"
     assert (ran.out, ran.err) == (b"", f"murdjohe: 8 packets are no ESMC frames: {reason}\n")
 
 
@@ -199,7 +205,7 @@ def test_what_is_no_capture_is_told(folder: Path, data: bytes, said: str) -> Non
     ran = murdjohe("capture", "read", "c", folder=folder)
     assert (ran.status, ran.out, ran.err) == (6, b"", f"murdjohe: c: {said}\n")
     assert murdjohe("capture", "read", "nosuch", folder=folder).err == "murdjohe: nosuch: No such file or directory\n"
-    assert murdjohe("capture", "read", ".", folder=folder).status == 2
+    assert murdjohe("capture", "read", ".", folder=folder).status == 7
 
 
 def test_a_cut_capture_is_read_as_far_as_it_is_whole(folder: Path) -> None:

@@ -58,11 +58,11 @@ def test_a_long_file_is_written_in_pieces(folder: Path, monkeypatch: pytest.Monk
 def test_a_row_that_is_none_is_told_with_its_line(folder: Path, rows: str, said: str) -> None:
     (folder / "rows").write_text(rows)
     (folder / "c").write_text("what stood there before")
-    ran = murdjohe("capture", "write", "rows", "-o", "c", folder=folder)
+    ran = murdjohe("capture", "write", "rows", "-o", "c", "--force", folder=folder)
     assert (ran.status, ran.out) == (6, b"") and ran.err.startswith(f"murdjohe: {said}") and ran.err.count("\n") == 1
     assert (folder / "c").read_text() == "what stood there before"
     assert murdjohe("capture", "write", "nosuch", folder=folder).err == "murdjohe: nosuch: No such file or directory\n"
-    assert murdjohe("capture", "write", str(LAB / "stimulus.rows"), "-o", "/dev/full").status == 2
+    assert murdjohe("capture", "write", str(LAB / "stimulus.rows"), "-o", "/dev/full").status == 23
 
 
 @pytest.mark.parametrize("name", ["read", "node", "compare", "write"])

@@ -129,11 +129,14 @@ def map_of(tally: Tally, rows: list[Row]) -> CaseMap:
 
 def test_what_is_said_above() -> None:
     tally = Tally(2)
-    assert map_of(tally, []).about == "none of 0 cases leaves an element without a source"
+    assert map_of(tally, []).about == "none of 0 cases leaves an element without a source at its end"
     tally.add(outcome("w"))
-    assert map_of(tally, []).about == "none of 1 case leaves an element without a source"
+    assert map_of(tally, []).about == "none of 1 case leaves an element without a source at its end"
     tally.add(outcome("x", 1, "A"))
-    first, rest = Row(outcome("x", 1, "A"), {"A": HOLDOVER}), "an element without a source (how many), the worst first"
+    first, rest = (
+        Row(outcome("x", 1, "A"), {"A": HOLDOVER}),
+        "an element without a source at the end (how many), the worst first",
+    )
     assert map_of(tally, [first]).about == f"1 of 2 cases leaves {rest}"
     tally.add(outcome("y", 1, "A"))
     assert map_of(tally, [first]).about == f"1 of the 2 cases that leave {rest}; 3 in all"
@@ -152,7 +155,7 @@ def test_fields_have_colours_and_shades() -> None:
     keys = tiles.keys_of(CaseMap("", "", [("A",), ("B",)], [row]))
     assert keys == [("follows a clock in holdover", colours.HOLDOVER), ("TIMING LOOP", colours.LOOP)]
     keys = tiles.keys_of(CaseMap("", "", [("A", "B"), ("C",)], [row]))
-    words = ["none without a source", "half", "all", "pair, facing one another", "TIMING LOOP"]
+    words = ["none without a source", "half", "all", "pair, taking timing from each other", "TIMING LOOP"]
     assert [word for word, _ in keys] == words
 
 

@@ -74,7 +74,11 @@ def test_what_is_drawn_beside_a_plan_is_taken_or_refused(folder: Path, word: str
     for chance in chances(word):
         at = EXAMPLES / chance.choice(["ring", "option-two", "bundle"])
         (folder / "damaged").write_bytes(damage.damaged(chance, "rows", (at / file).read_bytes()))
-        assert called(["draw", str(at / "plan.toml"), word, "damaged", "-o", "plan.dot"], Output(False)) in (0, 2)
+        assert called(["draw", str(at / "plan.toml"), word, "damaged", "-o", "plan.dot", "--force"], Output(False)) in (
+            0,
+            2,
+            24,
+        )
 
 
 def test_damaged_plans_are_drawn_or_refused(folder: Path) -> None:

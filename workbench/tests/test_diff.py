@@ -28,7 +28,7 @@ def told(folder: Path, new: str, *more: str) -> list[str]:
     (folder / "b.toml").write_text(new)
     ran = murdjohe("diff", "a.toml", "b.toml", *more, folder=folder)
     assert ran.status == (1 if ran.out else 0), ran.err
-    assert ran.err.endswith("; a.toml checked: accepted; b.toml checked: accepted\n")
+    assert ran.err.endswith("; a.toml checked: accepted, agreed; b.toml checked: accepted, agreed\n")
     return ran.out.decode().splitlines()
 
 
@@ -41,7 +41,7 @@ def told(folder: Path, new: str, *more: str) -> list[str]:
         ('name = "C"', 'name = "C"\nwtr = 0', ["times", "  element C: wait-to-restore 0 min, which was 5 min"]),
         ('name = "C"', 'name = "C"\nholdoff = 500', ["times", "  element C: hold-off 500 ms, which was 300 ms"]),
         ('name = "L2"', 'name = "L2"\ndelay_b = 7', ["times", "  link L2: delay of L2>C 7 ms, which was 1 ms"]),
-        ('name = "C"', 'name = "C"\nown = "QL-eEEC"', ["levels", "  element C: own clock QL-eEEC, which was QL-SEC"]),
+        ('name = "C"', 'name = "C"\nown = "QL-eEEC"', ["levels", "  element C: internal oscillator (own clock) QL-eEEC, which was QL-SEC"]),
         ('level = "QL-PRC"', 'level = "QL-SSU-A"', ["levels", "  source prc-1: level QL-SSU-A, which was QL-PRC"]),
         ('name = "L2"', 'name = "L2"\nbundle = "G"', ["topology", "  link L2: bundle G, which was none"]),
         ('at = "A"', 'at = "C"', ["topology", "  source prc-1: at C, which was A"]),

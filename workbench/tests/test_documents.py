@@ -31,7 +31,7 @@ def test_each_number_of_the_program_has_a_meaning_once() -> None:
         "capture": {40, 41, 42, 14},
         "node": set(range(43, 51)),
         "frame": set(range(4, 12)),
-        "status": {*range(12), 69, 70},
+        "status": {*range(12), *range(20, 25), 69, 70},
     }
     tables = refusals.meanings()
     assert set(tables) == set(wanted)
@@ -177,7 +177,7 @@ def test_commands_that_documents_name_and_that_are_nowhere_are_told(tmp_path: Pa
         "python3 -m json.tool",
         "bench/check PROGRAM",
     ]
-    wrong = {"murdjohe mend PLAN": "murdjohe mend", "bench/nothing PROGRAM": "bench/nothing"}
+    wrong = {"murdjohe correct PLAN": "murdjohe correct", "bench/nothing PROGRAM": "bench/nothing"}
     wrong["python3 -m bench.compare.nothing PROGRAM"] = "bench.compare.nothing"
     document.write_text(", ".join(f"`{code}`" for code in (*right, *wrong)) + "\n", encoding="utf-8")
     ran = started([str(TOP / "docs" / "check_names"), str(document)])

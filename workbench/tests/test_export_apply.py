@@ -41,7 +41,7 @@ def test_each_example_comes_back(folder: Path, path: Path) -> None:
     assert back.status == 0 and without_head(back.out) == without_head(path.read_bytes())
     assert murdjohe("rank", "-", stdin=back.out).out == murdjohe("rank", str(path)).out
     again = murdjohe("export", str(path), folder=folder)
-    assert again.status == 2 and "elements.csv, ./links.csv, ./sources.csv are there already" in again.err
+    assert again.status == 22 and "elements.csv, ./links.csv, ./sources.csv are there already" in again.err
     only = murdjohe("export", str(path), "--only", "links", folder=folder)
     assert only.out == (folder / "links.csv").read_bytes()
 
@@ -120,19 +120,21 @@ def test_apply_takes_what_nominate_printed(folder: Path) -> None:
     (folder / "plan.toml").write_text(COMMENTED)
     (folder / "from.toml").write_bytes(murdjohe("nominate", "plan.toml", folder=folder).out)
     ran = murdjohe("apply", "plan.toml", "from.toml", folder=folder)
-    assert ran.status == 0 and ran.err == "murdjohe: 1 priority changed; checked: accepted\n"
+    assert ran.status == 0 and ran.err == "murdjohe: 1 priority changed; checked: accepted, agreed\n"
     assert ran.out.decode() == COMMENTED.replace('  b = "B"\n', '  b = "B"\n  priority_b = 1\n')
     ran = murdjohe("apply", "plan.toml", "from.toml", "-o", "plan.toml", folder=folder)
-    assert ran.status == 2 and (folder / "plan.toml").read_text() == COMMENTED
+    assert ran.status == 22 and (folder / "plan.toml").read_text() == COMMENTED
     ran = murdjohe("apply", "plan.toml", "from.toml", "-o", "plan.toml", "--force", folder=folder)
-    assert ran.status == 0 and "  priority_b = 1\n" in (folder / "plan.toml").read_text()
+    assert ran.status == 22 and (folder / "plan.toml").read_text() == COMMENTED
+    ran = murdjohe("apply", "plan.toml", "from.toml", "-o", "new.toml", folder=folder)
+    assert ran.status == 0 and "  priority_b = 1\n" in (folder / "new.toml").read_text()
 
 
 def test_a_plan_of_another_network_is_refused(folder: Path) -> None:
     (folder / "plan.toml").write_text(COMMENTED)
     (folder / "from.toml").write_text(COMMENTED.replace("L1", "L2").replace('"S"', '"T"'))
     ran = murdjohe("apply", "plan.toml", "from.toml", folder=folder)
-    assert (ran.status, ran.out) == (2, b"")
+    assert (ran.status, ran.out) == (24, b"")
     assert [line.partition(";")[0] for line in ran.err.splitlines()] == [
         'murdjohe: plan.toml:7: link "L1" between A and B isn\'t in from.toml',
         'murdjohe: plan.toml:12: source "S" at A isn\'t in from.toml',

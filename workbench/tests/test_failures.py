@@ -80,7 +80,9 @@ L1, L2, S = ("{},600000,down,L1,\n", "{},600000,down,L2,\n", "{},600000,down,A-c
 def test_cases_by_hand(folder: Path, words: list[str], rows: list[str], said: str) -> None:
     (folder / "plan.toml").write_text(PLAN)
     ran = murdjohe("failures", "plan.toml", *words, folder=folder)
-    assert (ran.status, ran.out.decode(), ran.err) == (0, HEAD + "".join(rows), f"murdjohe: {said}\n")
+    assert (ran.status, ran.out.decode()) == (0, HEAD + "".join(rows))
+    down = "00:00:02.000 (2,000 ms)" if "--at" in words else "00:10:00.000 (600,000 ms)"
+    assert ran.err == f"murdjohe: {said}\nmurdjohe: what fails goes down at {down}\n"
 
 
 def test_groups_and_common_events(folder: Path) -> None:
@@ -184,12 +186,16 @@ def test_the_program_takes_each_case_of_an_example(folder: Path) -> None:
         (["plan.toml", "--cases", "3-2"], 2, "--cases: '3-2' is no span of cases"),
         (["plan.toml", "--cases", "0-2"], 2, "--cases: '0-2' is no span of cases"),
         (["plan.toml", "--at", "25h"], 2, "--at: at most a day, 24h"),
-        (["plan.toml", "--groups", "none.csv"], 2, "none.csv: No such file"),
-        (["plan.toml", "--groups", "bad.csv"], 2, "bad.csv:2: links: 'L9' names no link of the plan (nearest: \"L2\")"),
-        (["plan.toml", "--groups", "bad.csv"], 2, "bad.csv:3: 'a b' is no name of a group"),
-        (["plan.toml", "--groups", "bad.csv"], 2, "bad.csv:4: the group 'c' has no links"),
+        (["plan.toml", "--groups", "none.csv"], 7, "none.csv: No such file"),
+        (
+            ["plan.toml", "--groups", "bad.csv"],
+            24,
+            "bad.csv:2: links: 'L9' names no link of the plan (nearest: \"L2\")",
+        ),
+        (["plan.toml", "--groups", "bad.csv"], 24, "bad.csv:3: 'a b' is no name of a group"),
+        (["plan.toml", "--groups", "bad.csv"], 24, "bad.csv:4: the group 'c' has no links"),
         (["plan.toml", "--during", "bad.csv"], 5, "bad.csv"),
-        (["plan.toml", "-o", "bad.csv"], 2, "bad.csv is there already"),
+        (["plan.toml", "-o", "bad.csv"], 22, "bad.csv is there already"),
         (["bad.csv"], 3, "bad.csv"),
         (["none.toml"], 7, "none.toml: No such file"),
     ],

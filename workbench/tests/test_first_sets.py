@@ -18,7 +18,7 @@ TRIED = settings(max_examples=max(40, CASES))
 
 
 def is_minimal(graph: nx.DiGraph, removed: frozenset[str]) -> bool:
-    """Whether no ring is left without these lines, and one is with any of them."""
+    """Whether no loop is possible without these lines, and one is with any of them."""
     return not rings.rings_left(graph, removed) and all(rings.rings_left(graph, removed - {one}) for one in removed)
 
 

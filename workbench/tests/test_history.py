@@ -158,8 +158,11 @@ def test_no_change_comes_from_nothing(number: int) -> None:
     history, _, report, _ = random_run(number)
     for row in report.changes[:300]:
         found = list(causes.causes_of(history, row))
-        assert found or row.at == 0, row
-        assert all(causes.time_of(one) == row.at for one in found), (row, found)
+        assert row.at == 0 or any(causes.time_of(one) == row.at for one in found), row
+        # (what had taken other inputs away may have come before)
+        before = set(causes.missed(history, row))
+        assert all(causes.time_of(one) <= row.at for one in before), (row, before)
+        assert all(causes.time_of(one) == row.at for one in found if one not in before), (row, found)
     rows = report.changes[-20:]
     walked, is_whole = causes.walked(history, rows, 200)
     assert is_whole or len(walked) == 200

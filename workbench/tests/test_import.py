@@ -51,7 +51,10 @@ def imported(
 @pytest.mark.parametrize(("links", "plan"), [("links.csv", "plan.toml"), ("links-first.csv", "first.toml")])
 def test_the_stored_plans_are_written(links: str, plan: str) -> None:
     ran = murdjohe("import", "elements.csv", links, "sources.csv", folder=INVENTORY)
-    assert (ran.status, ran.out, ran.err) == (0, (INVENTORY / plan).read_bytes(), "")
+    assert (ran.status, ran.out) == (0, (INVENTORY / plan).read_bytes())
+    # (the first try has a ring of links that are nominated one way round)
+    assert ran.err.startswith("murdjohe: timing may go round over R1>agg-1 -> " if plan == "first.toml" else "")
+    assert bool(ran.err) == (plan == "first.toml")
 
 
 def test_two_tables_to_an_accepted_plan(folder: Path) -> None:
@@ -63,7 +66,7 @@ def test_two_tables_to_an_accepted_plan(folder: Path) -> None:
     words = ["import", "elements.csv", "links.csv", "sources.csv", "-o", "topology.toml"]
     before = (folder / "topology.toml").read_bytes()
     ran = murdjohe(*words, folder=folder)
-    assert (ran.status, ran.err) == (2, "murdjohe: topology.toml is there already; --force writes over it\n")
+    assert (ran.status, ran.err) == (22, "murdjohe: topology.toml is there already; --force writes over it\n")
     assert (folder / "topology.toml").read_bytes() == before
     assert murdjohe(*words, "--force", folder=folder).err == ""
     for forms, file in ((["nominate", "topology.toml"], "plan.toml"), (["rank", "plan.toml"], "certificate.csv")):
@@ -97,9 +100,13 @@ def test_other_headers_are_mapped(folder: Path) -> None:
     links = "Label,Side A,Side B\nL1,A,B\n"
     ran = imported(folder, "--map", "link.name=label", "--map", "a=Side A", "--map", "b=side-b", links=links)
     assert (ran.status, ran.out) == (0, PLAN)
-    for pair, said in (("nam=X", "it has to be COLUMN=HEADER"), ("name", "it has to be"), ("name=X", "no table has")):
+    for pair, status, said in (
+        ("nam=X", 2, "it has to be COLUMN=HEADER"),
+        ("name", 2, "it has to be"),
+        ("name=X", 24, "no table has"),
+    ):
         ran = imported(folder, "--map", pair)
-        assert (ran.status, ran.out) == (2, b"") and said in ran.err
+        assert (ran.status, ran.out) == (status, b"") and said in ran.err
 
 
 def test_names_are_changed_and_listed(folder: Path) -> None:
@@ -137,7 +144,7 @@ def test_all_mistakes_are_told_at_once(folder: Path) -> None:
         links="name,a,b,priority_b,bundle\nL1,A,a,256,X\nL2,A,A,,X\nL1,A,C,,\n",
         sources="name,at,level\nL1,A,PRC\n",
     )
-    assert (ran.status, ran.out) == (2, b"")
+    assert (ran.status, ran.out) == (24, b"")
     said = [line.removeprefix("murdjohe: ") for line in ran.err.splitlines()]
     for begin in (
         "e.csv:1: there is no column 'Hold-off' in a table of elements (nearest: \"holdoff\"); the columns are",
@@ -161,7 +168,7 @@ def test_all_mistakes_are_told_at_once(folder: Path) -> None:
 def test_of_many_mistakes_twenty_are_told(folder: Path) -> None:
     ran = imported(folder, elements="name\nA\nB\n" + "".join(f"x.{number}\n" for number in range(27)))
     lines = ran.err.splitlines()
-    assert ran.status == 2 and len(lines) == SHOWN + 1 == 21 and lines[-1] == "murdjohe: and 7 more mistakes"
+    assert ran.status == 24 and len(lines) == SHOWN + 1 == 21 and lines[-1] == "murdjohe: and 7 more mistakes"
 
 
 @pytest.mark.parametrize(
@@ -187,14 +194,14 @@ def test_of_many_mistakes_twenty_are_told(folder: Path) -> None:
 def test_what_can_not_be_a_plan_is_refused_and_nothing_written(folder: Path, elements: str, said: str) -> None:
     (folder / "plan.toml").write_text("# what stood there before\n")
     ran = imported(folder, "-o", "plan.toml", "--force", elements=elements)
-    assert (ran.status, ran.out) == (2, b"") and said in ran.err
+    assert (ran.status, ran.out) == (24, b"") and said in ran.err
     assert (folder / "plan.toml").read_text() == "# what stood there before\n"
     assert sorted(path.name for path in folder.iterdir()) == ["e.csv", "l.csv", "plan.toml", "s.csv"]
 
 
 def test_of_two_files_none_is_written_where_one_can_not_be(folder: Path) -> None:
     ran = imported(folder, "-o", "plan.toml", "--rename", "no/where.csv")
-    assert ran.status == 2 and "no/where.csv" in ran.err
+    assert ran.status == 8 and "no/where.csv" in ran.err
     assert sorted(path.name for path in folder.iterdir()) == ["e.csv", "l.csv", "s.csv"]
 
 
@@ -207,12 +214,12 @@ def test_the_program_has_the_last_word(folder: Path) -> None:
 @pytest.mark.parametrize("data", ["name\nA\n".encode("utf-16"), b"name\n\xfc\n"])
 def test_other_encodings_are_told(folder: Path, data: bytes) -> None:
     ran = imported(folder, elements=data)
-    assert ran.status == 2 and "e.csv:" in ran.err and "UTF-8" in ran.err
+    assert ran.status == 24 and "e.csv:" in ran.err and "UTF-8" in ran.err
 
 
 def test_a_full_disk_is_told() -> None:
     ran = murdjohe("import", "elements.csv", "links.csv", "sources.csv", "-o", "/dev/full", folder=INVENTORY)
-    assert (ran.status, ran.err) == (2, "murdjohe: /dev/full: No space left on device\n")
+    assert (ran.status, ran.err) == (23, "murdjohe: /dev/full: No space left on device\n")
 
 
 def test_netbox_devices_and_cables(folder: Path) -> None:

@@ -62,7 +62,7 @@ SOURCES = GOOD[GOOD.index("[[source]]") :]
 def test_nothing_is_found_in_a_good_plan() -> None:
     ran = murdjohe("lint", "-", stdin=GOOD.encode())
     assert (ran.status, ran.out) == (0, b"")
-    assert ran.err == "murdjohe: 0 errors, 0 warnings, 0 notes; checked: accepted, protected\n"
+    assert ran.err == "murdjohe: 0 errors, 0 warnings, 0 notes; checked: accepted, agreed, protected\n"
 
 
 @pytest.mark.parametrize(
@@ -118,10 +118,10 @@ CLASH = GOOD.replace("priority_a = 2\npriority_b = 2", "priority_a = 1\npriority
 def test_a_clash_is_told_with_what_to_change(folder: Path) -> None:
     plan = CLASH.replace('level = "QL-PRTC"\npriority = 1', 'level = "QL-PRTC"\npriority = 3')
     ran = murdjohe("lint", "-", stdin=plan.encode())
-    assert ran.status == 0
+    assert ran.status == 1
     assert ran.out.decode() == (
-        "standard input:14: warning: elements may swing for ever over L1>B -> L1>A -> L1>B; "
-        "make L1>A the last resort of A: priority_a = 3 or more of link L1\n"
+        "standard input:14: error: oscillating priorities: elements may take and drop timing for ever over "
+        "L1>B -> L1>A -> L1>B; give L1>A the lowest priority at A: priority_a = 3 or more of link L1\n"
     )
     assert murdjohe("agree", "-", stdin=plan.encode()).out == b"clash L1>B L1>A\n"
     mended = plan.replace("priority_a = 1", "priority_a = 3")
@@ -131,14 +131,14 @@ def test_a_clash_is_told_with_what_to_change(folder: Path) -> None:
 
 def test_a_line_without_room_below_the_others_is_not_told_to_be_the_last() -> None:
     plan = CLASH.replace("priority = 2", "priority = 255").replace('QL-PRTC"\npriority = 1', 'QL-PRTC"\npriority = 255')
-    (found,) = [one for one in told_of(Said(clash=("L1>B", "L1>A")), plan) if "swing" in one.what]
+    (found,) = [one for one in told_of(Said(clash=("L1>B", "L1>A")), plan) if "oscillating" in one.what]
     assert found.remedy == "take the priority of L1>B or L1>A away"
 
 
 def test_a_clash_is_told_only_where_no_ring_is() -> None:
     path = EXAMPLES / "mesh" / "looping.toml"
     assert murdjohe("agree", str(path)).out.startswith(b"clash ")
-    assert "swing" not in murdjohe("lint", str(path)).out.decode()
+    assert "oscillating" not in murdjohe("lint", str(path)).out.decode()
 
 
 @settings(max_examples=max(15, CASES))

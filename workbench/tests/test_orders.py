@@ -52,15 +52,15 @@ level = "QL-PRC"
 """
 TEXT = """A
   1st  source S (priority 1)
-  floor none, hold-off 300 ms, wait-to-restore 5 min, own clock QL-SSU-A
+  floor none, hold-off 300 ms, wait-to-restore 5 min, internal oscillator (own clock) QL-SSU-A
 B
   1st  L1 from A, bundle G (priority 2)
   1st  L2 from A, bundle G (priority 2)
   3rd  L3 from C (priority 9)
-  floor QL-SSU-B, hold-off 500 ms, wait-to-restore 5 min, own clock QL-SEC
+  floor QL-SSU-B, hold-off 500 ms, wait-to-restore 5 min, internal oscillator (own clock) QL-SEC
 C
   no input
-  floor none, hold-off 300 ms, wait-to-restore 0 min, own clock QL-SEC
+  floor none, hold-off 300 ms, wait-to-restore 0 min, internal oscillator (own clock) QL-SEC
 """
 TABLE = """element,place,priority,input,neighbour,link,bundle,floor,holdoff,wtr,own
 A,1,1,S,,,,none,300,5,QL-SSU-A
@@ -81,7 +81,7 @@ C
 def test_orders_of_a_small_plan(folder: Path) -> None:
     (folder / "plan.toml").write_text(PLAN)
     ran = murdjohe("orders", "plan.toml", folder=folder)
-    assert (ran.status, ran.out.decode(), ran.err) == (0, TEXT, "murdjohe: checked: accepted\n")
+    assert (ran.status, ran.out.decode(), ran.err) == (0, TEXT, "murdjohe: checked: accepted, agreed\n")
     assert murdjohe("orders", "plan.toml", "--csv", folder=folder).out.decode() == TABLE
     table = list(csv.DictReader(TABLE.splitlines()))
     for words in (["orders", "plan.toml", "--json"], ["--json", "orders", "plan.toml"]):

@@ -73,10 +73,8 @@ def test_what_is_taken_is_thick_and_what_makes_a_ring_is_red(folder: Path) -> No
     ring = (inventory / "first.answer").read_text().split()[1:]
     assert (folder / "plan.dot").read_text().count('color="#D55E00", style=dashed') == len(ring)
     at = EXAMPLES / "ladder"
-    assert (
-        murdjohe("draw", str(at / "plan.toml"), "--report", str(at / "report"), "-o", "plan.dot", folder=folder).status
-        == 0
-    )
+    words = ["draw", str(at / "plan.toml"), "--report", str(at / "report"), "-o", "plan.dot", "--force"]
+    assert murdjohe(*words, folder=folder).status == 0
     taken = {
         row.split(",")[1]: row.split(",")[3] for row in (at / "report").read_text().splitlines() if row.count(",") == 5
     }
@@ -163,8 +161,8 @@ def test_long_times_are_folded() -> None:
         (["draw", "events.csv", "-o", "plan.dot"], "events.csv: it is no TOML document"),
         (["draw", "plan.toml", "--near", "Q", "-o", "plan.dot"], "--near: Q names no element"),
         (["draw", "plan.toml", "--report", "plan.toml", "-o", "plan.dot"], "plan.toml: it is no report of sim"),
-        (["draw", "plan.toml", "--at", "5", "-o", "plan.svg"], "--at and --events are of a run: name its report"),
-        (["draw", "plan.toml", "--places", "plan.toml", "-o", "plan.svg"], "plan.toml:1: a table of places has"),
+        (["draw", "plan.toml", "--at", "5", "-o", "new.svg"], "--at and --events are of a run: name its report"),
+        (["draw", "plan.toml", "--places", "plan.toml", "-o", "new.svg"], "plan.toml:1: a table of places has"),
         (
             ["timeline", "report", "--plan", "../mesh/plan.toml", "-o", "t.svg"],
             "report: it is a report of another plan",
@@ -181,13 +179,19 @@ def test_long_times_are_folded() -> None:
 )
 def test_what_can_not_be_drawn_is_one_line(words: list[str], said: str) -> None:
     ran = murdjohe(*words, folder=EXAMPLES / "ring")
-    assert (ran.status, ran.out) == (2, b"") and ran.err.startswith(f"murdjohe: {said}") and ran.err.count("\n") == 1
+    # (the file to write, a file to read, what a file has, or the words)
+    has_mistakes = any(part in said for part in (": it is ", ": it doesn't", "a table of places"))
+    unread = "No such file" in said or "Is a directory" in said
+    status = 8 if said.startswith("nosuch/") else 7 if unread else 24 if has_mistakes else 2
+    assert (
+        (ran.status, ran.out) == (status, b"") and ran.err.startswith(f"murdjohe: {said}") and ran.err.count("\n") == 1
+    )
 
 
 def test_a_report_by_priority_alone_is_no_timeline(folder: Path) -> None:
     report = EXAMPLES / "reserve-clock" / "priority-report"
     ran = murdjohe("timeline", str(report), "-o", "t.svg", folder=folder)
-    assert ran.status == 2 and f"{report}:2: it is no row of changes of `sim`" in ran.err
+    assert ran.status == 24 and f"{report}:2: it is no row of changes of `sim`" in ran.err
 
 
 def test_explain_says_what_the_program_itself_answered(core: str) -> None:
@@ -200,7 +204,7 @@ def test_explain_says_what_the_program_itself_answered(core: str) -> None:
         ("rank certificate.csv", 3, "it is a certificate, and no plan"),
         ("rank nosuch", 7, "nosuch: No such file or directory"),
         ("sim plan.toml events.csv soon", 2, 'UNTIL is "soon"'),
-        ("rnk plan.toml", 2, '"rnk" is no form of the program (nearest: "rank")'),
+        ("rnk plan.toml", 2, '"rnk" is an unknown command (nearest: "rank")'),
     ):
         ran = started(["sh", "-c", script.format(core, words, launcher, words)], ring)
         assert ran.status == status and said in ran.out.decode() and ran.err == ""

@@ -163,7 +163,7 @@ WRONG_RECEIVED = {
         ("10,down,L3>C,", '"L3>C" names nothing at this element'),
     ],
     48: [("10,down,L1>B,x", "has a value"), ("10,frame,L1>B,xyz", "has a value")],
-    49: [(f"10,frame,L1>B,{FRAME.hex()[:-2]}", "its frame isn't 60 to 1514 octets long")],
+    49: [(f"10,frame,L1>B,{FRAME.hex()[:-2]}", "its frame isn't 60 to 1514 bytes long")],
 }
 NODE_PLAN = """\
 [[element]]

@@ -203,6 +203,6 @@ def test_plans_in_other_encodings(folder: Path) -> None:
         text, places = plan.text()
         (folder / "plan.toml").write_bytes(text.encode("latin-1"))
         line = places[section, number, "name"]
-        refused("rank", ["plan.toml"], "plan.toml", (22, line, "the octet fc, in Latin-1 a `ü`,"), "bad plan N")
+        refused("rank", ["plan.toml"], "plan.toml", (22, line, "the byte fc, in Latin-1 a `ü`,"), "bad plan N")
         (folder / "plan.toml").write_bytes(text.encode("utf-16"))
         refused("rank", ["plan.toml"], "plan.toml", (22, 1, "UTF-16"), "bad plan N")

@@ -116,7 +116,7 @@ def test_headers(folder: Path, name: str) -> None:
                 (header.replace(",", ", "), "other letters or blanks"),
                 ("L1>B,0", "its first line is no header"),
                 ("1000,down,L1,", "its first line is no header"),
-                ("cycle L1>B L2>C L3>A", "the answer of a `rank` that found a ring"),
+                ("cycle L1>B L2>C L3>A", "the answer of a `rank` that found a possible loop"),
                 ("bad plan 25 18 link 7", "the refusal `bad plan 25 18 link 7` of an earlier command"),
                 ('[[element]]\nname = "A"', "it is a plan"),
             ]
@@ -177,7 +177,7 @@ WRONG_TIMES = [
     ("-5", "no number"),
     ("1.5", "no number"),
     ("", "no number"),
-    ("20m", "write milliseconds: 1200000"),
+    ("20x", "no number"),
     (" 7", "blanks"),
 ]
 WRONG_WORDS = [

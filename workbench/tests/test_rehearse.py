@@ -210,7 +210,9 @@ def test_works_as_a_person_reads_them(folder: Path) -> None:
     mesh = EXAMPLES / "mesh"
     ran = murdjohe("rehearse", str(mesh / "redundant.toml"), str(mesh / "works.csv"), "--start", "02:00:00")
     assert (ran.status, ran.err) == (0, "")
-    assert ran.out.decode().splitlines()[:4] == [
+    assert ran.out.decode().splitlines()[:6] == [
+        "nobody is without a source at the end, 02:36:00.000",
+        "",
         "02:00:00.003  7 changes up to here, before the first event",
         "02:01:00.000  * lockout S2>hub-south",
         "02:01:00.000  hub-south: takes H>hub-south in place of S2>hub-south",
@@ -259,7 +261,7 @@ def stopped_run() -> rehearsals.Rehearsal:
 def test_a_run_that_is_stopped() -> None:
     found = stopped_run()
     said = rehearsals.text_of(found, 0, False)
-    walk = "pair: East and West take from one another: L1>East L1>West"
+    walk = "pair: East and West take timing from each other: L1>East L1>West"
     assert f"  00:00:00.000 to the end, 2 times, 0.016 s in all  {walk}" in said
     assert said[-1] == "the program stopped at 00:00:00.020: more than 200,000 changes"
     assert status_of(found) == 11

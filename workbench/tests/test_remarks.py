@@ -54,7 +54,7 @@ def test_any_spelling_of_a_certificate_will_do(folder: Path, end: str) -> None:
 
 def test_elements_without_a_way_to_a_clock_are_named() -> None:
     first, *rest = said("rank", "-", stdin=CHAIN + SOURCE)
-    assert first == "no ring is left: 4 elements, 2 nominated lines, greatest rank 0"
+    assert first == "no loop is possible: 4 elements, 2 nominated lines, greatest rank 0"
     assert rest == ["2 elements have no way to a clock over nominated lines: C, D"]
     assert said("hops", "-", stdin=CHAIN + SOURCE) == [
         "2 elements have no way to a clock: a link or a source is missing: C, D"
@@ -95,7 +95,8 @@ PAIR = (
 
 def test_a_plan_that_agrees_is_told() -> None:
     assert said("agree", "-", stdin=PAIR) == [
-        "at rest 300.090 seconds after the last event, wherever a level reaches that is better than every own clock",
+        "at rest 300.090 seconds after the last event, wherever a level reaches that is better than every internal oscillator (own clock)",
+        "after failures alone, out of a network at rest and where nothing comes up: 0.330 seconds after the last",
         "2 elements, 2 nominated lines",
     ]
 
@@ -103,7 +104,7 @@ def test_a_plan_that_agrees_is_told() -> None:
 def test_a_clash_is_told() -> None:
     first, *rest = said("agree", "-", stdin=PAIR.replace("= 3", "= 1"), status=1)
     assert first.startswith(
-        "elements may swing for ever over L>B -> L>A -> L>B: make one of these lines its element's last resort"
+        "elements may oscillate for ever over L>B -> L>A -> L>B: give one of these lines the lowest priority at its element"
     )
     assert len(rest) == 2
 
@@ -117,15 +118,24 @@ RING = (
 
 def test_who_wants_a_floor_is_told() -> None:
     both = "1 link or bundle is nominated at both ends: L2"
-    want = "2 elements there have no floor better than the other's own clock, and may swing with it while no source reaches them: "
-    assert said("protect", "-", stdin=RING) == [both, want + "B, C"]
+    want = "2 elements there have no floor better than the other's internal oscillator (own clock), and may oscillate with it while no source reaches them: "
+    single, *rest = said("protect", "-", stdin=RING)
+    assert single == (
+        "at rest, and then one thing fails: everybody who can still have a clock rests on one within 0.303 s, "
+        "if nothing comes up meanwhile; after a repair within 300.017 s"
+    )
+    assert rest == [both, want + "B, C"]
     floored = RING.replace('{ name = "B" }', '{ name = "B", floor = "QL-SSU-B" }')
     assert said("protect", "-", stdin=floored) == [
+        single,
         both,
         want.replace("2 elements there have", "1 element there has") + "C",
     ]
-    assert said("protect", "-", stdin=floored.replace('name = "C"', 'name = "C", floor = "QL-SSU-B"')) == [both]
-    assert said("protect", "-", stdin=CHAIN + SOURCE) == said("hops", "-", stdin=CHAIN + SOURCE)
+    assert said("protect", "-", stdin=floored.replace('name = "C"', 'name = "C", floor = "QL-SSU-B"')) == [single, both]
+    missing, last = said("protect", "-", stdin=CHAIN + SOURCE)
+    assert [missing] == said("hops", "-", stdin=CHAIN + SOURCE) and last.startswith(
+        "at rest, and then one thing fails: "
+    )
 
 
 def test_that_no_plan_is_found_is_told() -> None:
@@ -194,19 +204,23 @@ def test_commands_that_make_a_loop_are_told() -> None:
 
 
 def test_a_sweep_names_the_cuts_and_warns_of_locked() -> None:
-    first, last = said("sweep", "mesh/plan.toml", "60s", "400s")
-    assert first == "3 of 8 cuts leave elements in holdover or free-running (how many): N1 (2), A1 (1), A4 (1)"
+    first, last, end = said("sweep", "mesh/plan.toml", "60s", "400s")
+    few = "3 of 8 cuts leave elements in holdover or free-running at the end (how many): N1 (2), A1 (1), A4 (1)"
+    assert first == few and end.startswith("each link goes down at 00:01:00.000, and only the end, 00:06:40.000, is ")
     assert last.startswith("`locked` counts whoever takes an input")
-    assert said("sweep", "mesh/redundant.toml", "60s", "400s")[0] == "no cut of 8 leaves anybody in holdover"
+    assert said("sweep", "mesh/redundant.toml", "60s", "400s")[0] == "no cut of 8 leaves anybody in holdover at the end"
 
 
 def test_a_study_names_the_cases_that_the_sweep_has_as_cuts() -> None:
     cases = "case,at,what,target,value\n" + "".join(f"{link},60000,down,{link},\n" for link in ("A4", "C", "N1", "A1"))
-    few = "of 4 cases leave elements without a source (how many, most first): "
-    assert said("study", "mesh/plan.toml", "-", "400s", stdin=cases) == [f"3 {few}N1 (2), A4 (1), A1 (1)"]
-    none = ["4 of 4 events are after 59999, and had no effect", "no case of 4 leaves anybody without a source"]
-    assert said("study", "mesh/plan.toml", "-", "59999", stdin=cases) == none
-    assert said("study", "mesh/redundant.toml", "-", "400s", stdin=cases) == none[1:]
+    few = "of 4 cases leave elements without a source at the end (how many, most first): "
+    assert said("study", "mesh/plan.toml", "-", "400s", stdin=cases)[:-1] == [f"3 {few}N1 (2), A4 (1), A1 (1)"]
+    none = [
+        "4 of 4 events are after 59999, and had no effect",
+        "no case of 4 leaves anybody without a source at the end",
+    ]
+    assert said("study", "mesh/plan.toml", "-", "59999", stdin=cases)[:-1] == none
+    assert said("study", "mesh/redundant.toml", "-", "400s", stdin=cases)[:-1] == none[1:]
 
 
 def test_a_run_says_who_follows_no_clock_and_that_it_goes_on(folder: Path) -> None:
@@ -214,7 +228,7 @@ def test_a_run_says_who_follows_no_clock_and_that_it_goes_on(folder: Path) -> No
     lines = said("sim", "mesh/plan.toml", "-", "700s", stdin=events)
     assert lines == [
         "1 of 2 events is after 700000, and had no effect",
-        "2 elements follow no source, but own clocks, at the end: hub-north, cell-1",
+        "2 elements follow no source, but internal oscillators (own clocks), at the end: hub-north, cell-1",
     ]
     lines = said("sim", "mesh/plan.toml", "-", "60100", stdin=events)
     assert lines[-1].startswith("not settled: ")
@@ -226,7 +240,7 @@ def test_a_loop_that_stands_is_told() -> None:
 
 def test_packets_that_are_none_and_the_other_option_are_told() -> None:
     assert said("pcap-decode", "I", "lab/capture.pcap") == [
-        "2 packets are no ESMC frames (another protocol, a VLAN tag, or cut below 60 octets)"
+        "2 packets are no ESMC frames (another protocol, a VLAN tag, or cut below 60 bytes)"
     ]
     rows = "".join(f"020000000001,info,code-{code}\n" for code in (2, 8, 11))
     frames = murdjohe("encode", "II", "-", stdin=rows.encode()).out

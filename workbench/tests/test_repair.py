@@ -56,7 +56,7 @@ def test_a_ring_of_eight_with_two_cores(folder: Path) -> None:
     ran = murdjohe("repair", "naive.toml", folder=folder)
     said = ran.out.decode().splitlines()
     assert (ran.status, ran.err) == (0, "")
-    assert said[0] == "a knot of 24 lines with 36 rings"
+    assert said[0] == "a group of 24 interlocked inputs, 36 possible loops"
     assert (
         said[1] == "take away 4 nominations (least): 0 elements lose the last input, 0 gaps arise, 0 first choices go"
     )
@@ -71,8 +71,13 @@ def test_a_ring_of_eight_with_two_cores(folder: Path) -> None:
         found = re.match(r"naive\.toml:(\d+): (priority_[ab]) = 0 of link (\w+), which was (\d): ", line)
         assert found and lines[int(found[1]) - 1] == f"{found[2]} = {found[4]}"
     # (each site's SSU has its own receiver alone)
-    assert said[6] == "checked: accepted, 2 gaps"
-    assert said[7].startswith("or CA2>CORE-A CB5>CORE-B R12>M1 R56>M6: 0 elements") and len(said) == 9
+    assert said[6] == "checked: accepted, agreed, 2 gaps"
+    others = "it takes away CA2>CORE-A, CB5>CORE-B, R12>M1, R56>M6 in place of CA1>CORE-A, CB6>CORE-B, R12>M2, R56>M5"
+    assert (
+        said[7].startswith("--set 2: 0 elements")
+        and said[7].endswith(f"{others}; it gives R45>M5 a greater number")
+        and len(said) == 9
+    )
 
 
 def test_a_repair_as_json(folder: Path) -> None:
@@ -92,7 +97,10 @@ def test_a_repair_as_json(folder: Path) -> None:
         assert edit["goes"].startswith(f"{edit['link']}>")
     ran = murdjohe("repair", "--json", "-", stdin=murdjohe("gen", "3").out)
     gap = {"kind": "source", "failure": "P0", "elements": 1, "first": "E0"}
-    assert json.loads(ran.out) == {"knots": [], "least": True, "checked": "accepted", "gaps": [gap], "sets": []}
+    assert json.loads(ran.out) == {
+        **{"knots": [], "least": True, "set": 1, "checked": "accepted", "clash": None},
+        **{"gaps": [gap], "sets": []},
+    }
     assert (ran.status, ran.err) == (0, "")
     ran = murdjohe("repair", "--json", "--patch", "naive.toml", folder=folder)
     assert ran.status == 2 and "--patch and --json: standard output has one of them" in ran.err
@@ -107,7 +115,7 @@ def in_knots(text: str) -> tuple[dict[str, Any], Inputs, nx.DiGraph]:
 
 
 def all_sets(graph: nx.DiGraph, inputs: Inputs) -> list[tuple[Cost, frozenset[str]]]:
-    """Every set of lines without which no ring is left and that has no needless one, with its cost: one more costs more."""
+    """Every set of lines without which no loop is possible and that has no needless one, with its cost: one more costs more."""
     found: list[frozenset[str]] = []
     for count in range(len(graph) + 1):
         for lines in combinations(sorted(graph), count):
@@ -288,7 +296,9 @@ def test_a_large_knot_is_said_to_be_found_alone(folder: Path, elements: int, kin
     ran = murdjohe("repair", "plan.toml", "-o", "mended.toml", folder=folder)
     said = ran.out.decode()
     assert ran.status == 0 and kind in said and "\nchecked: accepted, " in said
-    assert int(re.findall(r"a knot of ([\d,]+) lines", said)[0].replace(",", "")) > (40 if elements == 12 else 400)
+    assert int(re.findall(r"a group of ([\d,]+) interlocked inputs", said)[0].replace(",", "")) > (
+        40 if elements == 12 else 400
+    )
     assert murdjohe("rank", "mended.toml", folder=folder).status == 0
 
 
@@ -303,7 +313,7 @@ def test_git_applies_the_patch(folder: Path, is_repository: bool, end: str) -> N
     if is_repository:
         subprocess.run(["git", "init", "-q", str(place)], check=True, env=environment)
     ran = murdjohe("repair", "--patch", "naive.toml", folder=place)
-    assert ran.status == 0 and "murdjohe: checked: accepted, 2 gaps\n" in ran.err
+    assert ran.status == 0 and "murdjohe: checked: accepted, agreed, 2 gaps\n" in ran.err
     run = subprocess.run(["git", "apply"], input=ran.out, cwd=place, env=environment, capture_output=True, check=False)
     assert run.returncode == 0, run.stderr
     after = (place / "naive.toml").read_bytes()
@@ -324,16 +334,22 @@ def test_a_patch_is_that_of_diff(folder: Path, number: int, differ: list[int]) -
 
 def test_a_plan_without_a_ring_is_left_alone() -> None:
     ran = murdjohe("repair", str(EXAMPLES / "metro-ring" / "plan.toml"))
-    assert (ran.status, ran.out, ran.err) == (0, b"", "murdjohe: no ring is left; checked: accepted, 2 gaps\n")
+    assert (ran.status, ran.out, ran.err) == (
+        0,
+        b"",
+        "murdjohe: no loop is possible; checked: accepted, agreed, 2 gaps\n",
+    )
 
 
 @pytest.mark.parametrize("path", sorted(EXAMPLES.glob("*/*.toml")), ids=lambda path: f"{path.parent.name}/{path.name}")
 def test_each_example_is_repaired(folder: Path, path: Path) -> None:
     ran = murdjohe("repair", str(path), "-o", "mended.toml", folder=folder)
     is_ring = murdjohe("rank", str(path)).status == 1
-    assert ran.status == 0 and ("\nchecked: accepted, " in ran.out.decode()) == is_ring
-    if is_ring:
+    is_clash = not is_ring and murdjohe("agree", str(path)).status == 1
+    assert ran.status == 0 and ("\nchecked: accepted, agreed, " in ran.out.decode()) == (is_ring or is_clash)
+    if is_ring or is_clash:
         assert murdjohe("rank", "mended.toml", folder=folder).status == 0
+        assert murdjohe("agree", "mended.toml", folder=folder).status == 0
 
 
 def test_what_can_not_be_repaired_is_told(folder: Path) -> None:
@@ -344,4 +360,4 @@ def test_what_can_not_be_repaired_is_told(folder: Path) -> None:
     assert (ran.status, ran.out) == (3, b"") and 'link "R12" has end a "M99"' in ran.err
     (folder / "there").write_text("")
     ran = murdjohe("repair", "bad.toml", "-o", "there", folder=folder)
-    assert ran.status == 2 and "there is there already" in ran.err
+    assert ran.status == 22 and "there is there already" in ran.err

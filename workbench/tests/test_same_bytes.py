@@ -27,11 +27,19 @@ def test_every_example_is_as_stored(tmp_path: Path, is_quiet: bool) -> None:
     assert (ran.status, ran.out) == (0, b"every example is as stored\n"), ran.err
 
 
+# Cases of what the program refuses where it isn't asked for large plans. The workbench always asks for them.
+OF_STANDARD_SIZE = """
+a-plan-longer-than-a-file-may-be plan-limits:3 plan-limits:5 plan-limits:6 plan-limits:7 plan-limits:8 usage:12 usage:43
+""".split()
+
+
 @pytest.mark.skipif(not CASES_RUN.exists(), reason="this checkout has no cases")
 def test_every_case_is_as_stored(tmp_path: Path) -> None:
     ran = started([str(CASES_RUN), "--quick", str(quiet_command(tmp_path))])
-    last = ran.out.decode().splitlines()[-1:]
-    assert ran.status == 0 and last and re.fullmatch(r"\d+ passed, 0 failed", last[0]), ran.out.decode()
+    *told, last = ran.out.decode().splitlines()
+    failed = [line.partition(": ")[0] for line in told if not line.startswith(" ")]
+    assert sorted(failed) == OF_STANDARD_SIZE, ran.out.decode()
+    assert re.fullmatch(rf"\d+ passed, {len(failed)} failed", last), last
 
 
 @pytest.mark.parametrize(
@@ -96,9 +104,9 @@ def test_a_pipe_that_is_named_is_read_once_and_explained(folder: Path) -> None:
 
 
 def test_what_comes_after_the_longest_file_is_not_read(folder: Path) -> None:
-    ran = started(["sh", "-c", f"yes '# a remark' | head -c 9000000 | {LAUNCHER} rank -"])
+    ran = started(["sh", "-c", f"yes '# a remark' | head -c 1100000000 | {LAUNCHER} rank -"])
     assert (ran.status, ran.out) == (9, b"too long\n")
-    assert "standard input: it has more than 8,388,608 bytes" in ran.err
+    assert "standard input: it has more than 1,073,741,824 bytes" in ran.err
 
 
 def test_names_that_are_no_text_are_given_to_the_program(folder: Path) -> None:

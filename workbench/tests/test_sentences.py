@@ -29,14 +29,14 @@ def sentence(folder: Path, form: str, *files: str | bytes, more: tuple[str, ...]
         ("case,at,what,target,value\n", "one:1: `case,at,what,target,value`: it is a list of cases, and no plan"),
         ("case,settled,locked\n", "one:1: `case,settled,locked`: it is a table of `study`, and no plan"),
         ("bad plan 25 18 link 7\n", "it is the refusal `bad plan 25 18 link 7` of an earlier command, whose own file"),
-        ("cycle L1>B L2>C L3>A\n", "it is the answer of a `rank` that found a ring"),
+        ("cycle L1>B L2>C L3>A\n", "it is the answer of a `rank` that found a possible loop"),
         ("name;a;b\nL1;A;B\n", "it is a table, and no plan; `murdjohe import` makes a plan of tables"),
         (b"\xd4\xc3\xb2\xa1", "one: it is a capture, and no plan"),
         (
             RING.encode("utf-16"),
             "one:1: `# Three sites, each of which takes its timing from the one before: a ring of hops.`: it is text in UTF-16",
         ),
-        (b'[[element]]\nname = "Z\xfcrich"\n', 'one:2: `name = "Z�rich"`: the octet fc, in Latin-1 a `ü`, is no UTF-8'),
+        (b'[[element]]\nname = "Z\xfcrich"\n', 'one:2: `name = "Z�rich"`: the byte fc, in Latin-1 a `ü`, is no UTF-8'),
         ('[[element]]\nname = "A\n', 'one:2: `name = "A`: it is no TOML document: Illegal character'),
         (
             '[[element]]\nname = "A"\nwtr = 99999999999999999999\n',
@@ -106,7 +106,7 @@ def test_plans(folder: Path, plan: str | bytes, said: str) -> None:
         ("Line,Rank\n", "two:1: `Line,Rank`: its header has other letters or blanks"),
         (
             "cycle L1>B L2>C L3>A\n",
-            "two:1: `cycle L1>B L2>C L3>A`: it is the answer of a `rank` that found a ring, and no certificate",
+            "two:1: `cycle L1>B L2>C L3>A`: it is the answer of a `rank` that found a possible loop, and no certificate",
         ),
         (b"\xff\xfel\0i\0", 'two:1: `li`: it is text in UTF-16, as Excel\'s "Unicode text" is'),
         ("line,rank\nL1>B;0\n", "two:2: `L1>B;0`: the row has a semicolon between its fields; write a comma"),
@@ -136,7 +136,10 @@ def test_certificates(folder: Path, certificate: str | bytes, said: str) -> None
         ("5,clear,L1>B,", '"L1>B" is a line, into element B; `clear` takes an element'),
         ("5,level,L1>B,QL-PRC", '"L1>B" is a line, into element B; `level` takes a source'),
         ("5,down,l1,", '"l1" names nothing in the plan (nearest: "L1")'),
-        ("20m,down,L1,", 'two:2: `20m,down,L1,`: the time "20m" has units; write milliseconds: 1200000'),
+        (
+            "20x,down,L1,",
+            'two:2: `20x,down,L1,`: "20x" is no number from 0 to 86400000; write whole milliseconds, digits alone, or 90s, 5m, 02:10',
+        ),
     ],
 )
 def test_events(folder: Path, row: str, said: str) -> None:
@@ -187,13 +190,18 @@ def test_which_file_can_not_be_read_and_why(folder: Path) -> None:
 
 
 def test_which_file_is_too_long(folder: Path) -> None:
+    """A plan may have a gibibyte; what isn't a plan, and stands beside none or beside one of standard size, has less."""
     (folder / "long").write_bytes(b"#" * 8_388_609)
+    with open(folder / "longer", "wb") as longer:
+        longer.truncate(1_073_741_825)
     (folder / "plan").write_text(RING)
-    for words in (["rank", "long"], ["check", "plan", "long"]):
+    for words, said in (
+        (["rank", "longer"], "longer: it has more than 1,073,741,824 bytes"),
+        (["check", "plan", "long"], "long: it has more than 8,388,608 bytes"),
+        (["decode", "I", "long"], "long: it has more than 8,388,608 bytes"),
+    ):
         ran = murdjohe(*words, folder=folder)
-        assert (ran.status, ran.out) == (9, b"too long\n") and ran.err.startswith(
-            "murdjohe: long: it has more than 8,388,608 bytes"
-        )
+        assert (ran.status, ran.out) == (9, b"too long\n") and ran.err.startswith(f"murdjohe: {said}"), ran.err
 
 
 @pytest.mark.parametrize(

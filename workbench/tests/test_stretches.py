@@ -98,7 +98,7 @@ def test_parts_are_cut_where_the_program_takes_no_more(found: list[Failure], row
     wanted, held = list[str](), ""
     with pytest.MonkeyPatch.context() as patched:
         patched.setattr(portions, "MOST_ROWS", 8 + rows)
-        patched.setattr(core, "LONGEST_FILE", head + 300 + octets)
+        patched.setattr(core, "LONGEST_BESIDE", head + 300 + octets)
         for _, text in plain_cases(found, True, (1, None)):
             if held and ((held + text).count("\n") > 8 + rows or len(held + text) > 300 + octets):
                 wanted.append(held)

@@ -114,29 +114,37 @@ def test_json_has_the_columns_in_order(folder: Path) -> None:
 
 
 def test_cases_that_leave_somebody_without_a_source_are_told_worst_first(folder: Path) -> None:
-    some = "3 of 4 cases leave elements without a source (how many, most first): all (3), cut (2), last (1)"
-    assert said(folder, TABLE, until="90000") == [some]
+    some = "3 of 4 cases leave elements without a source at the end (how many, most first): all (3), cut (2), last (1)"
+    end = "only the end, 00:01:30.000, is looked at: what is lost and back by then isn't counted"
+    assert said(folder, TABLE, until="90000") == [some, end]
     one = "\n".join(TABLE.splitlines()[:3]) + "\n"
-    assert said(folder, one)[-1] == "1 of 2 cases leaves elements without a source (how many, most first): cut (2)"
+    assert (
+        said(folder, one)[-2]
+        == "1 of 2 cases leaves elements without a source at the end (how many, most first): cut (2)"
+    )
     none = "\n".join(TABLE.splitlines()[:3:2]) + "\n"
-    assert said(folder, none)[-1] == "no case of 1 leaves anybody without a source"
+    assert said(folder, none)[-2] == "no case of 1 leaves anybody without a source at the end"
 
 
 def test_many_cases_are_counted_and_the_worst_of_them_named(folder: Path) -> None:
     rows = "".join(f"c{number},yes,9,1,0,0,QL-SEC,none,{number % 50},A,1\n" for number in range(1000))
-    (line,) = said(folder, f"{COLUMNS}\n{rows}", until="90000")
+    line, _ = said(folder, f"{COLUMNS}\n{rows}", until="90000")
     worst = ", ".join(f"c{number} (49)" for number in range(49, 600 + 49, 50))
-    assert line == f"980 of 1,000 cases leave elements without a source (how many, most first): {worst} and 968 more"
+    assert (
+        line
+        == f"980 of 1,000 cases leave elements without a source at the end (how many, most first): {worst} and 968 more"
+    )
 
 
 def test_rows_that_are_not_settled_and_loops_are_told(folder: Path) -> None:
     rows = "x,no,1,0,1,0,QL-SEC,none,0,,1\ny,no,2,0,0,1,QL-SEC,none,0,,61\nz,yes,2,0,0,0,QL-SEC,none,0,,60\n"
     assert said(folder, f"{COLUMNS}\n{rows}") == [
         "1 of 4 events is after 10000, and had no effect",
-        "no case of 3 leaves anybody without a source",
-        "2 rows not settled, take a later UNTIL: x, y",
+        "no case of 3 leaves anybody without a source at the end",
+        "2 rows not settled, run longer, to a later UNTIL: x, y",
         "loops stand in 1 case: y",
         "traces of more than G.803's 60 lines in 1 case: y (61)",
+        "only the end, 00:00:10.000, is looked at: what is lost and back by then isn't counted",
     ]
 
 
@@ -149,7 +157,7 @@ def test_events_after_the_end_are_counted_in_common_rows_and_cases(folder: Path)
 def test_a_list_without_a_case_is_told(folder: Path) -> None:
     none = ["there is no case, and so no row: the first field of an event names its case"]
     assert said(folder, f"{COLUMNS}\n", HEAD) == none
-    assert said(folder, f"{COLUMNS}\n", HEAD + ",5,down,L1,\n") == none
+    assert said(folder, f"{COLUMNS}\n", HEAD + ",5,down,L1,\n")[:-1] == none  # (and then that 5 is no second)
 
 
 TWICE = "a,5,down,L1,\na,9,down,L2,\n\nb,5,down,S,\na,9,up,L1,\n"
@@ -192,7 +200,12 @@ REFUSED = [
         6,
         'the case "a" stood above, up to line 3, and other rows came between; put all rows of a case together, or give one of',
     ),
-    ("a,20m,down,L1,\n", "28 1", 2, 'the time "20m" has units; write milliseconds: 1200000'),
+    (
+        "a,20x,down,L1,\n",
+        "28 1",
+        2,
+        '"20x" is no number from 0 to 86400000; write whole milliseconds, digits alone, or 90s, 5m, 02:10',
+    ),
     ("a,86400001,down,L1,\n", "28 1", 2, '"86400001" is no number from 0 to 86400000; write whole milliseconds'),
     (
         "a,5,down,L1,\nb,9,down,L1,\nb,8,down,L2,\n",
@@ -244,8 +257,8 @@ def test_a_refused_row_is_told_with_its_line(folder: Path, rows: str, number: st
 
 MANY = HEAD + "a,5,clear,A,\n" * 100_001
 TOO_MANY = (
-    "cases.csv:100002: `a,5,clear,A,`: the row is one too many: there are more than 100,000 rows; put some of the cases into "
-    "another list"
+    "cases.csv:100002: `a,5,clear,A,`: the row is one too many: there are more than 100,000 rows, or 5,000,000 beside a large "
+    "plan; put some of the cases into another list"
 )
 
 
@@ -319,11 +332,12 @@ def test_the_command_has_the_rows_and_says_what_they_are(folder: Path) -> None:
     rows = TABLE.replace("late,yes,3,0,0,0,QL-PRC,300021,0,,2", "late,no,3,0,0,0,QL-PRC,390021,0,,2")
     assert (ran.status, ran.out.decode()) == (0, rows)
     assert ran.err.splitlines() == [
-        "murdjohe: 3 of 4 cases leave elements without a source (how many, most first): all (3), cut (2), last (1)",
-        "murdjohe: 1 row not settled, take a later UNTIL: late",
+        "murdjohe: 3 of 4 cases leave elements without a source at the end (how many, most first): all (3), cut (2), last (1)",
+        "murdjohe: 1 row not settled, run longer, to a later UNTIL: late",
+        "murdjohe: only the end, 00:01:30.000, is looked at: what is lost and back by then isn't counted",
     ]
     told = json.loads(murdjohe("study", "plan.toml", "cases.csv", "10s", "--json", folder=folder).out)
-    assert [row["first"] for row in told["answer"]["rows"]] == ["B", None, "C", "A"] and len(told["said"]) == 2
+    assert [row["first"] for row in told["answer"]["rows"]] == ["B", None, "C", "A"] and len(told["said"]) == 3
 
 
 @pytest.mark.parametrize(("rows", "number", "line", "sentence"), REFUSED)

@@ -29,7 +29,7 @@ def shell(script: str, **settings: str) -> tuple[int, bytes, str]:
 @pytest.mark.parametrize("output", [">&-", "> /dev/full"])
 def test_closed_and_full_output_end_with_the_programs_status(words: str, output: str) -> None:
     status, _, err = shell(f"{LAUNCHER} {words} {output}")
-    assert status == 8
+    assert status == (8 if output == ">&-" else 23)
     assert err.startswith("murdjohe: standard output: ") and "Traceback" not in err and err.count("\n") == 1
 
 
@@ -59,7 +59,7 @@ def test_other_streams_may_be_closed_or_full(closing: str) -> None:
 )
 def test_standard_input_that_is_closed_is_empty(words: str) -> None:
     status, _, err = shell(f"cd $(mktemp -d); {LAUNCHER} {words} <&-")
-    assert status in ((1,) if words == "lint -" else (0, 2))
+    assert status in ((1,) if words == "lint -" else (0, 2, 24))
     assert "Traceback" not in err and all(line.startswith("murdjohe: ") for line in err.splitlines())
     assert len(err.splitlines()) <= (7 if words.startswith("import") else 1)
 

@@ -39,7 +39,8 @@ def test_rows_are_in_order_however_they_are_cut(double: Double, capfd: pytest.Ca
     assert sorted(int(call.split()[2]) for call in double.calls()) == sorted(
         min(int(size), 21 - first) for first in range(0, 21, int(size))
     )
-    assert ran.err == f"murdjohe: 21 cases worked up to {UNTIL}, 0 were worked before; parts are in murdjohe-parts\n"
+    worked = f"murdjohe: 21 cases worked up to {UNTIL}, 0 were worked before; parts are in murdjohe-parts\n"
+    assert ran.err == f"murdjohe: what fails goes down at 00:10:00.000 (600,000 ms)\n{worked}"
 
 
 def test_a_table_has_the_rows_of_its_failures(double: Double, capfd: pytest.CaptureFixture[str]) -> None:
@@ -74,7 +75,7 @@ def test_some_cases_of_a_table_and_none(double: Double, capfd: pytest.CaptureFix
     assert rows_in("some.csv") == core_double.rows_of(table_of(), UNTIL)[19:]
     ran = surveyed(capfd, PLAN, "cases.csv", "--cases", "22-30", "-o", "none.csv")
     assert (ran.status, rows_in("none.csv")) == (0, [])
-    assert ran.out.startswith(b"0 cases: 0 cases leave an element without a source\n")
+    assert ran.out.startswith(b"0 cases, each looked at in its last millisecond alone, ")
 
 
 def test_the_summary_has_the_worst_first(double: Double, capfd: pytest.CaptureFixture[str]) -> None:
@@ -93,7 +94,7 @@ def test_the_summary_has_the_worst_first(double: Double, capfd: pytest.CaptureFi
     firsts = [row.first for row in rows if row.first]
     assert told["first"] == {name: firsts.count(name) for name in firsts}
     lines = surveyed(capfd, PLAN, *EACH, "--worst", "4", "--size", "6").out.decode().splitlines()
-    at = lines.index("who loses the clock, most elements first:")
+    at = lines.index("who has no source at the end, whatever the cause, most elements first:")
     assert [line.split()[:3] for line in lines[at + 2 : at + 6]] == [
         [row.case, str(row.lost), row.first] for row in worst
     ]
@@ -195,7 +196,7 @@ def test_a_damaged_part_is_worked_again(
     ("settings", "status", "said"),
     [
         ({"dies": "L2"}, 69, "murdjohe-core was ended by signal 9"),
-        ({"short": "L2"}, 2, "the program's answer to a part can't be read: its rows aren't those of the cases"),
+        ({"short": "L2"}, 70, "the program's answer to a part can't be read: its rows aren't those of the cases"),
         ({"refuses": "L2"}, 5, "the failures: `L2,600000,down,L2,`: the row "),
     ],
 )
@@ -233,9 +234,9 @@ def test_a_program_without_studies_is_told(double: Double, capfd: pytest.Capture
             "cases.csv:4: `a,6,down,L2,`: the case 'a' has rows from line 2 on",
         ),
         (f'{HEAD}a,5,down,"L1,\n', 5, "cases.csv:2: "),
-        (f"{HEAD}a,5,down,L1\xff,\n", 2, "cases.csv: behind line "),
-        (gzip.compress(HEAD.encode() * 99)[:-9], 2, "cases.csv: it is packed by gzip, and damaged behind line "),
-        (f"{HEAD}a," + "5" * 9_000_000 + "\n", 2, "cases.csv:2: it is no CSV: field larger than field limit"),
+        (f"{HEAD}a,5,down,L1\xff,\n", 24, "cases.csv: behind line "),
+        (gzip.compress(HEAD.encode() * 99)[:-9], 24, "cases.csv: it is packed by gzip, and damaged behind line "),
+        (f"{HEAD}a," + "5" * 9_000_000 + "\n", 24, "cases.csv:2: it is no CSV: field larger than field limit"),
         (f"{HEAD}a,5,down,L1,\n" + "a,5,down,L1,\n" * 100_000, 5, "cases.csv: the case 'a' has 100,001 rows"),
     ],
     ids=["empty", "events", "short-row", "late-common", "name", "apart", "quote", "latin-1", "cut", "field", "rows"],
@@ -260,24 +261,26 @@ def test_a_row_that_the_program_refuses_has_its_line(double: Double, capfd: pyte
 
 
 @pytest.mark.parametrize(
-    ("words", "said"),
+    ("words", "said", "status"),
     [
-        (["cases.csv", "--pairs"], "--pairs makes cases, and cases.csv has them: leave out one or the other"),
-        (["cases.csv", "--at", "5m"], "--at makes cases, and cases.csv has them"),
-        (["none.csv"], "none.csv: No such file"),
-        (["--cases", "3-2"], "--cases: '3-2' is no span of cases"),
-        (["--at", "25h"], "--at: at most a day, 24h"),
-        (["--until", "25h"], "--until: at most a day, 24h"),
-        (["-o", "settings.json"], "settings.json is there already"),
-        (["--parts", "settings.json"], "settings.json: File exists"),
-        (["--size", "0"], "0 is not in the range"),
-        (["--jobs", "2", "--scheduler", "tcp://127.0.0.1:1"], "--jobs is for this machine alone"),
+        (["cases.csv", "--pairs"], "--pairs makes cases, and cases.csv has them: leave out one or the other", 2),
+        (["cases.csv", "--at", "5m"], "--at makes cases, and cases.csv has them", 2),
+        (["none.csv"], "none.csv: No such file", 7),
+        (["--cases", "3-2"], "--cases: '3-2' is no span of cases", 2),
+        (["--at", "25h"], "--at: at most a day, 24h", 2),
+        (["--until", "25h"], "--until: at most a day, 24h", 2),
+        (["-o", "settings.json"], "settings.json is there already", 22),
+        (["--parts", "settings.json"], "settings.json: File exists", 8),
+        (["--size", "0"], "0 is not in the range", 2),
+        (["--jobs", "2", "--scheduler", "tcp://127.0.0.1:1"], "--jobs is for this machine alone", 2),
     ],
 )
-def test_wrong_words_are_told(double: Double, capfd: pytest.CaptureFixture[str], words: list[str], said: str) -> None:
+def test_wrong_words_are_told(
+    double: Double, capfd: pytest.CaptureFixture[str], words: list[str], said: str, status: int
+) -> None:
     Path("cases.csv").write_text(f"{HEAD}a,5,down,L1,\n")
     ran = surveyed(capfd, PLAN, *words)
-    assert (ran.status, ran.out) == (2, b"") and ran.err.startswith("murdjohe: ") and said in ran.err
+    assert (ran.status, ran.out) == (status, b"") and ran.err.startswith("murdjohe: ") and said in ran.err
     assert ran.err.count("\n") == 1 and double.calls() == []
 
 

@@ -78,7 +78,7 @@ def test_the_example_in_the_help_runs(folder: Path, has_study: str) -> None:
     lines = re.findall(r"^ +\$ (.+)$", murdjohe("survey", "--help").out.decode(), re.M)
     ran = started(["sh", "-c", "set -e; PATH=$PWD:$PATH\n" + "\n".join(lines)], folder)
     assert any("murdjohe survey " in line for line in lines) and ran.status == 0, ran.err
-    assert ran.out.startswith(f"{len(rows_in('rows.csv.gz'))} cases: ".encode())
+    assert ran.out.startswith(f"{len(rows_in('rows.csv.gz'))} cases, each looked at in its last ".encode())
 
 
 def test_the_program_names_the_row_that_it_refuses(

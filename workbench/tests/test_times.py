@@ -22,6 +22,8 @@ from murdjohe.times import milliseconds
         ("00:20:00", 1_200_000),
         ("24:00:00", 86_400_000),
         ("1:02:03", 3_723_000),
+        ("02:10", 7_800_000),
+        ("00:00:01.250", 1_250),
     ],
 )
 def test_units_are_taken(word: str, time: int) -> None:
@@ -43,7 +45,9 @@ def test_units_are_taken(word: str, time: int) -> None:
         "1:2:3",
         "00:60:00",
         "00:00:60",
-        "1:00",
+        "1:0",
+        "1:60",
+        "01:00.5",
         "1e3s",
         "٣m",
         "1d",

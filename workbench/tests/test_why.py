@@ -18,11 +18,11 @@ from murdjohe.wrong import Wrong
 
 METRO = EXAMPLES / "metro-ring"
 WORKS = """\
-At 300000 ms north-1 takes nothing since 120302 ms: it is in holdover, and has the level of its own clock, QL-SEC.
+At 300000 ms north-1 takes nothing since 120302 ms: it is in holdover, and has the level of its internal oscillator (own clock), QL-SEC.
 Why not its inputs:
   N1>north-1 (from core-1) is locked out by the operator since 60000 ms; QL-PRC is heard on it, and it is up.
   N2>north-1 (from north-2) is below the floor: QL-SEC is heard on it since 120302 ms, and the floor of north-1 is \
-QL-SSU-B; north-2 takes nothing, and has this of its own clock.
+QL-SSU-B; north-2 takes nothing, and has this of its internal oscillator (own clock).
 What brought it about:
    60000 ms  * lockout N1>north-1
    60000 ms  north-1: takes N2>north-1 in place of N1>north-1
@@ -52,7 +52,7 @@ What brought it about:
   60300 ms  north-1: takes N2>north-1 in place of N1>north-1
 """
 SILENT = """\
-At 8000 ms B takes nothing since 7010 ms: it is in holdover, and has the level of its own clock, QL-SEC.
+At 8000 ms B takes nothing since 7010 ms: it is in holdover, and has the level of its internal oscillator (own clock), QL-SEC.
 Why not its input:
   L1>B (from A) is silent since 7010 ms: the last message over it came at 2010 ms, and counted for five seconds; its ESMC \
 is off since 2500 ms.
@@ -98,9 +98,9 @@ def test_why_nothing_is_heard() -> None:
     assert said[0] == "At 8000 ms C takes L2>C (from B), priority 1, since 10 ms, and has QL-SEC since 7020 ms."
     assert said[1:5] == [
         "It has no other input.",
-        "Up the trace, 1 line to the own clock of B:",
+        "Up the trace, 1 line to the internal oscillator (own clock) of B:",
         "  C takes L2>C from B, at QL-SEC.",
-        "  B takes nothing: its own clock, in holdover, at QL-SEC.",
+        "  B takes nothing: its internal oscillator (own clock), in holdover, at QL-SEC.",
     ]
     assert said[-2:] == [
         "  7020 ms  C hears QL-SEC on L2>C, sent by B at 7010 ms",

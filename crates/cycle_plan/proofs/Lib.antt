@@ -15,3 +15,7 @@ pub mod OneCycle
 pub mod WatchLemmas
 pub mod BoundLemmas
 pub mod AgreedLemmas
+pub mod TimeLaws
+pub mod LateLemmas
+pub mod FailureLemmas
+pub mod FailureBound

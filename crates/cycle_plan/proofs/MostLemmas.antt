@@ -146,7 +146,7 @@ module _ (plan : Topology) (order : List LineId) (n line : ℕ) (count : List �
       cases false = is.few
 
 -- what stands among the first n stands among one more
-more_first : (order : List LineId) (n line : ℕ) → IsAmongFirst order n line → IsAmongFirst order (n + 1) line
+pub more_first : (order : List LineId) (n line : ℕ) → IsAmongFirst order n line → IsAmongFirst order (n + 1) line
 more_first order n line first = record { place = first.place; early = omega (arith, first.early); there = first.there }
 
 more_counted : (plan : Topology) (order : List LineId) (n element : ℕ) (count : List ℕ → ℕ) (line : ℕ) (before : List ℕ) (counted : ℕ)
@@ -154,7 +154,7 @@ more_counted : (plan : Topology) (order : List LineId) (n element : ℕ) (count 
 more_counted plan order n element count line before counted is = record { first = more_first order n line is.first; chain = is.chain; is = is.is }
 
 -- what stands among n + 1 stands among n, or is the line at place n
-one_less : (order : List LineId) (n line other : ℕ) → line_in order n ≡ Some line → IsAmongFirst order (n + 1) other
+pub one_less : (order : List LineId) (n line other : ℕ) → line_in order n ≡ Some line → IsAmongFirst order (n + 1) other
     → IsAmongFirst order n other ⊎ (line ≡ other)
 one_less order n line other here first = elim (cases_lt first.place n) [
   | inl early ↦ inl (record { place = first.place; early = early; there = first.there })

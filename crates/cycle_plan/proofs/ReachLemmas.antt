@@ -1,5 +1,5 @@
 -- All three counts of the chains into each element, with one line more.
-use Rattle.std.proofs.Common.{◌≡◌, ℕ, ◌+◌, ◌<◌, ◌≤◌, Bool, true, false, List, length, get_or, Option, Some, None, refl, sym, ap, subst, ◌∙◌, inl, inr, arith}
+use Rattle.std.proofs.Common.{◌≡◌, ℕ, ◌*◌, ◌+◌, ◌<◌, ◌≤◌, Bool, true, false, List, length, get_or, Option, Some, None, refl, sym, ap, subst, ◌∙◌, inl, inr, arith}
 use Rattle.std.specs.Prelude.{◌≢◌, slice_get, slice_set, slice_index_or, replicate, map, if◌then◌else◌}
 use Rattle.std.specs.Option.{option_map}
 use Rattle.std.proofs.lemmas.Bool.{cases_eq}
@@ -8,6 +8,7 @@ use Rattle.std.proofs.lemmas.Option.{none-some, same_Some, slice_get_within, sli
 use Rattle.sync_topo.specs.declared.input.LineId.{LineId}
 use Rattle.sync_topo.specs.declared.returns.ReturnRule.TheVariants.{Barred}
 use Rattle.sync_topo.specs.Topology.{Topology}
+use Rattle.sync_topo.specs.Limits.{link_limit}
 use Rattle.sync_topo.specs.Lines.{line_count, IsNominated, sender_of, receiver_of}
 use Rattle.sync_topo.specs.Bundles.{line_bundle}
 use Rattle.sync_topo.specs.Hops.{Hops}
@@ -63,7 +64,7 @@ pub line_within : (plan : Topology) (ranks : Ranks) (order : List LineId) (place
 line_within plan ranks order place line ordered within read = IsNominated-within plan line.0 (ordered.only place line.0 (line_there order place line within read))
 
 -- what a new count can't exceed
-small_but : (most : Most) (n bundle : ℕ) → most.most ≤ n → most.without ≤ n → n < 8000 → most_but most bundle < 2147483648
+small_but : (most : Most) (n bundle : ℕ) → most.most ≤ n → most.without ≤ n → n < 2 * link_limit → most_but most bundle < 2147483648
 small_but most n bundle few few_others low = cases (most_but most bundle) refl
   where
     either : (same : Bool) → (if same then most.without else most.most) ≤ n
@@ -84,7 +85,7 @@ pub has_room : (plan : Topology) (ranks : Ranks) (order : List LineId) (n elemen
 has_room plan ranks order n element bundle reaches well ordered within are inside =
     let few = ordered.few in
     let links = well.few_links in
-    let low : n < 8000 = omega (arith, within, few, links) in
+    let low : n < 2 * link_limit = omega (arith, within, few, links) in
     let is = are.each element (slice_index_or reaches element no_reach) (slice_get-get_or reaches element no_reach (rw are.counted inside)) in
     record {
       links = small_but (slice_index_or reaches element no_reach).links n bundle is.links.few is.links.few_others low;

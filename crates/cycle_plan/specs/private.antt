@@ -2,6 +2,7 @@
 pub mod Agreed
 pub mod BoundParts
 pub mod Inputs
+pub mod Latest
 pub mod Mosts
 pub mod Numbers
 pub mod Peeling

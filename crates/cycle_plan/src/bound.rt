@@ -11,7 +11,7 @@ use rank_cert::Cert;
 use std::alloc::Global;
 use sync_ql::limits::{GREATEST_DELAY, GREATEST_WTR, HEARING_TIME, LAST_MILLISECOND};
 use sync_text::NoMemory;
-use sync_topo::{Element, InputId, LineId, Plan, bundle_law};
+use sync_topo::{Element, InputId, LineId, MOST_LINKS, Plan, bundle_law};
 
 /// From when on a network of the plan is settled after its last event, at 0 to 86,400,000
 /// milliseconds: whatever happened until then, it is settled in every millisecond from the answer on.
@@ -42,10 +42,10 @@ pub fn settling_bound(alloc: Global, plan: &Plan, last: u64) -> Result<Option<u6
 
 /// The delay once for each rank from 0 to the greatest.
 pub(crate) fn time_of_ranks(rank: u64, delay: u64) -> u64
-    requires rank { rank ≤ 8000 }
+    requires rank { rank ≤ 2 * MOST_LINKS }
     requires delay { delay ≤ GREATEST_DELAY }
     ensures time { result ≡ (rank + 1) * delay }
-    ensures at_most { result ≤ 8001 * GREATEST_DELAY }
+    ensures at_most { result ≤ (2 * MOST_LINKS + 1) * GREATEST_DELAY }
 {
     (rank + 1) * delay
 }
@@ -109,7 +109,7 @@ pub(crate) fn greatest_rank(plan: &Plan, cert: &Cert) -> u64
     requires counted { length cert.now ≡ line_count plan.now }
     requires few { (line rank : ℕ) → rank_at cert.now line ≡ Some rank → rank < line_count plan.now }
     ensures greatest { IsRankBelow plan.now cert.now (line_count plan.now) result }
-    ensures few { result ≤ 8000 }
+    ensures few { result ≤ 2 * MOST_LINKS }
 {
     let mut greatest = 0;
     for number in 0..plan.lines() {
@@ -119,7 +119,7 @@ pub(crate) fn greatest_rank(plan: &Plan, cert: &Cert) -> u64
 }
 
 /// The greater of two numbers.
-fn greater(one: u64, other: u64) -> u64
+pub(crate) fn greater(one: u64, other: u64) -> u64
     ensures { result ≡ max one other }
 {
     one.max(other)

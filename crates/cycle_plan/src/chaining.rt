@@ -24,7 +24,7 @@ pub enum Chained {
 }
 
 /// The longest chains of timing into each element: the greatest number of lines, of lines since the
-/// last that begins at a filter, and of lines that begin at a filter; each from 0 to 8,000.
+/// last that begins at a filter, and of lines that begin at a filter; each from 0 to 400,000.
 ///
 /// `None` exactly where the plan has a cycle of hops: then chains have no end. The numbers are
 /// over all chains, so over all that any faults and commands can bring about. G.803's

@@ -3,8 +3,8 @@
 //!
 //! [`rank_plan`] is the planner, and [`rank_with`] the same where returns may be allowed
 //! ([`ReturnRule`](sync_topo::ReturnRule)); [`settling_bound`] says from when on a network of the plan
-//! is settled, and [`agree`] for how long it may change where links are nominated at both ends, or
-//! which lines clash. What a least rank and the first cycle are stands in sync_topo, `AreLeastRanks` and
+//! is settled, and [`agree`] for how long it may change where links are nominated at both ends, after
+//! any events and after failures alone, or which lines clash. What a least rank and the first cycle are stands in sync_topo, `AreLeastRanks` and
 //! `IsFirstCycle`; [`first_cycle_law`] and [`least_rank_law`] say that there is one first cycle,
 //! which lines it has, and why the ranks are the least.
 //!
@@ -23,18 +23,21 @@ mod agreement;
 mod bound;
 mod chain_rows;
 mod chaining;
+mod failures;
 mod filters;
 mod first_cycle;
 mod inputs;
+mod late;
 mod laws;
 mod most;
 mod numbers;
 mod ranked;
 mod ranking;
 mod reach;
+mod times;
 mod top;
 
-pub use agreement::{Agreement, agree};
+pub use agreement::{Agreement, Bounds, agree};
 pub use bound::settling_bound;
 pub use chain_rows::Chains;
 pub use chaining::{Chained, chain_plan, chains};

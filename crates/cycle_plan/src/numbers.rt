@@ -25,7 +25,7 @@ pub(crate) fn number_out(returns: ReturnRule, plan: &Plan, line: LineId) -> u32
     requires { line.0 < line_count plan.now }
     ensures { result ≡ number_out returns plan.now line.0 }
 {
-    // A plan has at most 4,000 links, so the sum fits.
+    // A plan has at most 200,000 links, so the sum fits.
     let _links = plan.links();
     match returns {
         ReturnRule::Barred => plan.bundle(line.0 / 2),

@@ -11,7 +11,8 @@ use Rattle.csv_records.specs.Fields.{five_of}
 use Rattle.sync_topo.specs.Names.{is_named}
 use Rattle.sync_topo.specs.declared.event.Event.{Event}
 use Rattle.sync_topo.specs.Topology.{Topology}
-use Rattle.event_file.specs.Rows.{Fields, event_in, time_in, event_limit, row_refusal}
+use Rattle.sync_topo.specs.Sizes.{event_limit}
+use Rattle.event_file.specs.Rows.{Fields, event_in, time_in, row_refusal}
 use Rattle.event_file.specs.private.Rows.{event_row}
 use Rattle.event_file.specs.EventText.{events_in}
 use Rattle.event_file.specs.CaseRows.{case_in, event_fields, rows_of, time_after, may_follow, is_apart, case_refusal, case_refusal_at}
@@ -88,11 +89,11 @@ five_row (a ∷ b ∷ c ∷ d ∷ []) name at word target value is = absurd (non
 five_row (a ∷ b ∷ c ∷ d ∷ e ∷ f ∷ more) name at word target value is = absurd (none-some (name, at, word, target, value) is)
 
 -- a row of a case may break a rule for events alone
-pub refusal-said : (plan : Topology) (earlier : List Fields) (n : ℕ) (name at word target value : List ℕ) → n ≤ event_limit
+pub refusal-said : (plan : Topology) (earlier : List Fields) (n : ℕ) (name at word target value : List ℕ) → n ≤ event_limit plan
     → may_follow earlier name ≡ true → is_apart earlier name ≡ false
     → case_refusal plan earlier n (name ∷ event_row at word target value) ≡ row_refusal plan n (time_after (rows_of earlier name)) (event_row at word target value)
 unfolding case_refusal
-refusal-said plan earlier n name at word target value few may together = rw (le-ltb event_limit n few, may, together) refl
+refusal-said plan earlier n name at word target value few may together = rw (le-ltb (event_limit plan) n few, may, together) refl
 
 -- what stands before a place tells what the row there is refused for
 slice_get-front : {A : Type 0} (xs ys : List A) (i : ℕ) → i < length xs → slice_get (xs ++ ys) i ≡ slice_get xs i

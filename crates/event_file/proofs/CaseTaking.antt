@@ -12,6 +12,7 @@ use Rattle.csv_records.proofs.FirstRefusals.{first_refusal-some, first_refusal-n
 use Rattle.sync_topo.specs.declared.event.Case.{Case}
 use Rattle.sync_topo.specs.declared.event.Event.{Event}
 use Rattle.sync_topo.specs.Topology.{Topology}
+use Rattle.sync_topo.specs.Sizes.{event_limit}
 use Rattle.sync_topo.specs.Events.{Fits, IsCase, IsEventList}
 use Rattle.event_file.specs.declared.case_file.Cases.{Cases}
 use Rattle.event_file.specs.declared.error.EventErr.{EventErr}
@@ -19,7 +20,7 @@ use Rattle.event_file.specs.declared.error.EventErr.TheVariants as refusal
 use Rattle.event_file.specs.declared.progress.CasesSoFar.{CasesSoFar}
 use Rattle.event_file.specs.Refusal.{is_no_memory}
 use Rattle.event_file.specs.private.Refusal.{Refuses}
-use Rattle.event_file.specs.Rows.{Fields, event_in, time_in, event_limit, last_time, row_refusal}
+use Rattle.event_file.specs.Rows.{Fields, event_in, time_in, last_time, row_refusal}
 use Rattle.event_file.specs.private.Rows.{event_row}
 use Rattle.event_file.specs.EventText.{unless_refused}
 use Rattle.event_file.specs.CaseRows.{case_in, event_fields, case_before, may_follow, is_apart, rows_of, time_after, case_refusal, case_refusal_at}
@@ -38,43 +39,43 @@ if_not_wanted true holds = tt
 if_not_wanted false holds = holds
 
 -- the rule that the next row breaks
-pub limit-broken : (plan : Topology) (done : List Fields) (kept : CasesSoFar) (row : Fields) → AreCasesTaken plan done kept → event_limit < kept.rows + 1
+pub limit-broken : (plan : Topology) (done : List Fields) (kept : CasesSoFar) (row : Fields) → AreCasesTaken plan done kept → event_limit plan < kept.rows + 1
     → case_refusal plan done (length done + 1) row ≡ Some refusal.Limit
 unfolding case_refusal
 limit-broken plan done kept row taken many =
     let numbered = taken.sorted.numbered in
-    rw (lt-ltb event_limit (length done + 1) (omega (arith, many, numbered))) refl
+    rw (lt-ltb (event_limit plan) (length done + 1) (omega (arith, many, numbered))) refl
 
-pub fields-broken : (plan : Topology) (done : List Fields) (kept : CasesSoFar) (row : Fields) → AreCasesTaken plan done kept → kept.rows + 1 ≤ event_limit
+pub fields-broken : (plan : Topology) (done : List Fields) (kept : CasesSoFar) (row : Fields) → AreCasesTaken plan done kept → kept.rows + 1 ≤ event_limit plan
     → None ≡ five_of row → case_refusal plan done (length done + 1) row ≡ Some (refusal.Fields (kept.rows + 1))
 unfolding case_refusal
 fields-broken plan done kept row taken few none =
     let numbered = taken.sorted.numbered in
-    rw (le-ltb event_limit (length done + 1) (omega (arith, few, numbered)), ← none, numbered) refl
+    rw (le-ltb (event_limit plan) (length done + 1) (omega (arith, few, numbered)), ← none, numbered) refl
 
 -- the row has five fields, the first of which is the name of its case
 module _ (plan : Topology) (done : List Fields) (row : Fields) (name at word target value : List ℕ) (fields : Some (name, at, word, target, value) ≡ five_of row) where
   by_fields : row ≡ name ∷ event_row at word target value
   by_fields = five_row row name at word target value (sym fields)
 
-  pub name-broken : (kept : CasesSoFar) → AreCasesTaken plan done kept → kept.rows + 1 ≤ event_limit → may_follow done name ≡ false
+  pub name-broken : (kept : CasesSoFar) → AreCasesTaken plan done kept → kept.rows + 1 ≤ event_limit plan → may_follow done name ≡ false
       → case_refusal plan done (length done + 1) row ≡ Some (refusal.Name (kept.rows + 1))
   unfolding case_refusal
   name-broken kept taken few may =
       let numbered = taken.sorted.numbered in
-      rw (by_fields, le-ltb event_limit (length done + 1) (omega (arith, few, numbered)), may, numbered) refl
+      rw (by_fields, le-ltb (event_limit plan) (length done + 1) (omega (arith, few, numbered)), may, numbered) refl
 
-  pub apart-broken : (kept : CasesSoFar) (error : EventErr) → AreCasesTaken plan done kept → kept.rows + 1 ≤ event_limit → may_follow done name ≡ true
+  pub apart-broken : (kept : CasesSoFar) (error : EventErr) → AreCasesTaken plan done kept → kept.rows + 1 ≤ event_limit plan → may_follow done name ≡ true
       → UnlessNoMemory (is_no_memory error) ((is_apart done name ≡ true) × (error ≡ refusal.Apart (kept.rows + 1)))
       → UnlessNoMemory (is_no_memory error) (case_refusal plan done (length done + 1) row ≡ Some error)
   unfolding case_refusal
   apart-broken kept error taken few may stood =
       let numbered = taken.sorted.numbered in
       let of_row : is_apart done name ≡ true → case_refusal plan done (length done + 1) row ≡ Some (refusal.Apart (kept.rows + 1))
-      = λ apart. rw (by_fields, le-ltb event_limit (length done + 1) (omega (arith, few, numbered)), may, apart, numbered) refl in
+      = λ apart. rw (by_fields, le-ltb (event_limit plan) (length done + 1) (omega (arith, few, numbered)), may, apart, numbered) refl in
       unless-more (is_no_memory error) (λ parts. of_row parts.0 ∙ ap Some (sym parts.1)) stood
 
-  said-is : (kept : CasesSoFar) (rows : ℕ) → AreSorted plan done name kept → rows ≡ length done → rows + 1 ≤ event_limit → may_follow done name ≡ true → is_apart done name ≡ false
+  said-is : (kept : CasesSoFar) (rows : ℕ) → AreSorted plan done name kept → rows ≡ length done → rows + 1 ≤ event_limit plan → may_follow done name ≡ true → is_apart done name ≡ false
       → case_refusal plan done (length done + 1) row ≡ row_refusal plan (rows + 1) kept.before (event_row at word target value)
   said-is kept rows sorted numbered few may together =
       ap (case_refusal plan done (length done + 1)) by_fields
@@ -82,14 +83,14 @@ module _ (plan : Topology) (done : List Fields) (row : Fields) (name at word tar
       ∙ ap (λ n. row_refusal plan (n + 1) (time_after (rows_of done name)) (event_row at word target value)) (sym numbered)
       ∙ ap (λ before. row_refusal plan (rows + 1) before (event_row at word target value)) (sym sorted.time)
 
-  pub said-broken : (kept : CasesSoFar) (rows : ℕ) (error : EventErr) → AreSorted plan done name kept → rows ≡ length done → rows + 1 ≤ event_limit → may_follow done name ≡ true
+  pub said-broken : (kept : CasesSoFar) (rows : ℕ) (error : EventErr) → AreSorted plan done name kept → rows ≡ length done → rows + 1 ≤ event_limit plan → may_follow done name ≡ true
       → is_apart done name ≡ false → row_refusal plan (rows + 1) kept.before (event_row at word target value) ≡ Some error
       → UnlessNoMemory (is_no_memory error) (case_refusal plan done (length done + 1) row ≡ Some error)
   said-broken kept rows error sorted numbered few may together broken =
       if_not_wanted (is_no_memory error) (said-is kept rows sorted numbered few may together ∙ broken)
 
   -- and the one that breaks none
-  pub row-taken : (kept : CasesSoFar) (rows : ℕ) (event : Event) → AreSorted plan done name kept → rows ≡ length done → rows + 1 ≤ event_limit → may_follow done name ≡ true
+  pub row-taken : (kept : CasesSoFar) (rows : ℕ) (event : Event) → AreSorted plan done name kept → rows ≡ length done → rows + 1 ≤ event_limit plan → may_follow done name ≡ true
       → is_apart done name ≡ false → row_refusal plan (rows + 1) kept.before (event_row at word target value) ≡ None
       → event_in plan (event_row at word target value) ≡ Some event → time_in (event_row at word target value) ≡ Some event.at → kept.before ≤ event.at
       → event.at ≤ last_time → Fits plan event → AreCasesTaken plan (done ++ row ∷ []) (with_event kept event)
@@ -217,7 +218,7 @@ events-in_time plan rows kept left =
     All-append (λ event. event.at ≤ last_time) kept.common (flat_map (λ case. case.events) (with_current kept.whole kept.current))
     left.taken.sorted.common_timely.in_time (all-in_time plan (with_current kept.whole kept.current) (timely-cases plan kept left.done left.taken))
 
-pub events-few : (plan : Topology) (rows : List Fields) (kept : CasesSoFar) → AreCasesLeft plan rows [] kept → length (all_events (cases_kept kept)) ≤ event_limit
+pub events-few : (plan : Topology) (rows : List Fields) (kept : CasesSoFar) → AreCasesLeft plan rows [] kept → length (all_events (cases_kept kept)) ≤ event_limit plan
 events-few plan rows kept left =
     let cases : List Case = with_current kept.whole kept.current in
     let sorted = left.taken.sorted in

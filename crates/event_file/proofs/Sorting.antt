@@ -13,10 +13,11 @@ use Rattle.sync_topo.specs.declared.event.Case.{Case}
 use Rattle.sync_topo.specs.declared.event.Event.{Event}
 use Rattle.sync_topo.specs.Names.{is_name, is_named, place_of}
 use Rattle.sync_topo.specs.Topology.{Topology}
+use Rattle.sync_topo.specs.Sizes.{event_limit}
 use Rattle.sync_topo.specs.Events.{Fits}
 use Rattle.sync_topo.proofs.Lists.{is_named-at, position-push, place_of-fresh, slice_get-push_last}
 use Rattle.event_file.specs.declared.progress.CasesSoFar.{CasesSoFar}
-use Rattle.event_file.specs.Rows.{Fields, event_in, time_in, event_limit, last_time}
+use Rattle.event_file.specs.Rows.{Fields, event_in, time_in, last_time}
 use Rattle.event_file.specs.EventText.{events_in}
 use Rattle.event_file.specs.CaseRows.{case_in, event_fields, is_common, rows_of, time_after, case_before, may_follow, is_apart, case_refusal, case_refusal_at}
 use Rattle.event_file.specs.CaseText.{names_of, case_of}
@@ -265,7 +266,7 @@ pub record IsNext (plan : Topology) (done : List Fields) (name : List ℕ) (kept
   pub after : kept.before ≤ event.at
   pub early : event.at ≤ last_time
   pub fits : Fits plan event
-  pub few : kept.rows + 1 ≤ event_limit
+  pub few : kept.rows + 1 ≤ event_limit plan
 
 -- what holds whatever case it is of
 abbrev with_parts : CasesSoFar → Event → List Event → Option Case → CasesSoFar

@@ -8,12 +8,13 @@ use Rattle.std.proofs.Math.Seq.{get_or-append_seam}
 use Rattle.std.proofs.lemmas.List.Elements.{All-append, All-cons, All-nil, filter_map-append}
 use Rattle.sync_topo.specs.declared.event.Event.{Event}
 use Rattle.sync_topo.specs.Topology.{Topology}
+use Rattle.sync_topo.specs.Sizes.{event_limit}
 use Rattle.sync_topo.specs.Events.{Fits, IsInOrder}
 use Rattle.csv_records.proofs.FirstRefusals.{first_refusal-some, first_refusal-none}
 use Rattle.event_file.specs.declared.error.EventErr.{EventErr}
 use Rattle.event_file.specs.declared.error.EventErr.TheVariants.{Header, Fields, Time, Order, What, Target, Value, Limit, Name, Apart, NoMemory}
 use Rattle.event_file.specs.private.Refusal.{Refuses}
-use Rattle.event_file.specs.Rows.{Fields as Row, event_in, time_in, time_before, row_refusal, refusal_at, event_limit, last_time}
+use Rattle.event_file.specs.Rows.{Fields as Row, event_in, time_in, time_before, row_refusal, refusal_at, last_time}
 use Rattle.event_file.specs.EventText.{events_in, events_of_rows, unless_refused}
 use Rattle.event_file.specs.private.Taken.{AreTaken}
 
@@ -45,7 +46,7 @@ in_order_more events event order last k d within =
 -- one more row
 pub AreTaken-more : (plan : Topology) (rows : List Row) (n before : ℕ) (row : Row) (rest : List Row) (events : List Event) (event : Event)
     → AreTaken plan rows n before (row ∷ rest) events → row_refusal plan (n + 1) before row ≡ None → event_in plan row ≡ Some event
-    → time_in row ≡ Some event.at → before ≤ event.at → event.at ≤ last_time → n + 1 ≤ event_limit → Fits plan event
+    → time_in row ≡ Some event.at → before ≤ event.at → event.at ≤ last_time → n + 1 ≤ event_limit plan → Fits plan event
     → AreTaken plan rows (n + 1) event.at rest (events ++ event ∷ [])
 AreTaken-more plan rows n before row rest events event taken sound is time after early few fits =
     let here : slice_get rows n ≡ Some row = rw (taken.whole, ← taken.numbered) (at_seam taken.done row rest) in

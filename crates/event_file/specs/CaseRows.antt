@@ -5,9 +5,10 @@ use Rattle.std.specs.Str.{bytes_eq}
 use Rattle.csv_records.specs.Fields.{five_of}
 use Rattle.sync_topo.specs.Names.{is_name, is_named}
 use Rattle.sync_topo.specs.Topology.{Topology}
+use Rattle.sync_topo.specs.Sizes.{event_limit}
 use Rattle.event_file.specs.declared.error.EventErr.{EventErr}
 use Rattle.event_file.specs.declared.error.EventErr.TheVariants as refusal
-use Rattle.event_file.specs.Rows.{Fields, event_limit, time_before, row_refusal}
+use Rattle.event_file.specs.Rows.{Fields, time_before, row_refusal}
 
 -- the name of the case that a row belongs to: its first field. Where it is empty, the row is common to all cases
 abbrev pub case_in : Fields → List ℕ
@@ -47,7 +48,7 @@ is_apart earlier name = is_named (map case_in earlier) name && not (bytes_eq nam
 -- events as the next row of an event file with the rows of its case alone
 unfoldable pub case_refusal : Topology → List Fields → ℕ → Fields → Option EventErr
 case_refusal plan earlier n row =
-    if nat_lt event_limit n then Some refusal.Limit
+    if nat_lt (event_limit plan) n then Some refusal.Limit
     else if is_none (five_of row) then Some (refusal.Fields n)
     else if not (may_follow earlier (case_in row)) then Some (refusal.Name n)
     else if is_apart earlier (case_in row) then Some (refusal.Apart n)

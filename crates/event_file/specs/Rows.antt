@@ -6,6 +6,7 @@ use Rattle.sync_text.specs.Number.{number_of}
 use Rattle.sync_topo.specs.declared.event.Event.{Event}
 use Rattle.sync_topo.specs.declared.event.What.{What}
 use Rattle.sync_topo.specs.Topology.{Topology}
+use Rattle.sync_topo.specs.Sizes.{event_limit}
 use Rattle.event_file.specs.declared.error.EventErr.{EventErr}
 use Rattle.event_file.specs.declared.error.EventErr.TheVariants as refusal
 use Rattle.event_file.specs.declared.word.Word.{Word}
@@ -16,12 +17,9 @@ use Rattle.event_file.specs.Words.{word_of, said_of, what_of}
 abbrev pub Fields : Type 0
 Fields = List (List ℕ)
 
--- the last millisecond at which an event may stand, and how many events there may be
+-- the last millisecond at which an event may stand
 abbrev pub last_time : ℕ
 last_time = LAST_MILLISECOND
-
-abbrev pub event_limit : ℕ
-event_limit = 100000
 
 -- a number, where it is a millisecond at which an event may stand
 abbrev pub in_time : ℕ → Option ℕ
@@ -58,7 +56,7 @@ time_before rows (suc place) = unwrap_or (option_and_then time_in (slice_get row
 -- the rule that row n breaks, if it breaks one, where the row before it has this time
 unfoldable pub row_refusal : Topology → ℕ → ℕ → Fields → Option EventErr
 row_refusal plan n before row =
-    if nat_lt event_limit n then Some refusal.Limit
+    if nat_lt (event_limit plan) n then Some refusal.Limit
     else if is_none (four_of row) then Some (refusal.Fields n)
     else if is_none (time_in row) then Some (refusal.Time n)
     else if nat_lt (unwrap_or (time_in row) 0) before then Some (refusal.Order n)

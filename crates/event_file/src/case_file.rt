@@ -3,9 +3,10 @@
 ghost use Rattle.std.specs.Prelude.{◌≡◌, ◌≤◌, false, length, IfOk, Ok, Err};
 ghost use Rattle.std.specs.List.{All};
 ghost use Rattle.sync_topo.specs.Events.{IsCase, IsEventList};
+ghost use Rattle.sync_topo.specs.Sizes.{event_limit};
 ghost use Rattle.event_file.specs.CaseText.{cases_of, cases_of_rows, all_events, is_case_header};
 ghost use Rattle.event_file.specs.Refusal.{Gives};
-ghost use Rattle.event_file.specs.Rows.{event_limit, last_time};
+ghost use Rattle.event_file.specs.Rows.{last_time};
 
 use crate::error::EventErr;
 use crate::progress::CasesSoFar;
@@ -34,8 +35,8 @@ pub struct Cases {
 /// it is an event as in [`read_events`](crate::read_events), with the name of its case before it.
 /// Rows without one come before all others, and their events are common to all cases; the rows of a
 /// case stand together. Times don't fall among the common rows, nor among those of one case. The
-/// refusal is the first broken rule: `Header`, then for each row in order `Limit` at row 100,001,
-/// `Fields`, `Name`, `Apart`, `Time`, `Order`, `What`, `Target` or `Value`. Rows are read one after
+/// refusal is the first broken rule: `Header`, then for each row in order `Limit` at row 100,001, or
+/// at row 5,000,001 where the plan is large, `Fields`, `Name`, `Apart`, `Time`, `Order`, `What`, `Target` or `Value`. Rows are read one after
 /// another, so a text that is wrong at its start is refused in little memory. This project's own.
 pub fn read_cases(alloc: Global, plan: &Plan, bytes: &[u8]) -> Result<Cases, EventErr>
     ensures exact { Gives result (cases_of plan.now bytes.now) }
@@ -43,7 +44,7 @@ pub fn read_cases(alloc: Global, plan: &Plan, bytes: &[u8]) -> Result<Cases, Eve
     ensures each { IfOk result (λ cases. All (IsCase plan.now) cases.cases) }
     ensures named { IfOk result (λ cases. length cases.names ≡ length cases.cases) }
     ensures in_time { IfOk result (λ cases. All (λ event. event.at ≤ last_time) (all_events cases)) }
-    ensures few { IfOk result (λ cases. length (all_events cases) ≤ event_limit) }
+    ensures few { IfOk result (λ cases. length (all_events cases) ≤ event_limit plan.now) }
 {
     let mut records = Records::of(alloc, bytes);
     if !records.advance()? || !is_case_header(records.taken()) {
@@ -72,7 +73,7 @@ fn take_case_rows(alloc: Global, plan: &Plan, records: &mut Records<'_>) -> Resu
     ensures each { IfOk result (λ cases. All (IsCase plan.now) cases.cases) }
     ensures named { IfOk result (λ cases. length cases.names ≡ length cases.cases) }
     ensures in_time { IfOk result (λ cases. All (λ event. event.at ≤ last_time) (all_events cases)) }
-    ensures few { IfOk result (λ cases. length (all_events cases) ≤ event_limit) }
+    ensures few { IfOk result (λ cases. length (all_events cases) ≤ event_limit plan.now) }
 {
     let mut kept = CasesSoFar::new(alloc);
     while records.advance()? {

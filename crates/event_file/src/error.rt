@@ -33,8 +33,8 @@ pub enum EventErr {
     /// The field for the value isn't empty; or, for `level`, it is no level of the plan's option.
     #[error("row {0}: not a value of this word")]
     Value(u64),
-    /// There are more than 100,000 rows.
-    #[error("more than 100000 rows")]
+    /// There are more rows than the plan may have: 100,000, or 5,000,000 where it is large.
+    #[error("more rows than the plan may have")]
     Limit,
     /// The field for the case is no name; or it is empty, as it is in rows that are common to all
     /// cases, after a row of a case.

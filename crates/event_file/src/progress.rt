@@ -1,17 +1,18 @@
 // The cases of the rows so far.
 
-ghost use Rattle.std.specs.Prelude.{◌≡◌, ◌≤◌, ◌<◌, ◌+◌, [], ◌∷◌, ◌++◌, true, false, List, None, Some, IfOk, IfErr, OnOk, length};
+ghost use Rattle.std.specs.Prelude.{◌≡◌, ◌≤◌, ◌<◌, ◌+◌, ◌^◌, [], ◌∷◌, ◌++◌, true, false, List, None, Some, IfOk, IfErr, OnOk, length};
 ghost use Rattle.sync_text.specs.Gives.{UnlessNoMemory};
 ghost use Rattle.sync_topo.specs.Names.{is_named};
+ghost use Rattle.sync_topo.specs.Sizes.{event_limit};
 ghost use Rattle.sync_topo.specs.Topology.{Topology};
 ghost use Rattle.event_file.specs.Refusal.{is_no_memory};
-ghost use Rattle.event_file.specs.Rows.{Fields, event_limit};
+ghost use Rattle.event_file.specs.Rows.{Fields};
 ghost use Rattle.event_file.specs.CaseRows.{may_follow, is_apart, case_refusal};
 ghost use Rattle.event_file.specs.private.CasesTaken.{with_current, with_event, AreSorted, AreCasesTaken};
 
 use crate::case_file::Cases;
 use crate::error::EventErr;
-use crate::row::{EVENT_LIMIT, event_said};
+use crate::row::event_said;
 use csv_records::Record;
 use std::alloc::Global;
 use sync_text::{NoMemory, Rows, Text};
@@ -59,15 +60,16 @@ impl CasesSoFar {
         plan: &Plan,
         row: &Record,
     ) -> Result<(), EventErr>
-        requires { self.old.rows ≤ event_limit }
+        requires { self.old.rows ≤ event_limit plan.now }
         ensures taken { (done : List Fields) → AreCasesTaken plan.now done self.old →
             OnOk result (AreCasesTaken plan.now (done ++ row.now ∷ []) self.new) }
         ensures refused { (done : List Fields) → AreCasesTaken plan.now done self.old →
             IfErr result (λ error. UnlessNoMemory (is_no_memory error)
             (case_refusal plan.now done (length done + 1) row.now ≡ Some error)) }
     {
+        let limit = plan.event_limit() as u64;
         let number = self.rows + 1;
-        if number > EVENT_LIMIT {
+        if limit < number {
             return Err(EventErr::Limit);
         }
         let Some((name, at, word, target, value)) = row.five() else {
@@ -155,7 +157,7 @@ impl CasesSoFar {
 
     /// Puts the event of the next row with those of its case, or with the common ones.
     fn put(&mut self, event: Event) -> Result<(), NoMemory>
-        requires { self.old.rows < event_limit }
+        requires { self.old.rows < 2 ^ 32 }
         ensures { OnOk result (self.new ≡ with_event self.old event) }
     {
         self.rows += 1;

@@ -3,9 +3,10 @@
 ghost use Rattle.std.specs.Prelude.{◌≡◌, ◌≤◌, false, length, IfOk, Ok, Err};
 ghost use Rattle.std.specs.List.{All};
 ghost use Rattle.sync_topo.specs.Events.{Fits, IsInOrder};
+ghost use Rattle.sync_topo.specs.Sizes.{event_limit};
 ghost use Rattle.event_file.specs.EventText.{events_of, events_of_rows, is_header};
 ghost use Rattle.event_file.specs.Refusal.{Gives};
-ghost use Rattle.event_file.specs.Rows.{event_limit, last_time};
+ghost use Rattle.event_file.specs.Rows.{last_time};
 ghost use Rattle.event_file.specs.private.Rows.{event_row};
 
 use crate::error::EventErr;
@@ -20,15 +21,15 @@ use sync_topo::{Event, Plan};
 /// The records are comma-separated fields. The first is `at,what,target,value`; each row after it is
 /// an event: its millisecond up to 86,400,000 and not before that of the row before, a word for what
 /// happens, the name of what it happens to, and for `level` a level of the plan's option. The
-/// refusal is the first broken rule: `Header`, then for each row in order `Limit` at row 100,001,
-/// `Fields`, `Time`, `Order`, `What`, `Target` or `Value`. Rows are read one after another, so a text
+/// refusal is the first broken rule: `Header`, then for each row in order `Limit` at row 100,001, or
+/// at row 5,000,001 where the plan is large, `Fields`, `Time`, `Order`, `What`, `Target` or `Value`. Rows are read one after another, so a text
 /// that is wrong at its start is refused in little memory. This project's own.
 pub fn read_events(alloc: Global, plan: &Plan, bytes: &[u8]) -> Result<Rows<Event>, EventErr>
     ensures exact { Gives result (events_of plan.now bytes.now) }
     ensures fits { IfOk result (All (Fits plan.now)) }
     ensures in_order { IfOk result IsInOrder }
     ensures in_time { IfOk result (All (λ event. event.at ≤ last_time)) }
-    ensures few { IfOk result (λ events. length events ≤ event_limit) }
+    ensures few { IfOk result (λ events. length events ≤ event_limit plan.now) }
 {
     let mut records = Records::of(alloc, bytes);
     if !records.advance()? || !is_header(records.taken()) {
@@ -64,7 +65,7 @@ fn take_rows(alloc: Global, plan: &Plan, records: &mut Records<'_>) -> Result<Ro
     ensures fits { IfOk result (All (Fits plan.now)) }
     ensures in_order { IfOk result IsInOrder }
     ensures in_time { IfOk result (All (λ event. event.at ≤ last_time)) }
-    ensures few { IfOk result (λ events. length events ≤ event_limit) }
+    ensures few { IfOk result (λ events. length events ≤ event_limit plan.now) }
 {
     let mut events = Rows::new(alloc);
     let mut number = 0;

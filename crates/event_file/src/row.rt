@@ -3,7 +3,8 @@
 ghost use Rattle.std.specs.Prelude.{◌≡◌, ◌≤◌, IfOk, IfErr, IfSome, Some, None, option_and_then};
 ghost use Rattle.sync_text.specs.Number.{number_of};
 ghost use Rattle.sync_topo.specs.Events.{Fits};
-ghost use Rattle.event_file.specs.Rows.{event_in, time_in, in_time, row_refusal, event_limit, last_time};
+ghost use Rattle.sync_topo.specs.Sizes.{event_limit};
+ghost use Rattle.event_file.specs.Rows.{event_in, time_in, in_time, row_refusal, last_time};
 ghost use Rattle.event_file.specs.private.Rows.{event_row};
 
 use crate::error::EventErr;
@@ -12,9 +13,6 @@ use csv_records::Record;
 use sync_ql::limits::LAST_MILLISECOND;
 use sync_text::read_number;
 use sync_topo::{Event, Plan};
-
-/// How many events there may be.
-pub(crate) const EVENT_LIMIT: u64 = 100_000;
 
 /// The event of a row of this number, counted from 1, where the row before it has this time.
 #[tactic(auto, unfolding(crate::specs::Rows::row_refusal))]
@@ -29,11 +27,11 @@ pub(crate) fn event_of(
     ensures time { IfOk result (λ event. time_in row.now ≡ Some event.at) }
     ensures after { IfOk result (λ event. before ≤ event.at) }
     ensures in_time { IfOk result (λ event. event.at ≤ last_time) }
-    ensures few { IfOk result (λ event. number ≤ event_limit) }
+    ensures few { IfOk result (λ event. number ≤ event_limit plan.now) }
     ensures fits { IfOk result (Fits plan.now) }
     ensures refused { IfErr result (λ error. row_refusal plan.now number before row.now ≡ Some error) }
 {
-    if number > EVENT_LIMIT {
+    if number > plan.event_limit() as u64 {
         return Err(EventErr::Limit);
     }
     match row.four() {
@@ -55,7 +53,7 @@ pub(crate) fn event_said(
     target: &[u8],
     value: &[u8],
 ) -> Result<Event, EventErr>
-    requires { number ≤ event_limit }
+    requires { number ≤ event_limit plan.now }
     ensures sound { IfOk result (λ event. row_refusal plan.now number before
         (event_row at.now word.now target.now value.now) ≡ None) }
     ensures event { IfOk result (λ event.

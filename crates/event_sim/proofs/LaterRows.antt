@@ -10,7 +10,7 @@ use Rattle.sync_topo.proofs.Lists.{filter_range_agree}
 use Rattle.net_rules.specs.Signals.{signals_by}
 use Rattle.net_rules.specs.History.{element_past, out_at}
 use Rattle.net_rules.proofs.Lists.{map-same}
-use Rattle.sync_ql.specs.declared.limits.TheConstants.{MOST_ROWS}
+use Rattle.sync_topo.specs.Sizes.{most_rows}
 use Rattle.event_sim.specs.declared.change.Change.{Change}
 use Rattle.event_sim.specs.declared.change.Watch.{Watch}
 use Rattle.event_sim.specs.declared.change.Watch.TheVariants.{Changes, Nothing}
@@ -70,11 +70,11 @@ rows-grow plan events m (suc n) early = elim (dec_lt n m) [
 
 -- where the rows of a millisecond are too many, the one before is the last up to which all fit
 pub last-fit : (plan : Topology) (events : List Event) (t until : ℕ) (watch : Watch) (net : NetState) (changes : List Change) → net.plan ≡ plan
-    → IsCut watch net changes events (suc t) → length changes ≤ MOST_ROWS → t < until → IsLastFit plan events t until
+    → IsCut watch net changes events (suc t) → length changes ≤ most_rows net.plan → t < until → IsLastFit plan events t until
 last-fit plan events t until watch net changes same cut few early = record {
   fit =
       let rows : changes ≡ rows_until plan events (suc t) = cut.rows ∙ ap (λ (p : Topology). rows_until p events (suc t)) same in
-      subst (λ (all : List Change). length all ≤ MOST_ROWS) rows few;
+      subst (λ (all : List Change). length all ≤ most_rows plan) rows (subst (λ (p : Topology). length changes ≤ most_rows p) same few);
   full = full;
   all = let more = rows-grow plan events (suc (suc t)) (suc until) (omega (arith, early)) in omega (arith, full, more);
 }

@@ -24,7 +24,7 @@ use Rattle.sync_net.specs.Evaluated.{AreAloneEvaluated}
 use Rattle.sync_net.proofs.QuietGap.{some_element}
 use Rattle.sync_net.proofs.StageLaws.{same-place}
 use Rattle.shown_words.proofs.SameLaws.{same-mode, same-state, same-taken}
-use Rattle.sync_ql.specs.declared.limits.TheConstants.{MOST_ROWS}
+use Rattle.sync_topo.specs.Sizes.{most_rows}
 use Rattle.event_sim.specs.declared.shown.Shown.{Shown}
 use Rattle.event_sim.specs.Rows.{shows_other, shown_after, shown_by, has_changed, changed_in, row_of, rows_in, rows_until}
 use Rattle.event_sim.specs.private.Showing.{Shows, kept_in, AreShown, AreRenewed, others_in, rows_between}
@@ -106,7 +106,7 @@ turn-rows law net net_then was now events t before after same is is_then =
 pub shown-then : (net net_then : NetState) (was now : List Shown) → net_then.plan ≡ net.plan → AreAloneEvaluated net net_then
     → AreShown net was → AreRenewed net_then was now → AreShown net_then now
 shown-then net net_then was now same alone are renewed = record {
-  few = subst (λ (plan : Topology). length plan.elements ≤ MOST_ROWS) (sym same) are.few;
+  few = subst (λ (plan : Topology). length plan.elements ≤ most_rows plan) (sym same) are.few;
   count = renewed.count ∙ are.count ∙ ap (λ (plan : Topology). length plan.elements) (sym same);
   each = λ place other within. by place other within (list_any (nat_eq place) net_then.evaluated) refl;
 }

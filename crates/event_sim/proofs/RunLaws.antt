@@ -12,7 +12,7 @@ use Rattle.net_rules.specs.Activity.{is_active, is_busy}
 use Rattle.sync_net.specs.NetState.{NetState}
 use Rattle.sync_net.specs.Standing.{StandsFor, NoneFrom}
 use Rattle.sync_net.specs.Evaluated.{IsContinued, AreAloneEvaluated}
-use Rattle.sync_ql.specs.declared.limits.TheConstants.{MOST_ROWS}
+use Rattle.sync_topo.specs.Sizes.{most_rows}
 use Rattle.event_sim.specs.declared.shown.Shown.{Shown}
 use Rattle.event_sim.specs.declared.change.Change.{Change}
 use Rattle.event_sim.specs.declared.change.Watch.{Watch}
@@ -63,7 +63,7 @@ turn-noted law net net_then was now before after t told fits same steps shown sh
     by false noted = record {
       stands = stands;
       rows = noted.rows ∙ run.rows ∙ ap (λ (plan : Topology). rows_until plan all t) (sym same);
-      full = subst (λ (all_rows : List Change). MOST_ROWS < length all_rows) (sym rows) noted.many;
+      full = subst (λ (all_rows : List Change). most_rows net_then.plan < length all_rows) (sym rows) noted.many;
     }
 
 -- what it makes of a run whose changes aren't
@@ -172,8 +172,8 @@ module _ (net : NetState) (plan : Topology) (given rest here later : List Event)
       net.later_steps net_then.later_steps stepped
 
 -- rows that don't fit come after the first millisecond
-pub turn-late : (plan : Topology) (t next : ℕ) (was now : List Shown) (before : List Change) → length plan.elements ≤ MOST_ROWS
-    → (next ≡ 0 → before ≡ []) → next ≤ t → MOST_ROWS < length (before ++ rows_between plan t was now) → 0 < t
+pub turn-late : (plan : Topology) (t next : ℕ) (was now : List Shown) (before : List Change) → length plan.elements ≤ most_rows plan
+    → (next ≡ 0 → before ≡ []) → next ≤ t → most_rows plan < length (before ++ rows_between plan t was now) → 0 < t
 turn-late plan zero next was now before few first early many =
     let none : before ≡ [] = first (omega (arith, early)) in
     let differs = λ (place : ℕ). shows_other (kept_in plan was place) (kept_in plan now place) in

@@ -3,7 +3,7 @@ use Rattle.std.specs.Prelude.{◌≤◌, ◌<◌, ℕ, suc, Bool, true, false, L
 use Rattle.sync_text.specs.declared.errors.NoMemory.{NoMemory}
 use Rattle.sync_topo.specs.declared.event.Event.{Event}
 use Rattle.sync_topo.specs.Topology.{Topology}
-use Rattle.sync_ql.specs.declared.limits.TheConstants.{MOST_ROWS}
+use Rattle.sync_topo.specs.Sizes.{most_rows}
 use Rattle.event_sim.specs.declared.change.Reach.{Reach}
 use Rattle.event_sim.specs.declared.change.Reach.TheVariants.{Until, Stopped}
 use Rattle.event_sim.specs.Rows.{rows_until}
@@ -26,10 +26,10 @@ IfStopped (Err error) P = ⊤
 
 -- so many rows that they don't all fit
 abbrev pub AreTooMany : Topology → List Event → ℕ → Type 0
-AreTooMany plan events n = MOST_ROWS < length (rows_until plan events n)
+AreTooMany plan events n = most_rows plan < length (rows_until plan events n)
 
 -- the rows up to a millisecond are too many, and this earlier one is the last up to which all fit
 pub record IsLastFit (plan : Topology) (events : List Event) (t until : ℕ) : Type 0 where
-  pub fit : length (rows_until plan events (suc t)) ≤ MOST_ROWS
+  pub fit : length (rows_until plan events (suc t)) ≤ most_rows plan
   pub full : AreTooMany plan events (suc (suc t))
   pub all : AreTooMany plan events (suc until)

@@ -4,8 +4,8 @@
 //! millisecond in which something happens to the next, and passes over the others. Whatever the
 //! plan and the events are, its network stands for them, and where changes are watched, what it
 //! noted are the rows of the definition: for each millisecond and each element that shows something
-//! else than before it, what it shows. More than 200,000 rows are not kept: then it stops at the
-//! last millisecond up to which all fit.
+//! else than before it, what it shows. More rows than the plan may have are not kept: then it stops
+//! at the last millisecond up to which all fit.
 //!
 //! | who asks | what |
 //! |---|---|

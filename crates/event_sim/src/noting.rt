@@ -2,6 +2,7 @@
 
 ghost use Rattle.std.specs.Prelude.{◌≡◌, ◌<◌, ◌≤◌, ◌∷◌, ◌++◌, ℕ, false, if◌then◌else◌, [], nat_eq, length, map, slice_index_or, OnOk, IfOk};
 ghost use Rattle.std.specs.List.{All, IsDistinct};
+ghost use Rattle.sync_topo.specs.Sizes.{most_rows};
 ghost use Rattle.event_sim.specs.declared.shown.Shown.{Shown};
 ghost use Rattle.event_sim.specs.Rows.{row_of};
 ghost use Rattle.event_sim.specs.private.Showing.{AreShown, AreSeen, AreRenewed, AreNoted, others_in};
@@ -10,7 +11,6 @@ use crate::change::Change;
 use crate::shown::{Shown, shown_of, shows_other};
 use std::alloc::Global;
 use sync_net::Net;
-use sync_ql::limits::MOST_ROWS;
 use sync_text::NoMemory;
 
 /// What each element of a network shows.
@@ -19,6 +19,8 @@ pub(crate) fn first_shown(alloc: Global, net: &Net<'_>) -> Result<Vec<Shown>, No
     ensures { IfOk result (λ shown. AreShown net.now shown.items) }
 {
     let plan = net.plan();
+    // What changes in one millisecond always fits.
+    let _most = plan.most_rows();
     let Ok(mut shown) = Vec::with_capacity(alloc, plan.elements() as usize) else {
         return Err(NoMemory);
     };
@@ -128,6 +130,13 @@ fn push_change(changes: &mut Vec<Change>, change: Change) -> Result<(), NoMemory
     }
 }
 
+/// The most rows that a report on the network's plan may have.
+fn row_limit(net: &Net<'_>) -> usize
+    ensures { result ≡ most_rows net.now.plan }
+{
+    net.plan().most_rows()
+}
+
 /// Notes what a step changed: true where the rows fit, and false where they are too many.
 pub(crate) fn note_changes(
     net: &Net<'_>,
@@ -140,13 +149,14 @@ pub(crate) fn note_changes(
     requires count { length shown.old.items ≡ length net.now.plan.elements }
     requires within { All (λ element. element < length net.now.plan.elements) net.now.evaluated }
     requires apart { IsDistinct nat_eq net.now.evaluated }
-    requires few { length changes.old.items ≤ MOST_ROWS }
+    requires few { length changes.old.items ≤ most_rows net.now.plan }
     ensures renewed { OnOk result (AreRenewed net.now shown.old.items shown.new.items) }
     ensures noted { IfOk result (λ fits. AreNoted fits net.now now shown.old.items shown.new.items
         changes.old.items changes.new.items) }
 {
     find_changed(net, shown, changed)?;
-    if MOST_ROWS - changes.len() < changed.len() {
+    let most = row_limit(net);
+    if most - changes.len() < changed.len() {
         return Ok(false);
     }
     add_rows(changes, now, changed.as_slice(), shown.as_slice())?;

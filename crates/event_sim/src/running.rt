@@ -2,6 +2,7 @@
 
 ghost use Rattle.std.specs.Prelude.{◌≡◌, ◌≤◌, ◌<◌, ◌+◌, ℕ, suc, true, false, nat_eq, if◌then◌else◌, List, OnOk, IfOk, IsTrue, All, length};
 ghost use Rattle.sync_topo.specs.declared.event.Event.{Event};
+ghost use Rattle.sync_topo.specs.Sizes.{most_rows};
 ghost use Rattle.sync_topo.specs.Events.{Fits};
 ghost use Rattle.sync_net.specs.NetState.{IsInTime};
 ghost use Rattle.sync_net.specs.Standing.{StandsFor};
@@ -18,7 +19,7 @@ use event_times::{next_time, split_at_time};
 use std::alloc::Global;
 use std::sync::ledger::Ledger;
 use sync_net::{Net, elements_law};
-use sync_ql::limits::{LAST_MILLISECOND, MOST_ROWS};
+use sync_ql::limits::LAST_MILLISECOND;
 use sync_text::{NoMemory, Steps};
 use sync_topo::Event;
 
@@ -90,7 +91,7 @@ impl Run<'_> {
         ensures kept { OnOk result (IsKeptBy self.old self.new) }
         ensures live { OnOk result (self.new.net.spent ≡ false) }
         ensures of_plan { OnOk result (All (IsChangeOf self.new.net.plan) self.new.changes.items) }
-        ensures few { OnOk result (length self.new.changes.items ≤ MOST_ROWS) }
+        ensures few { OnOk result (length self.new.changes.items ≤ most_rows self.new.net.plan) }
         ensures going { IfOk result (λ fits. IsTrue fits → IsOpen self.new) }
         ensures watched { IfOk result (λ fits. fits ≡ false → self.new.watch ≡ Watch.Changes) }
         ensures late { IfOk result (λ fits. fits ≡ false → 0 < now) }
@@ -138,7 +139,7 @@ impl Run<'_> {
         ensures kept { OnOk result (IsKeptBy self.old self.new) }
         ensures live { OnOk result (self.new.net.spent ≡ false) }
         ensures of_plan { OnOk result (All (IsChangeOf self.new.net.plan) self.new.changes.items) }
-        ensures few { OnOk result (length self.new.changes.items ≤ MOST_ROWS) }
+        ensures few { OnOk result (length self.new.changes.items ≤ most_rows self.new.net.plan) }
         ensures going { OnUntil result (IsOpen self.new) }
         ensures until { OnUntil result (self.new.net.next ≡ suc until) }
         ensures stopped { IfStopped result (λ t. (t < until) × (self.new.net.next ≡ suc (suc t))

@@ -4,6 +4,7 @@ ghost use Rattle.std.specs.Prelude.{◌≡◌, ◌≤◌, ◌<◌, ◌+◌, ℕ,
 ghost use Rattle.event_sim.specs.Changes.{IsChangeOf};
 ghost use Rattle.sync_element.specs.ElementState.{ElementState};
 ghost use Rattle.sync_topo.specs.declared.event.Event.{Event};
+ghost use Rattle.sync_topo.specs.Sizes.{most_rows};
 ghost use Rattle.event_times.specs.EventTimes.{AreTold, AreWithin};
 ghost use Rattle.event_sim.specs.SimState.{first_after};
 ghost use Rattle.event_sim.specs.Standing.{StandsFor};
@@ -17,7 +18,7 @@ use std::alloc::Global;
 use std::marker::Model;
 use std::sync::ledger::Ledger;
 use sync_net::Net;
-use sync_ql::limits::{LAST_MILLISECOND, MOST_ROWS};
+use sync_ql::limits::LAST_MILLISECOND;
 use sync_text::{NoMemory, Steps};
 use sync_topo::{Event, Plan};
 
@@ -115,9 +116,9 @@ impl<'a> Sim<'a> {
     /// Tells events, and runs the network up to and with a millisecond, at most 86,400,000.
     ///
     /// The events fit the plan, stand in order of time, and are later than what is reached and not
-    /// later than `until`. Where changes are watched and those up to `until` are more than 200,000,
-    /// it answers `Stopped` with the last millisecond up to which all fit, and its network stands
-    /// one millisecond later. After the first step it makes no more than there are milliseconds that are
+    /// later than `until`. Where changes are watched and those up to `until` are more than the plan
+    /// may have, 200,000 or 10,000,000 where it is large, it answers `Stopped` with the last
+    /// millisecond up to which all fit, and its network stands one millisecond later. After the first step it makes no more than there are milliseconds that are
     /// busy or are `until`, and each element makes no more than those in which it is active. `NoMemory`
     /// comes only when out of memory, and then the simulator is spent. This project's own.
     pub fn advance<L: Ledger>(
@@ -144,7 +145,7 @@ impl<'a> Sim<'a> {
         ensures watched { IfStopped result (λ t. self.old.watch ≡ Watch.Changes) }
         ensures unwatched { OnOk result (self.old.watch ≡ Watch.Nothing →
             self.new.changes ≡ self.old.changes) }
-        ensures few { OnOk result (length self.new.changes ≤ MOST_ROWS) }
+        ensures few { OnOk result (length self.new.changes ≤ most_rows self.new.net.plan) }
         ensures stands { OnOk result ((all : List Event) →
             AreTold self.old.net.plan all (first_after self.old.reached) until events.now →
             StandsFor self.old all → StandsFor self.new all) }

@@ -17,7 +17,7 @@ fn event_refusals_are_printed(rt: HostRuntime) -> Result<(), Fail> {
         (EventErr::What(4), "row 4: no word for what happens"),
         (EventErr::Target(5), "row 5: not a target of this word"),
         (EventErr::Value(6), "row 6: not a value of this word"),
-        (EventErr::Limit, "more than 100000 rows"),
+        (EventErr::Limit, "more rows than the plan may have"),
         (EventErr::Name(7), "row 7: no name of a case"),
         (
             EventErr::Apart(8),

@@ -3,14 +3,14 @@
 use plan_file::read_plan;
 use rank_cert::{Cert, CertErr, read_cert, write_cert};
 use std::test::Fail;
-use sync_topo::LineId;
+use sync_topo::{LineId, Size};
 use test_makers::{CHAIN, is_printed_as};
 
 /// A to B over L1 and B to C over L2, both nominated where they end.
 #[test]
 fn written_certificates_are_read_back(rt: HostRuntime) -> Result<(), Fail> {
     let alloc = rt.alloc();
-    let plan = read_plan(alloc, CHAIN)?;
+    let plan = read_plan(alloc, CHAIN, Size::Standard)?;
     let rows: [(&[u8], &[u8]); 3] = [
         (
             b"line,rank\nL2>C,1\nL1>B,0\n",
@@ -36,7 +36,7 @@ fn written_certificates_are_read_back(rt: HostRuntime) -> Result<(), Fail> {
 #[test]
 fn ranks_are_set_and_taken_away(rt: HostRuntime) -> Result<(), Fail> {
     let alloc = rt.alloc();
-    let plan = read_plan(alloc, CHAIN)?;
+    let plan = read_plan(alloc, CHAIN, Size::Standard)?;
     let mut cert = Cert::new(alloc, &plan)?;
     let line = plan.line_of_name(b"L2>C");
     assert!(&rt; line == Some(LineId(2)));

@@ -4,7 +4,7 @@ use plan_file::read_plan;
 use std::process::Abort;
 use std::test::Fail;
 use sync_ql::{NetOption, do_not_use};
-use sync_topo::{Event, InputId, LineId, Part, Place, Plan, PlanErr, Section, What};
+use sync_topo::{Event, InputId, LineId, Part, Place, Plan, PlanErr, Section, Size, What};
 use test_makers::is_printed_as;
 
 /// Three links in a bundle, the second with its ends swapped, one beside it, and a source.
@@ -102,7 +102,7 @@ fn takes_its_own_events(rt: &impl Abort, plan: &Plan) {
 
 #[test]
 fn plan_tells_names_bundles_and_events(rt: HostRuntime) -> Result<(), Fail> {
-    let plan = read_plan(rt.alloc(), PLAN)?;
+    let plan = read_plan(rt.alloc(), PLAN, Size::Standard)?;
     is_told_apart(&rt, &plan);
     goes_back_by_bundle(&rt, &plan);
     takes_its_own_events(&rt, &plan);

@@ -1,5 +1,5 @@
 -- What arrives on a line, and from when it is.
-use Rattle.std.proofs.Common.{◌≡◌, ◌≤◌, ◌<◌, ◌+◌, ◌-◌, ◌⊎◌, ℕ, zero, suc, Bool, true, false, ◌&&◌, [], drop, take, None, is_some, refl, ap, sym, subst, inl, inr, arith, Some, Option, ◌∷◌, ◌∙◌}
+use Rattle.std.proofs.Common.{◌≡◌, ◌≤◌, ◌<◌, ◌+◌, ◌-◌, ◌⊎◌, ℕ, zero, suc, Bool, true, false, ◌&&◌, List, [], drop, take, None, is_some, refl, ap, sym, subst, inl, inr, arith, Some, Option, ◌∷◌, ◌∙◌}
 use Rattle.std.specs.Prelude.{if◌then◌else◌}
 use Rattle.std.proofs.Math.Decide.{dec_lt}
 use Rattle.std.proofs.lemmas.Bool.{and_parts}
@@ -70,7 +70,7 @@ unheard f d now none = unheard-none f d now (λ a until recent. elim (came-or_no
 ])
 
 -- what arrives was said a delay ago
-came-said : (f : ℕ → LineMoment) (d from now : ℕ) (level : Level) → now ≡ d + from → came d (past_of f (suc now)) ≡ Some level → said_in (f from) ≡ Some level
+pub came-said : (f : ℕ → LineMoment) (d from now : ℕ) (level : Level) → now ≡ d + from → came d (past_of f (suc now)) ≡ Some level → said_in (f from) ≡ Some level
 unfolding came
 came-said f d from now level same is = of (arrives d (past_of f (suc now))) is
   where
@@ -124,3 +124,20 @@ heard-said f level d now is =
       )
       | inr nothing ↦ absurd (none-some level (sym nothing ∙ h.came_then))
     ]
+
+-- what is heard arrives in this millisecond, or was heard in the one before
+first_more : {A : Type 0} (n : ℕ) (xs : List (Option A)) (x : A) → first_within n xs ≡ Some x → first_within (suc n) xs ≡ Some x
+first_more zero xs x is = absurd (none-some x is)
+first_more (suc n) [] x is = absurd (none-some x is)
+first_more (suc n) (Some y ∷ xs) x is = is
+first_more (suc n) (None ∷ xs) x is = first_more n xs x is
+
+pub heard-came : (f : ℕ → LineMoment) (d t : ℕ) (level : Level) → heard_at d (past_of f (suc (suc t))) ≡ Some level
+    → (came d (past_of f (suc (suc t))) ≡ Some level) ⊎ (heard_at d (past_of f (suc t)) ≡ Some level)
+unfolding heard_at
+heard-came f d t level is = of (came d (past_of f (suc (suc t)))) is
+  where
+    of : (o : Option Level) → first_within hearing_time (o ∷ arrivals d (past_of f (suc t))) ≡ Some level
+        → (o ≡ Some level) ⊎ (first_within hearing_time (arrivals d (past_of f (suc t))) ≡ Some level)
+    of (Some own) here = inl here
+    of None earlier = inr (first_more 4999 (arrivals d (past_of f (suc t))) level earlier)

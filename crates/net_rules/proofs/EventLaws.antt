@@ -15,9 +15,8 @@ use Rattle.sync_topo.specs.declared.event.Event.{Event}
 use Rattle.sync_topo.specs.Topology.{Topology}
 use Rattle.sync_topo.specs.Lines.{line_input, delay_of}
 use Rattle.net_rules.specs.Signals.{events_before, events_at, last_word, says_up, says_esmc, says_level, command_to, up_at, esmc_at, said_at, source_level_before, source_level_at, planned_level, signals_by}
-use Rattle.net_rules.specs.Facing.{IsStill}
 use Rattle.net_rules.specs.Staying.{IsQuietAfter, AreStillBefore}
-use Rattle.net_rules.specs.Settling.{NoneAfter, switches_line, IsUnswitched, AreUnswitchedBefore}
+use Rattle.net_rules.specs.Settling.{NoneAfter, switches_line, AreUnswitchedBefore}
 
 -- two tests that differ only at events that don't speak of a matter leave its last word
 pub last_word-filter : {A : Type 0} (says : What → Option A) (p q : Event → Bool) (events : List Event)
@@ -132,20 +131,7 @@ line-same plan events line t each = (
   esmc-same events line t (Each-map (LeavesLine line (suc t)) _ (λ event other. (leaves line (suc t) event other).1) events each),
 )
 
--- a line that no event switches is still
-pub still-unswitched : (plan : Topology) (events : List Event) (line from until : ℕ) → IsUnswitched events line from until
-    → IsStill (signals_by plan events) line from until
-still-unswitched plan events line from until none = record {
-  up = λ t after before. (line-same plan events line t (each t after before)).0;
-  esmc = λ t after before. (line-same plan events line t (each t after before)).1;
-}
-  where
-    each : (t : ℕ) → from ≤ t → t < until → Each (LeavesLine line (suc t)) events
-    each t after before =
-        Each-map (λ event. IsTrue (switches_line line event.what) → from ≤ event.at → until < event.at) (LeavesLine line (suc t))
-        (λ event later switches same. let past = later switches (omega (arith, same, after)) in omega (arith, past, same, before)) events
-        (each-all (λ event. IsTrue (switches_line line event.what) → from ≤ event.at → until < event.at) events none)
-
+-- a line that no event switches in a delay is still in it
 pub still-before : (plan : Topology) (events : List Event) (t : ℕ) → AreUnswitchedBefore plan events t → AreStillBefore plan (signals_by plan events) t
 still-before plan events t none line nominated = record {
   up = λ u after before. (line-same plan events line u (each u after before)).0;

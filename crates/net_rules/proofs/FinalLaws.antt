@@ -18,7 +18,7 @@ use Rattle.net_rules.specs.Settled.{IsSettled}
 use Rattle.net_rules.specs.Safety.{IsLoopFree, taken_in}
 use Rattle.net_rules.specs.Facing.{Faces}
 use Rattle.net_rules.specs.Staying.{IsSameAt}
-use Rattle.net_rules.specs.Settling.{NoneAfter, IsUnswitched, AreUnswitchedBefore, IsSettlingBound}
+use Rattle.net_rules.specs.Settling.{NoneAfter, AreUnswitchedBefore, IsSettlingBound}
 use Rattle.std.specs.Prelude.{IfSome, IsTrue}
 use Rattle.sync_ql.proofs.SameMoments.{line_moment}
 use Rattle.sync_ql.specs.Condition.{Signal}
@@ -30,13 +30,13 @@ use Rattle.net_rules.proofs.TraceLaws.{has_trace}
 use Rattle.net_rules.proofs.WalkLaws.{pair_or_cycle}
 use Rattle.net_rules.proofs.PlanLaws.{IsDelayed-well, sender-within}
 use Rattle.net_rules.proofs.HistoryLaws.{out_at-sent, until_same, element-past-same, same_inputs-until}
-use Rattle.net_rules.proofs.PairLaws.{pair-short-still}
+use Rattle.net_rules.proofs.PairLaws.{pair-brief}
 use Rattle.net_rules.proofs.SettledLaws.{rising-loop_free}
 use Rattle.net_rules.proofs.QuietLaws.{settled-stays}
 use Rattle.net_rules.proofs.BoundLaws.{bound-settles}
 use Rattle.net_rules.proofs.OrderLaws.{later-same, touch-same}
 use Rattle.net_rules.proofs.IdleLaws.{inactive-is, inactive-same, quiet-same, quiet-inactive}
-use Rattle.net_rules.proofs.EventLaws.{quiet-after, still-before, still-unswitched}
+use Rattle.net_rules.proofs.EventLaws.{quiet-after, still-before}
 
 -- the levels that the rules send obey them
 pub obeys-well : (plan : Topology) (signals : Signals) → IsWellFormed plan → Obeys plan signals (out_at plan signals)
@@ -47,12 +47,11 @@ pub loop_free : (plan : Topology) (rank : ℕ → ℕ) → IsWellFormed plan →
 loop_free plan rank well rising events fits t =
     rising-loop_free plan (signals_by plan events) (out_at plan (signals_by plan events)) rank well (obeys-well plan (signals_by plan events) well) rising t
 
-pub pair-by_events : (plan : Topology) (events : List Event) (line back from until : ℕ) → IsWellFormed plan → IsUnswitched events line from until → from ≤ until
+pub pair-by_events : (plan : Topology) (events : List Event) (line back from until : ℕ) → IsWellFormed plan → from ≤ until
     → ((t : ℕ) → from ≤ t → t ≤ until → Faces plan (signals_by plan events) (out_at plan (signals_by plan events)) line back t)
     → until < from + (hearing_time + delay_of plan line)
-pair-by_events plan events line back from until well none begun faces =
-    pair-short-still plan (signals_by plan events) (out_at plan (signals_by plan events)) line back from until well (obeys-well plan (signals_by plan events) well) faces
-    (still-unswitched plan events line from until none) begun
+pair-by_events plan events line back from until well begun faces =
+    pair-brief plan (signals_by plan events) (out_at plan (signals_by plan events)) line back from until well (obeys-well plan (signals_by plan events) well) faces begun
 
 pub stays-by_events : (plan : Topology) (events : List Event) (t u : ℕ) → IsWellFormed plan
     → IsSettled plan (signals_by plan events) (out_at plan (signals_by plan events)) t → NoneAfter events t → AreUnswitchedBefore plan events t → t ≤ u

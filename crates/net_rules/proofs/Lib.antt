@@ -13,10 +13,12 @@ pub mod Arrivals
 pub mod PairLaws
 pub mod SettledLaws
 pub mod QuietLaws
+pub mod RunOutLaws
 pub mod WaitLaws
 pub mod SettlingLaws
 pub mod BoundLaws
 pub mod EventLaws
+pub mod LosingLaws
 pub mod FinalLaws
 pub mod NewsLaws
 pub mod TraceLaws

@@ -15,10 +15,11 @@ use Rattle.sync_topo.specs.WellFormed.{IsWellFormed}
 use Rattle.sync_topo.proofs.LineLaws.{IsNominated-within}
 use Rattle.net_rules.specs.Signals.{Signals, speaks_at}
 use Rattle.net_rules.specs.History.{Levels, line_moment_at, heard, taken_at, level_at, is_way_back, sent_level, Obeys}
-use Rattle.net_rules.specs.Facing.{Faces, IsStill}
+use Rattle.net_rules.specs.Facing.{Faces}
+use Rattle.net_rules.specs.Staying.{IsStill}
 use Rattle.net_rules.proofs.Backs.{back-again}
 use Rattle.net_rules.proofs.NetLaws.{taken-is, taken-nominated, not_above}
-use Rattle.net_rules.proofs.Arrivals.{unheard, sent-said}
+use Rattle.net_rules.proofs.Arrivals.{unheard, sent-said, heard-said}
 
 -- both lines of a pair are nominated
 faces-nominated : (plan : Topology) (signals : Signals) (out : Levels) (line back t : ℕ) → Faces plan signals out line back t
@@ -125,26 +126,36 @@ silent-unheard plan signals out line from now silent long =
     ap is_some (silent-said signals out line sent (silent sent (omega (arith, long, recent)) (omega (arith, until)))) in
     true≢false (sym (sent-said (line_moment_at signals out line) sent is) ∙ none)))
 
--- while a line of the pair is neither up nor down anew, nor its ESMC on or off, the pair stands for less than
--- five seconds and that line's delay
-pub pair-short-still : (plan : Topology) (signals : Signals) (out : Levels) (line back from until : ℕ) → IsWellFormed plan → Obeys plan signals out
-    → ((t : ℕ) → from ≤ t → t ≤ until → Faces plan signals out line back t)
-    → IsStill signals line from until → from ≤ until → until < from + (hearing_time + delay_of plan line)
-pair-short-still plan signals out line back from until well obeys faces still begun = elim (dec_lt until (from + (hearing_time + delay_of plan line))) [
-  | yes short ↦ short
-  | no long ↦ absurd (by (speaks_at signals line from) refl long)
-]
+pub was_heard : (plan : Topology) (signals : Signals) (out : Levels) (line t : ℕ) (level : Level) → heard plan signals out line t ≡ Some level
+    → heard_at (delay_of plan line) (past_of (line_moment_at signals out line) (suc t)) ≡ Some level
+unfolding heard
+was_heard plan signals out line t level is = is
+
+-- what a line says is what is sent on it
+pub said-sent : (signals : Signals) (out : Levels) (line s : ℕ) (level : Level) → said_in (line_moment_at signals out line s) ≡ Some level → out line s ≡ level
+said-sent signals out line s level is = of (speaks_at signals line s) is
   where
-    by : (speaks : Bool) → speaks_at signals line from ≡ speaks → (until < from + (hearing_time + delay_of plan line) → ⊥) → ⊥
-    by true is long = long (omega (
-      arith,
-      pair-short plan signals out line back from until well obeys faces
-          (λ t after before. still-speaks signals line from until t still after before ∙ is) begun,
-    ))
-    by false is long =
-        let none = silent-unheard plan signals out line from until (λ t after before. still-speaks signals line from until t still after before ∙ is) (omega (arith, long)) in
-        let taken = taken-is plan signals out (receiver_of plan line) until (line_input line) (faces until begun (omega arith)).walk.each_taken.0 in
-        none-some (level_at plan signals out (receiver_of plan line) until) (sym none ∙ taken.has_level)
+    of : (speaks : Bool) → (if speaks then Some (out line s) else None) ≡ Some level → out line s ≡ level
+    of true is = same_Some _ _ is
+    of false is = absurd (none-some level is)
+
+-- whatever is switched, the pair stands for less than five seconds and that line's delay: what the receiver takes was said before
+-- the pair stood, since in the pair do-not-use is said
+pub pair-brief : (plan : Topology) (signals : Signals) (out : Levels) (line back from until : ℕ) → IsWellFormed plan → Obeys plan signals out
+    → ((t : ℕ) → from ≤ t → t ≤ until → Faces plan signals out line back t)
+    → from ≤ until → until < from + (hearing_time + delay_of plan line)
+pair-brief plan signals out line back from until well obeys faces begun =
+    let taken = taken-is plan signals out (receiver_of plan line) until (line_input line) (faces until begun (omega arith)).walk.each_taken.0 in
+    let hears = heard-said (line_moment_at signals out line) (level_at plan signals out (receiver_of plan line) until) (delay_of plan line) until
+    (was_heard plan signals out line until (level_at plan signals out (receiver_of plan line) until) taken.has_level) in
+    elim (dec_lt hears.0 from) [
+      | yes before ↦ omega (arith, before, hears.2)
+      | no within ↦
+          let level : level_at plan signals out (receiver_of plan line) until ≡ do_not_use_of plan.option =
+          sym (said-sent signals out line hears.0 (level_at plan signals out (receiver_of plan line) until) hears.3)
+          ∙ pair-sends plan signals out line back hears.0 well obeys (faces hears.0 (omega (arith, within)) (omega (arith, hears.1))) in
+          absurd (not_above plan.option (subst (λ l. IsBetter l (do_not_use_of l.option)) level taken.above_do_not_use))
+    ]
 
 -- the pair the other way round
 pub pair-turned : (plan : Topology) (signals : Signals) (out : Levels) (line back t : ℕ) → IsWellFormed plan

@@ -25,8 +25,7 @@ use Rattle.net_rules.specs.Inputs.{IsInputOf}
 use Rattle.net_rules.specs.History.{Levels, settings_of, line_moment_at, heard, input_level, moment_at, element_past, taken_by, taken_at, failed_by, is_way_back, sent_level, Obeys}
 use Rattle.net_rules.specs.Settings.{timers_of, signal_at}
 use Rattle.net_rules.specs.Settled.{is_sent_at, IsOnWay, IsSteady, IsSettled}
-use Rattle.net_rules.specs.Facing.{IsStill}
-use Rattle.net_rules.specs.Staying.{IsQuietAfter, AreStillBefore, IsSameAt}
+use Rattle.net_rules.specs.Staying.{IsStill, IsQuietAfter, AreStillBefore, IsSameAt}
 use Rattle.net_rules.proofs.ElementLaws.{IsAlikeAfter, AreAllAlikeAfter, output-stays}
 use Rattle.net_rules.proofs.InputLaws.{inputs-are}
 use Rattle.net_rules.proofs.NetLaws.{failed-at, level-at}
@@ -111,7 +110,7 @@ first_less (suc n) [] none = refl
 first_less (suc n) (Some x ∷ xs) none = cc
 first_less (suc n) (None ∷ xs) none = first_less n xs none
 
-still_unheard : (f : ℕ → LineMoment) (d t : ℕ) → heard_at d (past_of f (suc t)) ≡ None → came d (past_of f (suc (suc t))) ≡ None
+pub still_unheard : (f : ℕ → LineMoment) (d t : ℕ) → heard_at d (past_of f (suc t)) ≡ None → came d (past_of f (suc (suc t))) ≡ None
     → heard_at d (past_of f (suc (suc t))) ≡ None
 unfolding heard_at
 still_unheard f d t none nothing =
@@ -150,7 +149,7 @@ failed_next holdoff wtr downs ups false clear failed false is same =
 failed_next holdoff wtr downs ups true clear failed false is same = cc
 failed_next holdoff wtr downs ups false clear failed true is same = cc
 
-steady-next : (plan : Topology) (signals : Signals) (input : InputId) (t : ℕ) → IsSteady plan signals input t
+pub steady-next : (plan : Topology) (signals : Signals) (input : InputId) (t : ℕ) → IsSteady plan signals input t
     → signals.up input (suc t) ≡ signals.up input t → IsSteady plan signals input (suc t)
 unfolding failed_by failed_at
 steady-next plan signals input t steady same =

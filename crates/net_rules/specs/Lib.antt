@@ -11,4 +11,5 @@ pub mod Facing
 pub mod Staying
 pub mod Activity
 pub mod Settling
+pub mod Losing
 pub mod private

@@ -1,6 +1,6 @@
 -- From when on a network is settled after the last event, and what has to stand still for that.
 -- This project's own.
-use Rattle.std.specs.Prelude.{◌≡◌, ◌<◌, ◌≤◌, ◌⊎◌, ℕ, ◌+◌, ◌*◌, Bool, ◌||◌, is_some, List, slice_get, Some, IsTrue}
+use Rattle.std.specs.Prelude.{◌≡◌, ◌≤◌, ◌⊎◌, ℕ, ◌+◌, ◌*◌, Bool, ◌||◌, is_some, List, slice_get, Some, IsTrue}
 use Rattle.std.specs.List.{All}
 use Rattle.sync_ql.specs.Messages.{hearing_time}
 use Rattle.sync_topo.specs.declared.element.Element.{Element}
@@ -19,11 +19,6 @@ NoneAfter events t = All (λ event. event.at ≤ t) events
 -- what happens switches a line: up or down, or its ESMC on or off
 abbrev pub switches_line : ℕ → What → Bool
 switches_line line what = is_some (says_up (line_input line) what) || is_some (says_esmc line what)
-
--- nothing switches a line in the milliseconds from one to another, both included
-abbrev pub IsUnswitched : List Event → ℕ → ℕ → ℕ → Type 0
-IsUnswitched events line from until =
-    All (λ event. IsTrue (switches_line line event.what) → from ≤ event.at → until < event.at) events
 
 -- no event switches a nominated line later than its delay before the millisecond
 abbrev pub AreUnswitchedBefore : Topology → List Event → ℕ → Type 0

@@ -3,10 +3,9 @@ use Rattle.std.specs.Prelude.{◌≡◌, ◌≤◌, ◌<◌, ℕ, ◌-◌, suc, 
 use Rattle.sync_ql.specs.Quiet.{IsSameOutput}
 use Rattle.sync_topo.specs.declared.input.InputId.{InputId}
 use Rattle.sync_topo.specs.Topology.{Topology}
-use Rattle.sync_topo.specs.Lines.{line_count, delay_of, IsNominated}
+use Rattle.sync_topo.specs.Lines.{line_input, line_count, delay_of, IsNominated}
 use Rattle.net_rules.specs.Signals.{Signals}
 use Rattle.net_rules.specs.History.{Levels, settings_of, element_past, taken_at}
-use Rattle.net_rules.specs.Facing.{IsStill}
 
 -- from a millisecond on nothing changes outside, and no command is given. That a wait-to-restore time is
 -- cleared makes no difference
@@ -15,6 +14,11 @@ pub record IsQuietAfter (signals : Signals) (t : ℕ) : Type 0 where
   pub esmc : (line u : ℕ) → t ≤ u → signals.esmc line (suc u) ≡ signals.esmc line u
   pub source_level : (source u : ℕ) → t ≤ u → signals.source_level source (suc u) ≡ signals.source_level source u
   pub commands : (element u : ℕ) → t ≤ u → signals.commands element (suc u) ≡ []
+
+-- from one millisecond to another a line stays up or down, and its ESMC on or off, as at the first
+pub record IsStill (signals : Signals) (line from until : ℕ) : Type 0 where
+  pub up : (t : ℕ) → from ≤ t → t < until → signals.up (line_input line) (suc t) ≡ signals.up (line_input line) t
+  pub esmc : (t : ℕ) → from ≤ t → t < until → signals.esmc line (suc t) ≡ signals.esmc line t
 
 -- each nominated line has been up or down, and its ESMC on or off, as it is, for its delay
 abbrev pub AreStillBefore : Topology → Signals → ℕ → Type 0

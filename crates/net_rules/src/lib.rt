@@ -3,9 +3,9 @@
 //! The rules are definitions in `specs/`, over a plan and a list of events: what comes from outside
 //! (`Signals`), what each line carries and what each element takes and gives (`History`), closed walks,
 //! facing pairs and traces (`Walks`), settled milliseconds (`Settled`), plans in which no timing loop
-//! can form (`Safety`), in which milliseconds something happens and where (`Activity`), and from when on
-//! a network is settled (`Settling`). Those of one line and one element are `sync_ql`'s, over their
-//! pasts.
+//! can form (`Safety`), in which milliseconds something happens and where (`Activity`), from when on a
+//! network is settled (`Settling`), and from when on where it has only lost parts (`Losing`). Those of
+//! one line and one element are `sync_ql`'s, over their pasts.
 //!
 //! The laws are the contracts of functions that do nothing: [`closed_walk_law`], [`walk_back_law`],
 //! [`trace_law`] and [`taken_law`] over what is taken in one millisecond; [`history_law`], [`order_law`]

@@ -15,23 +15,22 @@ ghost use Rattle.net_rules.specs.Walks.{IsClosedWalk, IsFacingPair};
 ghost use Rattle.net_rules.specs.Safety.{taken_in, IsLoopFreeAt, IsLoopFree};
 ghost use Rattle.net_rules.specs.Settled.{IsSettled, IsSettledByNews};
 ghost use Rattle.net_rules.specs.Staying.{IsQuietAfter, AreStillBefore, IsSameAt};
-ghost use Rattle.net_rules.specs.Settling.{NoneAfter, IsUnswitched, AreUnswitchedBefore, IsSettlingBound};
-ghost use Rattle.net_rules.specs.Facing.{Faces, IsStill};
+ghost use Rattle.net_rules.specs.Settling.{NoneAfter, AreUnswitchedBefore, IsSettlingBound};
+ghost use Rattle.net_rules.specs.Losing.{IsLosing, AreLosses, IsSoonBound};
+ghost use Rattle.net_rules.specs.Facing.{Faces};
 
-/// The law of facing pairs: each is short while a line of it speaks, or isn't switched. Its last millisecond is less than a line's delay after its
-/// first, if that line speaks all the while; and less than five seconds and that delay, if the line
-/// neither goes down or up nor has its ESMC switched meanwhile. Both hold of either line, since the pair
-/// may be turned round.
+/// The law of facing pairs: each is short. Its last millisecond is less than five seconds and a line's
+/// delay after its first, whatever happens to the line meanwhile; and less than that delay, if the line
+/// speaks all the while. Both hold of either line, since the pair may be turned round.
 pub fn facing_pair_law()
     ensures speaking { (plan : Topology) (signals : Signals) (out : Levels)
         (line back from until : ℕ) → IsWellFormed plan → Obeys plan signals out →
         ((t : ℕ) → from ≤ t → t ≤ until → Faces plan signals out line back t) →
         ((t : ℕ) → from ≤ t → t ≤ until → speaks_at signals line t ≡ true) →
         from ≤ until → until < from + delay_of plan line }
-    ensures still { (plan : Topology) (signals : Signals) (out : Levels)
+    ensures brief { (plan : Topology) (signals : Signals) (out : Levels)
         (line back from until : ℕ) → IsWellFormed plan → Obeys plan signals out →
         ((t : ℕ) → from ≤ t → t ≤ until → Faces plan signals out line back t) →
-        IsStill signals line from until →
         from ≤ until → until < from + (hearing_time + delay_of plan line) }
     ensures turned { (plan : Topology) (signals : Signals) (out : Levels) (line back t : ℕ) →
         IsWellFormed plan → Faces plan signals out line back t → Faces plan signals out back line t }
@@ -53,8 +52,8 @@ pub fn rising_law()
 /// given afterwards, and each nominated line has been up or down, and its ESMC on or off, as it is for
 /// its delay, every later millisecond is settled too. Each element then gives and takes the same, and
 /// each line is sent the same. No ranks are needed. From the settling bound on every millisecond is
-/// settled. To look at the messages that are news is enough. No facing pair stands in a settled
-/// millisecond, with ranks or without.
+/// settled, and much sooner where a settled network has only lost parts. To look at the messages that
+/// are news is enough. No facing pair stands in a settled millisecond, with ranks or without.
 pub fn settled_law()
     ensures stays { (plan : Topology) (signals : Signals) (out : Levels) (t u : ℕ) →
         IsWellFormed plan → Obeys plan signals out → IsSettled plan signals out t →
@@ -63,6 +62,10 @@ pub fn settled_law()
     ensures bound { (plan : Topology) (signals : Signals) (out : Levels) (last bound t : ℕ) →
         IsWellFormed plan → Obeys plan signals out → IsSettlingBound plan last bound →
         IsQuietAfter signals last → bound ≤ t → IsSettled plan signals out t }
+    ensures soon { (plan : Topology) (signals : Signals) (out : Levels)
+        (settled last bound t : ℕ) → IsWellFormed plan → Obeys plan signals out →
+        IsSoonBound plan bound → IsLosing plan signals out settled last → last + bound ≤ t →
+        IsSettled plan signals out t }
     ensures news { (plan : Topology) (signals : Signals) (out : Levels) (t : ℕ) →
         IsSettledByNews plan signals out t ↔ IsSettled plan signals out t }
     ensures unpaired { (plan : Topology) (signals : Signals) (out : Levels) (t : ℕ) →
@@ -70,13 +73,14 @@ pub fn settled_law()
         IsClosedWalk plan (taken_in plan signals out t) lines → ¬ IsFacingPair plan lines }
 {}
 
-/// The timed laws by a list of events. A facing pair is short while no event switches a line of it; a
-/// settled millisecond after which no event stands, and before which none switched a nominated line for
-/// its delay, stays settled; and where the plan has a settling bound after the last event,
-/// every millisecond from it on is settled.
+/// The timed laws by a list of events. A facing pair is short, whatever events there are; a settled
+/// millisecond after which no event stands, and before which none switched a nominated line for its
+/// delay, stays settled; where the plan has a settling bound after the last event, every millisecond
+/// from it on is settled; and where after a settled millisecond nothing comes up and no line's ESMC
+/// goes off, every millisecond from the plan's much smaller bound after losses on.
 pub fn event_law()
     ensures pair { (plan : Topology) (events : List Event) (line back from until : ℕ) →
-        IsWellFormed plan → IsUnswitched events line from until → from ≤ until →
+        IsWellFormed plan → from ≤ until →
         ((t : ℕ) → from ≤ t → t ≤ until →
         Faces plan (signals_by plan events) (out_at plan (signals_by plan events)) line back t) →
         until < from + (hearing_time + delay_of plan line) }
@@ -87,5 +91,9 @@ pub fn event_law()
         × IsSameAt plan (signals_by plan events) (out_at plan (signals_by plan events)) t u }
     ensures bound { (plan : Topology) (events : List Event) (last bound t : ℕ) →
         IsWellFormed plan → NoneAfter events last → IsSettlingBound plan last bound → bound ≤ t →
+        IsSettled plan (signals_by plan events) (out_at plan (signals_by plan events)) t }
+    ensures soon { (plan : Topology) (events : List Event) (settled last bound t : ℕ) →
+        IsWellFormed plan → IsSoonBound plan bound → AreLosses plan events settled last →
+        last + bound ≤ t →
         IsSettled plan (signals_by plan events) (out_at plan (signals_by plan events)) t }
 {}

@@ -73,7 +73,7 @@ fn tell_link(plan: &Plan, tellings: &mut Tellings, link: u32, up: bool) -> Resul
     requires flags { length tellings.old.active.flags ≡ length plan.now.elements }
     ensures { OnOk result (AreTold (part_words plan.now up (Part.Link link)) tellings.old tellings.new) }
 {
-    // A plan has at most 4,000 links, so the sum fits.
+    // A plan has at most 200,000 links, so the sum fits.
     let _links = plan.links();
     let first = InputId::Line(LineId(2 * link));
     let second = InputId::Line(LineId(2 * link + 1));

@@ -14,7 +14,7 @@ use sync_ql::rules::ClockState::{self, Holdover, Locked};
 use sync_ql::rules::Mode;
 use sync_ql::{Level, NetOption, level_of_name};
 use sync_text::{NoMemory, Steps};
-use sync_topo::{Event, InputId, LineId, Part, Plan, What};
+use sync_topo::{Event, InputId, LineId, Part, Plan, Size, What};
 use test_makers::SOURCED_CHAIN;
 
 /// The millisecond, the element, the input, the level and the state of a row; all are selected
@@ -129,7 +129,7 @@ fn chain_changes<L: Ledger>(
 }
 
 fn chains<L: Ledger>(rt: &(impl Abort + AllocGlobal), steps: &mut Steps<L>) -> Result<(), Fail> {
-    let plan = read_plan(rt.alloc(), SOURCED_CHAIN)?;
+    let plan = read_plan(rt.alloc(), SOURCED_CHAIN, Size::Standard)?;
     chain_changes(rt, &plan, Watch::Changes, &CHAIN_ROWS, steps)?;
     chain_changes(rt, &plan, Watch::Nothing, &[], steps)?;
     Ok(())

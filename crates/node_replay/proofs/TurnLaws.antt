@@ -24,7 +24,7 @@ use Rattle.node_replay.specs.declared.lines_out.LineOut.{LineOut}
 use Rattle.node_replay.specs.declared.shown.Shown.{Shown}
 use Rattle.node_replay.specs.declared.frames.Sent.{Sent}
 use Rattle.node_replay.specs.declared.running.Run.{Run}
-use Rattle.sync_ql.specs.declared.limits.TheConstants.{MOST_ROWS}
+use Rattle.sync_topo.specs.Sizes.{most_rows}
 use Rattle.node_rules.specs.NodeText.{lines_out, frame_row, sending_at, rows_before}
 use Rattle.node_replay.specs.private.Keeping.{heard_of, level_after, up_then, last_then, input_after, out_after, frame_for, frame_of, sent_row}
 use Rattle.node_replay.specs.Running.{IsOfPast, IsInputAt, IsOutAt, RunStands, RunHolds}
@@ -76,7 +76,7 @@ taken-run plan place here before after run in_range rows taken = record {
   options = subst (Each (IsKeptOf plan.option)) (sym taken.inputs) (kept-all plan place here before.next before.inputs.items rows run.options);
   lines = ap (map (λ (out : LineOut). out.line.0)) taken.lines_out ∙ lines-after plan here after.shown before.lines_out.items ∙ run.lines;
   shows = taken.shows;
-  rows = subst (λ n. n ≤ MOST_ROWS) (sym taken.rows) run.rows;
+  rows = subst (λ n. n ≤ most_rows plan) (sym taken.rows) run.rows;
   in_range = (let next = taken.next in omega (arith, next, in_range));
   first = λ never. (let next = taken.stepped.next in absurd (omega (arith, next, never)));
   wakes_first = λ never. (let next = taken.next in absurd (omega (arith, next, never)));
@@ -110,7 +110,7 @@ written-run plan place now frames before after run written = record {
   options = subst (Each (IsKeptOf plan.option)) (sym written.inputs) run.options;
   lines = ap (map (λ (out : LineOut). out.line.0)) written.lines_out ∙ run.lines;
   shows = subst (λ e. Shows plan place e after.shown) (sym written.element) (subst (Shows plan place before.element) (sym written.shown) run.shows);
-  rows = elim (fits-or-not (before.rows + length frames) MOST_ROWS) [
+  rows = elim (fits-or-not (before.rows + length frames) (most_rows plan)) [
     | inl fits ↦ (let is = (written.fits fits).0 in omega (arith, is, fits))
     | inr full ↦ (let is = (written.full full).0 in let few = run.rows in omega (arith, is, few))
   ];
@@ -147,13 +147,12 @@ made-few {A = A} {B = B} f (x ∷ xs) = by (f x) (made-few f xs)
     by (Some y) rest = omega (arith, rest)
 
 few-frames : (plan : Topology) (place t : ℕ) (outs : List LineOut) → IsWellFormed plan → map (λ out. out.line.0) outs ≡ lines_out plan place
-    → length (filter_map (frame_of t) outs) ≤ 8000
-few-frames plan place t outs well lines =
+    → line_count plan ≤ most_rows plan → length (filter_map (frame_of t) outs) ≤ most_rows plan
+few-frames plan place t outs well lines enough =
     let made = made-few (frame_of t) outs in
     let count : length outs ≡ length (lines_out plan place) = sym (length-map outs (λ out. out.line.0)) ∙ ap length lines in
     let few = filter-few (λ line. sender_of plan line == place) 0 (line_count plan) in
-    let links = well.few_links in
-    omega (arith, made, count, few, links)
+    omega (arith, made, count, few, enough)
 
 -- each frame is on one of the lines
 frames-lines : (P : ℕ → Type 0) (t : ℕ) (outs : List LineOut) → Each (λ (out : LineOut). P out.line.0) outs → Each (λ (sent : Sent). P sent.line.0) (filter_map (frame_of t) outs)
@@ -223,10 +222,10 @@ module _ (plan : Topology) (place : ℕ) (here rows : List NodeRow) (before mid 
       ∙ ap (λ front. front ++ concat (map (frame_row plan rows place before.next) (sending_at plan rows place before.next))) (sym (taken.text ∙ stands.text))
       ∙ ap (λ xs. mid.text ++ concat xs) (sym rows-then)
 
-  pub turn-holds : (until : ℕ) → before.next ≤ until → before.stopped ≡ None → IsWritten plan place before.next (filter_map (frame_of before.next) mid.lines_out.items) mid after
+  pub turn-holds : (until : ℕ) → before.next ≤ until → before.stopped ≡ None → line_count plan ≤ most_rows plan → IsWritten plan place before.next (filter_map (frame_of before.next) mid.lines_out.items) mid after
       → RunHolds plan rows place until (suc before.next) after after.stopped
   unfolding now
-  turn-holds until early going written = elim (fits-or-not (mid.rows + length (filter_map (frame_of before.next) mid.lines_out.items)) MOST_ROWS) [
+  turn-holds until early going enough written = elim (fits-or-not (mid.rows + length (filter_map (frame_of before.next) mid.lines_out.items)) (most_rows plan)) [
     | inl fits ↦
         let fitted = written.fits fits in
         subst (RunHolds plan rows place until (suc before.next) after) (sym (fitted.2 ∙ taken.stopped ∙ going)) (record {
@@ -239,14 +238,14 @@ module _ (plan : Topology) (place : ℕ) (here rows : List NodeRow) (before mid 
         })
     | inr full ↦
         let is_full = written.full full in
-        let few = few-frames plan place before.next mid.lines_out.items run.well_formed run_mid.lines in
+        let few = few-frames plan place before.next mid.lines_out.items run.well_formed run_mid.lines enough in
         let begun : 0 < before.next = later (cases before.next refl) few full in
         let same : suc (before.next - 1) ≡ before.next = omega (arith, begun) in
         subst (RunHolds plan rows place until (suc before.next) after) (sym is_full.2) (record {
           fit = record {
             before = omega (arith, begun, early);
-            fit = subst (λ n. length (rows_before plan rows place n) ≤ MOST_ROWS) (sym same) (subst (λ n. n ≤ MOST_ROWS) stands.count run.rows);
-            full = subst (λ n. MOST_ROWS < length (rows_before plan rows place (suc n))) (sym same) (subst (λ n. MOST_ROWS < n) (sym count-then) full);
+            fit = subst (λ n. length (rows_before plan rows place n) ≤ most_rows plan) (sym same) (subst (λ n. n ≤ most_rows plan) stands.count run.rows);
+            full = subst (λ n. most_rows plan < length (rows_before plan rows place (suc n))) (sym same) (subst (λ n. most_rows plan < n) (sym count-then) full);
           };
           text = is_full.1 ∙ taken.text ∙ stands.text ∙ sym (ap (λ n. concat (rows_before plan rows place n)) same);
         })
@@ -256,7 +255,7 @@ module _ (plan : Topology) (place : ℕ) (here rows : List NodeRow) (before mid 
       cases zero is = inr (taken.rows ∙ stands.count ∙ ap (λ n. length (rows_before plan rows place n)) is)
       cases (suc n) is = inl (omega arith)
 
-      later : (0 < before.next) ⊎ (mid.rows ≡ 0) → length (filter_map (frame_of before.next) mid.lines_out.items) ≤ 8000
-          → MOST_ROWS < mid.rows + length (filter_map (frame_of before.next) mid.lines_out.items) → 0 < before.next
+      later : (0 < before.next) ⊎ (mid.rows ≡ 0) → length (filter_map (frame_of before.next) mid.lines_out.items) ≤ most_rows plan
+          → most_rows plan < mid.rows + length (filter_map (frame_of before.next) mid.lines_out.items) → 0 < before.next
       later (inl some) few full = some
       later (inr none) few full = absurd (omega (arith, none, few, full))

@@ -26,7 +26,7 @@ use Rattle.node_replay.specs.declared.replayed.Replayed.{Replayed}
 use Rattle.node_replay.specs.declared.replayed.NodeEnd.{NodeEnd}
 use Rattle.node_replay.specs.declared.replayed.NodeEnd.TheVariants.{Until, Stopped}
 use Rattle.node_rules.specs.Replay.{signals_in, last_of, counted, heard_in, node_past, node_out, out_moment, out_past, sends_frame, is_event}
-use Rattle.sync_ql.specs.declared.limits.TheConstants.{MOST_ROWS}
+use Rattle.sync_topo.specs.Sizes.{most_rows}
 use Rattle.node_rules.specs.NodeText.{carried, frame_row, lines_out, sending_at, rows_before}
 use Rattle.node_replay.specs.Rows.{AreInOrder}
 use Rattle.node_replay.specs.Replayed.{IsEnded, IsReplayed}
@@ -134,15 +134,15 @@ module _ (plan : Topology) (rows others : List NodeRow) (element until : ℕ) (r
   ended-same : (text : List ℕ) (end : NodeEnd) → IsEnded plan element until rows text end → IsEnded plan element until others text end
   ended-same text Until is =
       let all = rows-same (suc until) (omega arith) in
-      (subst (λ made. length made ≤ MOST_ROWS) all is.0, is.1 ∙ ap concat all)
+      (subst (λ made. length made ≤ most_rows plan) all is.0, is.1 ∙ ap concat all)
   ended-same text (Stopped last) is =
       let early = is.0.before in
       let fit = rows-same (suc last) (omega (arith, early)) in
       let full = rows-same (suc (suc last)) (omega (arith, early)) in (
         record {
           before = early;
-          fit = subst (λ made. length made ≤ MOST_ROWS) fit is.0.fit;
-          full = subst (λ made. MOST_ROWS < length made) full is.0.full;
+          fit = subst (λ made. length made ≤ most_rows plan) fit is.0.fit;
+          full = subst (λ made. most_rows plan < length made) full is.0.full;
         },
         is.1 ∙ ap (λ made. concat made ++ codes "stopped," ++ decimal last ++ codes "\n") fit,
       )

@@ -2,6 +2,7 @@
 
 ghost use Rattle.std.specs.Prelude.{◌≡◌, ◌≤◌, ◌<◌, ◌++◌, ◌∷◌, [], ℕ, suc, true, false, List, length, codes, None, IfOk, OnOk};
 ghost use Rattle.std.specs.Fmt.{decimal};
+ghost use Rattle.sync_topo.specs.Sizes.{most_rows};
 ghost use Rattle.sync_topo.specs.Topology.{Topology};
 ghost use Rattle.node_file.specs.declared.row.NodeRow.{NodeRow};
 ghost use Rattle.node_file.specs.NodeRow.{IsRowOf};
@@ -16,7 +17,7 @@ use crate::running::Run;
 use crate::starting::new_run;
 use node_file::NodeRow;
 use std::alloc::Global;
-use sync_ql::limits::{LAST_MILLISECOND, MOST_ROWS};
+use sync_ql::limits::LAST_MILLISECOND;
 use sync_text::{NoMemory, Rows, Text};
 use sync_topo::Plan;
 
@@ -103,7 +104,7 @@ impl Collected {
     /// Makes all milliseconds that are left.
     fn run_out(&mut self, alloc: Global, plan: &Plan) -> Result<(), NoMemory>
         requires whole { IsWhole plan.now self.old }
-        ensures rows { OnOk result (self.new.run.rows ≤ MOST_ROWS) }
+        ensures rows { OnOk result (self.new.run.rows ≤ most_rows plan.now) }
         ensures holds { OnOk result ((rows : List NodeRow) → IsAfter plan.now self.old rows →
             RunHolds plan.now rows self.old.element self.old.until (suc self.old.until)
             self.new.run self.new.run.stopped) }
@@ -134,8 +135,8 @@ impl Collected {
 
 /// The text of a run that has come to its end.
 fn ended(run: Run) -> Result<Replayed, NoMemory>
-    requires rows { run.rows ≤ MOST_ROWS }
     ensures { (plan : Topology) (rows : List NodeRow) (element until : ℕ) →
+        run.rows ≤ most_rows plan →
         RunHolds plan rows element until (suc until) run run.stopped →
         IfOk result (IsReplayed plan element until rows) }
 {

@@ -9,7 +9,7 @@ use sync_text::Text;
 pub enum NodeEnd {
     /// At the millisecond that was asked for.
     Until,
-    /// At this one, since there would be more than 200,000 rows.
+    /// At this one, since there would be more rows than the plan may have.
     Stopped(u64),
 }
 

@@ -98,7 +98,8 @@ impl<'a> Replay<'a> {
     }
 
     /// The text of all frames that the element sends, and where it ends: before the end that was asked for
-    /// exactly where there would be more than 200,000 rows.
+    /// exactly where there would be more rows than the plan may have, 200,000 or 10,000,000 where it is
+    /// large.
     ///
     /// The frames are after G.8264; the rows are this project's own.
     pub fn finish(self) -> Result<Replayed, NoMemory>

@@ -3,6 +3,7 @@
 ghost use Rattle.std.specs.Prelude.{◌≡◌, ◌≤◌, ◌<◌, ◌+◌, ◌%◌, ℕ, suc, true, false, nat_eq, List, [], All, length, None, Some, IfSome, OnOk};
 ghost use Rattle.sync_text.specs.Each.{Each};
 ghost use Rattle.sync_ql.specs.Messages.{second};
+ghost use Rattle.sync_topo.specs.Sizes.{most_rows};
 ghost use Rattle.sync_topo.specs.Lines.{line_count};
 ghost use Rattle.node_file.specs.declared.row.NodeRow.{NodeRow};
 ghost use Rattle.node_file.specs.NodeRow.{IsRowOf};
@@ -20,7 +21,7 @@ use net_words::step_alone;
 use node_file::NodeRow;
 use std::alloc::Global;
 use sync_element::Element;
-use sync_ql::limits::{LAST_MILLISECOND, MOST_ROWS, SECOND};
+use sync_ql::limits::{LAST_MILLISECOND, SECOND};
 use sync_ql::rules::InputEvent;
 use sync_text::{NoMemory, Rows, Text};
 use sync_topo::Plan;
@@ -134,6 +135,8 @@ impl Run {
             RunHolds plan.now rows element until (suc self.old.next) self.new self.new.stopped) }
     {
         let now = self.next;
+        // The frames of one millisecond always fit.
+        let _most = plan.most_rows();
         self.take_rows(plan, element, here)?;
         let frames = frames_of(alloc, self.lines_out.as_slice(), now)?;
         self.send(alloc, plan, element, now, frames.as_slice())?;
@@ -149,16 +152,17 @@ impl Run {
         now: u64,
         frames: &[Sent],
     ) -> Result<(), NoMemory>
-        requires rows { self.old.rows ≤ MOST_ROWS }
+        requires rows { self.old.rows ≤ most_rows plan.now }
         requires lines { All (λ sent. sent.line.0 < line_count plan.now) frames.now }
         ensures { OnOk result (IsWritten plan.now element now frames.now self.old self.new) }
     {
-        let rows = self.rows + frames.len() as u64;
-        if (MOST_ROWS as u64) < rows {
+        let most = plan.most_rows() as u64;
+        let sent = frames.len() as u64;
+        if most - self.rows < sent {
             self.stopped = Some(now.saturating_sub(1));
             return Ok(());
         }
-        self.rows = rows;
+        self.rows += sent;
         put_frames(alloc, &mut self.text, plan, element, now, frames)?;
         Ok(())
     }

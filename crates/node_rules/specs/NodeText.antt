@@ -5,7 +5,7 @@ use Rattle.std.specs.List.{concat, range_with_len}
 use Rattle.std.specs.Fmt.{decimal}
 use Rattle.hex.specs.Hex.{encode_lower}
 use Rattle.sync_ql.specs.declared.levels.Level.{Level}
-use Rattle.sync_ql.specs.declared.limits.TheConstants.{MOST_ROWS}
+use Rattle.sync_topo.specs.Sizes.{most_rows}
 use Rattle.sync_ql.specs.Table.{not_enhanced}
 use Rattle.sync_ql.specs.Level.{code_of, enhanced_of}
 use Rattle.sync_topo.specs.Topology.{Topology}
@@ -55,13 +55,13 @@ rows_before plan rows element (suc n) = rows_before plan rows element n ++ map (
 
 -- all rows up to a millisecond fit
 abbrev pub AllFit : Topology → List NodeRow → ℕ → ℕ → Type 0
-AllFit plan rows element until = length (rows_before plan rows element (suc until)) ≤ MOST_ROWS
+AllFit plan rows element until = length (rows_before plan rows element (suc until)) ≤ most_rows plan
 
 -- a millisecond is the last one up to which all fit, and those up to a later one don't
 pub record IsLastFit (plan : Topology) (rows : List NodeRow) (element last until : ℕ) : Type 0 where
   pub before : last < until
   pub fit : AllFit plan rows element last
-  pub full : MOST_ROWS < length (rows_before plan rows element (suc (suc last)))
+  pub full : most_rows plan < length (rows_before plan rows element (suc (suc last)))
 
 abbrev pub whole_text : Topology → List NodeRow → ℕ → ℕ → List ℕ
 whole_text plan rows element until = concat (rows_before plan rows element (suc until))

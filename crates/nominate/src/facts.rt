@@ -1,4 +1,4 @@
-ghost use Rattle.std.specs.Prelude.{◌≡◌, ◌<◌, ◌+◌, ◌↔◌, false, length, replicate, Some, IsTrue};
+ghost use Rattle.std.specs.Prelude.{◌≡◌, ◌<◌, ◌+◌, ◌↔◌, false, length, replicate, Some, IsTrue, IfOk};
 ghost use Rattle.sync_topo.specs.Lines.{line_count};
 ghost use Rattle.nominate.specs.HopCount.{count_at, IsRoot, AreHopCounts, is_one_less};
 ghost use Rattle.nominate.specs.LocalFacts.{AreNear, AreRootsRight, AreEndsNear, HaveCloser, AreLocallyRight};
@@ -6,29 +6,35 @@ ghost use Rattle.nominate.specs.private.Marks.{is_above, AreMarks};
 
 use crate::hops::Hops;
 use crate::search::is_root;
-use sync_topo::{LineId, MOST_ELEMENTS, Plan};
+use std::alloc::Global;
+use sync_text::NoMemory;
+use sync_topo::{LineId, Plan};
 
 /// Tests that the list is the counts that [`least_hops`](crate::least_hops) gives.
 ///
 /// It looks at each element and at each link once: just the elements with a nominated source have 0,
 /// the two ends of a link have no count or counts that differ by at most 1, and each other element
-/// with a count has a link to one with one less. It takes no memory. This project's own.
-pub fn hops_ok(plan: &Plan, hops: &Hops) -> bool
+/// with a count has a link to one with one less. It takes a mark for each element. This project's own.
+pub fn hops_ok(alloc: Global, plan: &Plan, hops: &Hops) -> Result<bool, NoMemory>
     requires { length hops.now ≡ length plan.now.elements }
-    ensures local { IsTrue result ↔ AreLocallyRight plan.now hops.now }
-    ensures exact { IsTrue result ↔ AreHopCounts plan.now hops.now }
+    ensures local { IfOk result (λ right. IsTrue right ↔ AreLocallyRight plan.now hops.now) }
+    ensures exact { IfOk result (λ right. IsTrue right ↔ AreHopCounts plan.now hops.now) }
 {
     // Every plan keeps the rules.
-    let _elements = plan.elements();
-    facts_ok(plan, hops)
+    let elements = plan.elements();
+    let Ok(mut marks) = vec![in alloc; false; elements as usize] else {
+        return Err(NoMemory);
+    };
+    Ok(facts_ok(plan, hops, marks.as_mut_slice()))
 }
 
 /// The three facts hold.
-fn facts_ok(plan: &Plan, hops: &Hops) -> bool
-    requires { length hops.now ≡ length plan.now.elements }
+fn facts_ok(plan: &Plan, hops: &Hops, marks: &mut [bool]) -> bool
+    requires counted { length hops.now ≡ length plan.now.elements }
+    requires none { marks.old ≡ replicate (length plan.now.elements) false }
     ensures { IsTrue result ↔ AreLocallyRight plan.now hops.now }
 {
-    roots_ok(plan, hops) && near_ok(plan, hops) && closer_ok(plan, hops)
+    roots_ok(plan, hops) && near_ok(plan, hops) && closer_ok(plan, hops, marks)
 }
 
 /// Just the roots have 0.
@@ -83,19 +89,19 @@ fn are_near(one: Option<u32>, other: Option<u32>) -> bool
 }
 
 /// Each element with a count above 0 has a link to one with one less.
-fn closer_ok(plan: &Plan, hops: &Hops) -> bool
-    requires { length hops.now ≡ length plan.now.elements }
+fn closer_ok(plan: &Plan, hops: &Hops, marks: &mut [bool]) -> bool
+    requires counted { length hops.now ≡ length plan.now.elements }
+    requires none { marks.old ≡ replicate (length plan.now.elements) false }
     ensures { IsTrue result ↔ HaveCloser plan.now hops.now }
 {
-    let mut marks = [false; MOST_ELEMENTS];
-    mark_all(plan, hops, &mut marks);
-    all_marked(plan, hops, &marks)
+    mark_all(plan, hops, marks);
+    all_marked(plan, hops, marks)
 }
 
 /// Marks the elements that a line from one with one less leads to.
 fn mark_all(plan: &Plan, hops: &Hops, marks: &mut [bool])
     requires counted { length hops.now ≡ length plan.now.elements }
-    requires none { marks.old ≡ replicate MOST_ELEMENTS false }
+    requires none { marks.old ≡ replicate (length plan.now.elements) false }
     ensures { AreMarks plan.now hops.now (line_count plan.now) marks.new }
 {
     for number in 0..plan.lines() {
@@ -106,7 +112,7 @@ fn mark_all(plan: &Plan, hops: &Hops, marks: &mut [bool])
 /// Marks the element where the line ends, if the line begins at one with one less.
 fn mark(plan: &Plan, hops: &Hops, marks: &mut [bool], line: LineId)
     requires counted { length hops.now ≡ length plan.now.elements }
-    requires room { length marks.old ≡ MOST_ELEMENTS }
+    requires room { length marks.old ≡ length plan.now.elements }
     requires within { line.0 < line_count plan.now }
     requires before { AreMarks plan.now hops.now line.0 marks.old }
     ensures { AreMarks plan.now hops.now (line.0 + 1) marks.new }
@@ -131,7 +137,7 @@ pub fn is_one_less(one: Option<u32>, other: Option<u32>) -> bool
 /// Each element with a count above 0 is marked.
 fn all_marked(plan: &Plan, hops: &Hops, marks: &[bool]) -> bool
     requires counted { length hops.now ≡ length plan.now.elements }
-    requires room { length marks.now ≡ MOST_ELEMENTS }
+    requires room { length marks.now ≡ length plan.now.elements }
     requires marks { AreMarks plan.now hops.now (line_count plan.now) marks.now }
     ensures { IsTrue result ↔ HaveCloser plan.now hops.now }
 {

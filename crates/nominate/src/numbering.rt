@@ -100,7 +100,7 @@ impl Numbering {
             (numbered_priority plan.now (receiver_of plan.now line.0)
             (slice_index self.old.numbered.items (receiver_of plan.now line.0) + 1)) }
     {
-        // A plan has at most 4,000 links, so the number fits.
+        // A plan has at most 200,000 links, so the number fits.
         let _lines = plan.lines();
         let receiver = plan.to(line);
         let number = self.numbered[receiver as usize] + 1;
@@ -138,7 +138,7 @@ fn is_across(hops: Option<u32>, one: u32, further: Option<u32>, other: u32) -> b
 /// those before it leave no room.
 fn numbered_priority(plan: &Plan, element: u32, number: u32) -> u8
     requires within { element < length plan.now.elements }
-    requires small { number < 2 ^ 16 }
+    requires small { number < 2 ^ 31 }
     ensures { result ≡ numbered_priority plan.now element number }
 {
     let priority = u32::from(base_priority(plan, element)) + number;

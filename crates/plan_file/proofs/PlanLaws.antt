@@ -6,7 +6,8 @@ use Rattle.sync_topo.specs.declared.place.Place.{Place}
 use Rattle.sync_topo.specs.declared.error.PlanErr.{PlanErr}
 use Rattle.sync_topo.specs.declared.error.PlanErr.TheVariants as rows
 use Rattle.sync_topo.specs.declared.rows.PlanRows.{PlanRows}
-use Rattle.sync_topo.specs.PlanRows.{plan_of_rows}
+use Rattle.sync_topo.specs.declared.sizes.Size.{Size}
+use Rattle.sync_topo.specs.PlanRows.{plan_of_sized}
 use Rattle.sync_topo.specs.Topology.{Topology}
 use Rattle.plan_file.specs.declared.error.PlanFileErr.{PlanFileErr}
 use Rattle.plan_file.specs.declared.error.PlanFileErr.TheVariants.{Syntax, Key as WrongKey, Kind as WrongKind, Plan, NoMemory}
@@ -16,7 +17,7 @@ use Rattle.plan_file.specs.declared.version.Version.{Version}
 use Rattle.plan_file.specs.Rules.{has_only, has_needed, keeps_kinds, refusal_of, refusal_at, value_at, IsFirstBroken, KeepsRules}
 use Rattle.plan_file.specs.Rows.{said_rows, rows_of_document}
 use Rattle.plan_file.specs.private.Rows.{first_refusal}
-use Rattle.plan_file.specs.PlanText.{document_of, of_rows, rows_in_file, plan_of, OfDocument, GivesRows}
+use Rattle.plan_file.specs.PlanText.{document_of, of_rows, rows_in_file, plan_of_size, OfDocument, GivesRows}
 use Rattle.plan_file.specs.Gives.{Gives, RefusesWhere}
 use Rattle.plan_file.proofs.FirstBroken.{keeps, some_at, is_first}
 
@@ -51,25 +52,25 @@ names_place document place refusal is = by (value_at document place) is
     by (Some value) is = own_place (version_of document) place value refusal is
 
 -- a table is refused exactly where a rule is broken there first
-pub table_law : (bytes : List ℕ) (place : Place) (refusal : PlanFileErr) → place_in refusal ≡ Some place
-    → (plan_of bytes ≡ Err refusal) ↔ OfDocument bytes (λ document. IsFirstBroken document place refusal)
-unfolding plan_of rows_of_document
-table_law bytes place refusal named = by (document_of bytes)
+pub table_law : (size : Size) (bytes : List ℕ) (place : Place) (refusal : PlanFileErr) → place_in refusal ≡ Some place
+    → (plan_of_size size bytes ≡ Err refusal) ↔ OfDocument bytes (λ document. IsFirstBroken document place refusal)
+unfolding plan_of_size rows_of_document
+table_law size bytes place refusal named = by (document_of bytes)
   where
     no_rows : (answer : Result Topology PlanErr) → of_rows answer ≡ Err refusal → ⊥
     no_rows (Ok plan) is = absurd (cc)
     no_rows (Err error) is = let same : Plan error ≡ refusal = cc in let none : place_in (Plan error) ≡ Some place = subst (λ r. place_in r ≡ Some place) (sym same) named in absurd (cc)
 
     by : (document : Option Members)
-        → (((found document Syntax >>= λ document. rows_of_document document) >>= λ rows. of_rows (plan_of_rows rows)) ≡ Err refusal)
+        → (((found document Syntax >>= λ document. rows_of_document document) >>= λ rows. of_rows (plan_of_sized size rows)) ≡ Err refusal)
         ↔ elim document as (λ _. Type 0) [ None ↦ ⊥ | Some document ↦ IsFirstBroken document place refusal ]
     by None = (λ is. (let same : Syntax ≡ refusal = cc in let none : place_in Syntax ≡ Some place = subst (λ r. place_in r ≡ Some place) (sym same) named in absurd (cc)), λ never. absurd never)
     by (Some document) = of (first_refusal document) refl
       where
         of : (first : Option PlanFileErr) → first_refusal document ≡ first
-            → ((unless first (said_rows document) >>= λ rows. of_rows (plan_of_rows rows)) ≡ Err refusal) ↔ IsFirstBroken document place refusal
+            → ((unless first (said_rows document) >>= λ rows. of_rows (plan_of_sized size rows)) ≡ Err refusal) ↔ IsFirstBroken document place refusal
         of None is = (
-          λ refused. absurd (no_rows (plan_of_rows (said_rows document)) refused),
+          λ refused. absurd (no_rows (plan_of_sized size (said_rows document)) refused),
           λ broken. absurd (let none = keeps document is place in let some = broken.broken in cc),
         )
         of (Some own) is = (
@@ -82,22 +83,22 @@ table_law bytes place refusal named = by (document_of bytes)
         )
 
 -- the bytes are refused as such exactly where they are no document
-pub syntax_law : (bytes : List ℕ) → (plan_of bytes ≡ Err Syntax) ↔ (document_of bytes ≡ None)
-unfolding plan_of rows_of_document
-syntax_law bytes = by (document_of bytes)
+pub syntax_law : (size : Size) (bytes : List ℕ) → (plan_of_size size bytes ≡ Err Syntax) ↔ (document_of bytes ≡ None)
+unfolding plan_of_size rows_of_document
+syntax_law size bytes = by (document_of bytes)
   where
     no_rows : (answer : Result Topology PlanErr) → of_rows answer ≡ Err Syntax → ⊥
     no_rows (Ok plan) is = absurd (cc)
     no_rows (Err error) is = absurd (cc)
 
     by : (document : Option Members)
-        → (((found document Syntax >>= λ document. rows_of_document document) >>= λ rows. of_rows (plan_of_rows rows)) ≡ Err Syntax) ↔ (document ≡ None)
+        → (((found document Syntax >>= λ document. rows_of_document document) >>= λ rows. of_rows (plan_of_sized size rows)) ≡ Err Syntax) ↔ (document ≡ None)
     by None = (λ is. refl, λ none. refl)
     by (Some document) = of (first_refusal document) refl
       where
         of : (first : Option PlanFileErr) → first_refusal document ≡ first
-            → ((unless first (said_rows document) >>= λ rows. of_rows (plan_of_rows rows)) ≡ Err Syntax) ↔ (Some document ≡ None)
-        of None is = (λ refused. absurd (no_rows (plan_of_rows (said_rows document)) refused), λ none. absurd (cc))
+            → ((unless first (said_rows document) >>= λ rows. of_rows (plan_of_sized size rows)) ≡ Err Syntax) ↔ (Some document ≡ None)
+        of None is = (λ refused. absurd (no_rows (plan_of_sized size (said_rows document)) refused), λ none. absurd (cc))
         of (Some own) is = (
           λ refused. let (at, broken) = some_at document own is in
               let same : own ≡ Syntax = cc in
@@ -107,9 +108,9 @@ syntax_law bytes = by (document_of bytes)
         )
 
 -- the rows of a document that keeps the rules decide
-rows_law : (bytes : List ℕ) (answer : Result Topology PlanErr) → (plan_of bytes ≡ of_rows answer) ↔ GivesRows bytes answer
-unfolding plan_of rows_of_document
-rows_law bytes answer = by (document_of bytes)
+rows_law : (size : Size) (bytes : List ℕ) (answer : Result Topology PlanErr) → (plan_of_size size bytes ≡ of_rows answer) ↔ GivesRows size bytes answer
+unfolding plan_of_size rows_of_document
+rows_law size bytes answer = by (document_of bytes)
   where
     same_rows : (rows other : Result Topology PlanErr) → of_rows rows ≡ of_rows other → rows ≡ other
     same_rows (Ok plan) (Ok other) is = let same : plan ≡ other = cc in rw same refl
@@ -128,15 +129,15 @@ rows_law bytes answer = by (document_of bytes)
     no_document (Err error) is = absurd (cc)
 
     by : (document : Option Members)
-        → (((found document Syntax >>= λ document. rows_of_document document) >>= λ rows. of_rows (plan_of_rows rows)) ≡ of_rows answer)
-        ↔ elim document as (λ _. Type 0) [ None ↦ ⊥ | Some document ↦ KeepsRules document × (plan_of_rows (said_rows document) ≡ answer) ]
+        → (((found document Syntax >>= λ document. rows_of_document document) >>= λ rows. of_rows (plan_of_sized size rows)) ≡ of_rows answer)
+        ↔ elim document as (λ _. Type 0) [ None ↦ ⊥ | Some document ↦ KeepsRules document × (plan_of_sized size (said_rows document) ≡ answer) ]
     by None = (λ is. absurd (no_document answer is), λ never. absurd never)
     by (Some document) = of (first_refusal document) refl
       where
         of : (first : Option PlanFileErr) → first_refusal document ≡ first
-            → ((unless first (said_rows document) >>= λ rows. of_rows (plan_of_rows rows)) ≡ of_rows answer)
-            ↔ (KeepsRules document × (plan_of_rows (said_rows document) ≡ answer))
-        of None is = (λ given. (keeps document is, same_rows (plan_of_rows (said_rows document)) answer given), λ both. ap of_rows both.1)
+            → ((unless first (said_rows document) >>= λ rows. of_rows (plan_of_sized size rows)) ≡ of_rows answer)
+            ↔ (KeepsRules document × (plan_of_sized size (said_rows document) ≡ answer))
+        of None is = (λ given. (keeps document is, same_rows (plan_of_sized size (said_rows document)) answer given), λ both. ap of_rows both.1)
         of (Some own) is = (
           λ given. let (at, broken) = some_at document own is in
               absurd (no_table answer own at (names_place document at own broken.broken) given),
@@ -145,11 +146,11 @@ rows_law bytes answer = by (document_of bytes)
         )
 
 -- the plan, and the refusal of the rows
-pub plan_law : (bytes : List ℕ) (plan : Topology) → (plan_of bytes ≡ Ok plan) ↔ GivesRows bytes (Ok plan)
-plan_law bytes plan = rows_law bytes (Ok plan)
+pub plan_law : (size : Size) (bytes : List ℕ) (plan : Topology) → (plan_of_size size bytes ≡ Ok plan) ↔ GivesRows size bytes (Ok plan)
+plan_law size bytes plan = rows_law size bytes (Ok plan)
 
-pub refused_rows_law : (bytes : List ℕ) (error : PlanErr) → (plan_of bytes ≡ Err (Plan error)) ↔ GivesRows bytes (Err error)
-refused_rows_law bytes error = rows_law bytes (Err error)
+pub refused_rows_law : (size : Size) (bytes : List ℕ) (error : PlanErr) → (plan_of_size size bytes ≡ Err (Plan error)) ↔ GivesRows size bytes (Err error)
+refused_rows_law size bytes error = rows_law size bytes (Err error)
 
 -- what the definition refuses is refused, unless out of memory
 pub refuses_where : {A : Type 0} (result answer : Result A PlanFileErr) (refusal : PlanFileErr) (Fact : Type 0)
@@ -182,6 +183,6 @@ file_rows_no_memory bytes result = by (document_of bytes)
     by None gives is = let none : Result PlanRows PlanFileErr = Err Syntax in let other : none ≡ Err (Plan rows.NoMemory) = subst (λ r. Gives r none) is gives in absurd (cc)
     by (Some document) gives is = rows_no_memory document result gives is
 
-pub gives_plan : (bytes : List ℕ) (result : Result Topology PlanFileErr) → Gives result (plan_of bytes) → IfOk result (λ plan. GivesRows bytes (Ok plan))
-gives_plan bytes (Ok plan) gives = (plan_law bytes plan).0 gives
-gives_plan bytes (Err error) gives = tt
+pub gives_plan : (size : Size) (bytes : List ℕ) (result : Result Topology PlanFileErr) → Gives result (plan_of_size size bytes) → IfOk result (λ plan. GivesRows size bytes (Ok plan))
+gives_plan size bytes (Ok plan) gives = (plan_law size bytes plan).0 gives
+gives_plan size bytes (Err error) gives = tt

@@ -273,7 +273,7 @@ head_few plan =
       version_few (names_bundle plan),
     )
 
-pub plan_text-short : (plan : Topology) → IsWellFormed plan → length (plan_text plan) ≤ plan_size
+pub plan_text-short : (plan : Topology) → IsWellFormed plan → length (plan_text plan) ≤ plan_size plan
 unfolding plan_text
 plan_text-short plan well =
     let element_text = rows_text (codes "element") element_table plan.elements in
@@ -288,11 +288,8 @@ plan_text-short plan well =
       head,
       head_few plan,
       element_rows,
-      well.few_elements,
       link_rows,
-      well.few_links,
       source_rows,
-      well.few_sources,
       length-append (fields_text (head_fields plan)) (element_text ++ (link_text ++ source_text)),
       length-append element_text (link_text ++ source_text),
       length-append link_text source_text,

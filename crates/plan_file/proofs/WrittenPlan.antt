@@ -1,5 +1,5 @@
 -- What is written for a plan is read as that plan.
-use Rattle.std.proofs.Common.{◌≡◌, ℕ, ◌+◌, ◌≤◌, suc, slice_get, true, List, [], ◌∷◌, map, Option, Some, None, refl, ap, ◌∙◌, arith}
+use Rattle.std.proofs.Common.{◌≡◌, ℕ, ◌+◌, ◌≤◌, suc, slice_get, true, List, [], ◌∷◌, map, Option, Some, None, refl, ap, ◌∙◌, arith, Ok}
 use Rattle.std.specs.Prelude.{Bool, false, codes, is_some}
 use Rattle.std.proofs.lemmas.Bool.{true≢false}
 use Rattle.std.specs.Str.{IsUtf8}
@@ -21,13 +21,18 @@ use Rattle.sync_topo.specs.Topology.{Topology}
 use Rattle.sync_topo.specs.WellFormed.{IsWellFormed}
 use Rattle.sync_topo.specs.RowsOfPlan.{row_of_element, row_of_link, row_of_source, rows_of_plan}
 use Rattle.sync_topo.proofs.BundleRules.{none-passes}
-use Rattle.sync_topo.proofs.RowsOfPlan.{plan_of_rows-rows_of_plan}
+use Rattle.sync_topo.specs.declared.sizes.Size.{Size}
+use Rattle.sync_topo.specs.declared.sizes.Size.TheVariants.{Standard, Large}
+use Rattle.sync_topo.specs.Sizes.{is_within}
+use Rattle.sync_topo.proofs.SizedPlans.{sized-again, well-within}
 use Rattle.plan_file.specs.declared.version.Version.{Version}
 use Rattle.plan_file.specs.declared.version.Version.TheVariants.{One, Two}
 use Rattle.plan_file.specs.Rules.{refusal_of, data_of}
 use Rattle.plan_file.specs.Rows.{element_row, link_row, source_row, network_option, said_rows, first_from, rows_of_document}
 use Rattle.plan_file.specs.private.Rows.{first_refusal}
-use Rattle.plan_file.specs.PlanText.{plan_of}
+use Rattle.plan_file.specs.PlanText.{of_rows, plan_of_size}
+use Rattle.sync_topo.specs.declared.rows.PlanRows.{PlanRows}
+use Rattle.sync_topo.specs.PlanRows.{plan_of_sized}
 use Rattle.plan_file.specs.IsPlanText.{IsPlanText}
 use Rattle.plan_file.specs.Writing.{option_name, element_table, link_table, source_table, names_bundle, with_version}
 use Rattle.plan_file.specs.private.Writing.{elements_data, links_data, sources_data, plan_document}
@@ -259,8 +264,17 @@ rows_said plan = by (names_bundle plan) refl
     by true e = rows_said_two plan e
     by false e = rows_said_one plan e
 
+-- in each size that has room for it the text of the document gives the plan
+written-in : (size : Size) (plan : Topology) (text : List ℕ) → IsWellFormed plan → is_within size plan ≡ true → IsUtf8 text → parse_document text ≡ Some (plan_document plan)
+    → plan_of_size size text ≡ Ok plan
+unfolding plan_of_size rows_of_document
+written-in size plan text well within utf8 parsed =
+    rw (is_utf8-from_IsUtf8 text utf8, parsed, none_refused plan)
+    (ap (λ (rows : PlanRows). of_rows (plan_of_sized size rows)) (rows_said plan) ∙ ap of_rows (sized-again size plan well within))
+
 -- a text of the document is one of the plan
 pub IsPlanText-written : (plan : Topology) (text : List ℕ) → IsWellFormed plan → IsUtf8 text → parse_document text ≡ Some (plan_document plan) → IsPlanText plan text
-unfolding plan_of rows_of_document
-IsPlanText-written plan text well utf8 parsed =
-    rw (is_utf8-from_IsUtf8 text utf8, parsed, none_refused plan, rows_said plan, plan_of_rows-rows_of_plan plan well) refl
+IsPlanText-written plan text well utf8 parsed = record {
+  large = written-in Large plan text well (well-within plan well) utf8 parsed;
+  standard = λ standard. written-in Standard plan text well standard utf8 parsed;
+}

@@ -5,7 +5,8 @@ use Rattle.toml.specs.Data.{Members}
 use Rattle.toml.specs.Parse.{parse_document}
 use Rattle.sync_topo.specs.declared.error.PlanErr.{PlanErr}
 use Rattle.sync_topo.specs.declared.rows.PlanRows.{PlanRows}
-use Rattle.sync_topo.specs.PlanRows.{plan_of_rows}
+use Rattle.sync_topo.specs.declared.sizes.Size.{Size}
+use Rattle.sync_topo.specs.PlanRows.{plan_of_sized}
 use Rattle.sync_topo.specs.Topology.{Topology}
 use Rattle.plan_file.specs.declared.error.PlanFileErr.{PlanFileErr}
 use Rattle.plan_file.specs.declared.error.PlanFileErr.TheVariants.{Syntax, Plan}
@@ -28,11 +29,11 @@ rows_in_file bytes = do
   document ← found (document_of bytes) Syntax
   rows_of_document document
 
--- the plan of a file: of its rows
-unfoldable pub plan_of : List ℕ → Result Topology PlanFileErr
-plan_of bytes = do
+-- the plan of a file that may be of no more than a size: of its rows
+unfoldable pub plan_of_size : Size → List ℕ → Result Topology PlanFileErr
+plan_of_size size bytes = do
   rows ← rows_in_file bytes
-  of_rows (plan_of_rows rows)
+  of_rows (plan_of_sized size rows)
 
 -- the bytes are a document of which this holds
 abbrev pub OfDocument : List ℕ → (Members → Type 0) → Type 0
@@ -42,6 +43,6 @@ OfDocument bytes Fact = of (document_of bytes)
     of None = ⊥
     of (Some document) = Fact document
 
--- the bytes are a document that keeps the rules, and its rows give this
-abbrev pub GivesRows : List ℕ → Result Topology PlanErr → Type 0
-GivesRows bytes answer = OfDocument bytes (λ document. KeepsRules document × (plan_of_rows (said_rows document) ≡ answer))
+-- the bytes are a document that keeps the rules, and its rows give this in the size
+abbrev pub GivesRows : Size → List ℕ → Result Topology PlanErr → Type 0
+GivesRows size bytes answer = OfDocument bytes (λ document. KeepsRules document × (plan_of_sized size (said_rows document) ≡ answer))

@@ -1,10 +1,9 @@
 -- The text that is written for a plan, letter by letter. This project's own, spelled as the crate `toml` spells the plan's document.
-use Rattle.std.specs.Prelude.{ℕ, ◌+◌, ◌*◌, List, [], ◌∷◌, ◌++◌, map, codes}
+use Rattle.std.specs.Prelude.{ℕ, ◌+◌, ◌*◌, List, [], ◌∷◌, ◌++◌, length, map, codes}
 use Rattle.std.specs.List.{concat}
 use Rattle.std.specs.Fmt.{signed_decimal}
 use Rattle.toml.specs.Data.{Data, string, integer, array, no_items, Members, no_members, member}
 use Rattle.sync_topo.specs.Topology.{Topology}
-use Rattle.sync_topo.specs.Limits.{element_limit, link_limit, source_limit}
 use Rattle.plan_file.specs.Writing.{option_name, element_table, link_table, source_table, names_bundle, with_version}
 
 -- a value and the end of its line: a name between quotes, a number in digits, or an array without items
@@ -62,6 +61,6 @@ field_size = 70
 abbrev pub row_size : ℕ → ℕ
 row_size count = 38 + count * field_size
 
--- the most bytes of a text: the head has at most five keys, and the tables of elements, links and sources five, eight and four
-abbrev pub plan_size : ℕ
-plan_size = 5 * field_size + (element_limit * row_size 5 + (link_limit * row_size 8 + source_limit * row_size 4))
+-- the most bytes of the plan's text: the head has at most five keys, and the tables of elements, links and sources five, eight and four
+abbrev pub plan_size : Topology → ℕ
+plan_size plan = 5 * field_size + (length plan.elements * row_size 5 + (length plan.links * row_size 8 + length plan.sources * row_size 4))

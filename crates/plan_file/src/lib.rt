@@ -1,7 +1,7 @@
 //! Plan files: the plan of a TOML document.
 //!
 //! [`read_plan`] gives the plan of a file's bytes. Which plan that is, or at which place the file is
-//! first refused, is `plan_of`: from the document that `toml` reads to rows, and from rows to the
+//! first refused, is `plan_of_size`: from the document that `toml` reads to rows, and from rows to the
 //! plan that sync_topo gives them. [`write_plan`] gives a text of a plan, one that is read as that
 //! plan (`IsPlanText`).
 //!

@@ -12,29 +12,29 @@ ghost use Rattle.plan_file.specs.declared.version.Version.TheVariants.{One, Two}
 ghost use Rattle.plan_file.specs.Rows.{NamesNoBundle, rows_in};
 ghost use Rattle.sync_text.specs.Chain.{found};
 ghost use Rattle.plan_file.specs.Rules.{IsFirstBroken};
-ghost use Rattle.plan_file.specs.PlanText.{document_of, rows_in_file, plan_of, OfDocument, GivesRows};
+ghost use Rattle.plan_file.specs.PlanText.{document_of, rows_in_file, plan_of_size, OfDocument, GivesRows};
 ghost use Rattle.plan_file.specs.Gives.{Gives, RefusesWhere};
 ghost use Rattle.plan_file.specs.private.Gives.{GivesBy};
 
 use crate::error::PlanFileErr;
 use crate::rows::rows_of;
 use std::alloc::Global;
-use sync_topo::{Plan, PlanRows};
+use sync_topo::{Plan, PlanRows, Size};
 use toml::Table;
 
-/// The plan of a file.
+/// The plan of a file, which may be of no more than a size.
 ///
 /// A refusal tells the first rule that is broken, with its place. First `Syntax`, where the bytes are
 /// no TOML document in UTF-8. Then each table in order, the head, the elements, the links and the
 /// sources: `Key` where it has an unknown key or lacks one that it must have, and otherwise `Kind`
 /// where it is no table or a value is not of its key's kind. Then `Plan`, the refusal of the rows,
-/// which never is `NoMemory`. After TOML 1.1; the keys are this project's own.
-pub fn read_plan(alloc: Global, bytes: &[u8]) -> Result<Plan, PlanFileErr>
-    ensures exact { Gives result (plan_of bytes.now) }
+/// which never is `NoMemory`, in that size. After TOML 1.1; the keys are this project's own.
+pub fn read_plan(alloc: Global, bytes: &[u8], size: Size) -> Result<Plan, PlanFileErr>
+    ensures exact { Gives result (plan_of_size size bytes.now) }
     ensures well_formed { IfOk result (λ plan. IsWellFormed plan) }
 
     // A plan comes only where no table breaks a rule, and it is the plan of the rows.
-    ensures ok { IfOk result (λ plan. GivesRows bytes.now (Ok plan)) }
+    ensures ok { IfOk result (λ plan. GivesRows size bytes.now (Ok plan)) }
 
     // Unless out of memory, a table is refused exactly where it breaks that rule and no table before
     // it breaks one, and the rows are refused exactly where no table breaks a rule.
@@ -43,25 +43,25 @@ pub fn read_plan(alloc: Global, bytes: &[u8]) -> Result<Plan, PlanFileErr>
         (OfDocument bytes.now (λ document. IsFirstBroken document place (refusal.Key place))) }
     ensures kind { (place : Place) → RefusesWhere result (refusal.Kind place)
         (OfDocument bytes.now (λ document. IsFirstBroken document place (refusal.Kind place))) }
-    ensures rows { (error : PlanErr) → RefusesWhere result (refusal.Plan error) (GivesRows bytes.now (Err error)) }
+    ensures rows { (error : PlanErr) → RefusesWhere result (refusal.Plan error) (GivesRows size bytes.now (Err error)) }
     ensures memory { result ≢ Err (refusal.Plan rows.NoMemory) }
 
     // A document that names no bundle says the same in both versions.
     ensures versions { (document : Members) → NamesNoBundle document
         → rows_in Two document ≡ rows_in One document }
 {
-    plan_in(alloc, bytes)
+    plan_in(alloc, bytes, size)
 }
 
 /// The plan of a file, step by step.
-#[tactic(auto, unfolding(crate::specs::PlanText::plan_of))]
-fn plan_in(alloc: Global, bytes: &[u8]) -> Result<Plan, PlanFileErr>
-    ensures exact { Gives result (plan_of bytes.now) }
+#[tactic(auto, unfolding(crate::specs::PlanText::plan_of_size))]
+fn plan_in(alloc: Global, bytes: &[u8], size: Size) -> Result<Plan, PlanFileErr>
+    ensures exact { Gives result (plan_of_size size bytes.now) }
     ensures well_formed { IfOk result (λ plan. IsWellFormed plan) }
     ensures memory { result ≢ Err (refusal.Plan rows.NoMemory) }
 {
     let rows = rows_in(alloc, bytes)?;
-    Ok(Plan::new(alloc, rows)?)
+    Ok(Plan::sized(alloc, size, rows)?)
 }
 
 /// The rows that a file says. Its document is used up before a plan is made of them.

@@ -15,16 +15,17 @@ use sync_ql::{Level, NetOption, name_of};
 use sync_text::{NoMemory, Text};
 use sync_topo::{Element, Link, Plan, Source};
 
-/// The text of the plan: reading it gives this plan.
+/// The text of the plan: reading it gives this plan, in each size that has room for it.
 ///
 /// It has a table for each element, link and source, with every key but a floor and a bundle that
 /// isn't given, and says the second version where a bundle is. It is spelled as the crate `toml`
-/// spells documents, and has at most 3,804,350 bytes.
+/// spells documents, and has at most 350 bytes for the head, 388 for each element, 598 for each link
+/// and 318 for each source.
 /// This project's own.
 pub fn write_plan(alloc: Global, plan: &Plan) -> Result<Text, NoMemory>
     ensures text { IfOk result (IsPlanText plan.now) }
     ensures spelled { IfOk result (λ text. text ≡ plan_text plan.now) }
-    ensures short { IfOk result (λ text. length text ≤ plan_size) }
+    ensures short { IfOk result (λ text. length text ≤ plan_size plan.now) }
 {
     let mut text = Text::new(alloc);
     put_head(&mut text, plan)?;

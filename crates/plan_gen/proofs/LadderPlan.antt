@@ -20,6 +20,7 @@ use Rattle.sync_topo.specs.declared.element.Element.{Element}
 use Rattle.sync_topo.specs.declared.link.Link.{Link}
 use Rattle.sync_topo.specs.declared.source.Source.{Source}
 use Rattle.sync_topo.specs.Topology.{Topology}
+use Rattle.sync_topo.specs.Limits.{element_limit}
 use Rattle.sync_topo.specs.Names.{is_name, is_name_byte, is_named, element_names, link_names, source_names}
 use Rattle.sync_topo.specs.Lines.{link_of, ends_at_b, is_nominated, receiver_of, source_priority, element_of_source, inputs_of}
 use Rattle.sync_topo.specs.Bundles.{is_same_bundle}
@@ -41,18 +42,18 @@ digits_in_name (c ∷ bytes) h =
     let parts = and_parts (is_ascii_digit c) (all_ascii_digits bytes) h in
     rw (digit_in_name c parts.0, digits_in_name bytes parts.1) refl
 
--- a letter and a number of at most four digits are a name
-numbered_is_name : (letter j : ℕ) → is_name_byte letter ≡ true → j < 10000 → is_name (numbered (letter ∷ []) j) ≡ true
+-- a letter and the number of an element are a name
+numbered_is_name : (letter j : ℕ) → is_name_byte letter ≡ true → j < element_limit → is_name (numbered (letter ∷ []) j) ≡ true
 numbered_is_name letter j letter_fits small =
     let wide : j < 2 ^ 64 = omega arith in
-    let short : length (decimal j) ≤ 4 = length-decimal-le 4 j (omega arith) (omega arith) wide in
+    let short : length (decimal j) ≤ 5 = length-decimal-le 5 j (omega arith) (omega arith) wide in
     let digits : list_all is_name_byte (decimal j) ≡ true = digits_in_name (decimal j) (digits_decimal own j wide) in
     let least : nat_le 1 (length (letter ∷ decimal j)) ≡ true = le-leb 1 (length (letter ∷ decimal j)) (omega arith) in
     let greatest : nat_le (length (letter ∷ decimal j)) 32 ≡ true = le-leb (length (letter ∷ decimal j)) 32 (omega (arith, short)) in
     rw (least, greatest, letter_fits, digits) refl
 
 -- different numbers make different names, and so do different letters
-same_number : (a b i j : ℕ) → i < 10000 → j < 10000 → numbered (a ∷ []) i ≡ numbered (b ∷ []) j → i ≡ j
+same_number : (a b i j : ℕ) → i < element_limit → j < element_limit → numbered (a ∷ []) i ≡ numbered (b ∷ []) j → i ≡ j
 same_number a b i j small_i small_j same = decimal_injective i j (omega arith) (omega arith) (ap (λ bytes. drop 1 bytes) same)
 
 same_letter : (a b i j : ℕ) → numbered (a ∷ []) i ≡ numbered (b ∷ []) j → a ≡ b
@@ -130,7 +131,7 @@ one_link i j letters tops =
     steps (inr a) (inl b) = omega (arith, a, b, tops)
     steps (inr a) (inr b) = omega (arith, a, b, tops)
 
-link_names_differ : (m i j : ℕ) → m ≤ 1998 → i < j → j < 2 * m + 1 → link_name i ≢ link_name j
+link_names_differ : (m i j : ℕ) → m + 2 ≤ element_limit → i < j → j < 2 * m + 1 → link_name i ≢ link_name j
 link_names_differ m i j few before within same =
     let seen : numbered (letter_of i ∷ []) (top_of i) ≡ numbered (letter_of j ∷ []) (top_of j) = sym (link_name_is i) ∙ same ∙ link_name_is j in
     let letters = same_letter (letter_of i) (letter_of j) (top_of i) (top_of j) seen in
@@ -181,7 +182,7 @@ no_source_name j k small =
           absurd (letter_is_no_p k (sym letters))
     ]
 
-links_distinct : (m : ℕ) → m ≤ 1998 → AreDistinct (link_names (ladder (m + 2)).links)
+links_distinct : (m : ℕ) → m + 2 ≤ element_limit → AreDistinct (link_names (ladder (m + 2)).links)
 links_distinct m few = rw (links_by_name m) (AreDistinct-range link_name (2 * m + 1) (λ i j before within. link_names_differ m i j few before within))
 
 sources_distinct : (m : ℕ) → AreDistinct (source_names (ladder (m + 2)).sources)
@@ -273,7 +274,7 @@ no_bundle m k link at =
 unnamed : (m k : ℕ) (link : Link) → slice_get (ladder (m + 2)).links k ≡ Some link → is_bad_bundle_name link.bundle ≡ false
 unnamed m k link at = rw (no_bundle m k link at) refl
 
-from_two : (m : ℕ) → m ≤ 1998 → IsWellFormed (ladder (m + 2))
+from_two : (m : ℕ) → m + 2 ≤ element_limit → IsWellFormed (ladder (m + 2))
 from_two m few = record {
   few_elements = omega (arith, element_count (m + 2));
   few_links = omega (arith, link_count m);
@@ -298,7 +299,7 @@ from_two m few = record {
 }
 
 -- the ladder of any number of elements that a plan may have keeps every rule
-pub IsWellFormed-ladder : (n : ℕ) → 2 ≤ n → n ≤ 2000 → IsWellFormed (ladder n)
+pub IsWellFormed-ladder : (n : ℕ) → 2 ≤ n → n ≤ element_limit → IsWellFormed (ladder n)
 IsWellFormed-ladder n low high =
     let e : n - 2 + 2 ≡ n = omega (arith, low) in
     subst (λ count. IsWellFormed (ladder count)) e (from_two (n - 2) (omega (arith, high)))

@@ -13,6 +13,7 @@ use Rattle.sync_topo.specs.declared.link.Link.{Link}
 use Rattle.sync_topo.specs.declared.error.PlanErr.{PlanErr}
 use Rattle.sync_topo.specs.declared.error.PlanErr.TheVariants.{Limit, Name, Twice, NoElement, SelfLink, Range, Bundle, LevelName, NoMemory}
 use Rattle.sync_topo.specs.Topology.{Topology}
+use Rattle.sync_topo.specs.Limits.{element_limit}
 use Rattle.sync_topo.specs.Names.{is_named, element_names}
 use Rattle.sync_topo.specs.RowValues.{element_of_name, element_from, link_from, plan_from}
 use Rattle.sync_topo.specs.PlanRows.{plan_of_rows}
@@ -115,7 +116,7 @@ fit n low = record {
 }
 
 -- what is said of the ladder breaks no rule, and gives the ladder
-pub plan_of_rows-ladder : (n : ℕ) → 2 ≤ n → n ≤ 2000 → plan_of_rows (ladder_rows n) ≡ Ok (ladder n)
+pub plan_of_rows-ladder : (n : ℕ) → 2 ≤ n → n ≤ element_limit → plan_of_rows (ladder_rows n) ≡ Ok (ladder n)
 plan_of_rows-ladder n low high =
     let well = IsWellFormed-ladder n low high in
     let same = said n low well in

@@ -1,4 +1,4 @@
-//! Plans to try things on: the ladder of 2 to 2,000 elements.
+//! Plans to try things on: the ladder of 2 to 100,000 elements.
 //!
 //! [`generate`] gives the ladder, and [`write_ladder`] a text of it. Which plan that is, `ladder` says by its
 //! elements, its links and its sources.

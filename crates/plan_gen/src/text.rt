@@ -24,7 +24,7 @@ pub fn write_ladder(alloc: Global, elements: u32) -> Result<Text, NoMemory>
     requires greatest { elements ≤ MOST_ELEMENTS }
     ensures text { IfOk result (IsPlanText (ladder elements)) }
     ensures spelled { IfOk result (λ text. text ≡ plan_text (ladder elements)) }
-    ensures short { IfOk result (λ text. length text ≤ plan_size) }
+    ensures short { IfOk result (λ text. length text ≤ plan_size (ladder elements)) }
 {
     let mut text = Text::new(alloc);
     put_option(&mut text, NetOption::I)?;

@@ -7,7 +7,7 @@ use std::alloc::Global;
 use std::process::Abort;
 use std::test::Fail;
 use sync_text::{NoMemory, Text};
-use sync_topo::Plan;
+use sync_topo::{Plan, Size};
 
 const CHAIN: &[u8] = b"element = [{ name = 'A' }, { name = 'B' }, { name = 'C' }]\n\
 link = [{ name = 'L1', a = 'A', b = 'B' }, { name = 'L2', a = 'B', b = 'C' }]\n\
@@ -88,7 +88,10 @@ fn order_text(alloc: Global, plan: &Plan) -> Result<Text, NoMemory> {
 
 fn has_hops_of(alloc: Global, plan: &Plan, other: &Plan) -> Result<bool, NoMemory> {
     let hops = least_hops(alloc, other)?;
-    Ok(plan.elements() == other.elements() && hops_ok(plan, &hops))
+    if plan.elements() != other.elements() {
+        return Ok(false);
+    }
+    hops_ok(alloc, plan, &hops)
 }
 
 fn is_right(rt: &(impl Abort + AllocGlobal), plan: &Plan) -> Result<(), Fail> {
@@ -103,7 +106,7 @@ fn order_is(rt: &(impl Abort + AllocGlobal), plan: &Plan, want: &[u8]) -> Result
 }
 
 fn has_order(rt: &(impl Abort + AllocGlobal), text: &[u8], want: &[u8]) -> Result<(), Fail> {
-    let plan = read_plan(rt.alloc(), text)?;
+    let plan = read_plan(rt.alloc(), text, Size::Standard)?;
     is_right(rt, &plan)?;
     order_is(rt, &plan, want)
 }
@@ -138,8 +141,8 @@ fn is_wrong(rt: &(impl Abort + AllocGlobal), plan: &Plan, other: &Plan) -> Resul
 }
 
 fn hops_are_wrong(rt: &(impl Abort + AllocGlobal), text: &[u8], other: &[u8]) -> Result<(), Fail> {
-    let plan = read_plan(rt.alloc(), text)?;
-    let other = read_plan(rt.alloc(), other)?;
+    let plan = read_plan(rt.alloc(), text, Size::Standard)?;
+    let other = read_plan(rt.alloc(), other, Size::Standard)?;
     is_wrong(rt, &plan, &other)
 }
 

@@ -16,6 +16,8 @@ use Rattle.csv_records.proofs.WrittenRecords.{plain_field, records-of-text}
 use Rattle.sync_text.specs.Number.{number_of}
 use Rattle.sync_topo.specs.declared.event.What.TheVariants.{Forced}
 use Rattle.sync_topo.specs.Topology.{Topology}
+use Rattle.sync_topo.specs.Sizes.{event_limit}
+use Rattle.sync_topo.proofs.SizedPlans.{elements-few}
 use Rattle.sync_topo.specs.Lines.{line_count, line_name, line_input, receiver_of}
 use Rattle.sync_topo.specs.WellFormed.{IsWellFormed}
 use Rattle.net_rules.specs.Walks.{AreApart}
@@ -87,11 +89,11 @@ events-are plan [] well within = refl
 events-are plan (line ∷ lines) well within = rw (event-is plan line well within.0, events-are plan lines well within.1) refl
 
 -- and breaks no rule
-row-stands : (plan : Topology) (n line : ℕ) → IsWellFormed plan → line < line_count plan → n ≤ 100000 → row_refusal plan n 0 (forced_record plan line) ≡ None
+row-stands : (plan : Topology) (n line : ℕ) → IsWellFormed plan → line < line_count plan → n ≤ event_limit plan → row_refusal plan n 0 (forced_record plan line) ≡ None
 unfolding row_refusal number_of
 row-stands plan n line well within few = rw (own-name plan line well within, early) refl
   where
-    early : nat_lt 100000 n ≡ false
+    early : nat_lt (event_limit plan) n ≡ false
     early = grind (arith, nat_tests, few)
 
 time-is : (plan : Topology) (line : ℕ) → time_in (forced_record plan line) ≡ Some 0
@@ -111,7 +113,7 @@ line-at plan [] i within inside = absurd (omega (arith, inside))
 line-at plan (line ∷ lines) zero within inside = (line, refl, within.0)
 line-at plan (line ∷ lines) (suc i) within inside = line-at plan lines i within.1 (omega (arith, inside))
 
-none-refused : (plan : Topology) (lines : List ℕ) → IsWellFormed plan → AreWithin plan lines → length lines ≤ 100000
+none-refused : (plan : Topology) (lines : List ℕ) → IsWellFormed plan → AreWithin plan lines → length lines ≤ event_limit plan
     → (i : ℕ) → i < length (map (forced_record plan) lines) → refusal_at plan (map (forced_record plan) lines) i ≡ None
 none-refused plan lines well within few i inside =
     let within_lines : i < length lines = omega (arith, inside, length-map lines (forced_record plan)) in
@@ -120,14 +122,14 @@ none-refused plan lines well within few i inside =
 
 -- lines of different receivers are no more than there are elements
 few-lines : (plan : Topology) (lines : List ℕ) → IsWellFormed plan → AreWithin plan lines
-    → AreApart (map (receiver_of plan) lines) → length lines ≤ 2000
+    → AreApart (map (receiver_of plan) lines) → length lines ≤ length plan.elements
 few-lines plan lines well within apart =
     let few = at_most (length plan.elements) (map (receiver_of plan) lines) apart
     (Each-made (λ k. k < length plan.elements) (receiver_of plan) lines
     (Each-map (λ line. line < line_count plan)
     (λ line. receiver_of plan line < length plan.elements)
     (λ line inside. receiver-within plan well line inside) lines within)) in
-    omega (arith, few, length-map lines (receiver_of plan), well.few_elements)
+    omega (arith, few, length-map lines (receiver_of plan))
 
 -- what is written is read back
 pub read-back : (plan : Topology) (lines : List ℕ) → IsWellFormed plan → AreWithin plan lines → AreApart (map (receiver_of plan) lines)
@@ -136,7 +138,7 @@ read-back plan lines well within apart =
     let rows : List Fields = map (forced_record plan) lines in
     rw (
       records-are plan lines well within,
-      first_refusal-none (refusal_at plan rows) (length rows) (none-refused plan lines well within (omega (arith, few-lines plan lines well within apart))),
+      first_refusal-none (refusal_at plan rows) (length rows) (none-refused plan lines well within (omega (arith, few-lines plan lines well within apart, elements-few plan well))),
       events-are plan lines well within,
     ) refl
 
@@ -154,7 +156,7 @@ rows-short plan (line ∷ lines) well within =
     rw (length-append (forced_row plan line) (concat (map (forced_row plan) lines))) (omega (arith, here, rest))
 
 -- and the whole text no more than its size
-pub text-short : (plan : Topology) (lines : List ℕ) → IsWellFormed plan → AreWithin plan lines → AreApart (map (receiver_of plan) lines) → length (forced_text plan lines) ≤ forced_size
+pub text-short : (plan : Topology) (lines : List ℕ) → IsWellFormed plan → AreWithin plan lines → AreApart (map (receiver_of plan) lines) → length (forced_text plan lines) ≤ forced_size plan
 text-short plan lines well within apart =
     let rows = rows-short plan lines well within in
     let few = few-lines plan lines well within apart in

@@ -15,14 +15,14 @@ use sync_topo::{InputId, LineId, Plan};
 /// The event file of forced switches to some lines at 0, in their order: those of a loop that
 /// [`prio_plan`](crate::prio_plan) gives. The lines have different receivers.
 ///
-/// It is read back as these events, and has at most 152,021 bytes. This project's own.
+/// It is read back as these events, and has at most 21 bytes and 76 for each element. This project's own.
 pub fn write_forced(alloc: Global, plan: &Plan, lines: &[LineId]) -> Result<Text, NoMemory>
     requires within { All (λ line. line < line_count plan.now) (map (λ line. line.0) lines.now) }
     requires apart { AreApart (map (receiver_of plan.now) (map (λ line. line.0) lines.now)) }
     ensures text { IfOk result (λ text. text ≡ forced_text plan.now (map (λ line. line.0) lines.now)) }
     ensures read_back { IfOk result (λ text. events_of plan.now text
         ≡ Ok (forced_on (map (λ line. line.0) lines.now))) }
-    ensures short { IfOk result (λ text. length text ≤ forced_size) }
+    ensures short { IfOk result (λ text. length text ≤ forced_size plan.now) }
 {
     // Every plan keeps the rules.
     let _lines = plan.lines();

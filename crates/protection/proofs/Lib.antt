@@ -2,6 +2,6 @@ mod OutputLemmas
 mod MarkLemmas
 mod WalkLemmas
 mod TallyLemmas
-mod BareLemmas
+mod TreeLemmas
 mod FoundLaws
 pub mod GapLaws

@@ -1,6 +1,6 @@
 -- Plans in which each element takes its timing from two sides at most, in an order of its own, so that no timing loop can form and the
 -- network comes to rest; and what is found of a plan by giving its lines other priorities. This project's own.
-use Rattle.std.specs.Prelude.{◌≡◌, ◌⊎◌, ℕ, Bool, true, not, ◌||◌, nat_eq, nat_lt, nat_le, List, IsTrue}
+use Rattle.std.specs.Prelude.{◌≡◌, ◌⊎◌, ℕ, Bool, true, not, ◌||◌, nat_eq, nat_lt, nat_le}
 use Rattle.std.specs.List.{list_all}
 use Rattle.sync_topo.specs.declared.input.InputId.{InputId}
 use Rattle.sync_topo.specs.declared.input.InputId.TheVariants.{Line, Source}
@@ -10,6 +10,7 @@ use Rattle.sync_topo.specs.Bundles.{line_bundle}
 use Rattle.sync_topo.specs.Hops.{IsRising}
 use Rattle.sync_topo.specs.WellFormed.{IsWellFormed}
 use Rattle.reach_rules.specs.Agreement.{IsAgreedBound}
+use Rattle.reach_rules.specs.Failing.{IsFailureBound, is_planned}
 use Rattle.nominate.specs.HopCount.{Counts, count_at, is_one_less, AreHopCounts}
 use Rattle.nominate.specs.Nomination.{plan_with}
 
@@ -38,7 +39,7 @@ ComesByFewest plan counts = (line : ℕ) → IsNominated plan line → is_first_
     → is_one_less (count_at counts (sender_of plan line)) (count_at counts (receiver_of plan line)) ≡ true
 
 -- each element takes its timing from two sides at most, each input by a number of its own, its sources first, and then over the
--- fewest hops; ranks rise; and priorities agree with the ways of timing
+-- fewest hops; ranks rise; and priorities agree with the ways of timing, so that there are both bounds
 pub record IsOrderly (plan : Topology) : Type 0 where
   pub well_formed : IsWellFormed plan
   pub two : (element : ℕ) → IsOfTwoBundles plan element
@@ -46,6 +47,7 @@ pub record IsOrderly (plan : Topology) : Type 0 where
   pub fewest : (counts : Counts) → AreHopCounts plan counts → ComesByFewest plan counts
   pub rising : (rank : ℕ → ℕ) × IsRising plan rank
   pub bound : (bound : ℕ) × IsAgreedBound plan bound
+  pub failures : (bound : ℕ) × IsFailureBound (is_planned plan) plan bound
 
 -- the plan but for the priorities of its lines
 abbrev pub IsRenumbered : Topology → Topology → Type 0

@@ -1,20 +1,19 @@
 // Priorities by which no failure cuts anybody off who needn't be.
 
-ghost use Rattle.std.specs.Prelude.{◌≡◌, replicate, IfOk, IfSome};
+ghost use Rattle.std.specs.Prelude.{◌≡◌, IfOk, IfSome};
 ghost use Rattle.std.specs.List.{All};
-ghost use Rattle.sync_topo.specs.Lines.{line_count};
-ghost use Rattle.sync_topo.specs.WellFormed.{IsWellFormed};
 ghost use Rattle.net_rules.specs.Safety.{IsLoopFree};
-ghost use Rattle.reach_rules.specs.Protection.{IsProtected, HoldsOut};
-ghost use Rattle.nominate.specs.Nomination.{plan_with};
+ghost use Rattle.reach_rules.specs.declared.failure.Failure.TheVariants as fails;
+ghost use Rattle.reach_rules.specs.Protection.{IsProtected, IsProtectedFrom, HoldsOut};
 ghost use Rattle.protection.specs.Gaps.{IsGapIn};
 ghost use Rattle.protection.specs.Orderly.{IsFound};
 ghost use Rattle.protection.specs.Protected.{IfPlan, IfGaps, AreFoundGaps};
 
+use crate::fewest::tree_of;
 use crate::gap::Gap;
 use crate::orderly::is_orderly;
 use crate::protecting::protected;
-use cycle_plan::{Agreement, agree};
+use crate::serving::serves_all;
 use ears::choose;
 use nominate::with_priorities;
 use std::alloc::Global;
@@ -39,8 +38,9 @@ pub enum Protected {
 /// Each element takes its timing over the fewest hops first, and then from its other neighbour on
 /// an ear: a path of elements between two others of which one survives each failure. Which plan is
 /// found isn't promised, nor that one is found. It is tried, that one is wherever the sources'
-/// numbers and the limit of inputs leave room; where what the search finds isn't orderly, the plan
-/// without nominated lines stands in its place. The work is that of [`protected`].
+/// numbers and the limit of inputs leave room; where what the search finds isn't orderly, or cuts
+/// somebody off with no failure, the tree of fewest hops stands in its place. So the plan whose gaps
+/// are told cuts nobody off with no failure. The work is that of [`protected`].
 ///
 /// This project's own, with ears after Whitney.
 pub fn protect(alloc: Global, plan: &Plan) -> Result<Protected, NoMemory>
@@ -64,20 +64,23 @@ pub fn protect(alloc: Global, plan: &Plan) -> Result<Protected, NoMemory>
     Ok(Protected::Gaps(gaps))
 }
 
-/// An orderly plan: what the search finds or, where that isn't one, the plan without nominated
-/// lines.
+/// An orderly plan that with no failure cuts nobody off: what the search finds or, where that isn't
+/// one, the tree of fewest hops.
 fn find(alloc: Global, plan: &Plan) -> Result<Plan, NoMemory>
-    ensures { IfOk result (IsFound plan.now) }
+    ensures found { IfOk result (IsFound plan.now) }
+    ensures served { IfOk result (λ found. IsProtectedFrom found fails.Nothing) }
 {
     match searched(alloc, plan)? {
         Some(found) => Ok(found),
-        None => bare(alloc, plan),
+        None => tree_of(alloc, plan),
     }
 }
 
-/// What the search finds, if it is orderly.
+/// What the search finds, if it is orderly and with no failure cuts nobody off.
 fn searched(alloc: Global, plan: &Plan) -> Result<Option<Plan>, NoMemory>
-    ensures { IfOk result (λ found. IfSome found (IsFound plan.now)) }
+    ensures found { IfOk result (λ found. IfSome found (IsFound plan.now)) }
+    ensures served { IfOk result (λ found. IfSome found (λ plan.
+        IsProtectedFrom plan fails.Nothing)) }
 {
     let choice = choose(alloc, plan)?;
     if choice.priorities.len() != plan.lines() as usize {
@@ -92,42 +95,9 @@ fn searched(alloc: Global, plan: &Plan) -> Result<Option<Plan>, NoMemory>
     if !orderly {
         return Ok(None);
     }
+    let served = serves_all(alloc, &found)?;
+    if !served {
+        return Ok(None);
+    }
     Ok(Some(found))
-}
-
-/// The plan without nominated lines, which is orderly.
-fn bare(alloc: Global, plan: &Plan) -> Result<Plan, NoMemory>
-    ensures { IfOk result (IsFound plan.now) }
-{
-    let found = without_lines(alloc, plan)?;
-    let agreement = agree(alloc, &found)?;
-    match agreement {
-        Agreement::Bound(_) => Ok(found),
-        Agreement::Clash(_) => unreachable!(),
-    }
-}
-
-/// The plan without nominated lines.
-fn without_lines(alloc: Global, plan: &Plan) -> Result<Plan, NoMemory>
-    ensures is { IfOk result (λ bare. bare ≡ plan_with plan.now (λ line. 0)) }
-    ensures well_formed { IfOk result IsWellFormed }
-{
-    // Every plan keeps the rules.
-    let _lines = plan.lines();
-    let priorities = no_priorities(alloc, plan)?;
-    let given = with_priorities(alloc, plan, priorities.as_slice())?;
-    match given {
-        Some(bare) => Ok(bare),
-        None => unreachable!(),
-    }
-}
-
-/// A priority of 0 for each line.
-fn no_priorities(alloc: Global, plan: &Plan) -> Result<Vec<u8>, NoMemory>
-    ensures { IfOk result (λ priorities. priorities.items ≡ replicate (line_count plan.now) 0) }
-{
-    match vec![in alloc; 0; plan.lines() as usize] {
-        Ok(priorities) => Ok(priorities),
-        Err(_) => Err(NoMemory),
-    }
 }

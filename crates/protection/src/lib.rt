@@ -12,16 +12,19 @@
 //!
 //! [`protect`] gives a plan other priorities, by which no failure cuts anybody off. The search of
 //! the crate ears proposes them, of which nothing is promised; what it finds is tried, and what the
-//! trials leave of it stands in `Orderly`.
+//! trials leave of it stands in `Orderly`. Where they leave nothing, the tree of fewest hops stands in
+//! its place.
 #![tactic(auto)]
 
 mod closed;
+mod fewest;
 mod gap;
 mod gone;
 mod guarding;
 mod marks;
 mod orderly;
 mod protecting;
+mod serving;
 mod tally;
 mod ways;
 

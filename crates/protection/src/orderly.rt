@@ -5,6 +5,7 @@ ghost use Rattle.sync_topo.specs.Lines.{line_count, sender_of, receiver_of, prio
 ghost use Rattle.sync_topo.specs.Bundles.{line_bundle};
 ghost use Rattle.sync_topo.specs.Hops.{IsRising};
 ghost use Rattle.reach_rules.specs.Agreement.{IsAgreedBound};
+ghost use Rattle.reach_rules.specs.Failing.{IsFailureBound, is_planned};
 ghost use Rattle.nominate.specs.HopCount.{count_at, is_one_less};
 ghost use Rattle.protection.specs.Orderly.{is_apart, stands_apart, is_first_choice, ComesByFewest, IsOrderly};
 ghost use Rattle.protection.specs.private.Trying.{bundle_at};
@@ -188,7 +189,9 @@ fn rises(alloc: Global, plan: &Plan) -> Result<bool, NoMemory>
 
 /// Priorities agree with the ways of timing.
 fn agrees(alloc: Global, plan: &Plan) -> Result<bool, NoMemory>
-    ensures { IfOk result (λ agrees. IsTrue agrees → (bound : ℕ) × IsAgreedBound plan.now bound) }
+    ensures bound { IfOk result (λ agrees. IsTrue agrees → (bound : ℕ) × IsAgreedBound plan.now bound) }
+    ensures failures { IfOk result (λ agrees. IsTrue agrees →
+        (bound : ℕ) × IsFailureBound (is_planned plan.now) plan.now bound) }
 {
     let agreement = agree(alloc, plan)?;
     let Agreement::Bound(_) = agreement else {

@@ -52,12 +52,12 @@ row-short plan line rank well within small =
 
 -- the whole text, once all lines are written
 pub written-short : (plan : Topology) (ranks : Ranks) (bound : ℕ) (text : List ℕ) → IsWellFormed plan → IsRanked plan ranks → bound ≤ line_count plan
-    → AreWritten plan ranks bound text → length text ≤ certificate_size
+    → AreWritten plan ranks bound text → length text ≤ certificate_size plan
 written-short plan ranks bound text well ranked within written =
     let f : ℕ → List ℕ = λ line. row_text plan line (rank_of ranks line) in
     let rows = rows-short (is_nominated plan) f row_size 0 bound (λ line below nominated.
     row-short plan line (rank_of ranks line) well (omega (arith, below, within)) (written.fit line (rank_of ranks line) (omega (arith, below)) (known (rank_at ranks line) (ranked.ranked line nominated)))) in
-    rw (written.written, length-append (codes "line,rank\n") (concat (map f (filter (is_nominated plan) (range_with_len 0 bound))))) (omega (arith, rows, within, well.few_links))
+    rw (written.written, length-append (codes "line,rank\n") (concat (map f (filter (is_nominated plan) (range_with_len 0 bound))))) (omega (arith, rows, within))
   where
     known : (o : Option ℕ) → is_some o ≡ true → o ≡ Some (unwrap_or o 0)
     known None some = absurd (true≢false (sym some))

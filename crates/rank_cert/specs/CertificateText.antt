@@ -8,7 +8,6 @@ use Rattle.csv_records.specs.FirstRefusal.{first_refusal}
 use Rattle.csv_records.specs.Records.{records_of}
 use Rattle.sync_topo.specs.Topology.{Topology}
 use Rattle.sync_topo.specs.Lines.{line_count, line_name, is_nominated}
-use Rattle.sync_topo.specs.Limits.{link_limit}
 use Rattle.rank_cert.specs.declared.error.CertErr.{CertErr}
 use Rattle.rank_cert.specs.declared.error.CertErr.TheVariants.{Header, Row, Line, Twice, Missing}
 use Rattle.rank_cert.specs.Ranks.{Ranks, rank_at, rank_of}
@@ -81,6 +80,6 @@ certificate_text plan ranks = codes "line,rank\n" ++ concat (map (λ line. row_t
 abbrev pub row_size : ℕ
 row_size = 87
 
--- the most bytes of a written certificate: the header has 10, and a plan has two lines for each link
-abbrev pub certificate_size : ℕ
-certificate_size = 10 + 2 * link_limit * row_size
+-- the most bytes of a written certificate: the header has 10, and the plan has two lines for each link
+abbrev pub certificate_size : Topology → ℕ
+certificate_size plan = 10 + 2 * length plan.links * row_size

@@ -1,5 +1,5 @@
--- Where priorities agree with the ways of timing, one high level after another comes to rest, line by line as ranks rise.
-use Rattle.std.proofs.Common.{◌≡◌, ◌≤◌, ◌<◌, ◌+◌, ◌-◌, ◌*◌, ℕ, zero, suc, Bool, true, false, not, length, List, [], ◌∷◌, Some, refl, ap, sym, subst, ◌∙◌, inl, inr, arith}
+-- Where priorities agree with the ways of timing, one high level after another comes to rest, line by line as times rise.
+use Rattle.std.proofs.Common.{◌≡◌, ◌≤◌, ◌<◌, ◌+◌, ◌-◌, ◌*◌, ◌⊎◌, ℕ, zero, suc, Bool, true, false, not, length, List, [], ◌∷◌, Some, refl, ap, sym, subst, ◌∙◌, inl, inr, arith}
 use Rattle.std.specs.Prelude.{IsTrue}
 use Rattle.std.proofs.Math.Decide.{dec_lt}
 use Rattle.std.proofs.lemmas.Bool.{and_parts, cases_lt}
@@ -11,19 +11,22 @@ use Rattle.sync_topo.specs.declared.input.InputId.{InputId}
 use Rattle.sync_topo.specs.declared.input.InputId.TheVariants.{Line, Source}
 use Rattle.sync_topo.specs.Topology.{Topology}
 use Rattle.sync_topo.specs.WellFormed.{IsWellFormed}
-use Rattle.sync_topo.specs.Lines.{line_count, line_input, sender_of, delay_of, IsNominated}
+use Rattle.sync_topo.specs.Lines.{line_count, line_input, sender_of, receiver_of, delay_of, IsNominated}
 use Rattle.sync_topo.specs.Hops.{bears_on}
 use Rattle.sync_topo.specs.declared.returns.ReturnRule.TheVariants.{BarredFromLast}
 use Rattle.sync_topo.proofs.HopLaws.{hop-meets}
 use Rattle.sync_topo.proofs.LineLaws.{IsNominated-within}
-use Rattle.net_rules.specs.Signals.{Signals, speaks_at}
+use Rattle.net_rules.specs.Signals.{Signals}
+use Rattle.net_rules.specs.Inputs.{IsInputOf}
 use Rattle.net_rules.specs.History.{Levels, heard, failed_by, taken_at, level_at, is_way_back, Obeys}
 use Rattle.net_rules.proofs.Backs.{back-receiver}
 use Rattle.net_rules.proofs.HistoryLaws.{IsDelayed}
 use Rattle.net_rules.proofs.NetLaws.{taken-is}
 use Rattle.net_rules.proofs.PassingOn.{sent-own, goes-back-from}
 use Rattle.net_rules.proofs.PlanLaws.{sender-within, IsDelayed-well}
-use Rattle.net_rules.proofs.WaitLaws.{RunsOut, constant-at, up-from, speaks-from, steady-from, speaking-heard, silent-heard}
+use Rattle.net_rules.proofs.RunOutLaws.{RunsOut, constant-at}
+use Rattle.net_rules.proofs.SettlingLaws.{AreLateOver}
+use Rattle.net_rules.proofs.WaitLaws.{up-from, speaks-from, good-up, speaking-heard}
 use Rattle.reach_rules.specs.Ways.{IsReached}
 use Rattle.reach_rules.specs.Reaching.{says_at, switches_in, MayComeIn, IsNoWorse}
 use Rattle.reach_rules.specs.Agreement.{IsHigh, IsAgreeing, AreAuto}
@@ -31,61 +34,123 @@ use Rattle.reach_rules.proofs.AutoLaws.{auto-at}
 use Rattle.reach_rules.proofs.KeptLines.{Keeps, keeps-later, sends-on, carries-on}
 use Rattle.reach_rules.proofs.ReachLaws.{input-within, no-worse-in, level-above}
 
--- what the bound rests on: ranks that rise over what bears on what and are at most `top`, and times that are at most these;
--- `step` is the time in which one level comes to rest
-pub record AgreesBy (plan : Topology) (signals : Signals) (rank : ℕ → ℕ) (last wait top delay step high : ℕ) : Type 0 where
-  pub runs_out : RunsOut plan signals last wait delay
-  pub agreeing : IsAgreeing plan rank
-  pub ranks : (line : ℕ) → IsNominated plan line → rank line ≤ top
-  pub step_is : step ≡ (top + 1) * delay
+-- each line's time is no less than the delay of a nominated line into its sender, nor than the time of a line that bears on it and
+-- that one's delay
+pub record AreLate (plan : Topology) (time : ℕ → ℕ) : Type 0 where
+  pub into : (before line : ℕ) → IsNominated plan before → IsNominated plan line → receiver_of plan before ≡ sender_of plan line → delay_of plan before ≤ time line
+  pub over : AreLateOver (bears_on plan) plan time
+
+-- from a millisecond on no line carries a level of a place
+abbrev pub IsNeverCarried : Topology → Levels → ℕ → ℕ → Type 0
+IsNeverCarried plan out from place = (line t : ℕ) → IsNominated plan line → from ≤ t → place_of (out line t) ≡ place → ⊥
+
+-- a place takes a turn of its own, or is never carried
+abbrev pub TakesTurn : Topology → Levels → ℕ → (ℕ → ℕ) → ℕ → Type 0
+TakesTurn plan out last turns place =
+    (turns (suc place) ≡ suc (turns place)) ⊎ ((turns (suc place) ≡ turns place) × IsNeverCarried plan out last place)
+
+-- what the bound rests on: times of lines that are at most `step`, in which one level comes to rest; so many turns; and all else
+-- has run out
+pub record AgreesBy (plan : Topology) (signals : Signals) (out : Levels) (time turns : ℕ → ℕ) (last wait delay step high : ℕ) : Type 0 where
+  pub runs_out : RunsOut plan signals out last wait delay
+  pub late : AreLate plan time
+  pub times : (line : ℕ) → IsNominated plan line → time line ≤ step
+  pub take : (place : ℕ) → place < high → TakesTurn plan out last turns place
   pub are_high : (place : ℕ) → place < high → IsHigh plan place
 
-module _ (plan : Topology) (signals : Signals) (out : Levels) (rank : ℕ → ℕ) (last wait top delay step high : ℕ)
-    (by : AgreesBy plan signals rank last wait top delay step high) (well : IsWellFormed plan) (obeys : Obeys plan signals out)
+module _ (plan : Topology) (signals : Signals) (out : Levels) (time turns : ℕ → ℕ) (last wait delay step high : ℕ)
+    (by : AgreesBy plan signals out time turns last wait delay step high) (well : IsWellFormed plan) (obeys : Obeys plan signals out)
     (auto : AreAuto plan signals out last) where
   pub delayed : IsDelayed plan
   delayed = IsDelayed-well plan well
 
-  pub bears-nominated : (line next : ℕ) → IsTrue (bears_on plan line next) → IsNominated plan line
+  bears-nominated : (line next : ℕ) → IsTrue (bears_on plan line next) → IsNominated plan line
   bears-nominated line next bears = (hop-meets BarredFromLast plan line next bears).from
+
+  -- times rise over what bears on what
+  pub agreeing : IsAgreeing plan time
+  agreeing line next bears = omega (arith, by.late.over line next bears, delayed line (bears-nominated line next bears))
 
   -- one place among the levels, line by line
   module _ (place from : ℕ) (below : place < high) (late : last + wait ≤ from)
       (lower : (line better : ℕ) → better < place → IsNominated plan line → Keeps out better line from) where
-    carries-step : (line start until : ℕ) → IsNominated plan line → from ≤ start → start + delay ≤ until
-        → ((before : ℕ) → IsTrue (bears_on plan before line) → Keeps out place before start) → Keeps out place line until
-    carries-step line start until nominated begun after bears t since here =
-        carries-on plan signals out last wait delay by.runs_out well delayed obeys auto line place start t nominated (by.are_high place below)
-        (omega (arith, begun, late)) (omega (arith, after, since)) (omega (arith, late, begun, after, since))
-        (λ before better less before_nominated. keeps-later out better before from start begun (lower before better less before_nominated)) bears here
+    carries-step : (line : ℕ) → IsNominated plan line
+        → ((before : ℕ) → IsTrue (bears_on plan before line) → Keeps out place before (from + time before)) → Keeps out place line (from + time line)
+    carries-step line nominated bears t since here =
+        carries-on plan signals out last wait delay by.runs_out well delayed obeys auto line place t nominated (by.are_high place below)
+        (omega (arith, late, since))
+        (λ before better less before_nominated joins. record {
+          from = from;
+          late = omega (arith, late);
+          soon = omega (arith, since, by.late.into before line before_nominated nominated joins);
+          keeps = lower before better less before_nominated;
+        })
+        (λ before bears_here. record {
+          from = from + time before;
+          late = omega (arith, late);
+          soon = omega (arith, since, by.late.over before line bears_here);
+          keeps = bears before bears_here;
+        }) here
 
-    by-rank : (r line : ℕ) → IsNominated plan line → rank line ≤ r → Keeps out place line (from + (r + 1) * delay)
-    by-rank zero line nominated low =
-        carries-step line from (from + (0 + 1) * delay) nominated (omega arith) (omega arith)
-        (λ before bears. absurd (omega (arith, by.agreeing before line bears, low)))
-    by-rank (suc r) line nominated low =
-        carries-step line (from + (r + 1) * delay) (from + (suc r + 1) * delay) nominated (omega arith) (omega arith)
-        (λ before bears. by-rank r before (bears-nominated before line bears) (omega (arith, by.agreeing before line bears, low)))
+    by-time : (r line : ℕ) → IsNominated plan line → time line ≤ r → Keeps out place line (from + time line)
+    by-time zero line nominated low = carries-step line nominated (λ before bears. absurd (omega (arith, agreeing before line bears, low)))
+    by-time (suc r) line nominated low =
+        carries-step line nominated (λ before bears. by-time r before (bears-nominated before line bears) (omega (arith, agreeing before line bears, low)))
 
     pub one-place : (line : ℕ) → IsNominated plan line → Keeps out place line (from + step)
-    one-place line nominated = subst (λ n. Keeps out place line (from + n)) (sym by.step_is) (by-rank top line nominated (by.ranks line nominated))
+    one-place line nominated =
+        keeps-later out place line (from + time line) (from + step) (omega (arith, by.times line nominated)) (by-time (time line) line nominated (omega arith))
+
+  never-keeps : (place line from : ℕ) → IsNominated plan line → IsNeverCarried plan out last place → last ≤ from → Keeps out place line from
+  never-keeps place line from nominated never late t since (inl now) = absurd (never line t nominated (omega (arith, late, since)) now)
+  never-keeps place line from nominated never late t since (inr next) = absurd (never line (suc t) nominated (omega (arith, late, since)) next)
 
   -- and one place after another
-  places-below : (k line place : ℕ) → k ≤ high → place < k → IsNominated plan line → Keeps out place line (last + wait + k * step)
+  places-below : (k line place : ℕ) → k ≤ high → place < k → IsNominated plan line → Keeps out place line (last + wait + turns k * step)
   places-below zero line place most less nominated = absurd (omega (arith, less))
-  places-below (suc k) line place most less nominated = elim (dec_lt place k) [
-    | yes below ↦ keeps-later out place line (last + wait + k * step) (last + wait + suc k * step) (omega arith) (places-below k line place (omega (arith, most)) below nominated)
-    | no last_one ↦
-        let here : k ≡ place = omega (arith, less, last_one) in
-        subst (λ p. Keeps out p line (last + wait + suc k * step)) here
-        (keeps-later out k line (last + wait + k * step + step) (last + wait + suc k * step) (omega arith)
-        (one-place k (last + wait + k * step) (omega (arith, most)) (omega arith)
-        (λ other better less other_nominated. places-below k other better (omega (arith, most)) less other_nominated) line nominated))
-  ]
+  places-below (suc k) line place most less nominated =
+      of (by.take k (omega (arith, most))) (λ other better before other_nominated. places-below k other better (omega (arith, most)) before other_nominated)
+    where
+      k_below : k < high
+      k_below = omega (arith, most)
+
+      of : TakesTurn plan out last turns k
+          → ((other better : ℕ) → better < k → IsNominated plan other → Keeps out better other (last + wait + turns k * step))
+          → Keeps out place line (last + wait + turns (suc k) * step)
+      of (inl one) earlier = elim (dec_lt place k) [
+        | yes below ↦
+            keeps-later out place line (last + wait + turns k * step) (last + wait + turns (suc k) * step) more (earlier line place below nominated)
+        | no last_one ↦
+            let here : k ≡ place = omega (arith, less, last_one) in
+            subst (λ p. Keeps out p line (last + wait + turns (suc k) * step)) here
+            (keeps-later out k line (last + wait + turns k * step + step) (last + wait + turns (suc k) * step) enough
+            (one-place k (last + wait + turns k * step) k_below (omega arith)
+            (λ other better before other_nominated. earlier other better before other_nominated) line nominated))
+      ]
+        where
+          turn : turns (suc k) * step ≡ suc (turns k) * step
+          turn = ap (λ n. n * step) one
+
+          more : last + wait + turns k * step ≤ last + wait + turns (suc k) * step
+          more = omega (arith, turn)
+
+          enough : last + wait + turns k * step + step ≤ last + wait + turns (suc k) * step
+          enough = omega (arith, turn)
+      of (inr none) earlier = elim (dec_lt place k) [
+        | yes below ↦
+            keeps-later out place line (last + wait + turns k * step) (last + wait + turns (suc k) * step) same (earlier line place below nominated)
+        | no last_one ↦
+            let here : k ≡ place = omega (arith, less, last_one) in
+            subst (λ p. Keeps out p line (last + wait + turns (suc k) * step)) here
+            (never-keeps k line (last + wait + turns (suc k) * step) nominated none.1 (omega arith))
+      ]
+        where
+          same : last + wait + turns k * step ≤ last + wait + turns (suc k) * step
+          same = omega (arith, ap (λ n. n * step) none.0)
 
   -- from here on each line carries each high level always or never
   abbrev pub base : ℕ
-  base = last + wait + high * step
+  base = last + wait + turns high * step
 
   pub settled-place : (line place : ℕ) → place < high → IsNominated plan line → Keeps out place line base
   settled-place line place below nominated = places-below high line place (omega arith) below nominated
@@ -141,8 +206,8 @@ module _ (plan : Topology) (signals : Signals) (out : Levels) (rank : ℕ → �
           → is_locked (switches_in plan signals out element t) may.place ≡ false
       unlocked same = rw same may.unlocked
 
-  up-good : (input : InputId) (t : ℕ) → last + wait ≤ t → signals.up input t ≡ true → failed_by plan signals input t ≡ false
-  up-good input t after up = steady-from plan signals out last wait delay by.runs_out delayed obeys input t after ∙ ap not up
+  up-good : (element : ℕ) (input : InputId) (t : ℕ) → IsInputOf plan element input → last + wait ≤ t → signals.up input t ≡ true → failed_by plan signals input t ≡ false
+  up-good element input t is after up = by.runs_out.steady input is.has is.nominated t after ∙ ap not up
 
   pub level-from : (source t : ℕ) → last ≤ t → signals.source_level source t ≡ signals.source_level source last
   level-from source t after = constant-at (signals.source_level source) last t (λ u since. by.runs_out.quiet.source_level source u since) after
@@ -159,7 +224,7 @@ module _ (plan : Topology) (signals : Signals) (out : Levels) (rank : ℕ → �
         let waited : last + wait ≤ t = omega (arith, after, base-late) in
         let within = input-within plan element (Source source) well may.of in
         let now = stays-in level t element (Source source) (omega (arith, waited)) within may in
-        no-worse-in plan signals out level t element (Source source) level now (omega arith) (up-good (Source source) t waited now.says)
+        no-worse-in plan signals out level t element (Source source) level now (omega arith) (up-good element (Source source) t may.of waited now.says)
         (ap Some (level-from source t (omega (arith, waited)) ∙ sym level_is)) above
 
     one-more : (line element : ℕ) → MayComeIn plan signals out level last element (line_input line) → NoWorse (sender_of plan line) → NoWorse element
@@ -198,7 +263,7 @@ module _ (plan : Topology) (signals : Signals) (out : Levels) (rank : ℕ → �
             let hears : heard plan signals out line t ≡ Some (level_at plan signals out sender u) =
             speaking-heard plan signals out last wait delay by.runs_out delayed obeys line t (omega (arith, after, base-late, by.runs_out.delays line may.of.nominated)) now.says ∙ ap Some same in
             no-worse-in plan signals out level t element (line_input line) (level_at plan signals out sender u) now no_worse
-            (up-good (line_input line) t waited up) hears (level-above plan signals out sender u well (sender-within plan well line line_within))
+            (up-good element (line_input line) t may.of waited up) hears (level-above plan signals out sender u well (sender-within plan well line line_within))
         back true returns =
             let from = goes-back-from plan (taken_at plan signals out sender u) line returns in
             let taken = taken-is plan signals out sender u (line_input from.before) from.is in
@@ -206,25 +271,30 @@ module _ (plan : Topology) (signals : Signals) (out : Levels) (rank : ℕ → �
             let d : ℕ = delay_of plan from.before in
             let joins : element ≡ sender_of plan from.before =
             sym may.of.of_element ∙ back-receiver plan from.before line well nominated may.of.nominated from.back in
-            came from.before d refl nominated joins taken.has_level
+            came from.before d refl nominated taken.good joins taken.has_level
           where
-            said-then : (before d : ℕ) → d ≡ delay_of plan before → IsNominated plan before → heard plan signals out before u ≡ Some (level_at plan signals out sender u)
-                → d ≤ delay → out before (u - d) ≡ level_at plan signals out sender u
-            said-then before d d_is nominated hears short = of (speaks_at signals before u) refl
+            said-then : (before d : ℕ) → d ≡ delay_of plan before → IsNominated plan before → failed_by plan signals (line_input before) u ≡ false
+                → heard plan signals out before u ≡ Some (level_at plan signals out sender u) → d ≤ delay → out before (u - d) ≡ level_at plan signals out sender u
+            said-then before d d_is nominated good hears short = of (signals.esmc before u) refl
               where
-                of : (speaks : Bool) → speaks_at signals before u ≡ speaks → out before (u - d) ≡ level_at plan signals out sender u
-                of true speaks =
-                    ap (λ n. out before (u - n)) d_is
-                    ∙ same_Some _ _ (sym (speaking-heard plan signals out last wait delay by.runs_out delayed obeys before u (omega (arith, base-late, d_is, short)) speaks) ∙ hears)
-                of false silent =
-                    absurd (none-some (level_at plan signals out sender u)
-                    (sym (silent-heard plan signals out last wait delay by.runs_out delayed obeys before u nominated (omega (arith, base-late)) silent) ∙ hears))
+                up_then : signals.up (line_input before) u ≡ true
+                up_then =
+                    good-up plan signals out last wait delay by.runs_out delayed obeys (line_input before) u (IsNominated-within plan before nominated) nominated
+                    (omega (arith, base-late)) good
 
-            came : (before d : ℕ) → d ≡ delay_of plan before → IsNominated plan before → element ≡ sender_of plan before
+                of : (esmc : Bool) → signals.esmc before u ≡ esmc → out before (u - d) ≡ level_at plan signals out sender u
+                of true on =
+                    ap (λ n. out before (u - n)) d_is
+                    ∙ same_Some _ _ (sym (speaking-heard plan signals out last wait delay by.runs_out delayed obeys before u (omega (arith, base-late, d_is, short)) (rw (up_then, on) refl)) ∙ hears)
+                of false off =
+                    absurd (none-some (level_at plan signals out sender u)
+                    (sym (by.runs_out.silent before nominated u (omega (arith, base-late)) up_then off) ∙ hears))
+
+            came : (before d : ℕ) → d ≡ delay_of plan before → IsNominated plan before → failed_by plan signals (line_input before) u ≡ false → element ≡ sender_of plan before
                 → heard plan signals out before u ≡ Some (level_at plan signals out sender u) → IsNoWorse (level_at plan signals out element t) level
-            came before d d_is nominated joins hears =
+            came before d d_is nominated good joins hears =
                 let short : d ≤ delay = subst (λ n. n ≤ delay) (sym d_is) (by.runs_out.delays before nominated) in
-                let said : out before (u - d) ≡ level_at plan signals out sender u = said-then before d d_is nominated hears short in
+                let said : out before (u - d) ≡ level_at plan signals out sender u = said-then before d d_is nominated good hears short in
                 let high_then : place_of (out before (u - d)) < high = omega (arith, ap place_of said, no_worse, below) in
                 let same : out before t ≡ out before (u - d) = one-level before (u - d) t nominated high_then (omega (arith, short)) (omega (arith, after)) in
                 let place_now : place_of (out before t) < high = omega (arith, ap place_of same, high_then) in

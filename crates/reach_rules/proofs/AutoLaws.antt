@@ -1,11 +1,12 @@
 -- Elements without a forced or a manual switch: after the last event that stays so, and the best candidate is taken.
-use Rattle.std.proofs.Common.{◌≡◌, ◌≤◌, ◌<◌, ◌+◌, ◌-◌, ℕ, zero, suc, true, List, [], length, Option, None, Some, slice_get, refl, ap, sym, subst, ◌∙◌, arith, zero-add}
+use Rattle.std.proofs.Common.{◌≡◌, ◌≤◌, ◌<◌, ◌+◌, ◌-◌, ℕ, zero, suc, Bool, true, false, not, ◌&&◌, List, [], length, Option, None, Some, slice_get, refl, ap, sym, subst, ◌∙◌, arith, zero-add}
+use Rattle.std.proofs.lemmas.Bool.{and_parts}
 use Rattle.std.proofs.lemmas.List.FromFn.{length-map-range_with_len, get_or-map-range_with_len}
 use Rattle.sync_ql.specs.declared.rules.Candidate.{Candidate}
 use Rattle.sync_ql.specs.declared.rules.Cmd.{Cmd}
 use Rattle.sync_ql.specs.Condition.{failed_at}
-use Rattle.sync_ql.specs.Switches.{Switches, after_commands}
-use Rattle.sync_ql.specs.Selection.{candidate, is_eligible, standing_manual, choice, best_choice}
+use Rattle.sync_ql.specs.Switches.{Switches, after_commands, is_locked}
+use Rattle.sync_ql.specs.Selection.{candidate, is_above_do_not_use, is_better, is_eligible, standing_manual, choice, best_choice}
 use Rattle.sync_ql.specs.Moment.{signals_of, level_now, candidates_at, at_end, selection_at}
 use Rattle.sync_ql.proofs.Eligible.{nobody, eligible_within}
 use Rattle.sync_ql.proofs.QuietMoments.{seen, switches_at-cons, selection_at-cons}
@@ -110,6 +111,21 @@ module _ (plan : Topology) (signals : Signals) (out : Levels) (element : ℕ) wh
   unfolding settings_of
   priority-seen t k input within there =
       ap (λ (c : Candidate). c.priority) (seen-at t k (inside-too k within)) ∙ map-at (input_priority plan) (inputs_of plan element) k input 0 there
+
+  -- one that is eligible isn't failed
+  pub eligible-good : (t k : ℕ) (input : InputId) → k < length (inputs_of plan element) → slice_get (inputs_of plan element) k ≡ Some input → element_of plan input ≡ element
+      → is_eligible (candidate (candidates_in t) k) ≡ true → failed_by plan signals input t ≡ false
+  eligible-good t k input within there of eligible =
+      sym (failed-at plan signals out element t k input there of)
+      ∙ not-failed (is_locked (switches_in plan signals out element t) k) (failed_at (settings_of plan element).timers (signals_of k (element_past plan signals out element (suc t))))
+      (is_better (settings_of plan element).floor (level_now k (element_past plan signals out element (suc t))))
+      (sym (ap (λ (c : Candidate). c.usable) (seen-at t k (inside-too k within)))
+      ∙ (and_parts (candidate (candidates_in t) k).usable (is_above_do_not_use (candidate (candidates_in t) k).level) eligible).0)
+    where
+      not-failed : (locked failed below : Bool) → (not locked && not failed && not below) ≡ true → failed ≡ false
+      not-failed false false below is = refl
+      not-failed true failed below is = cc
+      not-failed false true below is = cc
 
   -- a candidate is the same where its input's level and whether it is failed are, and lockouts
   pub seen-same : (t u k : ℕ) (input : InputId) → k < length (inputs_of plan element) → slice_get (inputs_of plan element) k ≡ Some input

@@ -1,5 +1,5 @@
 -- An element takes the same in two milliseconds where its inputs are kept that are at least as good as what it takes in one of them.
-use Rattle.std.proofs.Common.{◌≡◌, ◌≤◌, ◌<◌, ◌+◌, ◌⊎◌, ℕ, suc, length, Option, Some, slice_get, ap, sym, subst, ◌∙◌, inl, inr, arith}
+use Rattle.std.proofs.Common.{◌≡◌, ◌≤◌, ◌<◌, ◌+◌, ◌⊎◌, ℕ, suc, false, length, Option, Some, slice_get, ap, sym, subst, ◌∙◌, inl, inr, arith}
 use Rattle.std.proofs.lemmas.Bool.{and_parts}
 use Rattle.std.proofs.lemmas.Option.{slice_get_cases, same_Some}
 use Rattle.std.specs.List.{list_all}
@@ -14,13 +14,14 @@ use Rattle.sync_topo.specs.Topology.{Topology}
 use Rattle.sync_topo.specs.Lines.{inputs_of, input_priority}
 use Rattle.net_rules.specs.Signals.{Signals}
 use Rattle.net_rules.specs.Inputs.{IsInputOf}
-use Rattle.net_rules.specs.History.{Levels, settings_of, heard, input_level, element_past, taken_at, level_at, Obeys}
+use Rattle.net_rules.specs.History.{Levels, settings_of, heard, input_level, element_past, taken_at, level_at, failed_by, Obeys}
 use Rattle.net_rules.proofs.HistoryLaws.{IsDelayed}
 use Rattle.net_rules.proofs.InputLaws.{inputs-are}
 use Rattle.net_rules.proofs.NetLaws.{IsTakenAt, IsSelected, selected-taken, taken-is}
-use Rattle.net_rules.proofs.WaitLaws.{RunsOut, failed-stays}
+use Rattle.net_rules.proofs.RunOutLaws.{RunsOut}
+use Rattle.net_rules.proofs.WaitLaws.{failed-stays}
 use Rattle.reach_rules.specs.Agreement.{IsAuto, IsSteadyAt}
-use Rattle.reach_rules.proofs.AutoLaws.{candidates_in, chosen_in, auto-at, auto-best, eligible-within, level-seen, priority-seen, seen-same}
+use Rattle.reach_rules.proofs.AutoLaws.{candidates_in, chosen_in, auto-at, auto-best, eligible-within, eligible-good, level-seen, priority-seen, seen-same}
 use Rattle.reach_rules.proofs.KeptChoice.{IsAtLeast, AreKept, best-chosen, stays, came}
 use Rattle.reach_rules.proofs.ReachLaws.{taken-there}
 
@@ -32,10 +33,10 @@ abbrev IsGoodAt : Topology → Signals → Levels → ℕ → ℕ → ℕ → In
 IsGoodAt plan signals out place number t input =
     (level : Level) × (input_level signals (heard plan signals out) input t ≡ Some level) × IsAsGood place number level (input_priority plan input)
 
--- an element's inputs that are at least so good, in a millisecond or the next one, have the same level in both
+-- an element's inputs that are not failed and at least so good, in a millisecond or the next one, have the same level in both
 abbrev pub AreCalm : Topology → Signals → Levels → ℕ → ℕ → ℕ → ℕ → Type 0
 AreCalm plan signals out element t place number =
-    (input : InputId) → IsInputOf plan element input → (level : Level)
+    (input : InputId) → IsInputOf plan element input → failed_by plan signals input t ≡ false → (level : Level)
     → (input_level signals (heard plan signals out) input t ≡ Some level) ⊎ (input_level signals (heard plan signals out) input (suc t) ≡ Some level)
     → IsAsGood place number level (input_priority plan input)
     → input_level signals (heard plan signals out) input (suc t) ≡ input_level signals (heard plan signals out) input t
@@ -47,7 +48,7 @@ pub record Takes (plan : Topology) (signals : Signals) (out : Levels) (element t
   pub number_is : input_priority plan input ≤ number
 
 module _ (plan : Topology) (signals : Signals) (out : Levels) (last wait delay : ℕ)
-    (by : RunsOut plan signals last wait delay) (delayed : IsDelayed plan) (obeys : Obeys plan signals out)
+    (by : RunsOut plan signals out last wait delay) (delayed : IsDelayed plan) (obeys : Obeys plan signals out)
     (element : ℕ) (auto : IsAuto plan signals out last element) (t : ℕ) (waited : last + wait ≤ t) where
   auto-now : (u : ℕ) → last ≤ u → IsAuto plan signals out u element
   auto-now u after = (auto-at plan signals out element last u by.quiet auto after).0
@@ -66,8 +67,12 @@ module _ (plan : Topology) (signals : Signals) (out : Levels) (last wait delay :
       → AreKept (candidates_in plan signals out element t) (candidates_in plan signals out element (suc t)) place number
   kept place number calm k least = elim least [
     | inl now ↦ of k (eligible-within plan signals out element t k now.eligible)
+        (λ input is inside there. eligible-good plan signals out element t k input inside there is.of_element now.eligible)
         (λ input inside there. inl (as-seen t k input inside there now))
     | inr next ↦ of k (eligible-within plan signals out element (suc t) k next.eligible)
+        (λ input is inside there.
+        sym (failed-stays plan signals out last wait delay by delayed obeys input t is.has is.nominated waited)
+        ∙ eligible-good plan signals out element (suc t) k input inside there is.of_element next.eligible)
         (λ input inside there. inr (as-seen (suc t) k input inside there next))
   ]
     where
@@ -79,22 +84,23 @@ module _ (plan : Topology) (signals : Signals) (out : Levels) (last wait delay :
         subst (λ priority. IsAsGood place number least.level priority) (priority-seen plan signals out element u k input inside there) least.stands,
       )
 
-      same-level : (input : InputId) → IsInputOf plan element input → IsGoodAt plan signals out place number t input ⊎ IsGoodAt plan signals out place number (suc t) input
+      same-level : (input : InputId) → IsInputOf plan element input → failed_by plan signals input t ≡ false → IsGoodAt plan signals out place number t input ⊎ IsGoodAt plan signals out place number (suc t) input
           → input_level signals (heard plan signals out) input (suc t) ≡ input_level signals (heard plan signals out) input t
-      same-level input is (inl now) = calm input is now.0 (inl now.1) now.2
-      same-level input is (inr next) = calm input is next.0 (inr next.1) next.2
+      same-level input is good (inl now) = calm input is good now.0 (inl now.1) now.2
+      same-level input is good (inr next) = calm input is good next.0 (inr next.1) next.2
 
       of : (k : ℕ) → k < length (inputs_of plan element)
+          → ((input : InputId) → IsInputOf plan element input → k < length (inputs_of plan element) → slice_get (inputs_of plan element) k ≡ Some input → failed_by plan signals input t ≡ false)
           → ((input : InputId) → k < length (inputs_of plan element) → slice_get (inputs_of plan element) k ≡ Some input → IsGoodAt plan signals out place number t input ⊎ IsGoodAt plan signals out place number (suc t) input)
           → candidate (candidates_in plan signals out element (suc t)) k ≡ candidate (candidates_in plan signals out element t) k
-      of k inside seen = elim (slice_get_cases (inputs_of plan element) k).1 [
+      of k inside good seen = elim (slice_get_cases (inputs_of plan element) k).1 [
         | inl there ↦
             let is = each-at (IsInputOf plan element) (inputs_of plan element) k there.0 (inputs-are plan element) there.2 in
             seen-same plan signals out element t (suc t) k there.0 inside there.2 is.of_element
             ((auto-at plan signals out element last (suc t) by.quiet auto (omega (arith, waited))).1
             ∙ sym (auto-at plan signals out element last t by.quiet auto (omega (arith, waited))).1)
-            (same-level there.0 is (seen there.0 inside there.2))
-            (failed-stays plan signals out last wait delay by delayed obeys there.0 t waited)
+            (same-level there.0 is (good there.0 is inside there.2) (seen there.0 inside there.2))
+            (failed-stays plan signals out last wait delay by delayed obeys there.0 t is.has is.nominated waited)
         | inr past ↦ absurd (omega (arith, inside, past.0))
       ]
 
@@ -146,7 +152,7 @@ module _ (plan : Topology) (signals : Signals) (out : Levels) (last wait delay :
       taken = taken-is plan signals out element t input takes.taken
 
       same : input_level signals (heard plan signals out) input (suc t) ≡ input_level signals (heard plan signals out) input t
-      same = calm input taken.of (level_at plan signals out element t) (inl taken.has_level) (inr (takes.place_is, takes.number_is))
+      same = calm input taken.of taken.good (level_at plan signals out element t) (inl taken.has_level) (inr (takes.place_is, takes.number_is))
 
   pub took-before : (place number : ℕ) (input : InputId) → AreCalm plan signals out element t place number → Takes plan signals out element (suc t) place number input
       → IsSteadyAt plan signals out t (suc t) element
@@ -171,4 +177,6 @@ module _ (plan : Topology) (signals : Signals) (out : Levels) (last wait delay :
       taken = taken-is plan signals out element (suc t) input takes.taken
 
       same : input_level signals (heard plan signals out) input (suc t) ≡ input_level signals (heard plan signals out) input t
-      same = calm input taken.of (level_at plan signals out element (suc t)) (inr taken.has_level) (inr (takes.place_is, takes.number_is))
+      same =
+          calm input taken.of (sym (failed-stays plan signals out last wait delay by delayed obeys input t taken.of.has taken.of.nominated waited) ∙ taken.good)
+          (level_at plan signals out element (suc t)) (inr taken.has_level) (inr (takes.place_is, takes.number_is))

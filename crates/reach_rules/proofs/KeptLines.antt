@@ -19,14 +19,15 @@ use Rattle.sync_topo.proofs.LineLaws.{IsNominated-within}
 use Rattle.net_rules.specs.Signals.{Signals, speaks_at}
 use Rattle.net_rules.specs.Inputs.{IsInputOf}
 use Rattle.net_rules.specs.Settings.{own_level}
-use Rattle.net_rules.specs.History.{Levels, heard, taken_at, level_at, is_way_back, Obeys}
+use Rattle.net_rules.specs.History.{Levels, heard, failed_by, taken_at, level_at, is_way_back, Obeys}
 use Rattle.net_rules.proofs.HistoryLaws.{IsDelayed}
 use Rattle.net_rules.proofs.InputLaws.{each-input}
 use Rattle.net_rules.proofs.NetLaws.{taken-is, not-taken}
 use Rattle.net_rules.proofs.PairLaws.{sent-back}
 use Rattle.net_rules.proofs.PassingOn.{sent-own}
 use Rattle.net_rules.proofs.PlanLaws.{sender-within}
-use Rattle.net_rules.proofs.WaitLaws.{RunsOut, speaks-both, speaking-heard, silent-heard}
+use Rattle.net_rules.proofs.RunOutLaws.{RunsOut}
+use Rattle.net_rules.proofs.WaitLaws.{good-up, speaks-both, speaking-heard}
 use Rattle.reach_rules.specs.Agreement.{IsHigh, AreAuto, IsSteadyAt}
 use Rattle.reach_rules.proofs.KeptInputs.{AreCalm, takes-again, took-before}
 use Rattle.reach_rules.proofs.ReachLaws.{own-is}
@@ -38,6 +39,13 @@ Keeps out place line from =
 
 pub keeps-later : (out : Levels) (place line from later : ℕ) → from ≤ later → Keeps out place line from → Keeps out place line later
 keeps-later out place line from later after keeps t since here = keeps t (omega (arith, after, since)) here
+
+-- it does so from a millisecond on after which all that is heard of it at another was sent
+pub record KeepsBefore (plan : Topology) (out : Levels) (place line last t : ℕ) : Type 0 where
+  pub from : ℕ
+  pub late : last ≤ from
+  pub soon : from + delay_of plan line ≤ t
+  pub keeps : Keeps out place line from
 
 all-each : {A : Type 0} (test : A → Bool) (xs : List A) → list_all test xs ≡ true → Each (λ x. test x ≡ true) xs
 all-each test [] all = tt
@@ -78,36 +86,44 @@ first-elsewhere plan resort line (Line other) last joins bundled is elsewhere =
             absurd (true≢false (sym (rw (eq-eqb _ _ is.of_element, eq-eqb _ _ same) refl) ∙ elsewhere))
 
 module _ (plan : Topology) (signals : Signals) (out : Levels) (last wait delay : ℕ)
-    (by : RunsOut plan signals last wait delay) (well : IsWellFormed plan) (delayed : IsDelayed plan) (obeys : Obeys plan signals out)
+    (by : RunsOut plan signals out last wait delay) (well : IsWellFormed plan) (delayed : IsDelayed plan) (obeys : Obeys plan signals out)
     (auto : AreAuto plan signals out last) where
-  -- what is heard is kept a delay later
-  pub heard-keeps : (line place from t : ℕ) (level : Level) → IsNominated plan line → Keeps out place line from → last ≤ from → from + delay ≤ t → last + wait ≤ t
+  -- what is heard of a line that isn't failed is kept a delay later
+  pub heard-keeps : (line place t : ℕ) (level : Level) → IsNominated plan line → KeepsBefore plan out place line last t → last + wait ≤ t
+      → failed_by plan signals (line_input line) t ≡ false
       → (heard plan signals out line t ≡ Some level) ⊎ (heard plan signals out line (suc t) ≡ Some level) → place_of level ≡ place
       → heard plan signals out line (suc t) ≡ heard plan signals out line t
-  heard-keeps line place from t level nominated keeps late after waited hears is = of (speaks_at signals line t) refl
+  heard-keeps line place t level nominated keeps waited good hears is = of (signals.esmc line t) refl
     where
       d : ℕ
       d = delay_of plan line
 
       next : suc t - d ≡ suc (t - d)
-      next = omega (arith, after, by.delays line nominated)
+      next = omega (arith, keeps.soon)
 
-      again : speaks_at signals line (suc t) ≡ speaks_at signals line t
-      again = speaks-both plan signals out last wait delay by delayed obeys line t (suc t) (omega (arith, waited)) (omega (arith, waited))
+      up : signals.up (line_input line) t ≡ true
+      up = good-up plan signals out last wait delay by delayed obeys (line_input line) t (IsNominated-within plan line nominated) nominated waited good
 
-      of : (speaks : Bool) → speaks_at signals line t ≡ speaks → heard plan signals out line (suc t) ≡ heard plan signals out line t
-      of false silent =
-          silent-heard plan signals out last wait delay by delayed obeys line (suc t) nominated (omega (arith, waited)) (again ∙ silent)
-          ∙ sym (silent-heard plan signals out last wait delay by delayed obeys line t nominated waited silent)
-      of true speaks =
-          here_next ∙ ap Some (keeps (t - d) (omega (arith, after, by.delays line nominated)) at) ∙ sym here
+      of : (esmc : Bool) → signals.esmc line t ≡ esmc → heard plan signals out line (suc t) ≡ heard plan signals out line t
+      of false off =
+          by.silent line nominated (suc t) (omega (arith, waited)) (by.quiet.up (line_input line) t (omega (arith, waited)) ∙ up)
+          (by.quiet.esmc line t (omega (arith, waited)) ∙ off)
+          ∙ sym (by.silent line nominated t waited up off)
+      of true on =
+          here_next ∙ ap Some (keeps.keeps (t - d) (omega (arith, keeps.soon)) at) ∙ sym here
         where
+          speaks : speaks_at signals line t ≡ true
+          speaks = rw (up, on) refl
+
+          again : speaks_at signals line (suc t) ≡ true
+          again = speaks-both plan signals out last wait delay by delayed obeys line t (suc t) (omega (arith, waited)) (omega (arith, waited)) ∙ speaks
+
           here : heard plan signals out line t ≡ Some (out line (t - d))
-          here = speaking-heard plan signals out last wait delay by delayed obeys line t (omega (arith, late, after, by.delays line nominated)) speaks
+          here = speaking-heard plan signals out last wait delay by delayed obeys line t (omega (arith, keeps.late, keeps.soon)) speaks
 
           here_next : heard plan signals out line (suc t) ≡ Some (out line (suc (t - d)))
           here_next =
-              speaking-heard plan signals out last wait delay by delayed obeys line (suc t) (omega (arith, late, after, by.delays line nominated)) (again ∙ speaks)
+              speaking-heard plan signals out last wait delay by delayed obeys line (suc t) (omega (arith, keeps.late, keeps.soon)) again
               ∙ ap (λ n. Some (out line n)) next
 
           at : (place_of (out line (t - d)) ≡ place) ⊎ (place_of (out line (suc (t - d))) ≡ place)
@@ -164,9 +180,9 @@ module _ (plan : Topology) (signals : Signals) (out : Levels) (last wait delay :
   sent-again line t u within sends takes = obeys line u within ∙ sent-own plan signals out line u (ap (λ o. is_way_back plan o line) takes ∙ sends.elsewhere)
 
   -- one step: what carries a level is constant a delay after what bears on it
-  module _ (line place from t : ℕ) (nominated : IsNominated plan line) (high : IsHigh plan place) (late : last ≤ from) (after : from + delay ≤ t)
-      (waited : last + wait ≤ t) (lower : (before better : ℕ) → better < place → IsNominated plan before → Keeps out better before from)
-      (bears : (before : ℕ) → IsTrue (bears_on plan before line) → Keeps out place before from) where
+  module _ (line place t : ℕ) (nominated : IsNominated plan line) (high : IsHigh plan place) (waited : last + wait ≤ t)
+      (lower : (before better : ℕ) → better < place → IsNominated plan before → receiver_of plan before ≡ sender_of plan line → KeepsBefore plan out better before last t)
+      (bears : (before : ℕ) → IsTrue (bears_on plan before line) → KeepsBefore plan out place before last t) where
     line_within : line < line_count plan
     line_within = IsNominated-within plan line nominated
 
@@ -177,16 +193,16 @@ module _ (plan : Topology) (signals : Signals) (out : Levels) (last wait delay :
     calm : (input : InputId) → IsInputOf plan (sender_of plan line) input → is_way_back plan (Some input) line ≡ false
         → AreCalm plan signals out (sender_of plan line) t place (input_priority plan input)
     unfolding IsElsewhere
-    calm input is elsewhere (Source source) other_is level hears as_good = ap Some (by.quiet.source_level source t (omega (arith, waited)))
-    calm input is elsewhere (Line before) other_is level hears (inl less) =
-        heard-keeps before.0 (place_of level) from t level other_is.nominated (lower before.0 (place_of level) less other_is.nominated) late after waited hears refl
-    calm input is elsewhere (Line before) other_is level hears (inr here) =
-        heard-keeps before.0 place from t level other_is.nominated (keeps (are_bundled plan before.0 line) (is_last_resort plan before.0) refl refl) late after waited hears here.0
+    calm input is elsewhere (Source source) other_is good level hears as_good = ap Some (by.quiet.source_level source t (omega (arith, waited)))
+    calm input is elsewhere (Line before) other_is good level hears (inl less) =
+        heard-keeps before.0 (place_of level) t level other_is.nominated (lower before.0 (place_of level) less other_is.nominated other_is.of_element) waited good hears refl
+    calm input is elsewhere (Line before) other_is good level hears (inr here) =
+        heard-keeps before.0 place t level other_is.nominated (keeps (are_bundled plan before.0 line) (is_last_resort plan before.0) refl refl) waited good hears here.0
       where
         meets : hops_any plan before.0 line ≡ true
         meets = hop-any-from plan before.0 line other_is.nominated nominated other_is.of_element
 
-        keeps : (bundled resort : Bool) → are_bundled plan before.0 line ≡ bundled → is_last_resort plan before.0 ≡ resort → Keeps out place before.0 from
+        keeps : (bundled resort : Bool) → are_bundled plan before.0 line ≡ bundled → is_last_resort plan before.0 ≡ resort → KeepsBefore plan out place before.0 last t
         keeps false resort apart last = bears before.0 (rw (meets, apart) refl)
         keeps true false back first = bears before.0 (rw (meets, back, first) refl)
         keeps true true back resort =

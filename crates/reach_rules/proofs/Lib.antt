@@ -10,3 +10,5 @@ pub mod AgreeLaws
 pub mod AgreedLaws
 pub mod FailureLaws
 pub mod SurvivalLaws
+pub mod ToldLaws
+pub mod FailingLaws

@@ -4,4 +4,5 @@ pub mod Reaching
 pub mod Protection
 pub mod Agreement
 pub mod Survival
+pub mod Failing
 pub mod private

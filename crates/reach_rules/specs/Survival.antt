@@ -1,13 +1,12 @@
 -- What becomes of a network when one thing fails, and its parts go down: whoever is in reach of a clock takes an input, and by a
 -- bound it has come to rest on it. This project's own.
-use Rattle.std.specs.Prelude.{◌≡◌, ◌<◌, ◌≤◌, ℕ, ◌+◌, ◌*◌, Bool, false, ◌&&◌, List, length, IsTrue, IsSome}
+use Rattle.std.specs.Prelude.{◌≡◌, ◌<◌, ◌≤◌, ℕ, ◌+◌, ◌*◌, Bool, true, false, ◌&&◌, List, length, IsTrue, IsSome}
 use Rattle.std.specs.List.{All}
 use Rattle.sync_ql.specs.declared.levels.Level.{Level}
-use Rattle.sync_ql.specs.Level.{do_not_use_of, IsBetter}
 use Rattle.sync_topo.specs.declared.event.Part.{Part}
 use Rattle.sync_topo.specs.declared.event.Part.TheVariants as part
 use Rattle.sync_topo.specs.declared.event.What.{What}
-use Rattle.sync_topo.specs.declared.event.What.TheVariants.{Down, Up}
+use Rattle.sync_topo.specs.declared.event.What.TheVariants.{Down, Up, EsmcOff, EsmcOn, ClearWtr}
 use Rattle.sync_topo.specs.declared.event.Event.{Event}
 use Rattle.sync_topo.specs.declared.input.InputId.{InputId}
 use Rattle.sync_topo.specs.declared.input.InputId.TheVariants.{Source}
@@ -20,7 +19,7 @@ use Rattle.net_rules.specs.History.{taken_at, level_at, out_at}
 use Rattle.net_rules.specs.Settled.{IsSettled}
 use Rattle.net_rules.specs.Settling.{NoneAfter}
 use Rattle.reach_rules.specs.declared.failure.Failure.{Failure}
-use Rattle.reach_rules.specs.Reaching.{IsNotBelow, IsNoWorse, AreOwnWorse, IsBestReaching}
+use Rattle.reach_rules.specs.Reaching.{says_at, IsNotBelow, IsNoWorse, AreOwnWorse, IsBestReaching}
 use Rattle.reach_rules.specs.Protection.{is_line_gone, is_source_gone, is_element_gone, IsFailureOf, IsInReach}
 use Rattle.reach_rules.specs.Agreement.{IsSteadyAt}
 
@@ -30,13 +29,16 @@ is_part_gone plan failure (part.Link link) = is_line_gone plan failure (2 * link
 is_part_gone plan failure (part.Line line) = is_line_gone plan failure line.0
 is_part_gone plan failure (part.Source source) = is_source_gone plan failure source
 
--- such a part goes down, or comes up again
+-- such a part goes down, or comes up again; the ESMC of a line that is gone goes off, or on; or a wait-to-restore time is cleared
 abbrev pub is_of_failure : Topology → Failure → What → Bool
 is_of_failure plan failure (Down part) = is_part_gone plan failure part
 is_of_failure plan failure (Up part) = is_part_gone plan failure part
+is_of_failure plan failure (EsmcOff line) = is_line_gone plan failure line.0
+is_of_failure plan failure (EsmcOn line) = is_line_gone plan failure line.0
+is_of_failure plan failure (ClearWtr input) = true
 is_of_failure plan failure what = false
 
--- and nothing else happens. Some of these parts may stay up
+-- and nothing else happens. Some of these parts may stay up, and speak
 abbrev pub AreOfFailure : Topology → Failure → List Event → Type 0
 AreOfFailure plan failure events = All (λ event. IsTrue (is_of_failure plan failure event.what)) events
 
@@ -44,17 +46,16 @@ AreOfFailure plan failure events = All (λ event. IsTrue (is_of_failure plan fai
 abbrev pub IsClockSource : Topology → ℕ → Type 0
 IsClockSource plan source = IsTrue (is_nominated_input plan (Source source))
 
--- the level of each nominated source is better than do-not-use and than the own clock of every element. None of these levels is
--- worse than this one, and no floor is better than it
+-- the level of each nominated source is better than the own clock of every element, and so than do-not-use. None of these levels
+-- is worse than this one, and no floor is better than it
 pub record AreClocksBetter (plan : Topology) (worst : Level) : Type 0 where
-  pub above : (source : ℕ) → IsClockSource plan source → IsBetter (planned_level plan source) (do_not_use_of (planned_level plan source).option)
   pub own_worse : (source : ℕ) → IsClockSource plan source → AreOwnWorse plan (planned_level plan source)
   pub least : (source : ℕ) → IsClockSource plan source → IsNoWorse (planned_level plan source) worst
   pub floors : (element : ℕ) → element < length plan.elements → IsNotBelow plan element worst
 
--- no input of an element is up: it takes nothing once each time has run out
+-- no input of an element says anything: it takes nothing once each time has run out
 abbrev pub IsIdle : Topology → Signals → ℕ → ℕ → Type 0
-IsIdle plan signals t element = (input : InputId) → IsInputOf plan element input → signals.up input t ≡ false
+IsIdle plan signals t element = (input : InputId) → IsInputOf plan element input → says_at signals input t ≡ false
 
 -- each element of the plan is in reach after a failure, but the one that is gone
 abbrev pub AreOthersInReach : Topology → Failure → Type 0
@@ -76,8 +77,8 @@ pub record IsSurvivedFrom (plan : Topology) (failure : Failure) (events : List E
       → IsBestReaching plan (signals_by plan events) (out_at plan (signals_by plan events)) t element
       (level_at plan (signals_by plan events) (out_at plan (signals_by plan events)) element t)
 
--- a plan survives a failure: where its clocks are so much better, whichever parts of the failure go down and come up again, and
--- nothing else happens, the network may change for so long after the last event, and no longer
+-- a plan survives a failure: where its clocks are so much better, whichever parts of the failure go down and come up again or fall
+-- silent and speak again, and nothing else happens, the network may change for so long after the last event, and no longer
 abbrev pub SurvivesOne : Topology → ℕ → Failure → Type 0
 SurvivesOne plan bound failure =
     (worst : Level) → AreClocksBetter plan worst

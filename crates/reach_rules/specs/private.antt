@@ -2,3 +2,4 @@
 pub mod Examples
 pub mod ProtectionExamples
 pub mod SurvivalExamples
+pub mod FailingExamples

@@ -19,7 +19,9 @@
 //! Where links are nominated at both ends a network may swing for ever. `Agreement` says when
 //! priorities agree with the ways of timing, so that it can't, and [`agree_law`] from when on it is
 //! at rest. A plan that is protected and agrees survives each single failure (`Survival`):
-//! [`survival_law`] puts the two together, so that who is in reach has come to rest on a clock.
+//! [`survival_law`] puts the two together, so that who is in reach has come to rest on a clock. Out
+//! of a settled millisecond that takes no wait-to-restore time (`Failing`): [`failure_law`] says how
+//! soon after failures the network is at rest.
 //!
 //! The laws are the contracts of functions that do nothing. They hold no simulator and no planner:
 //! the crates that make rows, and the program that prints them, cite them.
@@ -32,6 +34,7 @@
 mod agreeing;
 mod chain;
 mod chains;
+mod failing;
 mod failure;
 mod protecting;
 mod reaching;
@@ -40,6 +43,7 @@ mod surviving;
 pub use agreeing::agree_law;
 pub use chain::Chain;
 pub use chains::chain_law;
+pub use failing::failure_law;
 pub use failure::Failure;
 pub use protecting::protection_law;
 pub use reaching::reach_law;

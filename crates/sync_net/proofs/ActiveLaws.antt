@@ -1,5 +1,5 @@
 -- Where something is due, something happens.
-use Rattle.std.proofs.Common.{◌≡◌, ◌≤◌, ◌<◌, inl, inr, ℕ, zero, suc, ◌+◌, Bool, true, false, not, ◌&&◌, ◌||◌, List, [], ◌∷◌, length, slice_get, slice_index_or, Option, Some, IfSome, refl, ap, sym, subst, ◌∙◌, arith}
+use Rattle.std.proofs.Common.{◌≡◌, ◌≤◌, ◌<◌, inl, inr, ℕ, zero, suc, ◌+◌, Bool, true, false, not, ◌&&◌, ◌||◌, List, [], ◌∷◌, length, slice_get, slice_index_or, Some, IfSome, refl, ap, sym, subst, ◌∙◌, arith}
 use Rattle.std.specs.Prelude.{nat_eq}
 use Rattle.std.specs.List.{list_any, range_with_len}
 use Rattle.std.proofs.lemmas.Bool.{true≢false, and_from, or_parts, true_from_ne_false}
@@ -8,14 +8,13 @@ use Rattle.std.proofs.lemmas.List.FromFn.{length-range_with_len, get_or-range_wi
 use Rattle.std.proofs.lemmas.Option.{slice_get_cases}
 use Rattle.sync_text.proofs.Each.{each-at}
 use Rattle.sync_ql.proofs.SameMoments.{same_level}
-use Rattle.sync_ql.specs.declared.levels.Level.{Level}
 use Rattle.sync_ql.specs.Condition.{failed_at}
 use Rattle.sync_ql.specs.Moment.{signals_of}
 use Rattle.sync_ql.specs.FirstChange.{IsFirstChange}
 use Rattle.sync_ql.specs.Messages.{is_same_level}
 use Rattle.sync_ql.specs.Told.{moments_until}
 use Rattle.sync_ql.specs.Quiet.{IsSameFailed, SomeFailedChanges, IsElementDue}
-use Rattle.sync_ql.proofs.Delivered.{length-past_of, same-is}
+use Rattle.sync_ql.proofs.Delivered.{length-past_of}
 use Rattle.sync_element.specs.ElementState.{ElementState}
 use Rattle.sync_element.proofs.ElementSteps.{past-quiet}
 use Rattle.link_model.specs.LineState.{LineState}

@@ -11,7 +11,6 @@ use Rattle.std.proofs.lemmas.List.Elements.{filter-append}
 use Rattle.std.proofs.lemmas.Option.{slice_get_cases}
 use Rattle.sync_ql.proofs.SameMoments.{line_moment}
 use Rattle.sync_text.proofs.Each.{Each-map, each-all, filter-none}
-use Rattle.sync_text.specs.Each.{Each}
 use Rattle.sync_ql.specs.Pasts.{past_of}
 use Rattle.sync_ql.specs.Messages.{heard_at, line_until}
 use Rattle.sync_ql.specs.Told.{moments_until}

@@ -19,18 +19,18 @@ use Rattle.sync_topo.specs.Lines.{line_count, sender_of, IsNominated}
 use Rattle.sync_topo.proofs.LineLaws.{IsNominated-within}
 use Rattle.net_rules.proofs.PlanLaws.{sender-within}
 use Rattle.sync_net.specs.declared.parts.NetParts.{NetParts}
-use Rattle.sync_net.specs.Kept.{line_signal, heard_on}
+use Rattle.sync_net.specs.Kept.{line_signal, source_signal, heard_on}
 use Rattle.sync_net.specs.NetState.{NetState, line_in}
 use Rattle.sync_net.specs.NetState as Net
 use Rattle.sync_net.specs.private.Noted.{AreNoted}
-use Rattle.sync_net.specs.private.Noting.{line_at, AreOfOption}
+use Rattle.sync_net.specs.private.Noting.{line_at, source_at, AreOfOption}
 use Rattle.sync_net.proofs.QuietGap.{some_element}
 use Rattle.sync_net.specs.private.Hearing.{heard_in, told_in}
 use Rattle.sync_net.specs.private.Steps.{IsSteady, IsLineTold, IsLineSaid}
 use Rattle.agenda.specs.Called.{is_marked}
 use Rattle.sync_net.specs.private.Stages.{IsSent, IsNotGiven, is_out_of}
 use Rattle.sync_net.specs.private.NetStep.{ElementStays, ElementMoves, LineIsTold, LineKeeps, LineIsSaid, LineMoves, IsNetStep, HasCause, AreEvaluatedFor}
-use Rattle.sync_net.specs.Evaluated.{IsCalledFor, AreAloneCalled}
+use Rattle.sync_net.specs.Evaluated.{IsCalledFor, AreAloneCalled, AreAloneTold}
 use Rattle.sync_net.proofs.OutLaws.{out-every, out-is}
 use Rattle.sync_net.specs.Whole.{kept_of, state_of}
 use Rattle.sync_net.specs.private.Whole.{IsReadyElement, IsReadyLine, IsWhole}
@@ -543,3 +543,17 @@ module _ (plan : Topology) (now : ℕ) (events : List Event) (p a b c d e q : Ne
   pub called_for : All (IsCalledFor now events (state_of plan false p) (state_of plan false q)) q.called.listed
   called_for = subst (All (IsCalledFor now events (state_of plan false p) (state_of plan false q))) (sym called_then)
       (λ i other inside. called_cause (slice_index_or d.called.listed i other) (is_called_at i other inside))
+
+  pub told_alone : AreAloneTold events (state_of plan false p) (state_of plan false q)
+  told_alone = record {
+    signals = λ line none.
+        ap (λ k. line_signal k line) (sym kept_then) ∙ ap (λ v. line_at v.items line) third.signals
+        ∙ second.taken.unswitched line none ∙ ap (λ v. line_at v.items line) first.signals;
+    heards = λ line none.
+        ap (λ k. heard_on k line) (sym kept_then)
+        ∙ (untold_line plan now events p a b c whole in_time first second third line
+        (uncalled line (fifth.listed.listed line ∙ ap (list_any (nat_eq line)) (sym called_then) ∙ none))).1;
+    sources = λ source none.
+        ap (λ k. source_signal k source) (sym kept_then) ∙ ap (λ v. source_at v.items source) third.sources
+        ∙ second.taken.unnamed source none ∙ ap (λ v. source_at v.items source) first.sources;
+  }

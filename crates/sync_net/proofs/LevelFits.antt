@@ -1,37 +1,24 @@
 -- The words on levels fit the elements, and only events that touch one have some.
-use Rattle.std.proofs.Common.{◌≡◌, ◌<◌, ◌+◌, ◌*◌, ℕ, Bool, true, false, List, [], ◌∷◌, ◌++◌, length, Option, None, Some, refl, ap, sym, subst, ◌∙◌, inl, inr, arith}
-use Rattle.std.specs.Prelude.{nat_eq, if◌then◌else◌, All}
+use Rattle.std.proofs.Common.{◌≡◌, ◌<◌, ℕ, Bool, true, false, List, [], ◌∷◌, ◌++◌, length, Option, None, Some, refl, ap, sym, subst, ◌∙◌}
+use Rattle.std.specs.Prelude.{if◌then◌else◌, All}
 use Rattle.std.specs.List.{list_any}
-use Rattle.std.proofs.lemmas.Bool.{true≢false, or_parts}
-use Rattle.std.proofs.lemmas.List.Elements.{All-nil, All-cons, All-append}
-use Rattle.std.proofs.lemmas.Option.{slice_get_within, slice_get_cases}
-use Rattle.sync_ql.specs.declared.levels.NetOption.{NetOption}
-use Rattle.sync_ql.specs.declared.rules.Cmd.TheVariants as command
-use Rattle.sync_ql.specs.declared.rules.InputEvent.TheVariants as tell
+use Rattle.std.proofs.lemmas.Bool.{or_parts}
+use Rattle.std.proofs.lemmas.List.Elements.{All-nil, All-append}
 use Rattle.sync_ql.specs.Told.{FitsElement}
-use Rattle.sync_topo.specs.declared.input.InputId.{InputId}
-use Rattle.sync_topo.specs.declared.input.InputId.TheVariants.{Line, Source}
-use Rattle.sync_topo.specs.declared.event.Part.{Part}
+use Rattle.sync_topo.specs.declared.input.InputId.TheVariants.{Source}
 use Rattle.sync_topo.specs.declared.event.Part.TheVariants as part
 use Rattle.sync_topo.specs.declared.event.What.{What}
 use Rattle.sync_topo.specs.declared.event.What.TheVariants.{Down, Up, EsmcOff, EsmcOn, SourceLevel, Lockout, Unlock, Forced, Manual, Clear, ClearWtr}
 use Rattle.sync_topo.specs.declared.event.Event.{Event}
 use Rattle.sync_topo.specs.Topology.{Topology}
-use Rattle.sync_topo.specs.Lines.{line_input, inputs_of, receiver_of, place_at}
 use Rattle.sync_topo.specs.WellFormed.{IsWellFormed}
-use Rattle.net_rules.specs.Activity.{is_at, is_part_at, touches}
+use Rattle.net_rules.specs.Activity.{touches}
 use Rattle.net_rules.specs.History.{settings_of}
-use Rattle.net_rules.specs.Inputs.{IsInputOf}
-use Rattle.net_rules.proofs.TouchLaws.{input-is_at}
-use Rattle.net_rules.proofs.NetLaws.{many-inputs}
-use Rattle.net_words.specs.declared.input_words.Saying.{Saying}
-use Rattle.net_words.specs.declared.input_words.Saying.TheVariants.{IsUp, HasLevel, IsCleared, IsLocked, IsUnlocked, IsForced, IsManual}
+use Rattle.net_words.specs.declared.input_words.Saying.TheVariants.{HasLevel}
 use Rattle.sync_net.specs.declared.signals.SourceSignal.{SourceSignal}
 use Rattle.sync_net.specs.private.Noting.{source_at, IsSourceOf, AreOfOption}
-use Rattle.net_words.specs.Words.{said_as, word_at, input_words, part_words, only_to, words_of, all_words}
-use Rattle.sync_net.specs.private.SourceLevels.{named_source, settled, level_words, all_level_words}
-use Rattle.net_words.proofs.DistinctInputs.{input-of}
-use Rattle.net_words.proofs.PlaceLemmas.{found-at, no-place-there}
+use Rattle.sync_net.specs.Named.{named_source}
+use Rattle.sync_net.specs.private.SourceLevels.{settled, level_words, all_level_words}
 use Rattle.net_words.proofs.FitLaws.{word-fits, away}
 
 -- words on levels fit an element of a plan

@@ -1,38 +1,22 @@
 -- What the words on levels in which elements are told of events say of their inputs.
-use Rattle.std.proofs.Common.{◌≡◌, ◌+◌, ◌*◌, ◌/◌, ℕ, Bool, true, false, ◌||◌, List, [], ◌∷◌, ◌++◌, Option, None, Some, slice_get, refl, ap, sym, subst, ◌∙◌, inl, inr, arith}
-use Rattle.std.specs.Prelude.{nat_eq, if◌then◌else◌, option_map}
-use Rattle.std.specs.List.{list_any, filter_map, cons_option}
+use Rattle.std.proofs.Common.{◌≡◌, ℕ, Bool, true, false, ◌||◌, List, [], ◌∷◌, ◌++◌, Option, None, Some, slice_get, refl, ap, sym, ◌∙◌}
+use Rattle.std.specs.Prelude.{nat_eq, if◌then◌else◌}
+use Rattle.std.specs.List.{list_any}
 use Rattle.std.specs.Option.{option_or}
-use Rattle.std.proofs.lemmas.Bool.{true≢false, eqb-true, eq-eqb, ne_eqb}
-use Rattle.std.proofs.lemmas.Bool.Decides.{eqb_tells}
+use Rattle.std.proofs.lemmas.Bool.{eqb-true}
 use Rattle.std.proofs.lemmas.List.Folds.{list_any-append}
-use Rattle.std.proofs.lemmas.Option.{same_Some}
 use Rattle.sync_ql.specs.declared.levels.Level.{Level}
-use Rattle.sync_ql.specs.declared.rules.Cmd.{Cmd}
-use Rattle.sync_ql.specs.declared.rules.Cmd.TheVariants as command
-use Rattle.sync_ql.specs.declared.rules.InputEvent.{InputEvent}
-use Rattle.sync_ql.specs.declared.rules.InputEvent.TheVariants as tell
 use Rattle.sync_ql.specs.Told.{last_said, says_up, says_level, clears, commands_in}
 use Rattle.sync_topo.specs.declared.input.InputId.{InputId}
-use Rattle.sync_topo.specs.declared.input.LineId.{LineId}
 use Rattle.sync_topo.specs.declared.input.InputId.TheVariants.{Line, Source}
-use Rattle.sync_topo.specs.declared.event.Part.{Part}
-use Rattle.sync_topo.specs.declared.event.Part.TheVariants as part
-use Rattle.sync_topo.specs.declared.event.What.{What}
-use Rattle.sync_topo.specs.declared.event.What.TheVariants.{Down, Up, EsmcOff, EsmcOn, SourceLevel, Lockout, Unlock, Forced, Manual, Clear, ClearWtr}
 use Rattle.sync_topo.specs.declared.event.Event.{Event}
 use Rattle.sync_topo.specs.Topology.{Topology}
-use Rattle.sync_topo.specs.Lines.{line_input, inputs_of, is_same_input, place_at}
-use Rattle.net_rules.specs.Signals.{last_word, is_of_part, command_to, says_up as says_input_up, clears as clears_input}
-use Rattle.net_words.specs.declared.input_words.Saying.{Saying}
-use Rattle.net_words.specs.declared.input_words.Saying.TheVariants.{IsUp, HasLevel, IsCleared, IsLocked, IsUnlocked, IsForced, IsManual}
-use Rattle.net_words.specs.Words.{word_at, input_words, part_words, only_to, words_of, all_words}
-use Rattle.net_words.proofs.DistinctInputs.{place-at}
-use Rattle.sync_topo.proofs.InputPlaces.{same-is, same-self}
-use Rattle.net_words.proofs.PlaceLemmas.{found-at}
+use Rattle.sync_topo.specs.Lines.{inputs_of, is_same_input, place_at}
+use Rattle.net_words.specs.declared.input_words.Saying.TheVariants.{HasLevel}
 use Rattle.sync_net.specs.declared.signals.SourceSignal.{SourceSignal}
 use Rattle.sync_net.specs.private.Noting.{source_at}
-use Rattle.sync_net.specs.private.SourceLevels.{named_source, is_it, names_source, settled, level_words, all_level_words}
+use Rattle.sync_net.specs.Named.{named_source, is_it, names_source}
+use Rattle.sync_net.specs.private.SourceLevels.{settled, level_words, all_level_words}
 use Rattle.net_words.proofs.WordLaws.{no-up, no-clear, level-word, no-command, last_said-append, commands_in-append}
 
 -- the level of the source that an event names, where that is the input

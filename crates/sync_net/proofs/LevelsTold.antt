@@ -1,5 +1,5 @@
 -- One event more, of those that name sources, is settled and told.
-use Rattle.std.proofs.Common.{◌≡◌, ℕ, suc, Bool, true, false, ◌||◌, List, [], ◌∷◌, ◌++◌, Option, None, Some, refl, ap, sym, ◌∙◌, append_assoc}
+use Rattle.std.proofs.Common.{◌≡◌, ℕ, Bool, true, false, ◌||◌, List, [], ◌∷◌, ◌++◌, Option, None, Some, refl, ap, sym, ◌∙◌, append_assoc}
 use Rattle.std.specs.List.{list_any}
 use Rattle.sync_ql.specs.declared.rules.InputEvent.{InputEvent}
 use Rattle.sync_topo.specs.declared.event.Event.{Event}
@@ -10,7 +10,8 @@ use Rattle.sync_net.specs.declared.signals.SourceSignal.{SourceSignal}
 use Rattle.net_words.specs.declared.tellings.Tellings.{Tellings}
 use Rattle.sync_net.specs.private.Noting.{source_at}
 use Rattle.net_words.specs.Words.{input_words}
-use Rattle.sync_net.specs.private.SourceLevels.{named_source, names_source, settled, settle_if, AreSourcesSettled, level_words, all_level_words}
+use Rattle.sync_net.specs.Named.{named_source, names_source}
+use Rattle.sync_net.specs.private.SourceLevels.{settled, settle_if, AreSourcesSettled, level_words, all_level_words}
 use Rattle.net_words.specs.Tellings.{told_to, is_active, is_something, AreTold}
 use Rattle.net_words.specs.private.Tellings.{AreToldSoFar}
 

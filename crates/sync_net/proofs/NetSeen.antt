@@ -22,7 +22,6 @@ use Rattle.sync_ql.specs.Moment.{Moment}
 use Rattle.sync_ql.specs.Told.{moments_until}
 use Rattle.sync_topo.specs.WellFormed.{IsWellFormed}
 use Rattle.net_rules.specs.Settled.{IsSettled}
-use Rattle.net_rules.specs.Settling.{IsUnswitched}
 use Rattle.net_rules.specs.Facing.{Faces}
 use Rattle.net_rules.proofs.FinalLaws.{obeys-well, pair-by_events}
 use Rattle.net_rules.proofs.PairLaws.{pair-short}
@@ -192,9 +191,9 @@ module _ (net : NetState) (plan : Topology) (spent : Bool) (p : NetParts) (view 
 
   -- two elements that take their timing from each other do so shortly
   pub seen_short : (then : NetState) (all : List Event) (now line back from : ℕ) → then.plan ≡ net.plan → IsOfPast then all (now + 1) → AreFacing then (now + 1) line back
-      → HaveFaced net.plan all line back from now → IsUnswitched all line from now → now < from + (hearing_time + delay_of net.plan line)
-  seen_short then all now line back from same is facing faced still =
-      pair-by_events net.plan all line back from now well still faced.early (faces-until net.plan then all now line back from same well is facing faced)
+      → HaveFaced net.plan all line back from now → now < from + (hearing_time + delay_of net.plan line)
+  seen_short then all now line back from same is facing faced =
+      pair-by_events net.plan all line back from now well faced.early (faces-until net.plan then all now line back from same well is facing faced)
 
   pub seen_short_speaking : (then : NetState) (all : List Event) (now line back from : ℕ) → then.plan ≡ net.plan → IsOfPast then all (now + 1) → AreFacing then (now + 1) line back
       → HaveFaced net.plan all line back from now → ((t : ℕ) → from ≤ t → t ≤ now → speaks_at (signals_by net.plan all) line t ≡ true) → now < from + delay_of net.plan line

@@ -1,43 +1,27 @@
 -- A network that was told nothing.
-use Rattle.std.proofs.Common.{◌≡◌, ◌≤◌, ◌<◌, ◌+◌, ◌/◌, ℕ, zero, suc, true, false, List, [], ◌∷◌, ◌++◌, map, replicate, length, slice_get, slice_index_or, Option, None, Some, IfSome, IfOk, Result, Ok, Err, refl, ap, sym, subst, ◌∙◌, arith}
+use Rattle.std.proofs.Common.{◌≡◌, ◌≤◌, ◌<◌, ◌+◌, ◌/◌, ℕ, zero, suc, true, false, List, [], replicate, length, slice_get, slice_index_or, Option, None, Some, IfSome, IfOk, Result, Ok, Err, refl, ap, sym, subst, ◌∙◌, arith}
 use Rattle.std.specs.Prelude.{nat_lt, if◌then◌else◌, option_and_then}
-use Rattle.std.specs.List.{All}
 use Rattle.std.specs.Option.{option_map_or}
 use Rattle.std.proofs.Math.Decide.{dec_lt}
-use Rattle.std.proofs.Math.ListN.{get_or-append}
-use Rattle.std.proofs.Math.Seq.{get_or-append_seam}
-use Rattle.std.proofs.lemmas.Bool.{ltb-true, true≢false}
-use Rattle.std.proofs.lemmas.List.{length-append, length-replicate}
-use Rattle.std.proofs.lemmas.List.Elements.{All-map, All-nil, All-cons}
+use Rattle.std.proofs.lemmas.Bool.{true≢false}
+use Rattle.std.proofs.lemmas.List.{length-replicate}
 use Rattle.std.proofs.lemmas.Option.{slice_get_past}
 use Rattle.net_rules.proofs.ElementLaws.{if_some}
 use Rattle.sync_text.specs.declared.errors.NoMemory.{NoMemory}
-use Rattle.sync_ql.specs.declared.levels.NetOption.{NetOption}
-use Rattle.sync_ql.specs.declared.levels.NetOption.TheVariants.{I, II}
 use Rattle.sync_ql.specs.declared.levels.Level.{Level}
-use Rattle.sync_ql.specs.Level.{do_not_use_of}
 use Rattle.sync_ql.specs.Messages.{heard_at}
 use Rattle.sync_ql.specs.Told.{IsOfOption}
 use Rattle.agenda.specs.DueTimes.{due_in}
 use Rattle.agenda.specs.Marked.{Marked}
-use Rattle.sync_element.specs.declared.config.InputConfig.{InputConfig}
-use Rattle.sync_element.specs.Configured as configured
 use Rattle.sync_element.specs.ElementState.{ElementState}
 use Rattle.sync_element.proofs.ElementSteps.{stands-new}
 use Rattle.link_model.specs.LineState.{LineState}
-use Rattle.sync_topo.specs.declared.element.Element as elements
 use Rattle.sync_topo.specs.declared.link.Link.{Link}
-use Rattle.sync_topo.specs.declared.source.Source as sources
-use Rattle.sync_topo.specs.declared.input.InputId.{InputId}
-use Rattle.sync_topo.specs.declared.input.InputId.TheVariants.{Line, Source}
 use Rattle.sync_topo.specs.declared.event.Event.{Event}
 use Rattle.sync_topo.specs.Topology.{Topology}
-use Rattle.sync_topo.specs.Lines.{line_count, ends_at_b, inputs_of, IsNominated}
-use Rattle.sync_topo.specs.WellFormed.{IsWellFormed}
-use Rattle.net_rules.specs.Signals.{Signals, signals_by, planned_level}
+use Rattle.sync_topo.specs.Lines.{line_count, ends_at_b, IsNominated}
+use Rattle.net_rules.specs.Signals.{Signals, signals_by}
 use Rattle.net_rules.specs.History.{by_levels, Levels, settings_of, heard, moment_at, out_at}
-use Rattle.net_rules.specs.Inputs.{IsInputOf}
-use Rattle.net_rules.proofs.InputLaws.{inputs-are}
 use Rattle.sync_net.specs.declared.parts.NetParts.{NetParts}
 use Rattle.sync_net.specs.declared.signals.LineSignal.{LineSignal}
 use Rattle.sync_net.specs.declared.signals.SourceSignal.{SourceSignal}

@@ -9,8 +9,6 @@ use Rattle.std.proofs.lemmas.Option.{slice_get_cases}
 use Rattle.sync_text.proofs.Each.{each-at}
 use Rattle.sync_text.specs.Each.{Each}
 use Rattle.sync_ql.proofs.SameMoments.{input_moment, moment}
-use Rattle.sync_ql.specs.declared.levels.Level.{Level}
-use Rattle.sync_ql.specs.declared.rules.Cmd.{Cmd}
 use Rattle.sync_ql.specs.Moment.{InputMoment, Moment, Settings, input_of}
 use Rattle.sync_ql.specs.Told.{input_after, moment_after}
 use Rattle.sync_topo.specs.declared.input.InputId.{InputId}

@@ -1,6 +1,6 @@
 -- Which lines are the nominated ones out of an element.
 use Rattle.std.proofs.Common.{◌≡◌, ℕ, suc, true, nat_eq, List, [], ◌∷◌, get_or, refl, sym, subst, inl, inr, arith}
-use Rattle.std.specs.List.{list_any, All}
+use Rattle.std.specs.List.{All}
 use Rattle.std.proofs.lemmas.Bool.{eq-eqb, true≢false}
 use Rattle.std.proofs.lemmas.List.Folds.{list_any_at}
 use Rattle.sync_topo.specs.declared.input.LineId.{LineId}

@@ -1,5 +1,5 @@
 -- What a network stands for while no event comes and nothing is due.
-use Rattle.std.proofs.Common.{◌≡◌, ◌≢◌, ◌≤◌, ◌<◌, ◌⊎◌, inl, inr, ℕ, zero, suc, Bool, true, false, List, [], ◌∷◌, slice_index_or, Option, None, Some, IfSome, refl, ap, sym, subst, ◌∙◌, arith}
+use Rattle.std.proofs.Common.{◌≡◌, ◌≢◌, ◌≤◌, ◌<◌, ◌⊎◌, inl, inr, ℕ, zero, suc, true, false, List, [], ◌∷◌, slice_index_or, Option, None, Some, IfSome, refl, ap, sym, subst, ◌∙◌, arith}
 use Rattle.std.specs.Prelude.{nat_eq, unwrap_or, if◌then◌else◌, IsSome}
 use Rattle.std.proofs.Math.Decide.{dec_lt}
 use Rattle.std.proofs.lemmas.Bool.{true≢false}
@@ -8,8 +8,6 @@ use Rattle.sync_ql.proofs.Staying.{earlier_too}
 use Rattle.sync_text.proofs.Each.{Each-map}
 use Rattle.sync_text.specs.Each.{Each}
 use Rattle.sync_ql.proofs.SameMoments.{line_moment}
-use Rattle.sync_ql.specs.declared.levels.Level.{Level}
-use Rattle.sync_ql.specs.Messages.{LineMoment}
 use Rattle.sync_ql.specs.Switches.{unswitched}
 use Rattle.sync_element.specs.ElementState.{ElementState}
 use Rattle.link_model.specs.LineState.{LineState}

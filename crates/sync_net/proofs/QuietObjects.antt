@@ -2,10 +2,10 @@
 use Rattle.std.proofs.Common.{◌≡◌, ◌≤◌, ◌<◌, ℕ, suc, List, ◌∷◌, length, Option, None, Some, IfSome, ap, sym, subst, ◌∙◌, arith}
 use Rattle.sync_ql.proofs.Staying.{earlier_too, same_until_due}
 use Rattle.sync_ql.specs.Pasts.{past_of}
-use Rattle.sync_ql.specs.Moment.{Moment, Settings, signals_of}
+use Rattle.sync_ql.specs.Moment.{signals_of}
 use Rattle.sync_ql.specs.Condition.{failed_at}
 use Rattle.sync_ql.specs.Messages.{LineMoment, heard_at, unchanged, line_until, IsSameOnLine, IsLineDue}
-use Rattle.sync_ql.specs.Told.{quiet_moment, moments_until}
+use Rattle.sync_ql.specs.Told.{quiet_moment}
 use Rattle.sync_ql.specs.Quiet.{IsSameFailed, IsSameOutput, IsElementDue}
 use Rattle.sync_ql.proofs.QuietMoments.{IsSameOutput-quiet}
 use Rattle.sync_ql.proofs.Delivered.{length-past_of, heard_at-head}

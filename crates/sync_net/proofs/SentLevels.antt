@@ -1,8 +1,6 @@
 -- The level that a line is given is the one that the rules send.
-use Rattle.std.proofs.Common.{◌≡◌, ◌<◌, ℕ, true, false, List, length, Option, Some, slice_get, ap, sym, subst, ◌∙◌, inl, inr, arith}
+use Rattle.std.proofs.Common.{◌≡◌, ℕ, true, false, List, Option, slice_get, ap, sym, subst, ◌∙◌}
 use Rattle.std.specs.Prelude.{option_and_then, if◌then◌else◌}
-use Rattle.std.specs.Option.{option_map_or}
-use Rattle.std.proofs.lemmas.Option.{slice_get_cases}
 use Rattle.sync_ql.specs.declared.levels.Level.{Level}
 use Rattle.sync_ql.specs.Level.{do_not_use_of}
 use Rattle.sync_ql.specs.Moment.{Moment, selection_at}
@@ -10,11 +8,8 @@ use Rattle.sync_ql.specs.Output.{clock_level_at}
 use Rattle.sync_ql.specs.Told.{moments_until}
 use Rattle.sync_element.specs.ElementState.{ElementState, IsInTime}
 use Rattle.sync_element.specs.StandsFor as Element
-use Rattle.sync_topo.specs.declared.element.Element as declared
 use Rattle.sync_topo.specs.Topology.{Topology}
 use Rattle.sync_topo.specs.Lines.{sender_of, inputs_of}
-use Rattle.sync_topo.specs.WellFormed.{IsWellFormed}
-use Rattle.net_rules.proofs.OwnLevels.{own-option}
 use Rattle.net_rules.specs.History.{settings_of, taken_by, is_way_back, sent_by}
 
 -- a level that is the sender's own, where the line doesn't lead back

@@ -1,21 +1,17 @@
 -- What is kept of signals after a millisecond, by the events in it.
-use Rattle.std.proofs.Common.{◌≡◌, ◌≤◌, ◌<◌, ◌+◌, ℕ, zero, suc, true, List, [], ◌∷◌, length, Option, None, Some, refl, ap, sym, subst, ◌∙◌, arith}
-use Rattle.std.specs.Prelude.{unwrap_or, if◌then◌else◌, slice_index_or}
-use Rattle.std.specs.Option.{option_or}
-use Rattle.std.proofs.Math.Decide.{dec_lt}
-use Rattle.std.proofs.lemmas.Bool.{le-ltb, lt-ltb, ne_eqb, eq-eqb}
+use Rattle.std.proofs.Common.{◌≡◌, ℕ, zero, suc, true, List, ap, sym, ◌∙◌}
+use Rattle.std.specs.Prelude.{unwrap_or, if◌then◌else◌}
 use Rattle.sync_topo.specs.declared.input.InputId.TheVariants.{Source}
-use Rattle.sync_topo.specs.declared.event.What.{What}
 use Rattle.sync_topo.specs.declared.event.Event.{Event}
 use Rattle.sync_topo.specs.Topology.{Topology}
 use Rattle.sync_topo.specs.Events.{IsInOrder}
 use Rattle.sync_topo.specs.Lines.{line_input}
-use Rattle.net_rules.specs.Signals.{events_before, events_at, last_word, says_up, says_esmc, says_level, planned_level, source_level_before, up_at, said_at}
+use Rattle.net_rules.specs.Signals.{events_at, last_word, says_up, says_esmc, says_level, planned_level, source_level_before, up_at, said_at}
 use Rattle.sync_net.specs.Kept.{Kept, source_signal}
 use Rattle.sync_net.specs.Standing.{AreSignals, IsNominatedSource}
 use Rattle.net_words.specs.Before.{up_before, said_before}
 use Rattle.sync_net.specs.private.Noted.{AreNoted, IsSettled}
-use Rattle.net_words.proofs.SplitWords.{none-before-0, until-split, word-until}
+use Rattle.net_words.proofs.SplitWords.{none-before-0, word-until}
 
 -- a source that is kept as the events before a millisecond have it, and is up, has the level said
 -- last

@@ -1,8 +1,8 @@
 -- Whether the inputs of an element are steady, by its last step.
-use Rattle.std.proofs.Common.{◌≡◌, ◌≤◌, ◌<◌, ◌+◌, ◌-◌, ℕ, zero, suc, Bool, true, false, not, List, [], ◌∷◌, length, slice_get, Some, refl, ap, sym, subst, ◌∙◌, inl, inr, arith}
+use Rattle.std.proofs.Common.{◌≡◌, ◌≤◌, ◌<◌, ◌+◌, ◌-◌, ℕ, zero, suc, Bool, true, false, not, List, [], ◌∷◌, length, slice_get, Some, refl, ap, sym, subst, ◌∙◌, arith}
 use Rattle.std.specs.Prelude.{nat_lt, if◌then◌else◌, IsTrue}
 use Rattle.std.proofs.lemmas.Bool.{le-ltb, lt-ltb}
-use Rattle.std.proofs.lemmas.Option.{slice_get_within, slice_get_cases}
+use Rattle.std.proofs.lemmas.Option.{slice_get_within}
 use Rattle.sync_ql.proofs.Staying.{same_until_due}
 use Rattle.sync_text.specs.Each.{Each}
 use Rattle.net_rules.proofs.OrderLaws.{input-within}
@@ -15,7 +15,6 @@ use Rattle.sync_ql.proofs.QuietMoments.{input_of-moment_after}
 use Rattle.sync_element.specs.ElementState.{ElementState}
 use Rattle.sync_element.specs.StandsFor as Element
 use Rattle.sync_topo.specs.declared.input.InputId.{InputId}
-use Rattle.sync_topo.specs.declared.input.InputId.TheVariants.{Line, Source}
 use Rattle.sync_topo.specs.Topology.{Topology}
 use Rattle.sync_topo.specs.Lines.{IsInput, is_nominated_input, inputs_of, element_of}
 use Rattle.sync_topo.specs.WellFormed.{IsWellFormed}
@@ -23,7 +22,6 @@ use Rattle.net_rules.specs.Signals.{Signals}
 use Rattle.net_rules.specs.History.{Levels, settings_of, heard, moment_at, element_past, failed_by}
 use Rattle.net_rules.specs.Settled.{IsSteady}
 use Rattle.net_rules.proofs.InputLaws.{each-input}
-use Rattle.net_rules.proofs.PlanLaws.{receiver-within}
 use Rattle.net_rules.proofs.NetLaws.{signals-at, failed-at, many-inputs}
 use Rattle.sync_net.specs.Standing.{ElementStands}
 use Rattle.net_words.proofs.DistinctInputs.{input-of}

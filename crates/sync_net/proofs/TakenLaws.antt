@@ -3,7 +3,7 @@ use Rattle.std.proofs.Common.{◌≡◌, ◌<◌, ℕ, Bool, true, false, ◌||�
 use Rattle.std.specs.Prelude.{nat_eq, unwrap_or, if◌then◌else◌}
 use Rattle.std.specs.List.{list_any}
 use Rattle.std.specs.Option.{option_or}
-use Rattle.std.proofs.lemmas.Bool.{true≢false, or_parts}
+use Rattle.std.proofs.lemmas.Bool.{true≢false, or_parts, or_from}
 use Rattle.std.proofs.lemmas.List.{append-nil}
 use Rattle.std.proofs.lemmas.List.Elements.{All-append}
 use Rattle.std.proofs.lemmas.List.Folds.{list_any-append}
@@ -22,6 +22,7 @@ use Rattle.sync_topo.specs.Topology.{Topology}
 use Rattle.sync_topo.specs.Lines.{line_input, IsNominated}
 use Rattle.sync_topo.specs.WellFormed.{IsWellFormed}
 use Rattle.net_rules.specs.Activity.{touches}
+use Rattle.net_rules.specs.Settling.{switches_line}
 use Rattle.net_rules.specs.History.{settings_of}
 use Rattle.net_rules.specs.Signals.{last_word, says_up as says_input_up, says_esmc, says_level as says_source_level}
 use Rattle.sync_net.specs.declared.signals.LineSignal.{LineSignal}
@@ -31,7 +32,8 @@ use Rattle.sync_net.specs.private.Kept.{kept_up, kept_level}
 use Rattle.sync_net.specs.private.Noted.{AreNoted, IsSettled}
 use Rattle.agenda.specs.Called.{is_marked}
 use Rattle.sync_net.specs.private.Noting.{line_at, source_at, names_line, AreOfOption, AreLinesNoted, AreSourcesNoted}
-use Rattle.sync_net.specs.private.SourceLevels.{named_source, is_it, names_source, settled, settle_if, AreSourcesSettled, all_level_words}
+use Rattle.sync_net.specs.Named.{named_source, is_it, names_source}
+use Rattle.sync_net.specs.private.SourceLevels.{settled, settle_if, AreSourcesSettled, all_level_words}
 use Rattle.sync_net.specs.private.Taking.{Taking, AreTaken, kept_in}
 use Rattle.sync_net.specs.private.Telling.{IsTold}
 use Rattle.net_words.specs.Tellings.{told_to, is_active, is_something, AreTold}
@@ -52,6 +54,15 @@ no-word says test silent [] none = refl
 no-word says test silent (event ∷ events) none =
     let both = or_parts (test event) (list_any test events) none in
     ap (λ o. option_or o (says event.what)) (no-word says test silent events both.1) ∙ silent event both.0
+
+-- events that name a nominated line are those that switch it
+unnamed-unswitched : (plan : Topology) (line : ℕ) → IsNominated plan line → (events : List Event) → list_any (names_line plan line) events ≡ false
+    → list_any (λ event. switches_line line event.what) events ≡ false
+unnamed-unswitched plan line nominated [] none = refl
+unnamed-unswitched plan line nominated (event ∷ events) none =
+    let both = or_parts (names_line plan line event) (list_any (names_line plan line) events) none in
+    let here : switches_line line event.what ≡ false = rw nominated at both.0 in
+    or_from (switches_line line event.what) (list_any (λ e. switches_line line e.what) events) here (unnamed-unswitched plan line nominated events both.1)
 
 if-none : {A : Type 0} (b : Bool) (x : A) → b ≡ false → ◌≡◌ {A = Option A} (if b then Some x else None) None
 if-none true x is = cc
@@ -93,6 +104,13 @@ line_made up esmc = record { up = up; esmc = esmc }
 
 line-made : (up esmc other_up other_esmc : Bool) → up ≡ other_up → esmc ≡ other_esmc → line_made up esmc ≡ line_made other_up other_esmc
 line-made up esmc other_up other_esmc first second = rw (first, second) refl
+
+abbrev source_made : Bool → Level → Level → SourceSignal
+source_made up said level = record { up = up; said = said; level = level }
+
+source-made : (up other_up : Bool) (said other_said level other_level : Level) → up ≡ other_up → said ≡ other_said → level ≡ other_level
+    → source_made up said level ≡ source_made other_up other_said other_level
+source-made up other_up said other_said level other_level first second third = rw (first, second, third) refl
 
 -- the four walks, from what was kept and told, by what the sources and the lists are between, to
 -- what is now
@@ -244,22 +262,33 @@ module _ (plan : Topology) (well : IsWellFormed plan) (events : List Event) (was
           ∙ ap (λ w. is_something w || is_something (all_level_words plan between events element)) (all-away plan element events is)
           ∙ ap is_something (levels-away plan between element events is)))
 
-  -- a line that no event names is as it was
-  unnamed-line : (line : ℕ) → IsNominated plan line → is_marked now.marks line ≡ false → line_at now.lines line ≡ line_at was.lines line
-  unnamed-line line nominated not_marked =
+  -- a line that no event switches is as it was
+  unswitched-line : (line : ℕ) → list_any (λ event. switches_line line event.what) events ≡ false → line_at now.lines line ≡ line_at was.lines line
+  unswitched-line line none =
       line-made (line_at now.lines line).up (line_at now.lines line).esmc (line_at was.lines line).up (line_at was.lines line).esmc
-      (lines.up line ∙ ap (λ o. unwrap_or o (line_at was.lines line).up) (no-word (says_input_up (line_input line)) (names_line plan line) (λ event other. (silent event other).0) events none))
-      (lines.esmc line ∙ ap (λ o. unwrap_or o (line_at was.lines line).esmc) (no-word (says_esmc line) (names_line plan line) (λ event other. (silent event other).1) events none))
+      (lines.up line ∙ ap (λ o. unwrap_or o (line_at was.lines line).up) (no-word (says_input_up (line_input line)) (λ event. switches_line line event.what) (λ event other. (silent event other).0) events none))
+      (lines.esmc line ∙ ap (λ o. unwrap_or o (line_at was.lines line).esmc) (no-word (says_esmc line) (λ event. switches_line line event.what) (λ event other. (silent event other).1) events none))
+    where
+      silent : (event : Event) → switches_line line event.what ≡ false → (says_input_up (line_input line) event.what ≡ None) × (says_esmc line event.what ≡ None)
+      silent event other =
+          let both = or_parts (is_some (says_input_up (line_input line) event.what)) (is_some (says_esmc line event.what)) other in
+          (is_some-false (says_input_up (line_input line) event.what) both.0, is_some-false (says_esmc line event.what) both.1)
+
+  unnamed-line : (line : ℕ) → IsNominated plan line → is_marked now.marks line ≡ false → line_at now.lines line ≡ line_at was.lines line
+  unnamed-line line nominated not_marked = unswitched-line line (unnamed-unswitched plan line nominated events none)
     where
       none : list_any (names_line plan line) events ≡ false
       none = (or_parts (list_any (names_line plan line) events) (is_marked was.marks line) (sym (lines.marked line) ∙ not_marked)).0
 
-      silent : (event : Event) → names_line plan line event ≡ false → (says_input_up (line_input line) event.what ≡ None) × (says_esmc line event.what ≡ None)
-      silent event other =
-          let spoken : (is_some (says_input_up (line_input line) event.what) || is_some (says_esmc line event.what)) ≡ false =
-          rw nominated at other in
-          let both = or_parts (is_some (says_input_up (line_input line) event.what)) (is_some (says_esmc line event.what)) spoken in
-          (is_some-false (says_input_up (line_input line) event.what) both.0, is_some-false (says_esmc line event.what) both.1)
+  -- and a source that none names
+  unnamed-source : (source : ℕ) → list_any (names_source source) events ≡ false → source_at now.sources source ≡ source_at was.sources source
+  unnamed-source source none =
+      levels.source source ∙ ap (λ named. settle_if named (source_at between source)) none
+      ∙ source-made (source_at between source).up (source_at was.sources source).up
+      (source_at between source).said (source_at was.sources source).said (source_at between source).level (source_at was.sources source).level
+      (sources.up source ∙ ap (λ o. unwrap_or o (source_at was.sources source).up) (no-word (says_input_up (Source source)) (names_source source) (λ event. unnamed-up source event.what) events none))
+      (sources.said source ∙ ap (λ o. unwrap_or o (source_at was.sources source).said) (no-word (says_source_level source) (names_source source) (λ event. unnamed-level source event.what) events none))
+      (sources.level source)
 
   pub are-taken : AreTaken plan events was now
   are-taken = record {
@@ -275,4 +304,6 @@ module _ (plan : Topology) (well : IsWellFormed plan) (events : List Event) (was
     becomes_active = becomes-active;
     marked = lines.marked;
     unmarked = unnamed-line;
+    unswitched = unswitched-line;
+    unnamed = unnamed-source;
   }

@@ -1,11 +1,9 @@
 -- What an element is told makes of its past the millisecond that the rules have.
-use Rattle.std.proofs.Common.{◌≡◌, ℕ, zero, suc, true, List, [], Option, None, Some, slice_get, refl, ap, sym, ◌∙◌}
+use Rattle.std.proofs.Common.{◌≡◌, ℕ, zero, suc, List, [], Option, None, Some, slice_get, refl, ap, sym, ◌∙◌}
 use Rattle.std.specs.Prelude.{unwrap_or}
 use Rattle.std.specs.List.{list_any, filter_map}
 use Rattle.sync_ql.specs.declared.levels.Level.{Level}
 use Rattle.sync_ql.specs.declared.rules.InputEvent.{InputEvent}
-use Rattle.sync_ql.specs.Pasts.{past_of}
-use Rattle.sync_ql.specs.Condition.{is_up}
 use Rattle.sync_ql.specs.Messages.{heard_at}
 use Rattle.sync_ql.specs.Told.{last_said, says_up, says_level, moment_after}
 use Rattle.sync_topo.specs.declared.input.InputId.{InputId}
@@ -14,9 +12,9 @@ use Rattle.sync_topo.specs.declared.event.Event.{Event}
 use Rattle.sync_topo.specs.Topology.{Topology}
 use Rattle.sync_topo.specs.Lines.{inputs_of}
 use Rattle.net_rules.specs.Inputs.{IsInputOf}
-use Rattle.net_rules.specs.Signals.{signals_by, events_at, last_word, clears as clears_input, says_up as says_input_up, command_to, up_at, source_level_at, source_level_before}
+use Rattle.net_rules.specs.Signals.{signals_by, events_at, clears as clears_input, command_to, up_at, source_level_at, source_level_before}
 use Rattle.net_rules.specs.History.{by_levels, settings_of, first_level, heard, input_level, moment_at, element_past, out_at}
-use Rattle.net_rules.specs.Settings.{InputLevels, signal_at}
+use Rattle.net_rules.specs.Settings.{InputLevels}
 use Rattle.net_rules.proofs.SettingLaws.{level_until, IsSaid, told-by}
 use Rattle.sync_net.specs.Kept.{Kept}
 use Rattle.sync_net.specs.private.Kept.{kept_up, kept_level}
@@ -24,7 +22,7 @@ use Rattle.sync_net.specs.Standing.{AreSignals, AreHeard, heard_before}
 use Rattle.net_words.specs.Before.{up_before}
 use Rattle.sync_net.specs.private.Telling.{IsTold}
 use Rattle.net_words.proofs.DistinctInputs.{input-of}
-use Rattle.net_words.proofs.SplitWords.{none-before-0, past-up}
+use Rattle.net_words.proofs.SplitWords.{past-up}
 
 -- the level that an input has after n milliseconds
 abbrev level_before : Topology → List Event → InputId → ℕ → Option Level

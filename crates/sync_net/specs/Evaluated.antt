@@ -14,6 +14,8 @@ use Rattle.net_rules.specs.History.{taken_by, out_at}
 use Rattle.net_rules.specs.Facing.{Faces}
 use Rattle.net_rules.specs.Settling.{switches_line}
 use Rattle.net_rules.specs.Walks.{Taken, IsClosedWalk, IsFacingPair}
+use Rattle.sync_net.specs.Kept.{line_signal, source_signal, heard_on}
+use Rattle.sync_net.specs.Named.{names_source}
 use Rattle.sync_net.specs.NetState.{NetState, line_in}
 use Rattle.sync_net.specs.Standing.{NoneFrom}
 
@@ -47,6 +49,14 @@ pub record AreAloneCalled (before after : NetState) : Type 0 where
   pub within : All (λ line. line < line_count before.plan) after.called
   pub left : (line : ℕ) → line < line_count before.plan → list_any (nat_eq line) after.called ≡ false →
       line_in after.lines line ≡ line_in before.lines line
+
+-- the signal of a line that no event switches is as it was, the level that is heard on one that isn't
+-- called, and a source that no event names
+pub record AreAloneTold (events : List Event) (before after : NetState) : Type 0 where
+  pub signals : (line : ℕ) → list_any (λ event. switches_line line event.what) events ≡ false →
+      line_signal after.kept line ≡ line_signal before.kept line
+  pub heards : (line : ℕ) → list_any (nat_eq line) after.called ≡ false → heard_on after.kept line ≡ heard_on before.kept line
+  pub sources : (source : ℕ) → list_any (names_source source) events ≡ false → source_signal after.kept source ≡ source_signal before.kept source
 
 -- what each element of a network takes after n milliseconds, whatever past it stands for
 abbrev pub AreTaking : NetState → ℕ → Taken → Type 0

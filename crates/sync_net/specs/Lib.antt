@@ -4,5 +4,6 @@ pub mod Kept
 pub mod Sound
 pub mod Whole
 pub mod Evaluated
+pub mod Named
 pub mod NetKept
 pub mod private

@@ -1,5 +1,5 @@
 -- What a network has to do with its plan and all events.
-use Rattle.std.specs.Prelude.{◌≡◌, ◌≤◌, ◌<◌, ◌*◌, ℕ, Bool, true, IsTrue, List, [], length, slice_index_or, Option, IfSome, unwrap_or}
+use Rattle.std.specs.Prelude.{◌≡◌, ◌≤◌, ◌<◌, ◌*◌, ℕ, IsTrue, List, [], length, slice_index_or, Option, IfSome}
 use Rattle.sync_ql.specs.declared.levels.Level.{Level}
 use Rattle.sync_ql.specs.Pasts.{past_of}
 use Rattle.sync_ql.specs.Messages.{heard_at, line_until}
@@ -7,12 +7,11 @@ use Rattle.sync_element.specs.ElementState.{ElementState}
 use Rattle.sync_element.specs.StandsAfter.{StandsAfter}
 use Rattle.link_model.specs.LineState.{LineState}
 use Rattle.link_model.specs.StandsFor as Line
-use Rattle.sync_topo.specs.declared.input.InputId.{InputId}
 use Rattle.sync_topo.specs.declared.input.InputId.TheVariants.{Source}
 use Rattle.sync_topo.specs.declared.event.Event.{Event}
 use Rattle.sync_topo.specs.Topology.{Topology}
 use Rattle.sync_topo.specs.Lines.{line_count, line_input, delay_of, IsInput, is_nominated_input, IsNominated}
-use Rattle.net_rules.specs.Signals.{Signals, signals_by, events_before, events_at, last_word, says_up, says_esmc, says_level, planned_level, source_level_before}
+use Rattle.net_rules.specs.Signals.{Signals, signals_by, events_at, source_level_before}
 use Rattle.net_rules.specs.History.{Levels, settings_of, line_moment_at, heard, moment_at, out_at}
 use Rattle.net_words.specs.Before.{up_before, esmc_before, said_before}
 use Rattle.sync_net.specs.Kept.{Kept, line_signal, source_signal, heard_on}

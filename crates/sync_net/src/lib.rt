@@ -39,3 +39,4 @@ mod stepping;
 
 pub use laws::{elements_law, gap_law, later_events_law};
 pub use net::Net;
+pub use source_levels::named_source;

@@ -10,11 +10,11 @@ ghost use Rattle.net_rules.specs.Signals.{signals_by, speaks_at};
 ghost use Rattle.net_rules.specs.History.{settings_of, out_at};
 ghost use Rattle.net_rules.specs.Activity.{TouchAlike, is_active, is_busy};
 ghost use Rattle.net_rules.specs.Settled.{IsSettled};
-ghost use Rattle.net_rules.specs.Settling.{IsUnswitched};
 ghost use Rattle.sync_ql.specs.Messages.{hearing_time};
+ghost use Rattle.sync_net.specs.Kept.{line_signal, source_signal, heard_on};
 ghost use Rattle.sync_net.specs.NetState.{line_in, NoneDueBefore, IsDueAt, IsInTime};
 ghost use Rattle.sync_net.specs.Standing.{ElementStands, LineStands, StandsFor, NoneFrom};
-ghost use Rattle.sync_net.specs.Evaluated.{IsContinued, AreAloneEvaluated, IsCalledFor, AreAloneCalled, AreFacing, HaveFaced};
+ghost use Rattle.sync_net.specs.Evaluated.{IsContinued, AreAloneEvaluated, IsCalledFor, AreAloneCalled, AreAloneTold, AreFacing, HaveFaced};
 
 use crate::copying::{share_parts, try_clone_parts};
 use crate::parts::NetParts;
@@ -120,30 +120,40 @@ impl<'a> Net<'a> {
         })
     }
 
-    /// Becomes the same as another network over the same plan, from which it differs in some elements
-    /// and lines alone.
+    /// Becomes the same as another network over the same plan, from which it differs in some elements,
+    /// lines and sources alone: those that its steps since then evaluated, called, and were told of.
     ///
-    /// It takes memory and time by these elements and lines, and a little time by the size of the
-    /// plan. `NoMemory` comes only when out of memory, and then the network is spent. This project's
-    /// own.
+    /// It takes memory and time by these, and none by the size of the plan. `NoMemory` comes only when
+    /// out of memory, and then the network is spent. This project's own.
     pub fn return_to(
         &mut self,
         alloc: Global,
         base: &Net<'_>,
         elements: &[u32],
         lines: &[u32],
+        sources: &[u32],
     ) -> Result<(), NoMemory>
         requires live { self.old.spent ≡ false }
         requires base_live { base.now.spent ≡ false }
         requires plan { self.old.plan ≡ base.now.plan }
         requires elements_within { All (λ e. e < length base.now.plan.elements) elements.now }
         requires lines_within { All (λ l. l < line_count base.now.plan) lines.now }
+        requires sources_within { All (λ s. s < length base.now.plan.sources) sources.now }
         requires elements_same { (e : ℕ) (other : ElementState) → e < length base.now.plan.elements →
             list_any (nat_eq e) elements.now ≡ false →
             slice_index_or self.old.elements e other ≡ slice_index_or base.now.elements e other }
         requires lines_same { (l : ℕ) → l < line_count base.now.plan →
             list_any (nat_eq l) lines.now ≡ false →
             line_in self.old.lines l ≡ line_in base.now.lines l }
+        requires signals_same { (l : ℕ) → l < line_count base.now.plan →
+            list_any (nat_eq l) lines.now ≡ false →
+            line_signal self.old.kept l ≡ line_signal base.now.kept l }
+        requires heards_same { (l : ℕ) → l < line_count base.now.plan →
+            list_any (nat_eq l) lines.now ≡ false →
+            heard_on self.old.kept l ≡ heard_on base.now.kept l }
+        requires sources_same { (s : ℕ) → s < length base.now.plan.sources →
+            list_any (nat_eq s) sources.now ≡ false →
+            source_signal self.old.kept s ≡ source_signal base.now.kept s }
         ensures plan { self.new.plan ≡ self.old.plan }
         ensures returned { OnOk result (self.new ≡ base.now) }
         ensures spent { OnErr result (self.new.spent ≡ true) }
@@ -155,6 +165,7 @@ impl<'a> Net<'a> {
             &base.parts,
             elements,
             lines,
+            sources,
         ) {
             Ok(()) => Ok(()),
             Err(NoMemory) => {
@@ -173,8 +184,8 @@ impl<'a> Net<'a> {
     /// nothing may be left out. A line is called only where an event switches it, it is due, or its
     /// sender is evaluated; the others are as they were. Of the events of one millisecond only the
     /// order in which they touch each element counts. Two elements that take their timing from each
-    /// other afterwards have done so for less than five seconds and the delay of the line, where no event
-    /// switches it, and for less than the delay alone, where the line speaks all the while.
+    /// other afterwards have done so for less than five seconds and the delay of the line, and for less
+    /// than the delay alone, where the line speaks all the while.
     /// `NoMemory` comes only when out of memory, and then the network is spent.
     /// After G.781, selection, and G.8264, ESMC messages.
     pub fn step<L: Ledger>(
@@ -201,6 +212,7 @@ impl<'a> Net<'a> {
         ensures evaluated { OnOk result (AreAloneEvaluated self.old self.new) }
         ensures called { OnOk result (AreAloneCalled self.old self.new) }
         ensures called_only { OnOk result (All (IsCalledFor now events.now self.old self.new) self.new.called) }
+        ensures told { OnOk result (AreAloneTold events.now self.old self.new) }
         ensures active { OnOk result ((all : List Event) (n : ℕ) →
             IsContinued self.old.plan all n now events.now → StandsFor self.old all n →
             All (λ element. is_active self.old.plan all element now ≡ true) self.new.evaluated) }
@@ -211,7 +223,7 @@ impl<'a> Net<'a> {
         ensures short { OnOk result ((all : List Event) (n line back from : ℕ) →
             IsContinued self.old.plan all n now events.now → StandsFor self.old all n →
             AreFacing self.new (now + 1) line back →
-            HaveFaced self.old.plan all line back from now → IsUnswitched all line from now →
+            HaveFaced self.old.plan all line back from now →
             now < from + (hearing_time + delay_of self.old.plan line)) }
         ensures short_speaking { OnOk result ((all : List Event) (n line back from : ℕ) →
             IsContinued self.old.plan all n now events.now → StandsFor self.old all n →

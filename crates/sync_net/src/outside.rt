@@ -48,7 +48,7 @@ fn set_link_up(plan: &Plan, lines: &mut [LineSignal], marks: &mut Marks, link: u
     ensures marks { marks.new.flags ≡
         with_mark plan.now (with_mark plan.now marks.old.flags (2 * link)) (2 * link + 1) }
 {
-    // A plan has at most 4,000 links, so the sum fits.
+    // A plan has at most 200,000 links, so the sum fits.
     let _links = plan.links();
     set_up(plan, lines, marks, LineId(2 * link), up);
     set_up(plan, lines, marks, LineId(2 * link + 1), up);

@@ -15,7 +15,7 @@ use sync_text::NoMemory;
 use sync_topo::Plan;
 
 /// The parts become those of another network over the same plan, from which they differ in some
-/// elements and lines alone; what is told, places and lines out are the same for all of a plan.
+/// elements, lines and sources alone; what is told is the same for all of a plan.
 pub(crate) fn return_parts(
     alloc: Global,
     plan: &Plan,
@@ -23,13 +23,18 @@ pub(crate) fn return_parts(
     base: &NetParts<'_>,
     elements: &[u32],
     lines: &[u32],
+    sources: &[u32],
 ) -> Result<(), NoMemory>
     requires whole { IsWhole plan.now parts.old }
     requires base_whole { IsWhole plan.now base.now }
     requires elements_within { All (λ e. e < length base.now.elements.items) elements.now }
     requires lines_within { All (λ l. l < length base.now.lines.items) lines.now }
+    requires sources_within { All (λ s. s < length base.now.sources.items) sources.now }
     requires elements { AreSameBut elements.now parts.old.elements.items base.now.elements.items }
     requires lines { AreSameBut lines.now parts.old.lines.items base.now.lines.items }
+    requires signals { AreSameBut lines.now parts.old.signals.items base.now.signals.items }
+    requires heards { AreSameBut lines.now parts.old.heards.items base.now.heards.items }
+    requires sources { AreSameBut sources.now parts.old.sources.items base.now.sources.items }
     ensures { OnOk result (AreReturned base.now parts.old parts.new) }
 {
     return_elements(
@@ -51,9 +56,13 @@ pub(crate) fn return_parts(
         base.lines.as_slice(),
         lines,
     );
-    parts.signals.copy_from_slice(base.signals.as_slice());
-    parts.sources.copy_from_slice(base.sources.as_slice());
-    parts.heards.copy_from_slice(base.heards.as_slice());
+    return_places(parts.signals.as_mut_slice(), base.signals.as_slice(), lines);
+    return_places(parts.heards.as_mut_slice(), base.heards.as_slice(), lines);
+    return_places(
+        parts.sources.as_mut_slice(),
+        base.sources.as_slice(),
+        sources,
+    );
     parts.tellings.active.copy_from(&base.tellings.active);
     parts.called.copy_from(&base.called);
     parts.next = base.next;
@@ -93,6 +102,17 @@ fn return_lines(
         lines[place] = try_clone_line(alloc, &base[place])?;
     }
     Ok(())
+}
+
+/// Some places have again what another list has there.
+fn return_places<T: Copy>(items: &mut [T], base: &[T], places: &[u32])
+    requires within { All (λ k. k < length base.now) places.now }
+    requires same { AreSameBut places.now items.old base.now }
+    ensures { items.new ≡ base.now }
+{
+    for place in places {
+        items[*place as usize] = base[*place as usize];
+    }
 }
 
 /// Elements at some places are due when they say so.

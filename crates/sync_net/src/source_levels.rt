@@ -4,7 +4,8 @@ ghost use Rattle.std.specs.Prelude.{◌≡◌, ◌<◌, [], ◌∷◌, length, s
 ghost use Rattle.std.specs.List.{All};
 ghost use Rattle.sync_topo.specs.Events.{Fits, MayHappen};
 ghost use Rattle.sync_net.specs.private.Noting.{source_at, AreOfOption};
-ghost use Rattle.sync_net.specs.private.SourceLevels.{named_source, settled, AreSourcesSettled, level_words, all_level_words};
+ghost use Rattle.sync_net.specs.Named.{named_source};
+ghost use Rattle.sync_net.specs.private.SourceLevels.{settled, AreSourcesSettled, level_words, all_level_words};
 ghost use Rattle.net_words.specs.Tellings.{AreTold};
 
 use crate::signals::SourceSignal;
@@ -63,7 +64,7 @@ fn note_source_level(
 }
 
 /// The source that an event names.
-fn named_source(plan: &Plan, what: What) -> Option<u32>
+pub fn named_source(plan: &Plan, what: What) -> Option<u32>
     requires { MayHappen plan.now what }
     ensures named { result ≡ named_source what }
     ensures within { IfSome result (λ source. source < length plan.now.sources) }

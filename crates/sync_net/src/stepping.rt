@@ -13,7 +13,7 @@ ghost use Rattle.sync_net.specs.private.Hearing.{CanTell, told_in};
 ghost use Rattle.sync_net.specs.private.Stages.{CanStep, CanSay};
 ghost use Rattle.sync_net.specs.NetState.{IsInTime};
 ghost use Rattle.sync_net.specs.private.NetStep.{IsNetStep, AreEvaluatedFor};
-ghost use Rattle.sync_net.specs.Evaluated.{IsCalledFor, AreAloneCalled};
+ghost use Rattle.sync_net.specs.Evaluated.{IsCalledFor, AreAloneCalled, AreAloneTold};
 ghost use Rattle.sync_net.specs.Whole.{state_of};
 ghost use Rattle.sync_net.specs.private.Whole.{IsWhole};
 ghost use Rattle.sync_net.specs.private.PartSteps.{AreCalled, AreTakenIn, AreHeardIn, AreEvaluatedIn, AreSentIn};
@@ -51,6 +51,8 @@ pub(crate) fn step_parts<L: Ledger>(
     ensures called_only { OnOk result (All (IsCalledFor now events.now
         (state_of plan.now false parts.old) (state_of plan.now false parts.new))
         parts.new.called.listed) }
+    ensures told { OnOk result (AreAloneTold events.now
+        (state_of plan.now false parts.old) (state_of plan.now false parts.new)) }
     ensures ticks { OnOk result (steps.new ≡ steps.old + length parts.new.tellings.active.listed) }
 {
     call_due(plan, parts, now);

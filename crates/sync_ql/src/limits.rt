@@ -34,8 +34,5 @@ pub const GREATEST_DELAY: u32 = 2000;
 /// For so many milliseconds a level is heard after the message that brought it.
 pub const HEARING_TIME: u64 = 5000;
 
-/// The most rows that a report of changes has. This project's own.
-pub const MOST_ROWS: usize = 200_000;
-
 /// The last millisecond of which anything is said, 24 hours after 0.
 pub const LAST_MILLISECOND: u64 = 86_400_000;

@@ -9,7 +9,7 @@ use Rattle.shown_words.specs.Sameness.{is_same_taken}
 use Rattle.sync_topo.specs.declared.input.InputId.{InputId}
 use Rattle.sync_topo.specs.Topology.{Topology}
 use Rattle.sync_topo.proofs.InputPlaces.{same-is}
-use Rattle.agenda.specs.Marked.{Marked, AreListed}
+use Rattle.agenda.specs.Marked.{AreListed}
 use Rattle.net_rules.specs.Walks.{Taken}
 use Rattle.closed_walks.specs.declared.traced.Ending.{Ending}
 use Rattle.closed_walks.specs.Taking.{taken_in_list}
@@ -20,6 +20,7 @@ use Rattle.closed_walks.proofs.FollowLaws.{same-trace}
 use Rattle.sync_topo.specs.WellFormed.{IsWellFormed}
 use Rattle.sync_net.specs.NetState.{NetState}
 use Rattle.sync_sweep.specs.declared.timings.Timing.{Timing}
+use Rattle.sync_sweep.specs.declared.touched.Touched.{Touched}
 use Rattle.sync_sweep.specs.private.Branching.{IsBranch}
 use Rattle.sync_sweep.specs.private.ShownNow.{AreAlikeBut}
 use Rattle.sync_sweep.specs.Timing.{IsCounted, IsTiming}
@@ -39,8 +40,8 @@ same-list (x ∷ xs) (y ∷ ys) count same =
     ap (λ z. z ∷ xs) (same 0) ∙ ap (λ zs. y ∷ zs) (same-list xs ys (omega (arith, count)) (λ k. same (suc k)))
 
 -- but where it is marked a branch is its base
-pub alike-but : (base net : NetState) (elements lines : Marked) → IsBranch base net elements lines → AreListed elements → AreAlikeBut elements.listed net base
-alike-but base net elements lines branch marks = λ e other within none. branch.elements_same e other within (marks.listed e ∙ none)
+pub alike-but : (base net : NetState) (touched : Touched) → IsBranch base net touched → AreListed touched.elements → AreAlikeBut touched.elements.listed net base
+alike-but base net touched branch marks = λ e other within none. branch.elements_same e other within (marks.listed e ∙ none)
 
 -- where the same is taken, the timing is the same
 pub timing-same : (plan : Topology) (taken others : Taken) (timing : Timing) → ((k : ℕ) → taken k ≡ others k) → IsTiming plan taken timing → IsTiming plan others timing

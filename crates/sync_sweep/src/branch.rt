@@ -11,11 +11,11 @@ ghost use Rattle.sync_net.specs.NetState.{NetState, IsInTime};
 ghost use Rattle.event_times.specs.EventTimes.{AreTold, AreWithin};
 ghost use Rattle.sync_net.specs.Standing.{StandsFor};
 ghost use Rattle.sync_net.specs.Evaluated.{IsContinued};
-ghost use Rattle.sync_sweep.specs.private.Branching.{IsBranch};
+ghost use Rattle.sync_sweep.specs.private.Branching.{IsBranch, AreMarksOf};
 ghost use Rattle.sync_sweep.specs.private.ShownNow.{AreShown};
 
 use crate::shown::{Shown, all_shown, note_shown};
-use agenda::Marks;
+use crate::touched::{Touched, forget, mark_all, mark_named, none_touched};
 use event_times::{next_time, split_at_time};
 use std::alloc::Global;
 use std::sync::ledger::Ledger;
@@ -24,13 +24,12 @@ use sync_ql::limits::LAST_MILLISECOND;
 use sync_text::{NoMemory, Steps};
 use sync_topo::Event;
 
-/// A network that runs on from another, which of its elements and lines a step since then touched, and
-/// what each element shows.
+/// A network that runs on from another, what of it the steps since then touched, and what each element
+/// shows.
 #[derive(Debug)]
 pub struct Branch<'a> {
     pub net: Net<'a>,
-    pub elements: Marks,
-    pub lines: Marks,
+    pub touched: Touched,
     pub shown: Shown,
 }
 
@@ -39,13 +38,11 @@ impl<'a> Drop for Branch<'a> {
     fn drop(self) {
         let Branch {
             net,
-            elements,
-            lines,
+            touched,
             shown,
         } = self;
         drop(net);
-        drop(elements);
-        drop(lines);
+        drop(touched);
         drop(shown);
     }
 }
@@ -53,35 +50,21 @@ impl<'a> Drop for Branch<'a> {
 /// A network that goes on from another, of which nothing is touched.
 pub(crate) fn new_branch<'a>(alloc: Global, base: &'a Net<'_>) -> Result<Branch<'a>, NoMemory>
     requires live { base.now.spent ≡ false }
-    ensures branch { IfOk result (λ branch. IsBranch base.now branch.net branch.elements branch.lines) }
+    ensures branch { IfOk result (λ branch. IsBranch base.now branch.net branch.touched) }
     ensures net { IfOk result (λ branch. branch.net ≡ base.now) }
     ensures shown { IfOk result (λ branch. AreShown base.now branch.shown) }
 {
-    let elements = Marks::new(alloc, base.plan().elements() as usize)?;
-    let lines = Marks::new(alloc, base.plan().lines() as usize)?;
+    let touched = none_touched(alloc, base.plan())?;
     let shown = all_shown(alloc, base)?;
     let net = base.share(alloc)?;
     Ok(Branch {
         net,
-        elements,
-        lines,
+        touched,
         shown,
     })
 }
 
-/// Marks all places of a list.
-fn mark_all(marks: &mut Marks, places: &[u32])
-    requires within { All (λ k. k < length marks.old.flags) places.now }
-    ensures count { length marks.new.flags ≡ length marks.old.flags }
-    ensures left { (k : ℕ) → slice_index_or marks.new.flags k false ≡ false → slice_index_or marks.old.flags k false ≡ false }
-    ensures marked { (k : ℕ) → slice_index_or marks.new.flags k false ≡ false → list_any (nat_eq k) places.now ≡ false }
-{
-    for place in places {
-        marks.mark(*place);
-    }
-}
-
-/// A step, which marks what it evaluates and calls.
+/// A step, which marks what it evaluates and calls, and what its events name.
 fn step<L: Ledger>(
     branch: &mut Branch<'_>,
     now: u64,
@@ -93,24 +76,23 @@ fn step<L: Ledger>(
     requires in_range { now ≤ LAST_MILLISECOND }
     requires fit { All (Fits branch.old.net.plan) events.now }
     requires here { All (λ event. event.at ≡ now) events.now }
-    requires elements { length branch.old.elements.flags ≡ length branch.old.net.plan.elements }
-    requires lines { length branch.old.lines.flags ≡ line_count branch.old.net.plan }
+    requires marks { AreMarksOf branch.old.net.plan branch.old.touched }
     ensures plan { branch.new.net.plan ≡ branch.old.net.plan }
     ensures shown { branch.new.shown ≡ branch.old.shown }
-    ensures elements { length branch.new.elements.flags ≡ length branch.old.elements.flags }
-    ensures lines { length branch.new.lines.flags ≡ length branch.old.lines.flags }
+    ensures marks { OnOk result (AreMarksOf branch.new.net.plan branch.new.touched) }
     ensures live { OnOk result (branch.new.net.spent ≡ false) }
     ensures next { OnOk result (branch.new.net.next ≡ now + 1) }
     ensures stands { OnOk result ((all : List Event) (n : ℕ) →
         IsContinued branch.old.net.plan all n now events.now →
         StandsFor branch.old.net all n → StandsFor branch.new.net all (now + 1)) }
     ensures branch { OnOk result ((base : NetState) →
-        IsBranch base branch.old.net branch.old.elements branch.old.lines →
-        IsBranch base branch.new.net branch.new.elements branch.new.lines) }
+        IsBranch base branch.old.net branch.old.touched →
+        IsBranch base branch.new.net branch.new.touched) }
 {
     branch.net.step(now, events, steps)?;
-    mark_all(&mut branch.elements, branch.net.evaluated());
-    mark_all(&mut branch.lines, branch.net.called());
+    mark_all(&mut branch.touched.elements, branch.net.evaluated());
+    mark_all(&mut branch.touched.lines, branch.net.called());
+    mark_named(branch.net.plan(), &mut branch.touched, events);
     Ok(())
 }
 
@@ -127,8 +109,7 @@ pub(crate) fn run_events<L: Ledger>(
     requires before { from ≤ until }
     requires in_range { until ≤ LAST_MILLISECOND }
     requires events { AreWithin branch.old.net.plan from until events.now }
-    requires elements { length branch.old.elements.flags ≡ length branch.old.net.plan.elements }
-    requires lines { length branch.old.lines.flags ≡ line_count branch.old.net.plan }
+    requires marks { AreMarksOf branch.old.net.plan branch.old.touched }
     ensures plan { branch.new.net.plan ≡ branch.old.net.plan }
     ensures shown { branch.new.shown ≡ branch.old.shown }
     ensures live { OnOk result (branch.new.net.spent ≡ false) }
@@ -137,8 +118,8 @@ pub(crate) fn run_events<L: Ledger>(
         AreTold branch.old.net.plan all from until events.now →
         StandsFor branch.old.net all from → StandsFor branch.new.net all (until + 1)) }
     ensures branch { OnOk result ((base : NetState) →
-        IsBranch base branch.old.net branch.old.elements branch.old.lines →
-        IsBranch base branch.new.net branch.new.elements branch.new.lines) }
+        IsBranch base branch.old.net branch.old.touched →
+        IsBranch base branch.new.net branch.new.touched) }
 {
     let mut next = from;
     let mut rest = events;
@@ -155,17 +136,20 @@ pub(crate) fn run_events<L: Ledger>(
 /// What is kept of the network where it began becomes what it shows.
 pub(crate) fn show(branch: &mut Branch<'_>)
     requires live { branch.old.net.spent ≡ false }
-    requires elements { length branch.old.elements.flags ≡ length branch.old.net.plan.elements }
+    requires marks { AreMarksOf branch.old.net.plan branch.old.touched }
     requires states { length branch.old.shown.states ≡ length branch.old.net.plan.elements }
     requires levels { length branch.old.shown.levels ≡ length branch.old.net.plan.elements }
     ensures net { branch.new.net ≡ branch.old.net }
-    ensures elements { branch.new.elements ≡ branch.old.elements }
-    ensures lines { branch.new.lines ≡ branch.old.lines }
+    ensures touched { branch.new.touched ≡ branch.old.touched }
     ensures shown { (base : NetState) →
-        IsBranch base branch.old.net branch.old.elements branch.old.lines →
+        IsBranch base branch.old.net branch.old.touched →
         AreShown base branch.old.shown → AreShown branch.new.net branch.new.shown }
 {
-    note_shown(&branch.net, &mut branch.shown, branch.elements.listed());
+    note_shown(
+        &branch.net,
+        &mut branch.shown,
+        branch.touched.elements.listed(),
+    );
 }
 
 /// Back to where it began: nothing is touched any more.
@@ -176,17 +160,20 @@ pub(crate) fn go_back(
 ) -> Result<(), NoMemory>
     requires live { branch.old.net.spent ≡ false }
     requires base_live { base.now.spent ≡ false }
-    requires branch { IsBranch base.now branch.old.net branch.old.elements branch.old.lines }
+    requires branch { IsBranch base.now branch.old.net branch.old.touched }
     requires shown { AreShown branch.old.net branch.old.shown }
-    ensures branch { OnOk result (IsBranch base.now branch.new.net branch.new.elements branch.new.lines) }
+    ensures branch { OnOk result (IsBranch base.now branch.new.net branch.new.touched) }
     ensures net { OnOk result (branch.new.net ≡ base.now) }
     ensures shown { OnOk result (AreShown base.now branch.new.shown) }
-    ensures elements { OnOk result (branch.new.elements ≡ none_marked (length base.now.plan.elements)) }
-    ensures lines { OnOk result (branch.new.lines ≡ none_marked (line_count base.now.plan)) }
 {
-    branch.net.return_to(alloc, base, branch.elements.listed(), branch.lines.listed())?;
-    note_shown(base, &mut branch.shown, branch.elements.listed());
-    branch.elements.clear();
-    branch.lines.clear();
+    branch.net.return_to(
+        alloc,
+        base,
+        branch.touched.elements.listed(),
+        branch.touched.lines.listed(),
+        branch.touched.sources.listed(),
+    )?;
+    note_shown(base, &mut branch.shown, branch.touched.elements.listed());
+    forget(&mut branch.touched);
     Ok(())
 }

@@ -31,6 +31,7 @@ mod sweeping;
 mod table;
 mod timed;
 mod timings;
+mod touched;
 mod working;
 
 pub use gate::{FreeGate, Gate};

@@ -9,7 +9,7 @@ ghost use Rattle.event_times.specs.EventTimes.{AreTold, AreWithin};
 ghost use Rattle.sync_net.specs.NetState.{NetState};
 ghost use Rattle.sync_net.specs.Standing.{StandsFor};
 ghost use Rattle.sync_sweep.specs.private.Base.{AreCommonBefore};
-ghost use Rattle.sync_sweep.specs.private.Branching.{IsBranch};
+ghost use Rattle.sync_sweep.specs.private.Branching.{IsBranch, AreMarksOf};
 ghost use Rattle.sync_sweep.specs.Cases.{merged};
 ghost use Rattle.sync_sweep.specs.Outcomes.{IsBoundAfter};
 ghost use Rattle.sync_sweep.specs.private.ShownNow.{AreShown};
@@ -52,8 +52,7 @@ fn run_out<L: Ledger>(
     requires before { from ≤ until }
     requires in_range { until ≤ LAST_MILLISECOND }
     requires events { AreWithin branch.old.net.plan from until told.now }
-    requires elements { length branch.old.elements.flags ≡ length branch.old.net.plan.elements }
-    requires lines { length branch.old.lines.flags ≡ line_count branch.old.net.plan }
+    requires marks { AreMarksOf branch.old.net.plan branch.old.touched }
     ensures plan { branch.new.net.plan ≡ branch.old.net.plan }
     ensures shown { branch.new.shown ≡ branch.old.shown }
     ensures live { OnOk result (branch.new.net.spent ≡ false) }
@@ -62,8 +61,8 @@ fn run_out<L: Ledger>(
         AreTold branch.old.net.plan all from until told.now →
         StandsFor branch.old.net all from → StandsFor branch.new.net all (until + 1)) }
     ensures branch { OnOk result ((base : NetState) →
-        IsBranch base branch.old.net branch.old.elements branch.old.lines →
-        IsBranch base branch.new.net branch.new.elements branch.new.lines) }
+        IsBranch base branch.old.net branch.old.touched →
+        IsBranch base branch.new.net branch.new.touched) }
 {
     let mut steps = Steps::<L>::new(blank);
     run_events(branch, from, told, until, &mut steps)
@@ -93,13 +92,13 @@ pub(crate) fn case_worked(
     requires in_order { from ≤ until }
     requires in_range { until ≤ LAST_MILLISECOND }
     requires bound { IsBoundAfter base.now.plan until bound }
-    requires branch { IsBranch base.now branch.old.net branch.old.elements branch.old.lines }
+    requires branch { IsBranch base.now branch.old.net branch.old.touched }
     requires same { branch.old.net ≡ base.now }
     requires shown { AreShown base.now branch.old.shown }
     requires timed { IfSome timed.old (IsTimed base.now) }
     ensures worked { IfOk result
         (IsWorked base.now.plan (merged common.now case.now.events) until (is_some timed.old)) }
-    ensures branch { OnOk result (IsBranch base.now branch.new.net branch.new.elements branch.new.lines) }
+    ensures branch { OnOk result (IsBranch base.now branch.new.net branch.new.touched) }
     ensures same { OnOk result (branch.new.net ≡ base.now) }
     ensures shown { OnOk result (AreShown base.now branch.new.shown) }
     ensures kept { OnOk result (is_some timed.new ≡ is_some timed.old) }
@@ -113,7 +112,7 @@ pub(crate) fn case_worked(
     let last = run_last(common, own, until);
     let bound = bound_after(bound, until, last);
     let outcome = outcome_of(alloc, &branch.net, &branch.shown, last, bound)?;
-    let timing = timing_if(alloc, &branch.net, timed, branch.elements.listed())?;
+    let timing = timing_if(alloc, &branch.net, timed, branch.touched.elements.listed())?;
     go_back(alloc, branch, base)?;
     Ok(Worked { outcome, timing })
 }

@@ -7,6 +7,8 @@ use Rattle.sync_topo.specs.Hops.{bears_on}
 use Rattle.sync_topo.specs.Ranks.{IsFirstCycle}
 use Rattle.net_rules.specs.Settling.{IsGreatest, IsDelay, IsRankOver, IsWait}
 use Rattle.reach_rules.specs.Agreement.{IsHighCount, IsAgreedBound, agreed_in}
+use Rattle.reach_rules.specs.Failing.{is_planned}
+use Rattle.reach_rules.proofs.FailingLaws.{only-one}
 use Rattle.cycle_plan.proofs.AgreedLemmas.{bears-nominates}
 use Rattle.cycle_plan.proofs.BoundLemmas.{cyclic-none}
 use Rattle.cycle_plan.proofs.OneCycle.{one_cycle}
@@ -14,7 +16,7 @@ use Rattle.sync_sweep.proofs.OneOutcome.{one-greatest}
 use Rattle.sync_top.specs.declared.status.Status.{Status}
 use Rattle.sync_top.specs.declared.status.Status.TheVariants.{Done, Refuted, Usage, BadPlan, BadCert, BadEvents, BadFrames, ReadFault, WriteFault, TooLong, NoMemory, Stopped}
 use Rattle.sync_top.specs.Forms.Rank.{lines_text}
-use Rattle.sync_top.specs.Forms.Agree.{agreed_text, IsAgreedText}
+use Rattle.sync_top.specs.Forms.Agree.{agreed_text, IsBoundText, IsAgreedText}
 use Rattle.sync_top.proofs.Verdicts.{IsOne}
 
 -- so many levels are high
@@ -43,9 +45,17 @@ one-bound plan one other first second =
     ∙ ap (λ d. agreed_in second.wait second.high second.rank d) delay
     ∙ sym second.is
 
+-- both bounds are fixed, so the text is
+one-text : (plan : Topology) (text another : List ℕ) → IsBoundText plan text → IsBoundText plan another → text ≡ another
+one-text plan text another first second =
+    first.is
+    ∙ ap (λ bound. agreed_text bound first.failures) (one-bound plan first.bound second.bound first.agreed second.agreed)
+    ∙ ap (agreed_text second.bound) (only-one (is_planned plan) plan first.failures second.failures first.well_formed first.failed second.failed)
+    ∙ sym second.is
+
 -- what may be found
 abbrev Agrees : Topology → Status → List ℕ → Type 0
-Agrees plan status text = (status ≡ Done) × ((bound : ℕ) × IsAgreedBound plan bound × (text ≡ agreed_text bound))
+Agrees plan status text = (status ≡ Done) × IsBoundText plan text
 
 abbrev Clashes : Topology → Status → List ℕ → Type 0
 Clashes plan status text =
@@ -73,12 +83,11 @@ pub one_agreed : (plan : Topology) → IsOne (IsAgreedText plan)
 one_agreed plan status other text another first second =
     elim (either_found plan status text first) [
       | inl agrees ↦ elim (either_found plan other another second) [
-        | inl also ↦
-            (agrees.0 ∙ sym also.0, agrees.1.2 ∙ ap agreed_text (one-bound plan agrees.1.0 also.1.0 agrees.1.1 also.1.1) ∙ sym also.1.2)
-        | inr clashes ↦ absurd (not-both plan agrees.1.0 clashes.1.0 agrees.1.1 clashes.1.1)
+        | inl also ↦ (agrees.0 ∙ sym also.0, one-text plan text another agrees.1 also.1)
+        | inr clashes ↦ absurd (not-both plan agrees.1.bound clashes.1.0 agrees.1.agreed clashes.1.1)
       ]
       | inr clashes ↦ elim (either_found plan other another second) [
-        | inl agrees ↦ absurd (not-both plan agrees.1.0 clashes.1.0 agrees.1.1 clashes.1.1)
+        | inl agrees ↦ absurd (not-both plan agrees.1.bound clashes.1.0 agrees.1.agreed clashes.1.1)
         | inr also ↦ (
           clashes.0 ∙ sym also.0,
           clashes.1.2 ∙ ap (lines_text (codes "clash") plan) (one_cycle (bears_on plan) clashes.1.0 also.1.0 clashes.1.1 also.1.1) ∙ sym also.1.2,

@@ -18,3 +18,4 @@ pub mod RunLaws
 pub mod HighestRank
 pub mod NodeAnswers
 pub mod Endings
+mod WrittenSizes

@@ -7,13 +7,15 @@ use Rattle.sync_edge.specs.Contents.{Contents}
 use Rattle.sync_topo.specs.declared.error.PlanErr.{PlanErr}
 use Rattle.sync_topo.specs.declared.rows.PlanRows.{PlanRows}
 use Rattle.sync_topo.specs.Topology.{Topology}
-use Rattle.sync_topo.specs.PlanRows.{plan_of_rows}
+use Rattle.sync_topo.specs.declared.sizes.Size.{Size}
+use Rattle.sync_topo.specs.Sizes.{size_of}
+use Rattle.sync_topo.specs.PlanRows.{plan_of_sized}
 use Rattle.sync_topo.specs.WellFormed.{IsWellFormed}
-use Rattle.sync_topo.proofs.Accepted.{accepted-well_formed}
+use Rattle.sync_topo.proofs.SizedPlans.{sized-accepted}
 use Rattle.net_rules.proofs.FinalLaws.{loop_free}
 use Rattle.plan_file.specs.declared.error.PlanFileErr.{PlanFileErr}
 use Rattle.sync_text.specs.Chain.{◌>>=◌}
-use Rattle.plan_file.specs.PlanText.{rows_in_file, of_rows, plan_of}
+use Rattle.plan_file.specs.PlanText.{rows_in_file, of_rows, plan_of_size}
 use Rattle.rank_cert.specs.declared.error.CertErr.{CertErr}
 use Rattle.rank_cert.specs.Ranks.{Ranks, rank_of}
 use Rattle.rank_cert.specs.CertificateText.{certificate_of}
@@ -22,7 +24,7 @@ use Rattle.sync_top.specs.declared.status.Status.TheVariants.{Done}
 use Rattle.sync_top.specs.declared.form.PlanForm.TheVariants.{Rank, Chains, Protected, Protect, Agree, Hops, Nominate, PrioRank, Sweep}
 use Rattle.sync_top.specs.declared.form.RanksForm.TheVariants.{Check, PrioCheck}
 use Rattle.sync_top.specs.declared.form.LadderForm.TheVariants.{Gen, Trial}
-use Rattle.sync_top.specs.Form.{Form, form_of, on_plan, on_ranks, on_events, study, on_frames, on_ladder, node}
+use Rattle.sync_top.specs.Form.{Form, PlanName, form_of, on_plan, on_ranks, on_events, study, on_frames, on_ladder, node}
 use Rattle.sync_top.specs.Reading.{End, no_file, answered, file_limit, plan_in, Answered}
 use Rattle.sync_top.specs.Forms.Check.{ranks_in, documents, IsVerdictOver}
 use Rattle.sync_top.specs.Answer.{FormAnswer, IsAnswer, MissesFile}
@@ -37,7 +39,9 @@ use Rattle.sync_top.specs.ChainBounds.{IsBoundedByChains}
 use Rattle.sync_top.specs.Protection.{IsHoldingOut}
 use Rattle.sync_top.specs.Agreement.{IsComingToRest}
 use Rattle.sync_top.specs.Forms.Agree.{IsAgreedText}
+use Rattle.reach_rules.specs.Failing.{is_planned}
 use Rattle.reach_rules.proofs.AgreedLaws.{comes-to-rest}
+use Rattle.reach_rules.proofs.FailingLaws.{rests-soon, sooner}
 use Rattle.sync_top.specs.Forms.Protected.{IsProtectedText}
 use Rattle.reach_rules.proofs.ProtectionLaws.{protected-holds}
 use Rattle.sync_top.specs.Forms.Chains.{IsChained}
@@ -46,49 +50,50 @@ use Rattle.sync_topo.specs.Hops.{hops, hops_any}
 use Rattle.sync_topo.specs.Ranks.{HopTest, Rises}
 
 -- the plan of some bytes is well formed
-plan-well : (bytes : List ℕ) (plan : Topology) → plan_of bytes ≡ Ok plan → IsWellFormed plan
-unfolding plan_of
-plan-well bytes plan is = by (rows_in_file bytes) is
+plan-well : (size : Size) (bytes : List ℕ) (plan : Topology) → plan_of_size size bytes ≡ Ok plan → IsWellFormed plan
+unfolding plan_of_size
+plan-well size bytes plan is = by (rows_in_file bytes) is
   where
     of : (made : Result Topology PlanErr) → of_rows made ≡ Ok plan → made ≡ Ok plan
     of (Ok own) given = cc
     of (Err error) given = cc
 
-    by : (rows : Result PlanRows PlanFileErr) → (rows >>= λ r. of_rows (plan_of_rows r)) ≡ Ok plan → IsWellFormed plan
-    by (Ok rows) given = accepted-well_formed rows plan (of (plan_of_rows rows) given)
+    by : (rows : Result PlanRows PlanFileErr) → (rows >>= λ r. of_rows (plan_of_sized size r)) ≡ Ok plan → IsWellFormed plan
+    by (Ok rows) given = (sized-accepted size rows plan (of (plan_of_sized size rows) given)).0
     by (Err error) given = cc
 
 -- so is the plan of a file
-pub file-well : (name : List ℕ) (files : Contents) (plan : Topology) → plan_in name files ≡ Ok plan → IsWellFormed plan
-file-well name files plan is = there (get files name) refl
+pub file-well : (name : PlanName) (files : Contents) (plan : Topology) → plan_in name files ≡ Ok plan → IsWellFormed plan
+file-well name files plan is = there (get files name.name) refl
   where
-    read : (bytes : List ℕ) (o : Result Topology PlanFileErr) → plan_of bytes ≡ o → get files name ≡ Some bytes → nat_lt file_limit (length bytes) ≡ false → IsWellFormed plan
-    read bytes (Ok own) gives found fits = plan-well bytes plan (gives ∙ cc (rw (found, fits, gives) at is))
+    read : (bytes : List ℕ) (o : Result Topology PlanFileErr) → plan_of_size name.size bytes ≡ o → get files name.name ≡ Some bytes
+        → nat_lt (file_limit name.size) (length bytes) ≡ false → IsWellFormed plan
+    read bytes (Ok own) gives found fits = plan-well name.size bytes plan (gives ∙ cc (rw (found, fits, gives) at is))
     read bytes (Err error) gives found fits = cc (rw (found, fits, gives) at is)
 
-    long : (bytes : List ℕ) (b : Bool) → nat_lt file_limit (length bytes) ≡ b → get files name ≡ Some bytes → IsWellFormed plan
+    long : (bytes : List ℕ) (b : Bool) → nat_lt (file_limit name.size) (length bytes) ≡ b → get files name.name ≡ Some bytes → IsWellFormed plan
     long bytes true over found = cc (rw (found, over) at is)
-    long bytes false fits found = read bytes (plan_of bytes) refl found fits
+    long bytes false fits found = read bytes (plan_of_size name.size bytes) refl found fits
 
-    there : (o : Option (List ℕ)) → get files name ≡ o → IsWellFormed plan
+    there : (o : Option (List ℕ)) → get files name.name ≡ o → IsWellFormed plan
     there None absent = cc (rw absent at is)
-    there (Some bytes) found = long bytes (nat_lt file_limit (length bytes)) refl found
+    there (Some bytes) found = long bytes (nat_lt (file_limit name.size) (length bytes)) refl found
 
 -- what ends the reading of a certificate is no answer that was done
 ranks_never_done : (plan : Topology) (name : List ℕ) (files : Contents) (known : Status) (said : List ℕ) → ranks_in plan name files ≡ Err (answered known said) → known ≡ Done → ⊥
 ranks_never_done plan name files known said is done = there (get files name) refl
   where
-    refused : (bytes : List ℕ) (read : Result Ranks CertErr) → certificate_of plan bytes ≡ read → get files name ≡ Some bytes → nat_lt file_limit (length bytes) ≡ false → ⊥
+    refused : (bytes : List ℕ) (read : Result Ranks CertErr) → certificate_of plan bytes ≡ read → get files name ≡ Some bytes → nat_lt (file_limit (size_of plan)) (length bytes) ≡ false → ⊥
     refused bytes (Ok ranks) gives found fits = cc (rw (found, fits, gives) at is)
     refused bytes (Err error) gives found fits = cc (rw (found, fits, gives) at is, done)
 
-    long : (bytes : List ℕ) (b : Bool) → nat_lt file_limit (length bytes) ≡ b → get files name ≡ Some bytes → ⊥
+    long : (bytes : List ℕ) (b : Bool) → nat_lt (file_limit (size_of plan)) (length bytes) ≡ b → get files name ≡ Some bytes → ⊥
     long bytes true over found = cc (rw (found, over) at is, done)
     long bytes false fits found = refused bytes (certificate_of plan bytes) refl found fits
 
     there : (o : Option (List ℕ)) → get files name ≡ o → ⊥
     there None absent = cc (rw absent at is)
-    there (Some bytes) found = long bytes (nat_lt file_limit (length bytes)) refl found
+    there (Some bytes) found = long bytes (nat_lt (file_limit (size_of plan)) (length bytes)) refl found
 
 -- what was read where the answer is done, and the answer to it
 pub done-read : {A : Type 0} (Answers : A → Status → List ℕ → Type 0) (read : Result A End) (text : List ℕ)
@@ -107,7 +112,7 @@ done-first Answers (Err no_file) next text never answer = absurd answer
 done-first Answers (Err (answered known said)) next text never answer = absurd (never known said refl (sym answer.0))
 
 -- where ranks are accepted over some hops, a plan was read, and they rise
-rising : (hop : Topology → HopTest) (plan_name name text : List ℕ) (files : Contents)
+rising : (hop : Topology → HopTest) (plan_name : PlanName) (name text : List ℕ) (files : Contents)
     → Answered (λ (read : Topology × Ranks). IsVerdictOver (hop read.0) read.0 read.1) (documents plan_name name files) Done text
     → (plan : Topology) × (plan_in plan_name files ≡ Ok plan) × ((ranks : Ranks) × Rises (hop plan) (rank_of ranks))
 rising hop plan_name name text files answer =
@@ -144,7 +149,7 @@ form-never_loops (Some (on_ladder what n)) files text answer = tt
 form-never_loops (Some (node plan element name until)) files text answer = tt
 
 -- where `chains` is done, a plan was read, and it has rows, which are bounds
-chains-bound : (name text : List ℕ) (files : Contents) → Answered IsChained (plan_in name files) Done text → IsBoundedByChains (Some (on_plan Chains name)) files
+chains-bound : (name : PlanName) (text : List ℕ) (files : Contents) → Answered IsChained (plan_in name files) Done text → IsBoundedByChains (Some (on_plan Chains name)) files
 chains-bound name text files answer =
     let found = done-read IsChained (plan_in name files) text (never_done name files) answer in
     let rows = found.2.1 in
@@ -169,7 +174,7 @@ form-bounds (Some (on_ladder what n)) files text answer = tt
 form-bounds (Some (node plan element name until)) files text answer = tt
 
 -- where `protected` is done, a plan was read, and it holds out
-protected-holds_out : (name text : List ℕ) (files : Contents) → Answered IsProtectedText (plan_in name files) Done text
+protected-holds_out : (name : PlanName) (text : List ℕ) (files : Contents) → Answered IsProtectedText (plan_in name files) Done text
     → IsHoldingOut (Some (on_plan Protected name)) files
 protected-holds_out name text files answer =
     let found = done-read IsProtectedText (plan_in name files) text (never_done name files) answer in
@@ -193,13 +198,25 @@ form-holds_out (Some (on_frames what option name)) files text answer = tt
 form-holds_out (Some (on_ladder what n)) files text answer = tt
 form-holds_out (Some (node plan element name until)) files text answer = tt
 
--- where `agree` is done, a plan was read, and it comes to rest by its bound
-agreed-rests : (name text : List ℕ) (files : Contents) → Answered IsAgreedText (plan_in name files) Done text
+-- where `agree` is done, a plan was read, and it comes to rest by its bounds
+agreed-rests : (name : PlanName) (text : List ℕ) (files : Contents) → Answered IsAgreedText (plan_in name files) Done text
     → IsComingToRest (Some (on_plan Agree name)) files
 agreed-rests name text files answer =
     let found = done-read IsAgreedText (plan_in name files) text (never_done name files) answer in
-    let bound = found.2 in
-    (found.0, found.1, (bound.0, bound.1, comes-to-rest found.0 bound.0 (file-well name files found.0 found.1) bound.1))
+    let plan = found.0 in
+    let is = found.2 in (
+      plan,
+      found.1,
+      record {
+        bound = is.bound;
+        agreed = is.agreed;
+        comes = comes-to-rest plan is.bound is.well_formed is.agreed;
+        failures = is.failures;
+        failed = is.failed;
+        sooner = sooner (is_planned plan) plan is.failures is.bound is.failed is.agreed;
+        soon = rests-soon plan is.failures is.well_formed is.failed;
+      },
+    )
 
 form-rests : (form : Option Form) (files : Contents) (text : List ℕ) → FormAnswer form files Done text → IsComingToRest form files
 form-rests None files text answer = tt

@@ -12,7 +12,7 @@ use Rattle.rank_cert.specs.CertificateText.{certificate_text}
 use Rattle.cycle_plan.proofs.OneCycle.{one_cycle}
 use Rattle.sync_topo.specs.declared.returns.ReturnRule.TheVariants.{Barred}
 use Rattle.sync_top.proofs.Verdicts.{IsOne, one_verdict, no_first_cycle}
-use Rattle.sync_ql.specs.declared.limits.TheConstants.{MOST_ROWS}
+use Rattle.sync_topo.specs.Sizes.{most_rows}
 use Rattle.event_sim.specs.Rows.{rows_until}
 use Rattle.event_sim.specs.Answers.{IsLastFit}
 use Rattle.trace_report.specs.Report.{IsWholeReport, stopped_report}
@@ -32,7 +32,7 @@ use Rattle.sync_top.specs.declared.form.FramesForm.{FramesForm}
 use Rattle.sync_top.specs.declared.form.FramesForm.TheVariants.{Decode, Encode, PcapDecode, PcapEncode}
 use Rattle.sync_top.specs.declared.form.LadderForm.{LadderForm}
 use Rattle.sync_top.specs.declared.form.LadderForm.TheVariants.{Gen, Trial}
-use Rattle.sync_top.specs.Form.{Form, form_of, on_plan, on_ranks, on_events, study, on_frames, on_ladder, node}
+use Rattle.sync_top.specs.Form.{Form, PlanName, form_of, on_plan, on_ranks, on_events, study, on_frames, on_ladder, node}
 use Rattle.sync_top.specs.Reading.{End, no_file, answered, Answered, IsText}
 use Rattle.sync_top.specs.Forms.Rank.{IsPlanned, cycle_text}
 use Rattle.sync_top.specs.Forms.Hops.{AreHopRows, hops_text}
@@ -124,7 +124,7 @@ one_trial n status other text another first second =
 -- what a run may give
 abbrev Whole : Topology → List Event → ℕ → Status → List ℕ → Type 0
 Whole plan events until status text =
-    (status ≡ Done) × (length (rows_until plan events (suc until)) ≤ MOST_ROWS) × IsWholeReport plan events until text
+    (status ≡ Done) × (length (rows_until plan events (suc until)) ≤ most_rows plan) × IsWholeReport plan events until text
 
 abbrev Short : Topology → List Event → ℕ → Status → List ℕ → Type 0
 Short plan events until status text =
@@ -185,7 +185,7 @@ module _ (one_whole : (plan : Topology) (events : List Event) (until : ℕ) (tex
         (first.0 ∙ sym second.0, first.1.2 ∙ ap plan_text (mine.is ∙ ap (nominated_plan plan) counts ∙ sym theirs.is) ∙ sym second.1.2)
 
     -- what answers a plan is one
-    one_plan : (what : PlanForm) (name : List ℕ) → HasOneAnswer (Some (on_plan what name)) → (plan : Topology) → IsOne (PlanAnswer what plan)
+    one_plan : (what : PlanForm) (name : PlanName) → HasOneAnswer (Some (on_plan what name)) → (plan : Topology) → IsOne (PlanAnswer what plan)
     one_plan Rank name has plan = one_planned plan
     one_plan Chains name has plan = one_chained plan
     one_plan Protected name has plan = one_protected plan

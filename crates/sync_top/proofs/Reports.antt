@@ -2,7 +2,7 @@
 use Rattle.std.proofs.Common.{◌≡◌, ◌≤◌, ℕ, suc, List, length, Option, Some, ap, subst, ◌∙◌}
 use Rattle.sync_topo.specs.declared.event.Event.{Event}
 use Rattle.sync_topo.specs.Topology.{Topology}
-use Rattle.sync_ql.specs.declared.limits.TheConstants.{MOST_ROWS}
+use Rattle.sync_topo.specs.Sizes.{most_rows}
 use Rattle.event_sim.specs.declared.change.Change.{Change}
 use Rattle.event_sim.specs.declared.change.Watch.{Watch}
 use Rattle.event_sim.specs.declared.change.Watch.TheVariants.{Changes}
@@ -17,10 +17,10 @@ use Rattle.sync_top.specs.Forms.Sim.{IsReport}
 
 -- all changes up to the end fit
 pub whole : (run : SimState) (plan : Topology) (events : List Event) (until : ℕ) (text : List ℕ) → run.net.plan ≡ plan → run.watch ≡ Changes
-    → run.reached ≡ Some until → length run.changes ≤ MOST_ROWS → StandsFor run events → IsReportText run.net.plan events run.reached Until text
+    → run.reached ≡ Some until → length run.changes ≤ most_rows run.net.plan → StandsFor run events → IsReportText run.net.plan events run.reached Until text
     → IsReport plan events until status.Done text
 whole run plan events until text same watches reached few stands is = (
-  subst (λ (rows : List Change). length rows ≤ MOST_ROWS) rows few,
+  subst (λ (rows : List Change). length rows ≤ most_rows plan) rows (subst (λ (p : Topology). length run.changes ≤ most_rows p) same few),
   subst (λ (r : Option ℕ). IsReportText plan events r Until text) reached (subst (λ (p : Topology). IsReportText p events run.reached Until text) same is),
 )
   where

@@ -13,7 +13,7 @@ use Rattle.event_sim.specs.declared.change.Watch.{Watch}
 use Rattle.event_sim.specs.declared.change.Watch.TheVariants.{Changes, Nothing}
 use Rattle.event_sim.specs.declared.change.Reach.{Reach}
 use Rattle.event_sim.specs.declared.change.Reach.TheVariants.{Until, Stopped}
-use Rattle.sync_ql.specs.declared.limits.TheConstants.{MOST_ROWS}
+use Rattle.sync_topo.specs.Sizes.{most_rows}
 use Rattle.event_sim.specs.Rows.{rows_until}
 use Rattle.event_sim.specs.SimState.{SimState, first_after}
 use Rattle.event_times.specs.EventTimes.{AreTold}
@@ -52,7 +52,7 @@ module _ (plan : Topology) (events : List Event) (until : ℕ) (sim : SimState) 
   pub report_rows : (reach : Reach) → HasRun plan events Changes until sim reach → AreReportRows plan events until sim.changes
   report_rows Until run =
       let rows = rows_at until Until run run.came.1 in
-      inl (subst (λ (r : List Change). length r ≤ MOST_ROWS) rows run.few, rows)
+      inl (subst (λ (r : List Change). length r ≤ most_rows plan) rows (subst (λ (p : Topology). length sim.changes ≤ most_rows p) run.of_plan run.few), rows)
   report_rows (Stopped t) run = inr (t, run.came.3, rows_at t (Stopped t) run run.came.1)
 
   -- its last step's millisecond is settled just where the end of the run is

@@ -7,12 +7,12 @@ use Rattle.sync_topo.specs.Topology.{Topology}
 use Rattle.net_rules.specs.Safety.{IsLoopFree}
 use Rattle.net_rules.proofs.FinalLaws.{loop_free}
 use Rattle.reach_rules.specs.Protection.{IsProtected}
-use Rattle.reach_rules.proofs.SurvivalLaws.{survives-each}
+use Rattle.reach_rules.proofs.SurvivalLaws.{survives-each, survives-each_soon}
 use Rattle.protection.specs.Orderly.{IsFound}
 use Rattle.sync_top.specs.declared.status.Status.{Status}
 use Rattle.sync_top.specs.declared.status.Status.TheVariants.{Done}
 use Rattle.sync_top.specs.declared.form.PlanForm.TheVariants.{Rank, Chains, Protected, Protect, Agree, Hops, Nominate, PrioRank, Sweep}
-use Rattle.sync_top.specs.Form.{Form, form_of, on_plan, on_ranks, on_events, study, on_frames, on_ladder, node}
+use Rattle.sync_top.specs.Form.{Form, PlanName, form_of, on_plan, on_ranks, on_events, study, on_frames, on_ladder, node}
 use Rattle.sync_top.specs.Reading.{plan_in, Answered}
 use Rattle.sync_top.specs.Forms.Protect.{IsProtectingText}
 use Rattle.sync_top.specs.Answer.{FormAnswer, IsAnswer, MissesFile}
@@ -27,7 +27,7 @@ use Rattle.std.specs.Prelude.{◌≡◌}
 -- what holds of a plan that is found and protected
 module _ (P : Topology → Type 0) (holds : (plan found : Topology) → IsFound plan found → IsProtected found → P found) (before now : Option (List ℕ))
   where
-    written : (name text : List ℕ) (files : Contents) → Appends before now text → Answered IsProtectingText (plan_in name files) Done text
+    written : (name : PlanName) (text : List ℕ) (files : Contents) → Appends before now text → Answered IsProtectingText (plan_in name files) Done text
         → Protects P (Some (on_plan Protect name)) before now files
     written name text files appends answer =
         let read = done-read IsProtectingText (plan_in name files) text (never_done name files) answer in
@@ -68,4 +68,13 @@ found-loop_free plan found is protected =
 -- and it survives each of its failures
 pub found-survives : (plan found : Topology) → IsFound plan found → IsProtected found → IsSurvivor found
 found-survives plan found is protected =
-    let bound = is.orderly.bound in (bound.0, bound.1, survives-each found bound.0 is.orderly.well_formed bound.1 protected)
+    let bound = is.orderly.bound in
+    let failures = is.orderly.failures in
+    record {
+      bound = bound.0;
+      agreed = bound.1;
+      survives = survives-each found bound.0 is.orderly.well_formed bound.1 protected;
+      failures = failures.0;
+      failed = failures.1;
+      soon = survives-each_soon found failures.0 is.orderly.well_formed failures.1 protected;
+    }

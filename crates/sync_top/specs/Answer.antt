@@ -23,6 +23,7 @@ use Rattle.sync_top.specs.declared.form.FramesForm.{FramesForm}
 use Rattle.sync_top.specs.declared.form.FramesForm.TheVariants.{Decode, Encode, PcapDecode, PcapEncode}
 use Rattle.sync_top.specs.declared.form.LadderForm.{LadderForm}
 use Rattle.sync_top.specs.declared.form.LadderForm.TheVariants.{Gen, Trial}
+use Rattle.sync_topo.specs.declared.sizes.Size.TheVariants.{Standard}
 use Rattle.sync_top.specs.Form.{Form, on_plan, on_ranks, on_events, study, on_frames, on_ladder, node, form_of}
 use Rattle.sync_top.specs.Reading.{Reading, one_file, two_files, no_files, Answered, text_line, no_file, file, plan_in}
 use Rattle.sync_top.specs.Forms.Check.{documents, IsVerdict}
@@ -97,7 +98,7 @@ meaning (study plan cases until) = record {
   reading = two_files (plan_in plan) (plan_and_cases plan cases);
   Answers = λ read. IsStudyTable read.0 read.1 until;
 }
-meaning (on_frames what option name) = record { reading = one_file (file name); Answers = FramesAnswer what option }
+meaning (on_frames what option name) = record { reading = one_file (file Standard name); Answers = FramesAnswer what option }
 meaning (on_ladder what n) = record { reading = no_files; Answers = λ _. LadderAnswer what n }
 meaning (node plan element name until) = record {
   reading = two_files (element_of_plan plan element) (node_bytes plan element name);

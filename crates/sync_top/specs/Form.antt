@@ -1,8 +1,10 @@
 -- The words of the command line. This project's own.
-use Rattle.std.specs.Prelude.{ℕ, Bool, ◌&&◌, nat_lt, nat_le, List, [], ◌∷◌, length, codes, Option, Some, None, option_and_then, if◌then◌else◌}
+use Rattle.std.specs.Prelude.{ℕ, Bool, false, ◌&&◌, nat_lt, nat_le, List, [], ◌∷◌, length, drop, codes, Option, Some, None, option_and_then, if◌then◌else◌}
 use Rattle.std.specs.Option.{option_map}
 use Rattle.std.specs.Str.{bytes_eq}
-use Rattle.sync_topo.specs.declared.parts.TheConstants.{MOST_ELEMENTS}
+use Rattle.sync_topo.specs.declared.sizes.Size.{Size}
+use Rattle.sync_topo.specs.declared.sizes.Size.TheVariants.{Standard, Large}
+use Rattle.sync_topo.specs.Sizes.{most_elements}
 use Rattle.sync_text.specs.Number.{number_of}
 use Rattle.sync_ql.specs.declared.levels.NetOption.{NetOption}
 use Rattle.sync_ql.specs.declared.limits.TheConstants.{LAST_MILLISECOND}
@@ -18,22 +20,27 @@ use Rattle.sync_top.specs.declared.form.FramesForm.TheVariants.{Decode, Encode, 
 use Rattle.sync_top.specs.declared.form.LadderForm.{LadderForm}
 use Rattle.sync_top.specs.declared.form.LadderForm.TheVariants.{Gen, Trial}
 
+-- the file of a plan by its name, and the size that the words allow the plan
+pub record PlanName : Type 0 where
+  pub size : Size
+  pub name : List ℕ
+
 -- what the program is asked for, by what it reads, with the names of its files
 pub data Form : Type 0 where
   -- of a plan
-  on_plan : PlanForm → List ℕ → Form
+  on_plan : PlanForm → PlanName → Form
   -- of the ranks of a certificate on a plan
-  on_ranks : RanksForm → List ℕ → List ℕ → Form
+  on_ranks : RanksForm → PlanName → List ℕ → Form
   -- of a run of a plan with events, up to a millisecond
-  on_events : EventsForm → List ℕ → List ℕ → ℕ → Form
+  on_events : EventsForm → PlanName → List ℕ → ℕ → Form
   -- of the runs of a plan in many cases, up to a millisecond
-  study : List ℕ → List ℕ → ℕ → Form
+  study : PlanName → List ℕ → ℕ → Form
   -- of captured frames, or of rows
   on_frames : FramesForm → NetOption → List ℕ → Form
   -- of the ladder of so many elements
   on_ladder : LadderForm → ℕ → Form
   -- the frames that an element of a plan sends, by a file of what it received, up to a millisecond
-  node : List ℕ → List ℕ → List ℕ → ℕ → Form
+  node : PlanName → List ℕ → List ℕ → ℕ → Form
 
 -- a word that may name a file: any but the empty one
 abbrev pub is_file_word : List ℕ → Bool
@@ -43,16 +50,16 @@ is_file_word word = nat_lt 0 (length word)
 abbrev pub option_of : List ℕ → Option NetOption
 option_of word = if bytes_eq word (codes "I") then Some I else if bytes_eq word (codes "II") then Some II else None
 
--- how many elements a ladder may have
-abbrev pub is_ladder_size : ℕ → Bool
-is_ladder_size n = nat_le 2 n && nat_le n MOST_ELEMENTS
+-- how many elements a ladder may have: as many as a plan of the size
+abbrev pub is_ladder_size : Size → ℕ → Bool
+is_ladder_size size n = nat_le 2 n && nat_le n (most_elements size)
 
 -- such a number, if the word is one
-abbrev pub ladder_size : List ℕ → Option ℕ
-ladder_size word = option_and_then sized (number_of word)
+abbrev pub ladder_size : Size → List ℕ → Option ℕ
+ladder_size size word = option_and_then sized (number_of word)
   where
     sized : ℕ → Option ℕ
-    sized n = if is_ladder_size n then Some n else None
+    sized n = if is_ladder_size size n then Some n else None
 
 -- a millisecond up to the last one, if the word is one
 abbrev pub millisecond_of : List ℕ → Option ℕ
@@ -97,6 +104,11 @@ frames_word word =
     else if bytes_eq word (codes "pcap-encode") then Some PcapEncode
     else None
 
+-- the same where plans may be of a size: frames and rows go with no plan, so that none are asked for where it is large
+abbrev pub frames_word_in : Size → List ℕ → Option FramesForm
+frames_word_in Standard word = frames_word word
+frames_word_in Large word = None
+
 -- what a word asks of a run
 abbrev pub events_word : List ℕ → Option EventsForm
 events_word word =
@@ -106,54 +118,64 @@ events_word word =
     else None
 
 -- a form on a plan, if the word may name its file; on a ladder, if the word is such a number
-abbrev pub form_of_two : Option PlanForm → Option LadderForm → List ℕ → Option Form
-form_of_two (Some what) ladder second = if is_file_word second then Some (on_plan what second) else None
-form_of_two None (Some what) second = option_map (on_ladder what) (ladder_size second)
-form_of_two None None second = None
+abbrev pub form_of_two : Size → Option PlanForm → Option LadderForm → List ℕ → Option Form
+form_of_two size (Some what) ladder second = if is_file_word second then Some (on_plan what (record { size = size; name = second })) else None
+form_of_two size None (Some what) second = option_map (on_ladder what) (ladder_size size second)
+form_of_two size None None second = None
 
 -- a form on a certificate, if both words may name files; on captured frames, if the words are an option and one that may
 -- name a file
-abbrev pub form_of_three : Option RanksForm → Option FramesForm → List ℕ → List ℕ → Option Form
-form_of_three (Some what) frames second third =
-    if is_file_word second && is_file_word third then Some (on_ranks what second third) else None
-form_of_three None (Some what) second third =
+abbrev pub form_of_three : Size → Option RanksForm → Option FramesForm → List ℕ → List ℕ → Option Form
+form_of_three size (Some what) frames second third =
+    if is_file_word second && is_file_word third then Some (on_ranks what (record { size = size; name = second }) third) else None
+form_of_three size None (Some what) second third =
     if is_file_word third then option_map (λ option. on_frames what option third) (option_of second) else None
-form_of_three None None second third = None
+form_of_three size None None second third = None
 
 -- the form `sweep`, if the word may name a file and is followed by two milliseconds up to the last one, the first of
 -- them not the later
-abbrev pub sweep_form : List ℕ → List ℕ → List ℕ → Option Form
-sweep_form plan at_word until_word = if is_file_word plan then option_and_then from (number_of at_word) else None
+abbrev pub sweep_form : Size → List ℕ → List ℕ → List ℕ → Option Form
+sweep_form size plan at_word until_word = if is_file_word plan then option_and_then from (number_of at_word) else None
   where
     up_to : ℕ → ℕ → Option Form
-    up_to at until = if nat_le at until then Some (on_plan (Sweep at until) plan) else None
+    up_to at until = if nat_le at until then Some (on_plan (Sweep at until) (record { size = size; name = plan })) else None
 
     from : ℕ → Option Form
     from at = option_and_then (up_to at) (millisecond_of until_word)
 
 -- a form of a plan and another file, if the words may name files and are followed by a millisecond up to the last one
-abbrev pub run_form : (List ℕ → List ℕ → ℕ → Form) → List ℕ → List ℕ → List ℕ → Option Form
-run_form form plan other word = if is_file_word plan && is_file_word other then option_map (form plan other) (millisecond_of word) else None
+abbrev pub run_form : Size → (PlanName → List ℕ → ℕ → Form) → List ℕ → List ℕ → List ℕ → Option Form
+run_form size form plan other word =
+    if is_file_word plan && is_file_word other then option_map (form (record { size = size; name = plan }) other) (millisecond_of word) else None
 
 -- a form on events, `study` or `sweep`
-abbrev pub form_of_four : Option EventsForm → List ℕ → List ℕ → List ℕ → List ℕ → Option Form
-form_of_four (Some what) word second third fourth = run_form (on_events what) second third fourth
-form_of_four None word second third fourth =
-    if bytes_eq word (codes "study") then run_form study second third fourth
-    else if bytes_eq word (codes "sweep") then sweep_form second third fourth
+abbrev pub form_of_four : Size → Option EventsForm → List ℕ → List ℕ → List ℕ → List ℕ → Option Form
+form_of_four size (Some what) word second third fourth = run_form size (on_events what) second third fourth
+form_of_four size None word second third fourth =
+    if bytes_eq word (codes "study") then run_form size study second third fourth
+    else if bytes_eq word (codes "sweep") then sweep_form size second third fourth
     else None
 
 -- the form `node`, if its first and third word may name files and are followed by a millisecond up to the last one; the
 -- element's word may be any
-abbrev pub node_form : List ℕ → List ℕ → List ℕ → List ℕ → Option Form
-node_form plan element name word = run_form (λ plan name. node plan element name) plan name word
+abbrev pub node_form : Size → List ℕ → List ℕ → List ℕ → List ℕ → Option Form
+node_form size plan element name word = run_form size (λ plan name. node plan element name) plan name word
 
--- the form of the words, if they have one
+-- the form of the words where plans may be of a size, if they have one
+abbrev pub form_in : Size → List (List ℕ) → Option Form
+form_in size (word ∷ second ∷ []) = form_of_two size (plan_word word) (ladder_word word) second
+form_in size (word ∷ second ∷ third ∷ []) = form_of_three size (ranks_word word) (frames_word_in size word) second third
+form_in size (word ∷ second ∷ third ∷ fourth ∷ []) =
+    form_of_four size (events_word word) word second third fourth
+form_in size (word ∷ second ∷ third ∷ fourth ∷ fifth ∷ []) =
+    if bytes_eq word (codes "node") then node_form size second third fourth fifth else None
+form_in size _ = None
+
+-- the first word allows large plans
+abbrev pub are_large : List (List ℕ) → Bool
+are_large [] = false
+are_large (word ∷ rest) = bytes_eq word (codes "large")
+
+-- the form of the words, if they have one: plans may be large where the first word says so, and then the others are the form
 abbrev pub form_of : List (List ℕ) → Option Form
-form_of (word ∷ second ∷ []) = form_of_two (plan_word word) (ladder_word word) second
-form_of (word ∷ second ∷ third ∷ []) = form_of_three (ranks_word word) (frames_word word) second third
-form_of (word ∷ second ∷ third ∷ fourth ∷ []) =
-    form_of_four (events_word word) word second third fourth
-form_of (word ∷ second ∷ third ∷ fourth ∷ fifth ∷ []) =
-    if bytes_eq word (codes "node") then node_form second third fourth fifth else None
-form_of _ = None
+form_of words = if are_large words then form_in Large (drop 1 words) else form_in Standard words

@@ -10,7 +10,11 @@ use Rattle.sync_topo.specs.Refusal.{refusal_number, refused_place}
 use Rattle.plan_file.specs.declared.error.PlanFileErr.{PlanFileErr}
 use Rattle.plan_file.specs.declared.error.PlanFileErr.TheVariants as plan
 use Rattle.sync_text.specs.Chain.{◌>>=◌}
-use Rattle.plan_file.specs.PlanText.{plan_of}
+use Rattle.plan_file.specs.PlanText.{plan_of_size}
+use Rattle.sync_topo.specs.declared.sizes.Size.{Size}
+use Rattle.sync_topo.specs.declared.sizes.Size.TheVariants.{Standard, Large}
+use Rattle.sync_top.specs.declared.input.TheConstants.{STANDARD_BYTES, LARGE_BYTES}
+use Rattle.sync_top.specs.Form.{PlanName}
 use Rattle.sync_top.specs.declared.status.Status.{Status}
 use Rattle.sync_top.specs.declared.status.Status.TheVariants.{Done, BadPlan, TooLong}
 use Rattle.std.specs.Fmt.{decimal}
@@ -28,9 +32,10 @@ pub data End : Type 0 where
   -- the answer is this status and this text
   answered : Status → List ℕ → End
 
--- the most bytes that a file may have
-abbrev pub file_limit : ℕ
-file_limit = 8388608
+-- the most bytes of a plan's file where the plan may be of this size, and of a file that goes with a plan of this size
+abbrev pub file_limit : Size → ℕ
+file_limit Standard = STANDARD_BYTES
+file_limit Large = LARGE_BYTES
 
 -- the answer to what was read, or what ended the reading
 abbrev pub Answered : {A : Type 0} → (A → Status → List ℕ → Type 0) → Result A End → Status → List ℕ → Type 0
@@ -55,13 +60,13 @@ one_file {A = A} read = record { files = 1; First = A; first = read; Read = A; r
 abbrev pub two_files : {A B : Type 0} → (Contents → Result A End) → (Contents → Result B End) → Reading
 two_files {A = A} {B = B} first read = record { files = 2; First = A; first = first; Read = B; read = read }
 
--- the bytes of a file
-abbrev pub file : List ℕ → Contents → Result (List ℕ) End
-file name files = within (get files name)
+-- the bytes of a file that may be as long as the size says
+abbrev pub file : Size → List ℕ → Contents → Result (List ℕ) End
+file size name files = within (get files name)
   where
     within : Option (List ℕ) → Result (List ℕ) End
     within None = Err no_file
-    within (Some bytes) = if nat_lt file_limit (length bytes) then Err (answered TooLong (text_line (codes "too long"))) else Ok bytes
+    within (Some bytes) = if nat_lt (file_limit size) (length bytes) then Err (answered TooLong (text_line (codes "too long"))) else Ok bytes
 
 -- the line on a refusal: what is refused, the refusal's number, and where; out of memory has no number and no line
 abbrev pub refusal_line : List ℕ → Option ℕ → List ℕ → List ℕ
@@ -103,11 +108,11 @@ abbrev pub accepted_plan : Result Topology PlanFileErr → Result Topology End
 accepted_plan (Ok topology) = Ok topology
 accepted_plan (Err refused) = Err (answered BadPlan (text_line (plan_refusal refused)))
 
--- the plan of a file
-abbrev pub plan_in : List ℕ → Contents → Result Topology End
-plan_in name files = do
-  bytes ← file name files
-  accepted_plan (plan_of bytes)
+-- the plan of a file, which may be of no more than the size that the words allow
+abbrev pub plan_in : PlanName → Contents → Result Topology End
+plan_in asked files = do
+  bytes ← file asked.size asked.name files
+  accepted_plan (plan_of_size asked.size bytes)
 
 -- the text that was asked for
 abbrev pub IsText : List ℕ → Status → List ℕ → Type 0

@@ -5,6 +5,7 @@ use Rattle.sync_edge.specs.Contents.{Contents}
 use Rattle.sync_topo.specs.Topology.{Topology}
 use Rattle.plan_file.specs.IsPlanText.{IsPlanText}
 use Rattle.reach_rules.specs.Agreement.{IsAgreedBound}
+use Rattle.reach_rules.specs.Failing.{IsFailureBound, is_planned, SurvivesEachSoon}
 use Rattle.reach_rules.specs.Survival.{Survives}
 use Rattle.sync_top.specs.declared.form.PlanForm.TheVariants.{Protect}
 use Rattle.sync_top.specs.Form.{Form, on_plan}
@@ -21,6 +22,12 @@ Protects P (Some (on_plan Protect plan_name)) before now files =
     (plan : Topology) × (plan_in plan_name files ≡ Ok plan) × ((text : List ℕ) × Appends before now text × IsTextOf P text)
 Protects P form before now files = ⊤
 
--- a plan has an agreed bound, and by it survives each of its failures
-abbrev pub IsSurvivor : Topology → Type 0
-IsSurvivor plan = (bound : ℕ) × IsAgreedBound plan bound × Survives plan bound
+-- a plan has an agreed bound, and by it survives each of its failures; and it has a bound after failures, by which it survives each
+-- out of a settled network, where its parts only go down
+pub record IsSurvivor (plan : Topology) : Type 0 where
+  pub bound : ℕ
+  pub agreed : IsAgreedBound plan bound
+  pub survives : Survives plan bound
+  pub failures : ℕ
+  pub failed : IsFailureBound (is_planned plan) plan failures
+  pub soon : SurvivesEachSoon plan failures

@@ -9,24 +9,31 @@ use std::alloc::Global;
 use sync_text::{NoMemory, Text};
 use sync_topo::Plan;
 
-/// That a plan agrees, and its bound.
-fn agreed_text(alloc: Global, bound: u64) -> Result<Text, NoMemory>
-    ensures { IfOk result (λ text. text ≡ agreed_text bound) }
+/// That a plan agrees, its bound, and its bound after failures.
+fn agreed_text(alloc: Global, bound: u64, failures: u64) -> Result<Text, NoMemory>
+    ensures { IfOk result (λ text. text ≡ agreed_text bound failures) }
 {
     let mut text = Text::new(alloc);
     text.put(b"agreed\nbound ")?;
     text.put_number(bound)?;
+    text.put(b"\nfailures ")?;
+    text.put_number(failures)?;
     text.put(b"\n")?;
     Ok(text)
 }
 
-/// What is found of a plan: that its priorities agree with the ways of timing, with its bound, or the
+/// What is found of a plan: that its priorities agree with the ways of timing, with its bounds, or the
 /// first circle of lines that bear on one another.
 pub(crate) fn agreed(alloc: Global, plan: &Plan) -> Result<Found, NoMemory>
     ensures { IfOk result (λ found. IsAgreedText plan.now (ends_in found.finding) found.text) }
 {
+    // Every plan keeps the rules.
+    let _elements = plan.elements();
     match agree(alloc, plan)? {
-        Agreement::Bound(bound) => Ok(done(agreed_text(alloc, bound)?)),
+        Agreement::Bound(bounds) => {
+            let text = agreed_text(alloc, bounds.bound, bounds.failures)?;
+            Ok(done(text))
+        }
         Agreement::Clash(lines) => Ok(Found {
             finding: Finding::Refuted,
             text: lines_text(alloc, b"clash", plan, lines.as_slice())?,

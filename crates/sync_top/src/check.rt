@@ -7,10 +7,12 @@ ghost use Rattle.sync_top.specs.Forms.Check.{certificate_refusal, certificate_pl
 ghost use Rattle.sync_top.specs.Answer.{outside_of};
 ghost use Rattle.rank_cert.specs.Ranks.{IsRanked};
 ghost use Rattle.rank_cert.specs.Rules.{NamesLine};
+ghost use Rattle.sync_top.specs.private.FormSeen.{named};
 ghost use Rattle.sync_top.specs.private.Work.{Gets, HasRead, ends_in, stopped_in};
 
+use crate::form::PlanName;
 use crate::found::{Finding, Found, done};
-use crate::input::file;
+use crate::input::file_beside;
 use crate::plan_input::plan_in;
 use crate::reply::{Reply, Stop, line_text, put_number, refusal};
 use crate::status::Status;
@@ -58,7 +60,7 @@ fn cert_in<F: Folder>(alloc: Global, folder: &mut F, plan: &Plan, name: &str) ->
     ensures keeps { KeepsFolder F.contents F.steady F.faults folder.old folder.new }
     ensures ranked { IfOk result (IsRanked plan.now) }
 {
-    let bytes = file(alloc, folder, name)?;
+    let bytes = file_beside(alloc, folder, plan, name)?;
     match read_cert(alloc, plan, bytes.bytes()) {
         Ok(cert) => Ok(cert),
         Err(CertErr::NoMemory) => Err(Stop::NoMemory),
@@ -73,10 +75,10 @@ fn cert_in<F: Folder>(alloc: Global, folder: &mut F, plan: &Plan, name: &str) ->
 pub(crate) fn documents<F: Folder>(
     alloc: Global,
     folder: &mut F,
-    plan: &str,
+    plan: PlanName<'_>,
     cert: &str,
 ) -> Result<(Plan, Cert), Stop>
-    ensures read { HasRead (two_files (plan_in plan.now) (documents plan.now cert.now))
+    ensures read { HasRead (two_files (plan_in (named plan.entry)) (documents (named plan.entry) cert.now))
         (λ read. (read.0, read.1)) (outside_of F.contents F.steady F.faults folder.old folder.new) (F.tries folder.old) (F.tries folder.new) result }
     ensures keeps { KeepsFolder F.contents F.steady F.faults folder.old folder.new }
     ensures ranked { IfOk result (λ read. IsRanked read.0 read.1) }

@@ -1,13 +1,14 @@
-ghost use Rattle.std.specs.Prelude.{◌≡◌, ◌≤◌, false, map, codes, Some, None, IfSome, if◌then◌else◌};
+ghost use Rattle.std.specs.Prelude.{◌≡◌, ◌≤◌, false, IsTrue, length, map, codes, Some, None, IfSome, if◌then◌else◌};
 ghost use Rattle.std.specs.Option.{option_map};
 ghost use Rattle.std.specs.String.{string_bytes};
-ghost use Rattle.sync_top.specs.Form.{form_of, form_of_two, form_of_three, form_of_four, run_form, sweep_form, node_form, on_events, study, ladder_size, millisecond_of, option_of, is_file_word, plan_word, ranks_word, events_word, frames_word, ladder_word};
+ghost use Rattle.sync_top.specs.Form.{form_of, form_in, are_large, form_of_two, form_of_three, form_of_four, run_form, sweep_form, node_form, on_events, study, ladder_size, millisecond_of, option_of, is_file_word, plan_word, ranks_word, events_word, frames_word, frames_word_in, ladder_word};
+ghost use Rattle.sync_topo.specs.Sizes.{most_elements};
 ghost use Rattle.sync_top.specs.private.FormSeen.{seen, IsSized};
 
 use sync_ql::NetOption;
 use sync_ql::limits::LAST_MILLISECOND;
 use sync_text::read_number;
-use sync_topo::MOST_ELEMENTS;
+use sync_topo::{MOST_ELEMENTS, STANDARD_ELEMENTS, Size};
 
 /// What is asked of a plan.
 #[derive(Clone, Copy, Drop)]
@@ -81,19 +82,28 @@ pub(crate) enum LadderForm {
     Trial,
 }
 
+/// The file of a plan, and the size that the words allow the plan.
+#[derive(Clone, Copy, Drop)]
+pub(crate) struct PlanName<'a> {
+    /// The most that the plan may be.
+    pub(crate) size: Size,
+    /// The file's name.
+    pub(crate) name: &'a str,
+}
+
 /// What the program is asked for, by what it reads.
 #[derive(Clone, Copy, Drop)]
 pub(crate) enum Form<'a> {
     /// Of a plan, by the name of its file.
-    OnPlan(PlanForm, &'a str),
+    OnPlan(PlanForm, PlanName<'a>),
     /// Of a plan and a certificate, by the names of their files.
-    OnRanks(RanksForm, &'a str, &'a str),
+    OnRanks(RanksForm, PlanName<'a>, &'a str),
     /// Of a run.
     OnEvents {
         /// What is asked.
         what: EventsForm,
         /// The plan's file.
-        plan: &'a str,
+        plan: PlanName<'a>,
         /// The events' file.
         events: &'a str,
         /// The last millisecond, at most 86,400,000.
@@ -102,7 +112,7 @@ pub(crate) enum Form<'a> {
     /// Of runs in many cases.
     Study {
         /// The plan's file.
-        plan: &'a str,
+        plan: PlanName<'a>,
         /// The cases' file.
         cases: &'a str,
         /// The last millisecond, at most 86,400,000.
@@ -110,12 +120,12 @@ pub(crate) enum Form<'a> {
     },
     /// Of captured frames or rows, by the option of their levels and the name of their file.
     OnFrames(FramesForm, NetOption, &'a str),
-    /// Of the ladder of so many elements, 2 to 2,000.
+    /// Of the ladder of so many elements, 2 to 2,000, or to 100,000 where plans may be large.
     OnLadder(LadderForm, u32),
     /// The frames that an element sends.
     Node {
         /// The plan's file.
-        plan: &'a str,
+        plan: PlanName<'a>,
         /// The element's name, which may be any word.
         element: &'a str,
         /// The file of what the element received.
@@ -126,20 +136,48 @@ pub(crate) enum Form<'a> {
 }
 
 /// The form of the words, if they have one.
+///
+/// Plans may be large where the first word is `large`, and then the words after it are the form.
 pub(crate) fn form_of(words: &[String]) -> Option<Form<'_>>
     ensures form { option_map seen result ≡ form_of (map string_bytes words.now) }
     ensures sized { IfSome result IsSized }
 {
+    if are_large(words) {
+        return form_in(Size::Large, &words[1..]);
+    }
+    form_in(Size::Standard, words)
+}
+
+/// The first word allows large plans.
+fn are_large(words: &[String]) -> bool
+    ensures large { result ≡ are_large (map string_bytes words.now) }
+    ensures some { IsTrue result → 1 ≤ length words.now }
+{
+    match words.first() {
+        Some(word) => word.as_str() == "large",
+        None => false,
+    }
+}
+
+/// The form of the words where plans may be of a size, if they have one.
+fn form_in(size: Size, words: &[String]) -> Option<Form<'_>>
+    ensures form { option_map seen result ≡ form_in size (map string_bytes words.now) }
+    ensures sized { IfSome result IsSized }
+{
     match words {
-        [word, second] => form_of_two(word.as_str(), second.as_str()),
-        [word, second, third] => form_of_three(word.as_str(), second.as_str(), third.as_str()),
+        [word, second] => form_of_two(size, word.as_str(), second.as_str()),
+        [word, second, third] => {
+            form_of_three(size, word.as_str(), second.as_str(), third.as_str())
+        }
         [word, second, third, fourth] => form_of_four(
+            size,
             word.as_str(),
             second.as_str(),
             third.as_str(),
             fourth.as_str(),
         ),
         [word, second, third, fourth, fifth] if word.as_str() == "node" => node_form(
+            size,
             second.as_str(),
             third.as_str(),
             fourth.as_str(),
@@ -201,6 +239,17 @@ fn frames_word(word: &str) -> Option<FramesForm>
     }
 }
 
+/// The same where plans may be of a size: frames and rows go with no plan, so that none are asked
+/// for where it is large.
+fn frames_word_in(size: Size, word: &str) -> Option<FramesForm>
+    ensures { result ≡ frames_word_in size word.now }
+{
+    match size {
+        Size::Standard => frames_word(word),
+        Size::Large => None,
+    }
+}
+
 /// What a word asks of a run.
 fn events_word(word: &str) -> Option<EventsForm>
     ensures { result ≡ events_word word.now }
@@ -214,62 +263,69 @@ fn events_word(word: &str) -> Option<EventsForm>
 }
 
 /// The form of two words, if they have one.
-fn form_of_two<'a>(word: &str, second: &'a str) -> Option<Form<'a>>
-    ensures form { option_map seen result ≡ form_of_two (plan_word word.now) (ladder_word word.now) second.now }
+fn form_of_two<'a>(size: Size, word: &str, second: &'a str) -> Option<Form<'a>>
+    ensures form { option_map seen result ≡ form_of_two size (plan_word word.now) (ladder_word word.now) second.now }
     ensures sized { IfSome result IsSized }
 {
     if let Some(what) = plan_word(word) {
         if second.is_empty() {
             return None;
         }
-        return Some(Form::OnPlan(what, second));
+        return Some(Form::OnPlan(what, PlanName { size, name: second }));
     }
     let what = ladder_word(word)?;
-    let size = ladder_size(second)?;
-    Some(Form::OnLadder(what, size))
+    let elements = ladder_size(size, second)?;
+    Some(Form::OnLadder(what, elements))
 }
 
 /// The form of three words, if they have one.
-fn form_of_three<'a>(word: &str, second: &'a str, third: &'a str) -> Option<Form<'a>>
+fn form_of_three<'a>(size: Size, word: &str, second: &'a str, third: &'a str) -> Option<Form<'a>>
     ensures form { option_map seen result
-        ≡ form_of_three (ranks_word word.now) (frames_word word.now) second.now third.now }
+        ≡ form_of_three size (ranks_word word.now) (frames_word_in size word.now) second.now third.now }
     ensures sized { IfSome result IsSized }
 {
     if let Some(what) = ranks_word(word) {
         if second.is_empty() || third.is_empty() {
             return None;
         }
-        return Some(Form::OnRanks(what, second, third));
+        return Some(Form::OnRanks(what, PlanName { size, name: second }, third));
     }
-    let what = frames_word(word)?;
+    let what = frames_word_in(size, word)?;
     let option = option_with(second, third)?;
     Some(Form::OnFrames(what, option, third))
 }
 
 /// The form of four words, if they have one.
-fn form_of_four<'a>(word: &str, second: &'a str, third: &'a str, fourth: &str) -> Option<Form<'a>>
-    ensures form { option_map seen result ≡ form_of_four (events_word word.now) word.now second.now
+fn form_of_four<'a>(
+    size: Size,
+    word: &str,
+    second: &'a str,
+    third: &'a str,
+    fourth: &str,
+) -> Option<Form<'a>>
+    ensures form { option_map seen result ≡ form_of_four size (events_word word.now) word.now second.now
         third.now fourth.now }
     ensures sized { IfSome result IsSized }
 {
     if let Some(what) = events_word(word) {
-        return events_form(what, second, third, fourth);
+        return events_form(size, what, second, third, fourth);
     }
     match word {
-        "study" => study_form(second, third, fourth),
-        "sweep" => sweep_form(second, third, fourth),
+        "study" => study_form(size, second, third, fourth),
+        "sweep" => sweep_form(size, second, third, fourth),
         _ => None,
     }
 }
 
 /// The form on events, if the words may name files and are followed by such a millisecond.
 fn events_form<'a>(
+    size: Size,
     what: EventsForm,
     plan: &'a str,
     events: &'a str,
     until: &str,
 ) -> Option<Form<'a>>
-    ensures form { option_map seen result ≡ run_form (on_events what) plan.now events.now until.now }
+    ensures form { option_map seen result ≡ run_form size (on_events what) plan.now events.now until.now }
     ensures sized { IfSome result IsSized }
 {
     if plan.is_empty() || events.is_empty() {
@@ -278,28 +334,32 @@ fn events_form<'a>(
     let until = millisecond_of(until)?;
     Some(Form::OnEvents {
         what,
-        plan,
+        plan: PlanName { size, name: plan },
         events,
         until,
     })
 }
 
 /// The form `study`, if its words may name files and are followed by such a millisecond.
-fn study_form<'a>(plan: &'a str, cases: &'a str, until: &str) -> Option<Form<'a>>
-    ensures form { option_map seen result ≡ run_form study plan.now cases.now until.now }
+fn study_form<'a>(size: Size, plan: &'a str, cases: &'a str, until: &str) -> Option<Form<'a>>
+    ensures form { option_map seen result ≡ run_form size study plan.now cases.now until.now }
     ensures sized { IfSome result IsSized }
 {
     if plan.is_empty() || cases.is_empty() {
         return None;
     }
     let until = millisecond_of(until)?;
-    Some(Form::Study { plan, cases, until })
+    Some(Form::Study {
+        plan: PlanName { size, name: plan },
+        cases,
+        until,
+    })
 }
 
 /// The form `sweep`, if the word may name a file and is followed by two such milliseconds, the
 /// first of them not the later.
-fn sweep_form<'a>(plan: &'a str, at: &str, until: &str) -> Option<Form<'a>>
-    ensures form { option_map seen result ≡ sweep_form plan.now at.now until.now }
+fn sweep_form<'a>(size: Size, plan: &'a str, at: &str, until: &str) -> Option<Form<'a>>
+    ensures form { option_map seen result ≡ sweep_form size plan.now at.now until.now }
     ensures sized { IfSome result IsSized }
 {
     if plan.is_empty() {
@@ -310,13 +370,19 @@ fn sweep_form<'a>(plan: &'a str, at: &str, until: &str) -> Option<Form<'a>>
     if until < at {
         return None;
     }
-    Some(Form::OnPlan(PlanForm::Sweep { at, until }, plan))
+    Some(Form::OnPlan(PlanForm::Sweep { at, until }, PlanName { size, name: plan }))
 }
 
 /// The form `node`, if its first and third word may name files and are followed by such a
 /// millisecond.
-fn node_form<'a>(plan: &'a str, element: &'a str, file: &'a str, until: &str) -> Option<Form<'a>>
-    ensures form { option_map seen result ≡ node_form plan.now element.now file.now until.now }
+fn node_form<'a>(
+    size: Size,
+    plan: &'a str,
+    element: &'a str,
+    file: &'a str,
+    until: &str,
+) -> Option<Form<'a>>
+    ensures form { option_map seen result ≡ node_form size plan.now element.now file.now until.now }
     ensures sized { IfSome result IsSized }
 {
     if plan.is_empty() || file.is_empty() {
@@ -324,20 +390,31 @@ fn node_form<'a>(plan: &'a str, element: &'a str, file: &'a str, until: &str) ->
     }
     let until = millisecond_of(until)?;
     Some(Form::Node {
-        plan,
+        plan: PlanName { size, name: plan },
         element,
         file,
         until,
     })
 }
 
+/// The most elements of a ladder: as many as of a plan of the size.
+fn most_elements(size: Size) -> u64
+    ensures most { result ≡ most_elements size }
+    ensures at_most { result ≤ MOST_ELEMENTS }
+{
+    match size {
+        Size::Standard => STANDARD_ELEMENTS as u64,
+        Size::Large => MOST_ELEMENTS as u64,
+    }
+}
+
 /// The number of elements that a word gives a ladder, if it may have so many.
-fn ladder_size(word: &str) -> Option<u32>
-    ensures size { result ≡ ladder_size word.now }
+fn ladder_size(size: Size, word: &str) -> Option<u32>
+    ensures size { result ≡ ladder_size size word.now }
     ensures sized { IfSome result (λ n. (2 ≤ n) × (n ≤ MOST_ELEMENTS)) }
 {
     match read_number(word.as_bytes()) {
-        Some(n) if 2 <= n && n <= MOST_ELEMENTS as u64 => Some(n as u32),
+        Some(n) if 2 <= n && n <= most_elements(size) => Some(n as u32),
         _ => None,
     }
 }

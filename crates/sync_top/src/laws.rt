@@ -30,13 +30,19 @@ pub fn one_answer_law()
 }
 
 /// The law that the test of ranks accepts what the planner wrote: where `rank` of a plan was done,
-/// `check` of the plan and of a file of nonempty name that holds what was written is done too.
+/// `check` of the plan and of a file of nonempty name that holds what was written is done too, and so
+/// it is with `large` before both.
 ///
 /// It does nothing: its contract is the law. This project's own.
 pub fn planned_is_accepted_law()
-    ensures { (plan certificate text : List ℕ) → (files : Contents)
+    ensures standard { (plan certificate text : List ℕ) → (files : Contents)
         → IsAnswer (codes "rank" ∷ plan ∷ []) files Status.Done text
         → 0 < length certificate → get files certificate ≡ Some text
         → IsAnswer (codes "check" ∷ plan ∷ certificate ∷ []) files Status.Done
+        (text_line (codes "accepted")) }
+    ensures large { (plan certificate text : List ℕ) → (files : Contents)
+        → IsAnswer (codes "large" ∷ codes "rank" ∷ plan ∷ []) files Status.Done text
+        → 0 < length certificate → get files certificate ≡ Some text
+        → IsAnswer (codes "large" ∷ codes "check" ∷ plan ∷ certificate ∷ []) files Status.Done
         (text_line (codes "accepted")) }
 {}

@@ -34,6 +34,7 @@ mod studying;
 mod sweep;
 mod trial;
 mod works;
+mod written;
 
 pub use laws::{one_answer_law, planned_is_accepted_law};
 pub use program::run;

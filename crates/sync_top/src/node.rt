@@ -5,10 +5,12 @@ ghost use Rattle.sync_topo.specs.Topology.{Topology};
 ghost use Rattle.node_replay.specs.Sent.{IsSentText};
 ghost use Rattle.sync_top.specs.Forms.Node.{unknown_element, node_place, node_refusal, element_in, element_of_plan, received_in, node_bytes, IsNodeReply};
 ghost use Rattle.sync_top.specs.Answer.{outside_of};
+ghost use Rattle.sync_top.specs.private.FormSeen.{named};
 ghost use Rattle.sync_top.specs.private.Work.{Gets, HasRead, ends_in, stopped_in};
 
+use crate::form::PlanName;
 use crate::found::{Finding, Found, done};
-use crate::input::file;
+use crate::input::file_beside;
 use crate::plan_input::plan_in;
 use crate::reply::{Reply, Stop, put_number, refusal};
 use crate::status::Status;
@@ -96,7 +98,7 @@ fn received_in<F: Folder>(
             text: unknown_element_text(alloc)?,
         }));
     };
-    match file(alloc, folder, name) {
+    match file_beside(alloc, folder, plan, name) {
         Ok(bytes) => Ok((element, bytes)),
         Err(stop) => Err(stop),
     }
@@ -106,11 +108,11 @@ fn received_in<F: Folder>(
 pub(crate) fn node_bytes<F: Folder>(
     alloc: Global,
     folder: &mut F,
-    plan: &str,
+    plan: PlanName<'_>,
     element: &str,
     name: &str,
 ) -> Result<(Plan, u32, Text), Stop>
-    ensures read { HasRead (two_files (element_of_plan plan.now element.now) (node_bytes plan.now element.now name.now))
+    ensures read { HasRead (two_files (element_of_plan (named plan.entry) element.now) (node_bytes (named plan.entry) element.now name.now))
         (λ read. (read.0, read.1, read.2)) (outside_of F.contents F.steady F.faults folder.old folder.new) (F.tries folder.old) (F.tries folder.new) result }
     ensures keeps { KeepsFolder F.contents F.steady F.faults folder.old folder.new }
     ensures within { IfOk result (λ read. read.1 < length read.0.elements) }

@@ -2,8 +2,10 @@ ghost use Rattle.std.specs.Prelude.{◌≡◌, ◌≢◌, ◌++◌, IfOk, OnOk, 
 ghost use Rattle.sync_edge.specs.Contents.{KeepsFolder};
 ghost use Rattle.sync_top.specs.Reading.{text_line, place_text, plan_in, plan_place, plan_refusal, rows_refusal, section_name};
 ghost use Rattle.sync_top.specs.Answer.{outside_of};
+ghost use Rattle.sync_top.specs.private.FormSeen.{named};
 ghost use Rattle.sync_top.specs.private.Work.{Gets};
 
+use crate::form::PlanName;
 use crate::input::file;
 use crate::reply::{Reply, Stop, put_number, refusal};
 use crate::status::Status;
@@ -13,14 +15,18 @@ use sync_edge::Folder;
 use sync_text::{NoMemory, Text};
 use sync_topo::{Place, Plan, PlanErr, Section};
 
-/// The plan of a file.
-pub(crate) fn plan_in<F: Folder>(alloc: Global, folder: &mut F, name: &str) -> Result<Plan, Stop>
+/// The plan of a file, which may be of no more than the size that the words allow.
+pub(crate) fn plan_in<F: Folder>(
+    alloc: Global,
+    folder: &mut F,
+    plan: PlanName<'_>,
+) -> Result<Plan, Stop>
     ensures gets { Gets (λ plan. plan) (outside_of F.contents F.steady F.faults folder.old folder.new)
-        (F.tries folder.old) (F.tries folder.new) result (plan_in name.now) }
+        (F.tries folder.old) (F.tries folder.new) result (plan_in (named plan.entry)) }
     ensures keeps { KeepsFolder F.contents F.steady F.faults folder.old folder.new }
 {
-    let bytes = file(alloc, folder, name)?;
-    match read_plan(alloc, bytes.bytes()) {
+    let bytes = file(alloc, folder, plan.size, plan.name)?;
+    match read_plan(alloc, bytes.bytes(), plan.size) {
         Ok(plan) => Ok(plan),
         Err(PlanFileErr::NoMemory) => Err(Stop::NoMemory),
         Err(refused) => Err(Stop::Ended(Reply {

@@ -5,8 +5,8 @@ ghost use Rattle.sync_top.specs.Forms.Rank.{lines_text, cycle_text, IsPlanned};
 ghost use Rattle.sync_top.specs.private.Work.{ends_in};
 
 use crate::found::{Finding, Found, done};
+use crate::written::ranks_text;
 use cycle_plan::{Ranked, rank_plan};
-use rank_cert::write_cert;
 use std::alloc::Global;
 use sync_text::{NoMemory, Text};
 use sync_topo::{InputId, LineId, Plan};
@@ -53,7 +53,7 @@ pub(crate) fn planned(alloc: Global, plan: &Plan) -> Result<Found, NoMemory>
     ensures { IfOk result (λ found. IsPlanned plan.now (ends_in found.finding) found.text) }
 {
     match rank_plan(alloc, plan)? {
-        Ranked::Ranks(cert) => Ok(done(write_cert(alloc, plan, &cert)?)),
+        Ranked::Ranks(cert) => Ok(done(ranks_text(alloc, plan, &cert)?)),
         Ranked::Cycle(lines) => Ok(Found {
             finding: Finding::Refuted,
             text: cycle_text(alloc, plan, lines.as_slice())?,

@@ -3,8 +3,8 @@ ghost use Rattle.sync_top.specs.Forms.Priority.{IsPriorityPlanned};
 ghost use Rattle.sync_top.specs.private.Work.{ends_in};
 
 use crate::found::{Finding, Found, done};
-use prio_mode::{PrioRanked, prio_plan, write_forced};
-use rank_cert::write_cert;
+use crate::written::{forced_text, ranks_text};
+use prio_mode::{PrioRanked, prio_plan};
 use std::alloc::Global;
 use sync_text::NoMemory;
 use sync_topo::Plan;
@@ -15,10 +15,10 @@ pub(crate) fn priority_planned(alloc: Global, plan: &Plan) -> Result<Found, NoMe
     ensures { IfOk result (λ found. IsPriorityPlanned plan.now (ends_in found.finding) found.text) }
 {
     match prio_plan(alloc, plan)? {
-        PrioRanked::Ranks(cert) => Ok(done(write_cert(alloc, plan, &cert)?)),
+        PrioRanked::Ranks(cert) => Ok(done(ranks_text(alloc, plan, &cert)?)),
         PrioRanked::Loop(lines) => Ok(Found {
             finding: Finding::Refuted,
-            text: write_forced(alloc, plan, lines.as_slice())?,
+            text: forced_text(alloc, plan, lines.as_slice())?,
         }),
     }
 }

@@ -113,9 +113,20 @@ fn reply_to<R: Threads + Sync, F: Folder, G: Gate + Sync>(
 /// take the same files for a network whose elements choose by priority alone: a test of ranks, the
 /// least ranks or the event file of forced switches that make a loop, and the report of a run. `gen
 /// N` writes the ladder of N elements, 2 to 2,000, and `trial N` what planner, test and simulator
-/// find of it. PLAN, CERT, EVENTS, CASES and FILE are nonempty names of files, and OPTION is `I` or `II`.
+/// find of it.
+///
+/// A plan has at most 2,000 elements, 4,000 links and 2,000 sources. Before each of these words but
+/// those for captured frames and rows may stand `large`: then a plan has at most 100,000 elements,
+/// 200,000 links and 100,000 sources, its file at most 1 GiB in place of 8 MiB, and N goes to
+/// 100,000. How long another file may be, and how many events, cases and rows of a report there may
+/// be, goes by the plan that was read: a plan of standard size, in a file of at most 8 MiB, is
+/// answered alike with the word and without it.
+///
+/// PLAN, CERT, EVENTS, CASES and FILE are nonempty names of files, and OPTION is `I` or `II`.
 ///
 /// The whole text is made before its first byte is written, and it is written by one `write_all`.
+/// So a report takes memory for all of its text: at 10,000,000 rows, the most of a large plan, some
+/// 400 MB.
 /// `sweep` and `study` work on threads of the runtime, and wait for these alone; each calls the gate, which
 /// serves a test.
 ///
@@ -159,7 +170,9 @@ pub fn run<R: Threads + Sync, F: Folder, K: Sink, G: Gate + Sync>(
     // it: after the last event of any list by which no element is then under a forced or a manual
     // switch, each element that a level reaches which is better than every own clock takes the same
     // from the bound on, at the same level; and where that holds of every element, each millisecond is
-    // settled, and each element has exactly the best of the levels that reach it.
+    // settled, and each element has exactly the best of the levels that reach it. So it is from the bound
+    // after failures on, which is no greater, where the network was settled, since then nothing came up
+    // and no line's ESMC went off, and no event changes the level of a source.
     ensures agreed_comes_to_rest { result ≡ Status.Done → IfSome (F.contents folder.old)
         (IsComingToRest (form_of (map string_bytes words.now))) }
 

@@ -8,7 +8,7 @@ ghost use Rattle.sync_top.specs.private.Work.{ends_in};
 
 use crate::found::{Found, done, refuted};
 use crate::reply::line_text;
-use plan_file::write_plan;
+use crate::written::plan_text;
 use protection::{Failure, Gap, Protected, protect, protected};
 use std::alloc::Global;
 use sync_text::{NoMemory, Text};
@@ -104,7 +104,7 @@ pub(crate) fn protected_plan(alloc: Global, plan: &Plan) -> Result<Found, NoMemo
     ensures { IfOk result (λ found. IsProtectingText plan.now (ends_in found.finding) found.text) }
 {
     match protect(alloc, plan)? {
-        Protected::Plan(found) => Ok(done(write_plan(alloc, &found)?)),
+        Protected::Plan(found) => Ok(done(plan_text(alloc, &found)?)),
         Protected::Gaps(gaps) => Ok(refuted(gaps_text(alloc, plan, gaps.as_slice())?)),
     }
 }

@@ -5,10 +5,12 @@ ghost use Rattle.sync_topo.specs.Events.{Fits, IsInOrder};
 ghost use Rattle.sync_top.specs.Reading.{text_line, two_files, plan_in};
 ghost use Rattle.sync_top.specs.Forms.Sim.{event_place, event_refusal, events_in, plan_and_events, IsReport};
 ghost use Rattle.sync_top.specs.Answer.{outside_of};
+ghost use Rattle.sync_top.specs.private.FormSeen.{named};
 ghost use Rattle.sync_top.specs.private.Work.{Gets, HasRead, ends_in, stopped_in};
 
+use crate::form::PlanName;
 use crate::found::{Finding, Found, done};
-use crate::input::file;
+use crate::input::file_beside;
 use crate::plan_input::plan_in;
 use crate::reply::{Reply, Stop, put_number, refusal};
 use crate::running::run_to;
@@ -67,7 +69,7 @@ fn events_in<F: Folder>(
     ensures fit { IfOk result (All (Fits plan.now)) }
     ensures in_order { IfOk result IsInOrder }
 {
-    let bytes = file(alloc, folder, name)?;
+    let bytes = file_beside(alloc, folder, plan, name)?;
     match read_events(alloc, plan, bytes.bytes()) {
         Ok(events) => Ok(events),
         Err(EventErr::NoMemory) => Err(Stop::NoMemory),
@@ -82,10 +84,10 @@ fn events_in<F: Folder>(
 pub(crate) fn plan_and_events<F: Folder>(
     alloc: Global,
     folder: &mut F,
-    plan: &str,
+    plan: PlanName<'_>,
     events: &str,
 ) -> Result<(Plan, Rows<Event>), Stop>
-    ensures read { HasRead (two_files (plan_in plan.now) (plan_and_events plan.now events.now))
+    ensures read { HasRead (two_files (plan_in (named plan.entry)) (plan_and_events (named plan.entry) events.now))
         (λ read. (read.0, read.1)) (outside_of F.contents F.steady F.faults folder.old folder.new) (F.tries folder.old) (F.tries folder.new) result }
     ensures keeps { KeepsFolder F.contents F.steady F.faults folder.old folder.new }
     ensures fit { IfOk result (λ read. All (Fits read.0) read.1) }

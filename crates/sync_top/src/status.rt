@@ -25,7 +25,7 @@ pub enum Status {
     ReadFault,
     /// The sink failed.
     WriteFault,
-    /// A file has more than 8,388,608 bytes.
+    /// A file has more than 8,388,608 bytes, or than 1,073,741,824 where the plan is large, or may be.
     TooLong,
     /// Out of memory. Nothing was written.
     NoMemory,

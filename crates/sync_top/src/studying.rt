@@ -5,10 +5,12 @@ ghost use Rattle.sync_topo.specs.Events.{IsCase, IsEventList};
 ghost use Rattle.sync_top.specs.Answer.{outside_of};
 ghost use Rattle.sync_top.specs.Forms.Study.{cases_in, plan_and_cases, IsStudyTable};
 ghost use Rattle.sync_top.specs.Reading.{plan_in, two_files};
+ghost use Rattle.sync_top.specs.private.FormSeen.{named};
 ghost use Rattle.sync_top.specs.private.Work.{ends_in, stopped_in, Gets, HasRead};
 
+use crate::form::PlanName;
 use crate::found::{Found, done};
-use crate::input::file;
+use crate::input::file_beside;
 use crate::plan_input::plan_in;
 use crate::reply::{Reply, Stop};
 use crate::sim::refusal_text;
@@ -37,7 +39,7 @@ fn cases_in<F: Folder>(
     ensures each { IfOk result (λ cases. All (IsCase plan.now) cases.cases) }
     ensures named { IfOk result (λ cases. length cases.names ≡ length cases.cases) }
 {
-    let bytes = file(alloc, folder, name)?;
+    let bytes = file_beside(alloc, folder, plan, name)?;
     match read_cases(alloc, plan, bytes.bytes()) {
         Ok(cases) => Ok(cases),
         Err(EventErr::NoMemory) => Err(Stop::NoMemory),
@@ -52,10 +54,10 @@ fn cases_in<F: Folder>(
 pub(crate) fn plan_and_cases<F: Folder>(
     alloc: Global,
     folder: &mut F,
-    plan: &str,
+    plan: PlanName<'_>,
     cases: &str,
 ) -> Result<(Plan, Cases), Stop>
-    ensures read { HasRead (two_files (plan_in plan.now) (plan_and_cases plan.now cases.now))
+    ensures read { HasRead (two_files (plan_in (named plan.entry)) (plan_and_cases (named plan.entry) cases.now))
         (λ read. (read.0, read.1)) (outside_of F.contents F.steady F.faults folder.old folder.new) (F.tries folder.old) (F.tries folder.new) result }
     ensures keeps { KeepsFolder F.contents F.steady F.faults folder.old folder.new }
     ensures common { IfOk result (λ read. IsEventList read.0 read.1.common) }

@@ -3,13 +3,13 @@
 ghost use Rattle.std.specs.Prelude.{◌≡◌, ◌≤◌, ℕ, Some, None};
 ghost use Rattle.sync_edge.specs.Contents.{KeepsFolder};
 ghost use Rattle.sync_top.specs.Form.{on_plan, on_ranks, on_events, study, on_frames, on_ladder, node};
-ghost use Rattle.sync_top.specs.private.FormSeen.{IsTimed};
+ghost use Rattle.sync_top.specs.private.FormSeen.{named, IsTimed};
 ghost use Rattle.sync_top.specs.Answer.{outside_of, Outside};
 ghost use Rattle.sync_top.specs.private.Work.{Works};
 
 use crate::answers::{events_found, frames_found, ladder_found, plan_found, ranks_found};
 use crate::check::documents;
-use crate::form::{EventsForm, FramesForm, LadderForm, PlanForm, RanksForm};
+use crate::form::{EventsForm, FramesForm, LadderForm, PlanForm, PlanName, RanksForm};
 use crate::found::replied;
 use crate::input::file;
 use crate::node::{node_bytes, replayed};
@@ -24,7 +24,7 @@ use sync_edge::Folder;
 use sync_ql::NetOption;
 use sync_ql::limits::LAST_MILLISECOND;
 use sync_sweep::Gate;
-use sync_topo::MOST_ELEMENTS;
+use sync_topo::{MOST_ELEMENTS, Size};
 
 /// The work of a form on a plan.
 pub(crate) fn on_plan<R: Threads + Sync, F: Folder, G: Gate + Sync>(
@@ -32,11 +32,11 @@ pub(crate) fn on_plan<R: Threads + Sync, F: Folder, G: Gate + Sync>(
     alloc: Global,
     folder: &mut F,
     what: PlanForm,
-    plan: &str,
+    plan: PlanName<'_>,
     gate: &G,
 ) -> Result<Reply, Stop>
     requires timed { IsTimed what }
-    ensures works { Works (Some (on_plan what plan.now))
+    ensures works { Works (Some (on_plan what (named plan.entry)))
         (outside_of F.contents F.steady F.faults folder.old folder.new) (F.tries folder.old) (F.tries folder.new) result }
     ensures keeps { KeepsFolder F.contents F.steady F.faults folder.old folder.new }
 {
@@ -51,10 +51,10 @@ pub(crate) fn on_ranks<F: Folder>(
     alloc: Global,
     folder: &mut F,
     what: RanksForm,
-    plan: &str,
+    plan: PlanName<'_>,
     cert: &str,
 ) -> Result<Reply, Stop>
-    ensures works { Works (Some (on_ranks what plan.now cert.now))
+    ensures works { Works (Some (on_ranks what (named plan.entry) cert.now))
         (outside_of F.contents F.steady F.faults folder.old folder.new) (F.tries folder.old) (F.tries folder.new) result }
     ensures keeps { KeepsFolder F.contents F.steady F.faults folder.old folder.new }
 {
@@ -69,12 +69,12 @@ pub(crate) fn on_events<F: Folder>(
     alloc: Global,
     folder: &mut F,
     what: EventsForm,
-    plan: &str,
+    plan: PlanName<'_>,
     events: &str,
     until: u64,
 ) -> Result<Reply, Stop>
     requires in_range { until ≤ LAST_MILLISECOND }
-    ensures works { Works (Some (on_events what plan.now events.now until))
+    ensures works { Works (Some (on_events what (named plan.entry) events.now until))
         (outside_of F.contents F.steady F.faults folder.old folder.new) (F.tries folder.old) (F.tries folder.new) result }
     ensures keeps { KeepsFolder F.contents F.steady F.faults folder.old folder.new }
 {
@@ -91,13 +91,13 @@ pub(crate) fn study<R: Threads + Sync, F: Folder, G: Gate + Sync>(
     rt: &R,
     alloc: Global,
     folder: &mut F,
-    plan: &str,
+    plan: PlanName<'_>,
     cases: &str,
     until: u64,
     gate: &G,
 ) -> Result<Reply, Stop>
     requires in_range { until ≤ LAST_MILLISECOND }
-    ensures works { Works (Some (study plan.now cases.now until))
+    ensures works { Works (Some (study (named plan.entry) cases.now until))
         (outside_of F.contents F.steady F.faults folder.old folder.new) (F.tries folder.old) (F.tries folder.new) result }
     ensures keeps { KeepsFolder F.contents F.steady F.faults folder.old folder.new }
 {
@@ -119,7 +119,7 @@ pub(crate) fn on_frames<F: Folder>(
         (outside_of F.contents F.steady F.faults folder.old folder.new) (F.tries folder.old) (F.tries folder.new) result }
     ensures keeps { KeepsFolder F.contents F.steady F.faults folder.old folder.new }
 {
-    match file(alloc, folder, name) {
+    match file(alloc, folder, Size::Standard, name) {
         Ok(bytes) => replied(frames_found(alloc, what, option, bytes.bytes())),
         Err(stop) => Err(stop),
     }
@@ -129,13 +129,13 @@ pub(crate) fn on_frames<F: Folder>(
 pub(crate) fn node<F: Folder>(
     alloc: Global,
     folder: &mut F,
-    plan: &str,
+    plan: PlanName<'_>,
     element: &str,
     name: &str,
     until: u64,
 ) -> Result<Reply, Stop>
     requires in_range { until ≤ LAST_MILLISECOND }
-    ensures works { Works (Some (node plan.now element.now name.now until))
+    ensures works { Works (Some (node (named plan.entry) element.now name.now until))
         (outside_of F.contents F.steady F.faults folder.old folder.new) (F.tries folder.old) (F.tries folder.new) result }
     ensures keeps { KeepsFolder F.contents F.steady F.faults folder.old folder.new }
 {

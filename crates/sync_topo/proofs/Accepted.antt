@@ -313,3 +313,12 @@ accepted-well_formed rows plan = by (first_broken (rules_of rows)) refl
     by : (found : Option PlanErr) → first_broken (rules_of rows) ≡ found → or_refusal found (plan_from rows) ≡ Ok plan → IsWellFormed plan
     by None none given = let same : plan_from rows ≡ plan = cc in subst IsWellFormed same (said_well rows none)
     by (Some error) none given = absurd (cc)
+
+-- it is the plan that they say
+pub given-plan : (rows : PlanRows) (plan : Topology) → plan_of_rows rows ≡ Ok plan → plan_from rows ≡ plan
+unfolding plan_of_rows
+given-plan rows plan = by (first_broken (rules_of rows))
+  where
+    by : (found : Option PlanErr) → or_refusal found (plan_from rows) ≡ Ok plan → plan_from rows ≡ plan
+    by None given = cc
+    by (Some error) given = absurd (cc)

@@ -49,7 +49,7 @@ found-first (first ∷ rules) refusal found = cases first.broken refl found (fou
         let rest = later there in
         record { before = first ∷ rest.before; after = rest.after; order = ap (λ (rs : List Rule). first ∷ rs) rest.order; kept = rw (e, rest.kept) refl }
 
-first-found : (rules : List Rule) (refusal : PlanErr) → IsFirstBroken rules refusal → first_broken rules ≡ Some refusal
+pub first-found : (rules : List Rule) (refusal : PlanErr) → IsFirstBroken rules refusal → first_broken rules ≡ Some refusal
 first-found rules refusal first = rw first.order (kept-front first.before (rule refusal true ∷ first.after) (none-broken first.before first.kept))
 
 -- the rows give what they say exactly where no rule is broken

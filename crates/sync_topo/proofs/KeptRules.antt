@@ -18,7 +18,7 @@ use Rattle.sync_topo.specs.declared.rows.SourceRow.{SourceRow}
 use Rattle.sync_topo.specs.declared.rows.PlanRows.{PlanRows}
 use Rattle.sync_topo.specs.Topology.{Topology}
 use Rattle.sync_topo.specs.Lines.{link_of, is_nominated, receiver_of, source_priority, element_of_source, lines_into, sources_at, line_input, inputs_of}
-use Rattle.sync_topo.specs.Limits.{input_limit, least_holdoff, greatest_holdoff, greatest_wtr, least_delay, greatest_delay, greatest_priority}
+use Rattle.sync_topo.specs.Limits.{element_limit, link_limit, source_limit, input_limit, least_holdoff, greatest_holdoff, greatest_wtr, least_delay, greatest_delay, greatest_priority}
 use Rattle.sync_topo.specs.Names.{is_name, is_named, element_names, link_names, source_names}
 use Rattle.sync_topo.specs.RowValues.{element_of_name, element_from, link_from, source_from, plan_from}
 use Rattle.sync_topo.specs.Rules.{is_outside, is_no_clock_level, is_bad_bundle, has_room}
@@ -168,9 +168,9 @@ source_kept rows well fit front row rest split =
 pub plan_of_rows-kept : (rows : PlanRows) → IsWellFormed (plan_from rows) → RowsFit rows → plan_of_rows rows ≡ Ok (plan_from rows)
 unfolding plan_of_rows
 plan_of_rows-kept rows well fit =
-    let few_elements : nat_lt 2000 (length rows.elements) ≡ false = le-ltb 2000 (length rows.elements) (omega (arith, length-map rows.elements (element_from rows.option), well.few_elements)) in
-    let few_links : nat_lt 4000 (length rows.links) ≡ false = le-ltb 4000 (length rows.links) (omega (arith, length-map rows.links (link_from (plan_from rows).elements), well.few_links)) in
-    let few_sources : nat_lt 2000 (length rows.sources) ≡ false = le-ltb 2000 (length rows.sources) (omega (arith, length-map rows.sources (source_from rows.option (plan_from rows).elements), well.few_sources)) in
+    let few_elements : nat_lt element_limit (length rows.elements) ≡ false = le-ltb element_limit (length rows.elements) (omega (arith, length-map rows.elements (element_from rows.option), well.few_elements)) in
+    let few_links : nat_lt link_limit (length rows.links) ≡ false = le-ltb link_limit (length rows.links) (omega (arith, length-map rows.links (link_from (plan_from rows).elements), well.few_links)) in
+    let few_sources : nat_lt source_limit (length rows.sources) ≡ false = le-ltb source_limit (length rows.sources) (omega (arith, length-map rows.sources (source_from rows.option (plan_from rows).elements), well.few_sources)) in
     let elements = each_row-kept (element_row_rules rows) rows.elements (element_kept rows well fit) in
     let links = each_row-kept (link_row_rules rows) rows.links (link_kept rows well fit) in
     let sources = each_row-kept (source_row_rules rows) rows.sources (source_kept rows well fit) in

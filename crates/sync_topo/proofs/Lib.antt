@@ -23,3 +23,4 @@ pub mod BundleRules
 pub mod Accepted
 pub mod BundleLaws
 pub mod OutputLemmas
+pub mod SizedPlans

@@ -6,6 +6,7 @@ pub mod Hops
 pub mod Ranks
 pub mod Events
 pub mod Limits
+pub mod Sizes
 pub mod RowValues
 pub mod Rules
 pub mod PlanRows

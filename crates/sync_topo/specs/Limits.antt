@@ -1,8 +1,9 @@
 -- How much a plan may hold. This project's own, but for the hold-off and wait-to-restore times, which are after G.781.
 use Rattle.std.specs.Prelude.{ℕ}
-use Rattle.sync_topo.specs.declared.parts.TheConstants.{MOST_ELEMENTS, MOST_LINKS, MOST_SOURCES}
+use Rattle.sync_topo.specs.declared.sizes.TheConstants.{MOST_ELEMENTS, MOST_LINKS, MOST_SOURCES}
 use Rattle.sync_ql.specs.declared.limits.TheConstants.{MOST_INPUTS, LEAST_HOLDOFF, GREATEST_HOLDOFF, GREATEST_WTR_MINUTES, LEAST_DELAY, GREATEST_DELAY}
 
+-- the most elements, links and sources that any plan may have: those of a large one
 abbrev pub element_limit : ℕ
 element_limit = MOST_ELEMENTS
 

@@ -9,7 +9,10 @@ use Rattle.sync_topo.specs.declared.rows.LinkRow.{LinkRow}
 use Rattle.sync_topo.specs.declared.rows.SourceRow.{SourceRow}
 use Rattle.sync_topo.specs.declared.rows.PlanRows.{PlanRows}
 use Rattle.sync_topo.specs.Topology.{Topology}
-use Rattle.sync_topo.specs.Limits.{element_limit, link_limit, source_limit}
+use Rattle.sync_topo.specs.declared.sizes.Size.{Size}
+use Rattle.sync_topo.specs.declared.sizes.Size.TheVariants.{Large}
+use Rattle.sync_text.specs.Chain.{◌>>=◌}
+use Rattle.sync_topo.specs.Sizes.{most_elements, most_links, most_sources}
 use Rattle.sync_topo.specs.RowValues.{plan_from}
 use Rattle.sync_topo.specs.Rules.{Rule, rule, element_rules, link_rules, source_rules, row_limit}
 
@@ -31,13 +34,17 @@ link_row_rules rows before row = link_rules (plan_from (record rows { links = be
 abbrev pub source_row_rules : PlanRows → List SourceRow → SourceRow → List Rule
 source_row_rules rows before row = source_rules (plan_from (record rows { sources = before })) row
 
--- the rules on how many rows there are
-abbrev pub limits_of : PlanRows → List Rule
-limits_of rows =
-    row_limit Elements element_limit rows.elements
-    ∷ row_limit Links link_limit rows.links
-    ∷ row_limit Sources source_limit rows.sources
+-- the rules on how many rows there may be for a plan of a size
+abbrev pub size_limits : Size → PlanRows → List Rule
+size_limits size rows =
+    row_limit Elements (most_elements size) rows.elements
+    ∷ row_limit Links (most_links size) rows.links
+    ∷ row_limit Sources (most_sources size) rows.sources
     ∷ []
+
+-- the rules on how many rows there may be for any plan: those of a large one
+abbrev pub limits_of : PlanRows → List Rule
+limits_of rows = size_limits Large rows
 
 -- every rule at every row, in order: how many rows there are, then the rows one after the other
 abbrev pub rules_of : PlanRows → List Rule
@@ -60,6 +67,10 @@ or_refusal (Some refusal) plan = Err refusal
 -- the plan of the rows: what they say where no rule is broken, and otherwise the refusal of the first rule that is
 unfoldable pub plan_of_rows : PlanRows → Result Topology PlanErr
 plan_of_rows rows = or_refusal (first_broken (rules_of rows)) (plan_from rows)
+
+-- the plan of the rows in a size: the refusal of the first section that has more rows than the size allows, and else what the rows give
+abbrev pub plan_of_sized : Size → PlanRows → Result Topology PlanErr
+plan_of_sized size rows = or_refusal (first_broken (size_limits size rows)) rows >>= plan_of_rows
 
 -- no rule is broken
 abbrev pub AreKept : List Rule → Type 0

@@ -1,8 +1,9 @@
 //! Plans: the elements of a network, the links between them, the sources at them, and the lines that
 //! carry timing.
 //!
-//! [`PlanRows`] is what a plan file says, and [`Plan::new`] gives the [`Plan`] of it, or tells the
-//! first rule that the rows break and where. Contracts see a plan as a `Topology`: its option, its
+//! [`PlanRows`] is what a plan file says, and [`Plan::sized`] gives the [`Plan`] of it in a [`Size`],
+//! or tells the first rule that the rows break and where. A plan has a size by its counts, and what it
+//! may have beside it, as events and the rows of a report, goes by that. Contracts see a plan as a `Topology`: its option, its
 //! elements, its links and its sources.
 //!
 //! Each link is two lines. Which lines and inputs there are and their names is `Lines`, which links
@@ -28,6 +29,7 @@ mod place;
 mod plan;
 mod returns;
 mod rows;
+mod sizes;
 mod source;
 mod values;
 mod wiring;
@@ -40,9 +42,12 @@ pub use laws::{bundle_law, goes_back_law};
 pub use link::Link;
 pub use names::{MOST_NAME_BYTES, Names, is_name};
 pub use outputs::all_lines_out;
-pub use parts::{MOST_ELEMENTS, MOST_LINKS, MOST_SOURCES};
 pub use place::{Place, Section};
 pub use plan::Plan;
 pub use returns::ReturnRule;
 pub use rows::{ElementRow, LinkRow, PlanRows, SourceRow};
+pub use sizes::{
+    LARGE_EVENTS, LARGE_ROWS, MOST_ELEMENTS, MOST_LINKS, MOST_SOURCES, STANDARD_ELEMENTS,
+    STANDARD_EVENTS, STANDARD_LINKS, STANDARD_ROWS, STANDARD_SOURCES, Size,
+};
 pub use source::Source;

@@ -4,7 +4,8 @@ ghost use Rattle.std.specs.Prelude.{◌≡◌, [], ◌∷◌, ◌++◌, ◌<◌,
 ghost use Rattle.sync_topo.specs.Limits.{element_limit, link_limit, source_limit, input_limit};
 ghost use Rattle.sync_topo.specs.Lines.{inputs_of};
 ghost use Rattle.sync_topo.specs.Names.{is_named, element_names};
-ghost use Rattle.sync_topo.specs.PlanRows.{limits_of, rules_of, first_broken};
+ghost use Rattle.sync_topo.specs.PlanRows.{size_limits, limits_of, rules_of, first_broken};
+ghost use Rattle.sync_topo.specs.Sizes.{most_elements, most_links, most_sources};
 ghost use Rattle.sync_topo.specs.RowValues.{element_of_name, plan_from};
 ghost use Rattle.sync_topo.specs.private.Steps.{Follows};
 
@@ -19,21 +20,13 @@ use crate::link::Link;
 use crate::names::Names;
 use crate::place::{Place, Section};
 use crate::rows::PlanRows;
+use crate::sizes::Size;
 use crate::source::Source;
 use crate::wiring::Wiring;
 use std::alloc::Global;
 use sync_ql::NetOption;
 use sync_ql::limits::MOST_INPUTS;
 use sync_text::{NoMemory, Text};
-
-/// The most elements that a plan may have. This project's own.
-pub const MOST_ELEMENTS: usize = 2000;
-
-/// The most links that a plan may have. This project's own.
-pub const MOST_LINKS: usize = 4000;
-
-/// The most sources that a plan may have. This project's own.
-pub const MOST_SOURCES: usize = 2000;
 
 /// What a plan keeps: what it holds, and indexes that are found from that.
 #[derive(Drop)]
@@ -113,7 +106,7 @@ impl PlanTables {
         ensures indexed { IfOk result IsIndexed }
         ensures plan { IfOk result (λ parts. topology parts ≡ plan_from rows) }
     {
-        check_limits(&rows)?;
+        check_size(Size::Large, &rows)?;
         let mut parts = PlanTables::with_room(alloc, &rows)?;
         match parts.add_rows(alloc, rows) {
             Ok(()) => Ok(parts),
@@ -172,21 +165,24 @@ impl PlanTables {
     }
 }
 
-/// No section has more rows than its limit.
-fn check_limits(rows: &PlanRows) -> Result<(), PlanErr>
-    ensures rules { Follows (limits_of rows.now) result }
-    ensures few_elements { OnOk result (length rows.now.elements ≤ element_limit) }
-    ensures few_links { OnOk result (length rows.now.links ≤ link_limit) }
-    ensures few_sources { OnOk result (length rows.now.sources ≤ source_limit) }
+/// No section has more rows than a plan of the size may have.
+pub(crate) fn check_size(size: Size, rows: &PlanRows) -> Result<(), PlanErr>
+    ensures rules { Follows (size_limits size rows.now) result }
+    ensures few_elements { OnOk result (length rows.now.elements ≤ most_elements size) }
+    ensures few_links { OnOk result (length rows.now.links ≤ most_links size) }
+    ensures few_sources { OnOk result (length rows.now.sources ≤ most_sources size) }
 {
-    if MOST_ELEMENTS < rows.elements.as_slice().len() {
-        return Err(PlanErr::Limit(row_after(Section::Elements, MOST_ELEMENTS)));
+    let elements = size.most_elements();
+    if elements < rows.elements.as_slice().len() {
+        return Err(PlanErr::Limit(row_after(Section::Elements, elements)));
     }
-    if MOST_LINKS < rows.links.as_slice().len() {
-        return Err(PlanErr::Limit(row_after(Section::Links, MOST_LINKS)));
+    let links = size.most_links();
+    if links < rows.links.as_slice().len() {
+        return Err(PlanErr::Limit(row_after(Section::Links, links)));
     }
-    if MOST_SOURCES < rows.sources.as_slice().len() {
-        return Err(PlanErr::Limit(row_after(Section::Sources, MOST_SOURCES)));
+    let sources = size.most_sources();
+    if sources < rows.sources.as_slice().len() {
+        return Err(PlanErr::Limit(row_after(Section::Sources, sources)));
     }
     Ok(())
 }

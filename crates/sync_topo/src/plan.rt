@@ -16,6 +16,7 @@ ghost use Rattle.sync_topo.specs.declared.rows.PlanRows.{PlanRows};
 mod fitting;
 mod hops;
 mod naming;
+mod sizing;
 
 use crate::element::Element;
 use crate::error::PlanErr;
@@ -70,10 +71,10 @@ impl fmt::Debug for Plan {
 }
 
 impl Plan {
-    /// The plan that rows give.
+    /// The plan that rows give, of whatever size.
     ///
     /// A refusal tells the first rule that is broken, with its place. First come the numbers of rows:
-    /// `Limit` at the first element, link or source past 2,000, 4,000 or 2,000. Then each element row
+    /// `Limit` at the first element, link or source past 100,000, 200,000 or 100,000. Then each element row
     /// in order: `Name`, `Twice`, `Range` for its times, `LevelName`. Then each link row: `Name`,
     /// `Twice`, `NoElement`, `SelfLink`, `Range`, `Bundle`, and `Limit` where an end has a 65th
     /// nominated input by this row. Then each source row: `Name`, `Twice`, `NoElement`, `Range`, `LevelName`, and
@@ -212,7 +213,7 @@ impl Plan {
         ensures goes_back { IsTrue (goes_back self.now line.0 result.0) }
         ensures within { result.0 < line_count self.now }
     {
-        // A plan has at most 4,000 links, so the sum fits.
+        // A plan has at most 200,000 links, so the sum fits.
         let _links = self.links();
         LineId(if line.ends_at_b() {
             line.0 + 1

@@ -14,7 +14,7 @@ use sync_text::{NoMemory, Text};
 /// The report of a run, as text: the line `changes` and a row for each change; then of the last
 /// millisecond the line `inputs` and a row for each input of each element, the line `traces` and a
 /// row for each element, the line `loops` and a row for each closed walk, and whether it is settled.
-/// Or, where there were more than 200,000 changes, those up to the last millisecond T up to which
+/// Or, where there were more changes than the plan may have, those up to the last millisecond T up to which
 /// all fit, and the line `stopped,T`.
 ///
 /// The simulator watches changes and isn't spent, and `reach` is what its last advance answered.

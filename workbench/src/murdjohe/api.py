@@ -196,10 +196,10 @@ def node(plan: Source, element: str, received: Source, until: Time) -> Answered[
 
 
 def gen(elements: int) -> Answered[reports.Written]:
-    """The ladder of 2 to 2,000 elements."""
+    """The ladder of 2 to 100,000 elements."""
     return answered("gen", reports.written, elements)
 
 
 def trial(elements: int) -> Answered[reports.Trial]:
-    """What planner, test and simulator find of the ladder of 2 to 2,000 elements."""
+    """What planner, test and simulator find of the ladder of 2 to 100,000 elements."""
     return answered("trial", reports.trial, elements)

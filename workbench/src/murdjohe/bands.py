@@ -5,7 +5,7 @@ from __future__ import annotations
 from dataclasses import dataclass
 
 from murdjohe import files
-from murdjohe.wrong import Wrong
+from murdjohe.wrong import Wrong, unusable
 
 STATES = ("locked", "holdover", "freerun")
 
@@ -39,7 +39,7 @@ def row_of(path: str, number: int, line: str) -> Row:
     fields = line.split(",")
     is_time = fields[0].isascii() and fields[0].isdigit() and len(fields[0]) < 9
     if len(fields) != 6 or not is_time or fields[5] not in STATES:
-        raise Wrong(f"{path}:{number}: it is no row of changes of `sim`")
+        raise unusable(f"{path}:{number}: it is no row of changes of `sim`")
     at, element, mode, taken, level, state = fields
     return Row(int(at), element, taken, level, state, mode)
 
@@ -48,14 +48,14 @@ def changes_of(path: str) -> tuple[list[Row], list[str]]:
     """The changes of a report, and the elements in the order of the plan. Raises Wrong."""
     lines = files.text(path).splitlines()
     if lines[:1] != ["changes"]:
-        raise Wrong(f"{path}: it doesn't begin with the line `changes`, as a report does")
+        raise unusable(f"{path}: it doesn't begin with the line `changes`, as a report does")
     rows = []
     for number, line in enumerate(lines[1:], start=2):
         if "," not in line or line.startswith("stopped,"):
             break
         rows.append(row_of(path, number, line))
     if not rows:
-        raise Wrong(f"{path}: nothing changes in it")
+        raise unusable(f"{path}: nothing changes in it")
     traced = lines[lines.index("traces") + 1 :] if "traces" in lines else []
     order = [line.partition(",")[0] for line in traced if line.count(",") == 3]
     return rows, list(dict.fromkeys(order + [row.element for row in rows]))

@@ -17,6 +17,7 @@ from dpkt import dpkt, pcap, pcapng
 
 from murdjohe import streams
 from murdjohe.inputs import STDIN
+from murdjohe.core import READ_FAULT
 from murdjohe.wrong import Wrong, reason
 
 ETHERNET, COOKED, COOKED_2 = pcap.DLT_EN10MB, pcap.DLT_LINUX_SLL, pcap.DLT_LINUX_SLL2
@@ -110,7 +111,7 @@ def of_pcap(file: Octets, magic: bytes) -> Iterator[Packet]:
             raise Damaged(f"it ends within its record {number}")
         seconds, part, caught, length = fields.unpack_from(data)
         if caught > LONGEST:
-            raise Damaged(f"its record {number} says that it has {caught} octets, which no frame has")
+            raise Damaged(f"its record {number} says that it has {caught} bytes, which no frame has")
         yield Packet(seconds * SECOND + part * unit, "", link, taken(file, caught, f"its record {number}"), length)
 
 
@@ -146,10 +147,10 @@ def blocks(file: Octets) -> Iterator[tuple[str, int, bytes]]:
             more = taken(file, 4, what)
             order = "<" if struct.unpack("<I", more)[0] == pcapng.BYTE_ORDER_MAGIC else ">"
             if struct.unpack(order + "I", more)[0] != pcapng.BYTE_ORDER_MAGIC:
-                raise Damaged(f"{what} doesn't say the order of its octets")
+                raise Damaged(f"{what} doesn't say the order of its bytes")
         kind, length = struct.unpack(order + "II", begin)
         if length % 4 or not 12 + len(more) <= length <= LONGEST:
-            raise Damaged(f"{what} says that it has {length} octets, which can't be")
+            raise Damaged(f"{what} says that it has {length} bytes, which can't be")
         block = begin + more + taken(file, length - 8 - len(more), what)
         if block[-4:] != begin[4:]:
             raise Damaged(f"{what} says two lengths")
@@ -173,7 +174,7 @@ def of_block(order: str, kind: int, block: bytes, interfaces: list[Interface], n
     if kind == pcapng.PCAPNG_BT_SPB:
         caught = min(caught, interface.most or caught)
     if head + caught > len(block) - 4:
-        raise Damaged(f"{what} says that it has {caught} octets, which are more than its block")
+        raise Damaged(f"{what} says that it has {caught} bytes, which are more than its block")
     part, whole = interface.ticks
     time = ((high << 32) | low) * part // whole + interface.offset
     link = TIMELESS if kind == pcapng.PCAPNG_BT_SPB else interface.link
@@ -216,7 +217,7 @@ def opened(path: str) -> Iterator[Any]:
     except OSError as fault:
         raise reason(name, fault) from None
     except ValueError as fault:  # (a name with a zero octet)
-        raise Wrong(f"{name}: {fault}") from None
+        raise Wrong(f"{name}: {fault}", status=READ_FAULT) from None
     with file:
         yield file
 

@@ -18,14 +18,14 @@ from contextlib import contextmanager
 from itertools import groupby
 from typing import IO, cast
 
-from murdjohe import failures, inputs
+from murdjohe import event_times, failures, inputs
 from murdjohe.case_lists import CaseList, CommonRows, Row, total_of
-from murdjohe.core import BAD_EVENTS, LONGEST_FILE
+from murdjohe.core import BAD_EVENTS, LONGEST_BESIDE
 from murdjohe.failures import COLUMNS, NAME
 from murdjohe.inputs import STDIN
 from murdjohe.sentences.records import MOST_ROWS
 from murdjohe.times import is_digits
-from murdjohe.wrong import Wrong, reason
+from murdjohe.wrong import Wrong, reason, unusable
 
 HEADER = ",".join(COLUMNS)
 BUNCH = 1_000  # rows of the cases that are written at once
@@ -90,7 +90,8 @@ def bunches(cases: Iterator[list[Row]]) -> Iterator[FileBunch]:
 class CaseFile:
     """A table of cases, by the name that sentences have for it."""
 
-    def __init__(self, path: str) -> None:
+    def __init__(self, path: str, start: int | None = None) -> None:
+        self.start = start
         self.name = "standard input" if path == STDIN else path
         try:
             self.kept = spooled(path) if path == STDIN or inputs.is_pipe(path) else None
@@ -106,7 +107,7 @@ class CaseFile:
     def records(self) -> Iterator[tuple[int, list[str]]]:
         """The records that aren't blank, each with the line on which it begins. Raises Wrong."""
         line = 1
-        csv.field_size_limit(LONGEST_FILE)
+        csv.field_size_limit(LONGEST_BESIDE)
         try:
             with opened(self.path) as text:
                 reader = csv.reader(text)
@@ -115,13 +116,13 @@ class CaseFile:
                         yield line, fields
                     line = reader.line_num + 1
         except (EOFError, gzip.BadGzipFile, zlib.error) as fault:
-            raise Wrong(f"{self.name}: it is packed by gzip, and damaged behind line {line}: {fault}") from None
+            raise unusable(f"{self.name}: it is packed by gzip, and damaged behind line {line}: {fault}") from None
         except OSError as fault:
             raise reason(self.name, fault) from None
         except UnicodeDecodeError as fault:
-            raise Wrong(f"{self.name}: behind line {line} it is no text in UTF-8: {fault.reason}") from None
+            raise unusable(f"{self.name}: behind line {line} it is no text in UTF-8: {fault.reason}") from None
         except (csv.Error, ValueError) as fault:  # (also a name with a zero octet)
-            raise Wrong(f"{self.name}:{line}: it is no CSV: {fault}; close each quote") from None
+            raise unusable(f"{self.name}:{line}: it is no CSV: {fault}; close each quote") from None
 
     def rows(self) -> Iterator[Row]:
         """The rows behind the header. Raises Wrong."""
@@ -134,6 +135,8 @@ class CaseFile:
                 status=BAD_EVENTS,
             )
         for number, (line, fields) in enumerate(records, start=1):
+            if len(fields) > 1 and not fields[1].isdigit():
+                fields[1] = event_times.of_field(self.name, line, fields[1], self.start)
             yield Row(number, line, fields)
 
     def has_case(self, row: Row, before: str) -> None:

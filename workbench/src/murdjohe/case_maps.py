@@ -114,8 +114,8 @@ def chosen(tally: Tally) -> list[Case]:
 def about(tally: Tally, shown: int, widest: int) -> str:
     """What the rows and columns are, in a line."""
     if not tally.losing:
-        return f"none of {plural(tally.cases, 'case')} leaves an element without a source"
-    what = "an element without a source (how many), the worst first"
+        return f"none of {plural(tally.cases, 'case')} leaves an element without a source at its end"
+    what = "an element without a source at the end (how many), the worst first"
     if shown < tally.losing:
         said = f"{shown} of the {tally.losing:,} cases that leave {what}; {tally.cases:,} in all"
     else:

@@ -1,7 +1,8 @@
 """What brought something about: back from a change of an element to what came in its millisecond, and from that to what was before.
 
 An element takes something else, or the same at another level, only where in that millisecond a command came to it, what it
-took became worse, or what it takes became better. An input becomes worse or better where a time of it ran out, an event touches
+took became worse, or what it takes became better. Where it lost what it took, a lockout, cut or level that had taken its other
+inputs away is a cause too. An input becomes worse or better where a time of it ran out, an event touches
 it, a message came over it, or none came for five seconds. A message says what its sender shows. Each step leads to an earlier
 millisecond, or from a change to what came in its own, so going back ends.
 """
@@ -82,8 +83,53 @@ def made_another(history: History, name: str, at: int) -> Iterator[Cause]:
         yield Silence(name, at, before)
 
 
+def lockout_at(history: History, name: str, at: int) -> Command | None:
+    """The command by which an input is locked out in a millisecond; None where it isn't."""
+    found = None
+    for one in history.commands:
+        if one.at > at:
+            break
+        if one.input == name and one.is_taken and one.word == "lockout":
+            found = found or one
+        elif one.input == name and one.is_taken and one.word == "unlock":
+            found = None
+    return found
+
+
+def taken_away(history: History, name: str, at: int) -> Iterator[Cause]:
+    """What took an input away that would have served in a millisecond: a lockout, a cut, or a level upstream; nothing of one whose
+    sender takes its timing from this very element."""
+    turn = history.signals(name).last_turn(at)
+    if lockout := lockout_at(history, name, at):
+        yield lockout
+    elif turn and turn.has_failed:
+        yield turn
+    elif history.worth(name, at) < len(history.levels) - 1:
+        return
+    elif name in history.wired.sources:
+        yield from history.signals(name).told(0, at, "level")[-1:]
+    elif message := history.heard(name, at):
+        if not history.taken_back(history.wired.lines[name], message.sent):
+            yield history.news(message)
+    elif silence := silence_of(history, name, at):
+        yield silence
+
+
+def missed(history: History, row: Change) -> Iterator[Cause]:
+    """Where an element lost what it took: what had taken its other inputs away before."""
+    before = history.shown(row.element, row.at - 1)
+    places = [history.levels.index(one.level) if one.level in history.levels else 0 for one in (before, row)]
+    if row.at == 0 or before.input is None or (row.input is not None and places[1] <= places[0]):
+        return
+    for one in history.network.orders[row.element].inputs:
+        if one.name not in (before.input, row.input):
+            yield from taken_away(history, one.name, row.at)
+
+
 def of_change(history: History, row: Change) -> Iterator[Cause]:
-    """Commands, what was taken and became worse, and what is taken and became better."""
+    """Commands, what was taken and became worse, what is taken and became better; and what had taken away before what would have
+    served."""
+    yield from missed(history, row)
     before = history.shown(row.element, row.at - 1).input
     yield from commands_of(history, row, (before, row.input))
     for name in dict.fromkeys((before, row.input)) if row.at else ():

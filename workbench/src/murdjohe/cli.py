@@ -8,10 +8,11 @@ import os
 import click
 from click.shell_completion import CompletionItem
 
-from murdjohe import core, documents, forms, run_form, streams, topics
+from murdjohe import core, documents, forms, inputs, run_form, streams, times, topics
 from murdjohe.forms import FORMS, Form
 from murdjohe.run_form import JSON, QUIET, Settings
 from murdjohe.streams import Output
+from murdjohe.wrong import Wrong
 
 NAME = "murdjohe"
 FILES = "Files and pictures"
@@ -21,7 +22,7 @@ OWN = {
     "capture": ("capture", forms.LAB, "reads any capture; compares a device with the rules"),
     "import": ("import_tables", FILES, "makes a plan of tables of elements, links and sources"),
     "lint": ("lint", forms.PLANNING, "says what to look at in a plan, with lines and remedies"),
-    "repair": ("repair", forms.PLANNING, "finds what to take away so that timing can't go round"),
+    "repair": ("repair", forms.PLANNING, "finds what to change so that nothing loops or oscillates"),
     "diff": ("diff", forms.PLANNING, "says what differs between two plans"),
     "orders": ("orders", forms.PLANNING, "prints what to set at each element"),
     "rehearse": ("rehearse", forms.RUNNING, "shows works as they will go: events, changes, what is rejected"),
@@ -39,7 +40,7 @@ OWN = {
 }
 GROUPS = (forms.PLANNING, forms.RUNNING, forms.PRIORITY, forms.LAB, forms.TRYING, FILES, ABOUT)
 FIRST = f"""\
-A planner for frequency synchronization networks: does a plan leave a ring round which timing could go?
+A planner for frequency synchronization networks: is a timing loop possible in a plan, and may elements oscillate?
 Verdicts are those of a proved program; standard output has its bytes, standard error a sentence beside them.
 
 Begin with:
@@ -119,6 +120,29 @@ class FormWords(click.Argument):
         return names_in(given[0], incomplete) if word.kind == forms.ELEMENT else []
 
 
+def has_times(form: Form) -> bool:
+    """Whether a word of a form is a time."""
+    return any(word.kind == forms.TIME for word in form.words)
+
+
+def form_options(form: Form) -> list[click.Option]:
+    """The options of a form beside those of all commands."""
+    output = click.Option(["-o", "--output"], type=click.Path(), help="writes to this file, whole or not at all")
+    force = click.Option(["--force"], is_flag=True, help="writes over a file that is there already")
+    start = click.Option(["--start"], metavar="TIME", help="the time of day at which the run begins")
+    return [output, force, *([start] if has_times(form) else [])]
+
+
+def time_of_day(word: str | None) -> int | None:
+    """The milliseconds of a time of day that is given as an option. Raises Wrong."""
+    if word is None:
+        return None
+    time = times.milliseconds(word)
+    if time is None or time >= times.DAY:
+        raise Wrong(f"--start: {word!r} is no time of day, as 02:00 or 23:00:00")
+    return time
+
+
 class FormCommand(click.Command):
     """A form of the program as a command."""
 
@@ -127,21 +151,35 @@ class FormCommand(click.Command):
             form.name,
             {"ignore_unknown_options": True},
             callback=self.called,
-            params=[FormWords(form), quiet_option(), json_option(), help_option()],
+            params=[FormWords(form), *form_options(form), quiet_option(), json_option(), help_option()],
             help=form.does,
             short_help=form.does,
             add_help_option=False,
         )
         self.form = form
 
-    def called(self, words: tuple[str, ...], quiet: bool, json: bool) -> int:
+    def called(
+        self,
+        words: tuple[str, ...],
+        quiet: bool,
+        json: bool,
+        output: str | None,
+        force: bool,
+        start: str | None = None,
+    ) -> int:
+        from murdjohe import files
+
         context = click.get_current_context()
         asked = context.find_root().params
-        settings = Settings(quiet or asked["quiet"], json or asked["json"])
+        given = [text for word, text in zip(self.form.words, words) if word.is_file]
+        files.free([output] if output else [], force, given)
+        path = None if output == inputs.STDIN else output
+        settings = Settings(quiet or asked["quiet"], json or asked["json"], path, time_of_day(start))
         return run_form.run(self.form, list(words), settings, context.obj)
 
     def collect_usage_pieces(self, ctx: click.Context) -> list[str]:
-        return [word.name for word in self.form.words] + ["[--quiet] [--json]"]
+        start = " [--start TIME]" if has_times(self.form) else ""
+        return [word.name for word in self.form.words] + [f"[--quiet] [--json] [-o FILE [--force]]{start}"]
 
     def format_options(self, ctx: click.Context, formatter: click.HelpFormatter) -> None:
         formatter.write_paragraph()
@@ -203,8 +241,8 @@ def no_command(words: list[str], name: str | None) -> str:
     if option is not None:
         return f'"{option}" is no option before a command'
     if name is None:
-        return "there is no command"
-    return f'"{name}" is no command{documents.hint(name, [*FORMS, *OWN, "--version", "--help"], 0.6)}'
+        return "no command is given"
+    return f'unknown command "{name}"{documents.hint(name, [*FORMS, *OWN, "--version", "--help"], 0.6)}'
 
 
 def passed_on(words: list[str], name: str | None, output: Output) -> int:
@@ -228,7 +266,8 @@ def run(words: list[str], output: Output) -> int:
     try:
         status = command().main(arguments, NAME, standalone_mode=False, obj=output)
     except click.exceptions.Abort as abort:
-        raise KeyboardInterrupt from abort
+        told = abort.__context__
+        raise told if isinstance(told, KeyboardInterrupt) else KeyboardInterrupt() from None
     except click.ClickException as wrong:
         of = f"{NAME} {first}" if first else NAME
         streams.tell(f"{wrong.format_message().rstrip('.')}; see `{of} --help`")

@@ -44,7 +44,7 @@ def worked(plan: bytes, cases: bytes, until: int, program: str) -> Worked:
         if study_runs.core_sum() != program:
             raise core.Absent(f"it has another proved program than this command; {HOW}")
         return study_runs.studied(plan, cases, until, set())
-    except (core.Absent, core.Ended) as fault:
+    except (core.Absent, core.Ended, core.NoAnswer) as fault:
         raise type(fault)(f"{here()}: {fault}") from None
 
 
@@ -134,7 +134,7 @@ class Cluster:
         return core.Absent(f"--scheduler {self.address}: it is gone, or gave the work up")
 
     def told(self, fault: Exception) -> Exception:
-        if isinstance(fault, (core.Absent, core.Ended)):
+        if isinstance(fault, (core.Absent, core.Ended, core.NoAnswer)):
             return fault
         if isinstance(fault, CancelledError):
             return self.gone()

@@ -27,11 +27,19 @@ BUILT = os.path.join("crates", "sync_main", "out", "sync_main")
 # Statuses of the program.
 DONE, REFUTED, USAGE, BAD_PLAN, BAD_CERTIFICATE, BAD_EVENTS, BAD_FRAMES = range(7)
 READ_FAULT, WRITE_FAULT, TOO_LONG, NO_MEMORY, STOPPED = range(7, 12)
-# Statuses of the workbench alone: the program isn't there, and a mistake of the workbench.
+# Statuses of the workbench alone: works leave somebody worse, `--fail-on` found something, a file is there already, the disk is
+# full, a file of the workbench's own commands has mistakes; the program isn't there; and a mistake of the workbench, or an
+# answer that isn't one.
+LOSS, FOUND, THERE, NO_SPACE, BAD_INPUT = range(20, 25)
 UNAVAILABLE, MISTAKE = 69, 70
 
-LONGEST_FILE = 8_388_608  # octets that the program reads of a file
+LONGEST_FILE = 1_073_741_824  # octets that the program reads of a file, and of one beside a plan of standard size
+LONGEST_BESIDE = 8_388_608
 PIECE = 1 << 16  # octets that are read at once
+# The forms that take a plan, or make one.
+SIZED = frozenset(
+    "check rank chains protected agree hops nominate protect sim inspect sweep study prio-check prio-rank prio-sim node gen trial".split()
+)
 PATIENCE_MS = 2_000  # after so long a wait it is said that the program works
 
 
@@ -41,6 +49,10 @@ class Absent(Exception):
 
 class Ended(Exception):
     """The program was ended from outside, by the signal that the text names."""
+
+
+class NoAnswer(Exception):
+    """What came isn't an answer of the program: nothing, a text that was cut off, or another program's; the text says why."""
 
 
 class Answer:
@@ -110,10 +122,24 @@ def ended(code: int) -> int:
     return status
 
 
+def stop(child: int) -> None:
+    """Tells a process that is waited for no more to end."""
+    try:
+        os.kill(child, 15)
+    except ProcessLookupError:
+        pass
+
+
+def sized(words: Sequence[str | bytes]) -> list[str | bytes]:
+    """The words with `large` before them where they take or make a plan: then the program takes one of every size, and answers the
+    same on those that it takes without."""
+    return ["large", *words] if words and words[0] in SIZED else list(words)
+
+
 def spawned(words: Sequence[str | bytes], sink: int) -> int:
     """Starts the program on these words, with standard output going to a file, and gives its process. Raises Absent."""
     program = find()
-    argv = [os.fsencode(program), *(os.fsencode(word) for word in words)]
+    argv = [os.fsencode(program), *(os.fsencode(word) for word in sized(words))]
     try:
         return os.posix_spawn(program, argv, os.environ, file_actions=[(os.POSIX_SPAWN_DUP2, sink, 1)])
     except OSError as fault:
@@ -122,10 +148,17 @@ def spawned(words: Sequence[str | bytes], sink: int) -> int:
         raise Absent(f"the words can't be given to a program: {fault}") from fault
 
 
+def looked_at(words: Sequence[str | bytes], answer: Answer) -> Answer:
+    """The answer, where it is one of the program's. Raises NoAnswer."""
+    from murdjohe import shapes
+
+    return shapes.checked(words, answer, find())
+
+
 def run(words: Sequence[str | bytes], working: Working | None = None) -> Answer:
     """Runs the program on these words, with the standard input and error of this process, and gives all that it wrote.
 
-    Raises Absent where there is no program, and Ended where a signal ended it.
+    Raises Absent where there is no program, Ended where a signal ended it, and NoAnswer where what it wrote is no answer.
     """
     source, sink = os.pipe()
     try:
@@ -137,10 +170,13 @@ def run(words: Sequence[str | bytes], working: Working | None = None) -> Answer:
         os.close(sink)
     try:
         text = received(source, working)
+    except BaseException:
+        stop(child)
+        raise
     finally:
         os.close(source)
         _, code = os.waitpid(child, 0)
-    return Answer(ended(code), text)
+    return looked_at(words, Answer(ended(code), text))
 
 
 def run_kept(words: Sequence[str | bytes], running: set[int]) -> Answer:
@@ -154,9 +190,12 @@ def run_kept(words: Sequence[str | bytes], running: set[int]) -> Answer:
         running.add(child)
         try:
             os.waitid(os.P_PID, child, os.WEXITED | os.WNOWAIT)
+        except BaseException:
+            stop(child)
+            raise
         finally:
             running.discard(child)
             _, code = os.waitpid(child, 0)
-        return Answer(ended(code), os.pread(memory, os.fstat(memory).st_size, 0))
+        return looked_at(words, Answer(ended(code), os.pread(memory, os.fstat(memory).st_size, 0)))
     finally:
         os.close(memory)

@@ -1,7 +1,7 @@
 """A device beside the rules: what it said on a line, and what it had to say there.
 
 Times are milliseconds from the zero of a comparison on. A device tells each change of its level within the tolerance, by an
-event message; it repeats its level by an information message a second, in whatever part of the second; and it says nothing
+event message; it repeats its level by one information message a second, in whatever part of the second; and it says nothing
 else. Each finding is a way in which it doesn't.
 """
 
@@ -16,6 +16,12 @@ from murdjohe.lab_lines import Message
 
 SECOND = 1_000
 MISSING, LATE, WRONG, UNEXPECTED = "missing", "late", "wrong level", "unexpected"
+TOO_MANY = "too many"
+SPARE, RATE = (
+    2.0,
+    1.1,
+)  # information messages beyond one a second that a shift of phase makes, and how many a second may come
+CROWD = 10  # messages of a slow protocol within a second at most
 NOT_USED = ("QL-DNU", "QL-DUS")  # what says do-not-use
 
 
@@ -135,7 +141,7 @@ class Line:
 
     def findings(self) -> list[Finding]:
         """All of them, in order of time."""
-        found = [*self._changes(), *self._levels(), *self._events(), *self._silences()]
+        found = [*self._changes(), *self._levels(), *self._events(), *self._silences(), *self._crowds()]
         return sorted(finding for finding in found if finding.at >= self.limits.begin)
 
     def _changes(self) -> Iterator[Finding]:
@@ -216,11 +222,76 @@ class Line:
                     words = f"an information message came {length} ms after the message before"
                     yield Finding(at, self.name, LATE, words)
 
+    def _crowds(self) -> Iterator[Finding]:
+        """Information messages that come more often than once a second, and more than ten messages within a second."""
+        run: list[int] = []
+        times = [message.at for message in self.said if message.kind == "info"]
+        spare = SPARE
+        for at, before in zip(times, [*times[:1], *times]):
+            spare = min(SPARE, spare + RATE * (at - before) / SECOND) - 1.0
+            if spare < 0 and at >= self.limits.begin:
+                spare = 0.0
+                run.append(at)
+            elif run and at - run[-1] > SECOND:
+                yield self._crowd(run)
+                run = []
+        if run:
+            yield self._crowd(run)
+        crowd = next((at for at, after in zip(self.times, self.times[CROWD:]) if after - at < SECOND), None)
+        if crowd is not None and crowd >= self.limits.begin:
+            yield Finding(crowd, self.name, TOO_MANY, f"more than {CROWD} messages within a second")
 
-def compared(wanted: list[Message], said: list[Message], lines: set[str], limits: Limits) -> list[Finding]:
-    """All findings on these lines, in order of time. What is wanted and said is in order of time too."""
-    found = []
+    def _crowd(self, run: list[int]) -> Finding:
+        """Information messages too many."""
+        times = [message.at for message in self.said if message.kind == "info"]
+        first, last = max(0, bisect_left(times, run[0]) - 3), bisect_right(times, run[-1])
+        length = max(1, times[last - 1] - times[first])
+        rate = (last - 1 - first) * SECOND / length
+        words = f"{last - first} information messages up to {run[-1]}, {rate:.1f} a second, where one a second is asked"
+        return Finding(run[0], self.name, TOO_MANY, words)
+
+    def reactions(self) -> list[int]:
+        """After how many milliseconds each change was told, of those that were."""
+        return [
+            step.told.at - step.at
+            for step in self.steps
+            if step.before is not None and step.told is not None and self.limits.begin <= step.at <= step.told.at
+        ]
+
+
+@dataclass(frozen=True)
+class Reaction:
+    """How soon the changes of a line were told: how many were, and the least, the middle and the greatest time in milliseconds."""
+
+    line: str
+    changes: int
+    least: int | None
+    middle: int | None
+    greatest: int | None
+
+
+def reaction_of(name: str, times: list[int]) -> Reaction:
+    """The reactions of a line."""
+    ordered = sorted(times)
+    if not ordered:
+        return Reaction(name, 0, None, None, None)
+    return Reaction(name, len(ordered), ordered[0], ordered[len(ordered) // 2], ordered[-1])
+
+
+def looked_at(
+    wanted: list[Message], said: list[Message], lines: set[str], limits: Limits
+) -> tuple[list[Finding], list[Reaction]]:
+    """All findings on these lines, in order of time, and how soon their changes were told. What is wanted and said is in order of
+    time too."""
+    found, reactions = [], []
     for name in sorted(lines):
         own = [[message for message in messages if message.line == name] for messages in (wanted, said)]
-        found += Line(name, own[0], own[1], limits).findings()
-    return sorted(found)
+        line = Line(name, own[0], own[1], limits)
+        found += line.findings()
+        reactions.append(reaction_of(name, line.reactions()))
+    return sorted(found), reactions
+
+
+def compared(wanted: list[Message], said: list[Message], lines: set[str], limits: Limits) -> list[Finding]:
+    """The findings alone."""
+    return looked_at(wanted, said, lines, limits)[0]

@@ -38,7 +38,7 @@ def on_elements(tables: dict[str, Any], option: str) -> Facts:
         found["floors", subject, "floor"] = order.floor
         found["times", subject, "hold-off"] = f"{order.holdoff} ms"
         found["times", subject, "wait-to-restore"] = f"{order.wtr} min"
-        found["levels", subject, "own clock"] = order.own
+        found["levels", subject, "internal oscillator (own clock)"] = order.own
     return found
 
 

@@ -37,7 +37,7 @@ BEGINNINGS = (
     (b"case,settled,", "a table of `study`"),
     (b"changes\n", "a report of a run"),
     (b"commands\n", "an answer of `inspect`"),
-    (b"cycle ", "the answer of a `rank` that found a ring, and no certificate"),
+    (b"cycle ", "the answer of a `rank` that found a possible loop"),
     (b"falls ", "an answer of `check`"),
     (b"accepted\n", "an answer of `check`"),
     (b"protected\n", "an answer of `protected`"),
@@ -51,9 +51,10 @@ REFUSALS = (b"bad ", b"usage\n", b"read fault\n", b"too long\n")
 class Document:
     """A file as far as the program reads it."""
 
-    def __init__(self, name: str, data: bytes) -> None:
+    def __init__(self, name: str, data: bytes, original: bytes | None = None) -> None:
         self.name = name
         self.data = data
+        self.original = original  # what the user's file has, where the data were made of it line by line
 
     @property
     def text(self) -> str:
@@ -68,7 +69,7 @@ class Document:
 
     def line(self, number: int | None) -> str:
         """The text of a line, counted from 1, cut to what a sentence shows; nothing where there is no such line."""
-        lines = self.lines
+        lines = self.lines if self.original is None else Document(self.name, self.original).lines
         text = lines[number - 1].strip() if number and number <= len(lines) else ""
         return text if len(text) <= LINE_SHOWN else text[: LINE_SHOWN - 2] + ".."
 
@@ -83,7 +84,7 @@ class Document:
 def read(file: File) -> Document:
     """The file, up to one octet more than the program reads of it. Raises OSError."""
     with open(file.path, "rb", buffering=0) as source:
-        return Document(file.name, source.read(LONGEST_FILE + 1) or b"")
+        return Document(file.name, source.read(LONGEST_FILE + 1) or b"", file.original)
 
 
 def nearest(word: str, known: Iterable[str], likeness: float = 0.4) -> str | None:
@@ -131,7 +132,7 @@ def encoding_fault(document: Document) -> tuple[int, str] | None:
         line = data.count(b"\n", 0, fault.start) + 1
         sign = data[fault.start : fault.start + 1].decode("latin-1")
         meant = f", in Latin-1 a `{sign}`," if sign.isprintable() else ""
-        return line, f"the octet {data[fault.start]:02x}{meant} is no UTF-8: save the file as UTF-8"
+        return line, f"the byte {data[fault.start]:02x}{meant} is no UTF-8: save the file as UTF-8"
     return None
 
 

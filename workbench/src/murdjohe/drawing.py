@@ -9,7 +9,7 @@ from dataclasses import dataclass, field
 from typing import Any
 
 from murdjohe import files, toml_reader
-from murdjohe.wrong import Wrong
+from murdjohe.wrong import Wrong, unusable
 
 # Colours of Okabe and Ito: told apart by people who don't tell red from green.
 STATES = {"locked": ("#56B4E9", "ellipse"), "holdover": ("#E69F00", "hexagon"), "freerun": ("#FFFFFF", "octagon")}
@@ -62,20 +62,20 @@ def read_plan(path: str) -> Plan:
         names = {element["name"] for element in rows_of(plan, "element", ("name",))}
         for link in rows_of(plan, "link", ("name", "a", "b"), LINK_NUMBERS):
             if link["a"] not in names or link["b"] not in names:
-                raise Wrong(
+                raise unusable(
                     f"{path}: link {link['name']} joins no two elements; let `murdjohe rank` read the plan first"
                 )
         for source in rows_of(plan, "source", ("name", "at", "level"), ("priority",)):
             if source["at"] not in names:
-                raise Wrong(
+                raise unusable(
                     f"{path}: source {source['name']} is at no element; let `murdjohe rank` read the plan first"
                 )
         return plan
     except (tomllib.TOMLDecodeError, RecursionError) as fault:
-        raise Wrong(f"{path}: it is no TOML document: {fault}") from None
+        raise unusable(f"{path}: it is no TOML document: {fault}") from None
     except (KeyError, TypeError, AttributeError):
         why = "a row lacks a key, or has a value of another kind"
-        raise Wrong(f"{path}: {why}; let `murdjohe rank` read the plan first") from None
+        raise unusable(f"{path}: {why}; let `murdjohe rank` read the plan first") from None
 
 
 def nearby(plan: Plan, names: Iterable[str], links: int) -> Plan:
@@ -105,9 +105,9 @@ def read_ranks(path: str | None) -> dict[str, str]:
     try:
         rows = list(csv.reader(files.text(path).splitlines()))
     except csv.Error as fault:
-        raise Wrong(f"{path}: it is no CSV: {fault}") from None
+        raise unusable(f"{path}: it is no CSV: {fault}") from None
     if rows[:1] != [["line", "rank"]]:
-        raise Wrong(f"{path}: it is no certificate, since it doesn't begin with line,rank")
+        raise unusable(f"{path}: it is no certificate, since it doesn't begin with line,rank")
     return {row[0]: row[1] for row in rows[1:] if len(row) == 2}
 
 
@@ -123,7 +123,7 @@ def read_report(path: str | None) -> dict[str, list[str]]:
             _, element, *rest = line.split(",")
             shown[element] = rest
     if not part:
-        raise Wrong(f"{path}: it is no report of sim")
+        raise unusable(f"{path}: it is no report of sim")
     return shown
 
 
@@ -133,7 +133,7 @@ def read_marks(path: str | None) -> frozenset[str]:
         return frozenset()
     words = files.text(path).split()
     if words[:1] not in (["cycle"], ["falls"], ["accepted"], ["line,rank"]):
-        raise Wrong(f"{path}: it is no answer of rank or check")
+        raise unusable(f"{path}: it is no answer of rank or check")
     return frozenset(words[1:] if words[0] in ("cycle", "falls") else ())
 
 

@@ -17,6 +17,9 @@ PCAP_HEAD = struct.pack("<IHHiIII", 0xA1B2C3D4, 2, 4, 0, 0, 65_535, 1)
 UNKNOWN = "code-"  # how the level of a code begins that the option doesn't know
 
 
+Extended = tuple[str | None, str | None, int | None, int | None]
+
+
 class Heard(NamedTuple):
     """An ESMC frame: nanoseconds since 1970 began, the interface, its octets from the address on, and what it says."""
 
@@ -24,6 +27,11 @@ class Heard(NamedTuple):
     port: str
     octets: bytes
     says: Frame
+
+    @property
+    def extended(self) -> Extended:
+        """What its extended TLV says: the clock, the flags, and how many eEECs and EECs there are since."""
+        return self.says.clock, self.says.flags, self.says.eeecs, self.says.eecs
 
 
 class Waiting(NamedTuple):

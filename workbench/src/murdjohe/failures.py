@@ -96,7 +96,7 @@ def groups_of(path: str, text: str, tables: dict[str, Any]) -> list[Failure]:
         for link in links:
             if link not in order:
                 what = f"links: {link!r} names no link of the plan{documents.hint(link, order)}"
-                mistakes.add(path, row.line, f"{what}; mend the name, or take it out")
+                mistakes.add(path, row.line, f"{what}; correct the name, or take it out")
         groups.setdefault(name, set()).update(links)
     mistakes.end()
     return [Failure("group", name, tuple(sorted(links, key=order.__getitem__))) for name, links in groups.items()]

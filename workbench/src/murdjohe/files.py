@@ -3,12 +3,15 @@
 from __future__ import annotations
 
 import os
+import stat
 import tempfile
+from collections.abc import Iterable
 from typing import IO
 
 from murdjohe import packing
 from murdjohe.inputs import STDIN
-from murdjohe.wrong import Wrong, reason
+from murdjohe.core import READ_FAULT, THERE
+from murdjohe.wrong import Wrong, reason, unusable, unwritten
 
 
 def octets(path: str) -> bytes:
@@ -19,19 +22,19 @@ def octets(path: str) -> bytes:
     except OSError as fault:
         raise reason("standard input" if path == STDIN else path, fault) from None
     except ValueError as fault:  # (a name with a zero octet)
-        raise Wrong(f"{path}: {fault}") from None
+        raise Wrong(f"{path}: {fault}", status=READ_FAULT) from None
 
 
 def text(path: str) -> str:
     """The text of a file without a byte order mark. Raises Wrong, also where it isn't UTF-8."""
     data = octets(path)
     if data[:2] in (b"\xff\xfe", b"\xfe\xff"):
-        raise Wrong(f"{path}: it is text in UTF-16; save it as UTF-8")
+        raise unusable(f"{path}: it is text in UTF-16; save it as UTF-8")
     try:
         return data.decode("utf-8-sig")
     except UnicodeDecodeError as fault:
         line = data.count(b"\n", 0, fault.start) + 1
-        raise Wrong(f"{path}:{line}: it is no text in UTF-8") from None
+        raise unusable(f"{path}:{line}: it is no text in UTF-8; save it as UTF-8") from None
 
 
 def is_device(path: str) -> bool:
@@ -71,17 +74,43 @@ def all_written(contents: dict[str, bytes]) -> None:
         for path in list(beside):
             os.replace(beside.pop(path), path)
     except OSError as fault:
-        raise reason(path, fault) from None
+        raise unwritten(path, fault) from None
     finally:
         for left in beside.values():
             os.unlink(left)
 
 
-def free(paths: list[str], is_forced: bool) -> None:
-    """Raises Wrong where one of these files is there already, and isn't to be written over."""
-    there = [path for path in paths if os.path.isfile(path)]
+def known(path: str) -> tuple[int, int] | None:
+    """The device and inode of a plain file, or of standard input for `-`; None where there is none."""
+    try:
+        found = os.fstat(0) if path == STDIN else os.stat(path)
+    except (OSError, ValueError):
+        return None
+    return (found.st_dev, found.st_ino) if stat.S_ISREG(found.st_mode) else None
+
+
+def free(paths: list[str], is_forced: bool, inputs: Iterable[str | None] = ()) -> None:
+    """Raises Wrong where one of these files is one that is read, or another of these, or is there already and isn't to be
+    written over. Whether two are one is told by the file and not by its name; `-` is standard output, and never there.
+    """
+    outputs = [path for path in paths if path != STDIN]
+    read = {known(path): path for path in inputs if path is not None}
+    for path in outputs:
+        its = known(path)
+        if its is not None and its in read:
+            other = "standard input" if read[its] == STDIN else read[its]
+            same = "it" if other == path else f"{other}, which is the same file,"
+            raise Wrong(
+                f"{path}: {same} is read by this command, and isn't written over; name another file", status=THERE
+            )
+    real = [os.path.realpath(path) for path in outputs]
+    for number, path in enumerate(real):
+        if path in real[:number] and not is_device(path):
+            raise Wrong(f"two outputs are one file, {outputs[number]}: name two")
+    there = [path for path in outputs if os.path.isfile(path)]
     if there and not is_forced:
-        raise Wrong(f"{', '.join(there)} {'is' if len(there) == 1 else 'are'} there already; --force writes over it")
+        verb = "is" if len(there) == 1 else "are"
+        raise Wrong(f"{', '.join(there)} {verb} there already; --force writes over it", status=THERE)
 
 
 def mask() -> int:
@@ -109,7 +138,7 @@ class Growing:
                 number, self.beside = tempfile.mkstemp(dir=os.path.dirname(self.path) or ".", prefix=".murdjohe-")
                 self.file = os.fdopen(number, "wb")
         except OSError as fault:
-            raise reason(self.path, fault) from None
+            raise unwritten(self.path, fault) from None
         self.tail = packing.End() if self.path.endswith(".gz") else None
         if self.tail:
             self.put(packing.BEGIN)
@@ -120,7 +149,7 @@ class Growing:
         try:
             self.file.write(octets)
         except OSError as fault:
-            raise reason(self.path, fault) from None
+            raise unwritten(self.path, fault) from None
 
     def write(self, data: bytes, packed: bytes | None = None) -> None:
         """Writes one more piece, which may be packed already. Raises Wrong."""
@@ -145,7 +174,7 @@ class Growing:
             if kind is None:
                 self.end()
         except OSError as fault:
-            raise reason(self.path, fault) from None
+            raise unwritten(self.path, fault) from None
         finally:
             if self.beside:
                 os.unlink(self.beside)

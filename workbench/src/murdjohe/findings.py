@@ -6,10 +6,10 @@ Whether timing can go round, whom single failures cut off and how long chains ma
 from __future__ import annotations
 
 import re
-from collections.abc import Iterator
+from collections.abc import Collection, Iterator
 from dataclasses import dataclass
 
-from murdjohe import levels, network, nominated
+from murdjohe import levels, network, nominated, premises
 from murdjohe.nominated import Line
 from murdjohe.orders import NONE, Order, orders_of
 from murdjohe.plans import Plan
@@ -131,7 +131,7 @@ def on_pairs(looked: Looked) -> Iterator[Finding]:
     for pair in pairs_of(looked):
         kind, name, lines, bare = pair.kind, pair.name, pair.lines, pair.bare
         if bare:
-            what = f'{kind} "{name}" is nominated at both ends, and {" and ".join(bare)} would follow the other\'s own clock'
+            what = f'{kind} "{name}" is nominated at both ends, and {" and ".join(bare)} would follow the other\'s internal oscillator (own clock)'
             remedy = f"give {'each' if len(bare) == 2 else 'it'} a floor better than that clock, or nominate one end"
             yield Finding(min(map(looked.line_of, lines)), WARNING, what, remedy)
 
@@ -186,10 +186,11 @@ class Last:
     priority: int
 
 
-def last_resort(looked: Looked, clash: tuple[str, ...]) -> Last | None:
+def last_resort(looked: Looked, clash: tuple[str, ...], barred: Collection[str] = ()) -> Last | None:
     """The line of a clash that is followed by one straight back and is nearest to the last place of its element.
 
-    Such a line bears on no line back any more where it is the last resort. None where no other input leaves it room.
+    Such a line bears on no line back any more where it is the last resort. None where no other input leaves it room, or all
+    such lines are barred.
     """
     found = []
     for name, after in zip(clash, (*clash[1:], clash[0])):
@@ -197,7 +198,7 @@ def last_resort(looked: Looked, clash: tuple[str, ...]) -> Last | None:
         inputs = looked.orders[line.receiver].inputs
         own = {one.name for one in looked.lines if one.bundle == line.bundle}
         priority = 1 + max((one.priority for one in inputs if one.name not in own), default=0)
-        if line.bundle == back.bundle and priority <= nominated.LOWEST:
+        if line.bundle == back.bundle and priority <= nominated.LOWEST and name not in barred:
             found.append(Last(line, priority))
     return min(found, key=lambda last: last.priority - last.line.priority) if found else None
 
@@ -206,14 +207,16 @@ def on_clash(looked: Looked, clash: tuple[str, ...] | None) -> Iterator[Finding]
     """The lines that bear on one another in a circle, and which of them may become a last resort."""
     if clash:
         last = last_resort(looked, clash)
-        what = f"elements may swing for ever over {' -> '.join([*clash, clash[0]])}"
+        what = (
+            f"oscillating priorities: elements may take and drop timing for ever over {' -> '.join([*clash, clash[0]])}"
+        )
         remedy = f"take the priority of {' or '.join(clash)} away"
         if last:
             link = last.line.name.partition(">")[0]
             most = f"{last.line.key} = {last.priority} or more of link {link}"
-            remedy = f"make {last.line.name} the last resort of {last.line.receiver}: {most}"
+            remedy = f"give {last.line.name} the lowest priority at {last.line.receiver}: {most}"
         line = looked.line_of(last.line) if last else min(looked.line_of(looked.by_name[name]) for name in clash)
-        yield Finding(line, WARNING, what, remedy)
+        yield Finding(line, ERROR, what, remedy)
 
 
 def place_of(looked: Looked, gap: Gap) -> int:
@@ -249,6 +252,16 @@ def on_chains(looked: Looked, chains: tuple[Chain, ...]) -> Iterator[Finding]:
             yield Finding(looked.line("element", looked.rows[longest]), WARNING, said, remedy)
 
 
+def on_premises(looked: Looked) -> Iterator[Finding]:
+    """Own clocks and floors by which the promise on single failures doesn't speak of the plan, where it has a reserve to promise."""
+    if not any(len(order.inputs) > 1 for order in looked.orders.values()):
+        return
+    for broken in premises.broken(looked.plan):
+        line = looked.line("element", broken.number, broken.key)
+        what = f"{broken.what}, so that the promise on single failures doesn't hold for this plan"
+        yield Finding(line, WARNING, what, broken.remedy)
+
+
 def findings_of(plan: Plan, said: Said) -> list[Finding]:
     """All findings in the order of the file."""
     looked = Looked(plan)
@@ -256,6 +269,6 @@ def findings_of(plan: Plan, said: Said) -> list[Finding]:
         return [Finding(1, ERROR, "there is no element in the plan", "is it the file that was meant?")]
     found = [*on_rings(looked, said.ring), *on_clash(looked, said.clash)]
     found += [*on_gaps(looked, said.gaps), *on_chains(looked, said.chains)]
-    for look in (on_sources, on_ways, on_pairs, on_places, on_levels):
+    for look in (on_sources, on_ways, on_pairs, on_places, on_levels, on_premises):
         found += look(looked)
     return sorted(found, key=lambda finding: (finding.line, KINDS.index(finding.kind)))

@@ -16,7 +16,7 @@ import zlib
 from murdjohe import files, study_runs
 from murdjohe.portions import Part
 from murdjohe.study_runs import Rows
-from murdjohe.wrong import Wrong, reason
+from murdjohe.wrong import Wrong, unwritten
 
 ENDING = ".csv.gz"
 CLAIMS = "claims"  # the file whose octets are locked, one for each part, by its name
@@ -36,7 +36,7 @@ class Finished:
             os.makedirs(folder, exist_ok=True)
             self.claims = os.open(os.path.join(folder, CLAIMS), os.O_RDWR | os.O_CREAT | os.O_CLOEXEC, 0o666)
         except OSError as fault:
-            raise reason(folder, fault) from None
+            raise unwritten(folder, fault) from None
         except ValueError as fault:  # (a name with a zero octet)
             raise Wrong(f"--parts: {fault}") from None
 
@@ -55,7 +55,7 @@ class Finished:
         except (FileNotFoundError, EOFError, gzip.BadGzipFile, zlib.error, ValueError):
             return None
         except OSError as fault:
-            raise reason(path, fault) from None
+            raise unwritten(path, fault) from None
 
     def keep(self, part: Part, rows: Rows) -> None:
         """Keeps what the program answered to a part. Raises Wrong."""

@@ -1,6 +1,6 @@
 """A set of lines that breaks all rings, to begin with: of lines that are kept, over which no ring goes, and those that can be put back.
 
-Lines are kept that lead from an earlier element to a later one in some order: then no ring is left, whatever the order. Or those
+Lines are kept that lead from an earlier element to a later one in some order: then no loop is possible, whatever the order. Or those
 of another plan are kept over which no ring goes, as `protect` gives one.
 """
 

@@ -22,7 +22,7 @@ COUNT = "count"
 NO_FILES = frozenset((OPTION, ELEMENT, TIME, COUNT))
 
 DAY_MS = 86_400_000  # milliseconds: the greatest UNTIL
-SIZES = (2, 2000)  # the least and the greatest N of `gen` and `trial`
+SIZES = (2, 100_000)  # the least and the greatest N of `gen` and `trial`
 
 # What each kind of word may be, as help and sentences say it.
 MEANINGS = {
@@ -37,8 +37,8 @@ MEANINGS = {
     RECEIVED: "what the element received, a line each: AT,WORD,TARGET,VALUE",
     OPTION: "the network option, I or II, whose levels are meant",
     ELEMENT: "the name of an element of the plan",
-    TIME: "a time up to a day: milliseconds, or 20m, 90s, 1h30m, HH:MM:SS",
-    COUNT: "a number of elements, 2 to 2000",
+    TIME: "a time up to a day: milliseconds, or 20m, 90s, 1h30m, HH:MM, HH:MM:SS",
+    COUNT: "a number of elements, 2 to 100000",
 }
 
 
@@ -112,7 +112,7 @@ _ALL = (
         "check",
         (_PLAN, _CERT),
         PLANNING,
-        "tests a certificate: accepted, or the first hop that falls",
+        "tests a certificate: accepted, or where a loop could close",
         (0, 1, 3, 4, 7, 9),
         (_MAKE, _RANK, "murdjohe check plan.toml certificate.csv"),
     ),
@@ -120,7 +120,7 @@ _ALL = (
         "rank",
         (_PLAN,),
         PLANNING,
-        "writes a plan's certificate, or names the ring to be broken",
+        "writes a plan's certificate, or names the loop to be broken",
         (0, 1, 3, 7, 9),
         (_MAKE, "murdjohe rank plan.toml"),
     ),
@@ -136,7 +136,7 @@ _ALL = (
         "protected",
         (_PLAN,),
         PLANNING,
-        "says whom one failure cuts off that needn't be",
+        "says who loses sync by one failure though another path exists",
         (0, 1, 3, 7, 9),
         (_MAKE, "murdjohe nominate plan.toml > nominated.toml", "murdjohe protected nominated.toml || echo has gaps"),
     ),
@@ -160,7 +160,7 @@ _ALL = (
         "nominate",
         (_PLAN,),
         PLANNING,
-        "gives a plan its priorities so that no ring is left",
+        "gives a plan its priorities so that no loop is possible",
         (0, 3, 7, 9),
         (_MAKE, "murdjohe nominate plan.toml > nominated.toml"),
     ),
@@ -168,7 +168,7 @@ _ALL = (
         "protect",
         (_PLAN,),
         PLANNING,
-        "gives a plan priorities by which no one failure cuts anybody off",
+        "gives priorities by which no single failure takes sync away",
         (0, 1, 3, 7, 9),
         (_MAKE, "murdjohe protect plan.toml > protecting.toml", "murdjohe protected protecting.toml"),
     ),

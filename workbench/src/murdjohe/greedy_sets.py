@@ -60,7 +60,7 @@ class Choice:
 
 
 def greedy_set(knot: nx.DiGraph, inputs: Inputs, seconds: float, kept: Collection[str] = ()) -> frozenset[str]:
-    """Lines of a knot without which no ring is left, found from some over which none goes and which are kept at first.
+    """Lines of a knot without which no loop is possible, found from some over which none goes and which are kept at first.
 
     The search for better ones ends after these seconds of processor time.
     """

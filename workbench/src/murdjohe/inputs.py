@@ -12,30 +12,39 @@ from murdjohe import forms, times
 from murdjohe.core import LONGEST_FILE, PIECE
 
 STDIN = "-"
+UNITS = (b"h", b"m", b"s", b":")  # what a time that isn't in milliseconds has
 
 
 class File:
     """A file that a word names: how it is called in sentences, and the path under which it is read.
 
-    `memory` is the open file that keeps what came from a pipe, where that is so.
+    `memory` is the open file that keeps what came from a pipe, or what was made of the file, where that is so; `original` has
+    the octets that the user's file has, where others were made of them.
     """
 
-    __slots__ = ("kind", "name", "path", "memory")
+    __slots__ = ("kind", "name", "path", "memory", "original")
 
-    def __init__(self, kind: str, name: str, path: str, memory: int | None = None) -> None:
+    def __init__(
+        self, kind: str, name: str, path: str, memory: int | None = None, original: bytes | None = None
+    ) -> None:
         self.kind = kind
         self.name = name
         self.path = path
         self.memory = memory
+        self.original = original
 
 
 class Words:
-    """The words that the program is given, and the files among them in order."""
+    """The words that the program is given, and the files among them in order; and the time of day at which the run begins, where
+    that is said."""
 
-    __slots__ = ("form", "given", "passed", "files")
+    __slots__ = ("form", "given", "passed", "files", "start")
 
-    def __init__(self, form: forms.Form, given: list[str], passed: list[str], files: list[File]) -> None:
+    def __init__(
+        self, form: forms.Form, given: list[str], passed: list[str], files: list[File], start: int | None = None
+    ) -> None:
         self.form = form
+        self.start = start
         self.given = given
         self.passed = passed
         self.files = files
@@ -96,8 +105,44 @@ def file_of(kind: str, word: str) -> File:
         return File(kind, name, path)
 
 
-def taken(form: forms.Form, given: list[str]) -> Words | None:
-    """The words for the program; None where there are too few or too many, or standard input is named twice."""
+def with_milliseconds(file: File, start: int | None) -> File:
+    """The file, or one in memory that has its times in milliseconds where it has others. Raises Wrong."""
+    try:
+        with open(file.path, "rb") as source:
+            if not stat.S_ISREG(os.fstat(source.fileno()).st_mode):
+                return file  # (what can be read once alone is the program's)
+            data = source.read(LONGEST_FILE + 1)
+    except (OSError, ValueError):  # (the program says that it can't be read)
+        return file
+    if len(data) > LONGEST_FILE or not any(sign in data for sign in UNITS):
+        return file
+    from murdjohe import event_times
+
+    made = event_times.turned(file.name, data, file.kind == forms.CASES, start)
+    if made == data:
+        return file
+    if file.memory is not None:
+        os.close(file.memory)
+    memory = os.memfd_create("murdjohe", 0)
+    view = memoryview(made)
+    while view:
+        view = view[os.write(memory, view) :]
+    return File(file.kind, file.name, f"/dev/fd/{memory}", memory, data)
+
+
+def time_of(name: str, text: str, start: int | None) -> int | None:
+    """The milliseconds of a word that is a time with units or colons; None for any other. Raises Wrong."""
+    try:
+        return times.of_word(text, start)
+    except times.Early as early:
+        from murdjohe.wrong import Wrong
+
+        raise Wrong(f"{name}: {early}") from None
+
+
+def taken(form: forms.Form, given: list[str], start: int | None = None) -> Words | None:
+    """The words for the program, in a run that begins at a time of day, where that is said; None where there are too few or too
+    many, or standard input is named twice. Raises Wrong where a time is before the start."""
     pairs = list(zip(form.words, given))
     are_stdin = [word.is_file and text == STDIN for word, text in pairs]
     if len(given) != len(form.words) or sum(are_stdin) > 1:
@@ -106,10 +151,12 @@ def taken(form: forms.Form, given: list[str]) -> Words | None:
     for word, text in pairs:
         if word.is_file and text:
             file = file_of(word.kind, text)
+            if word.kind in (forms.EVENTS, forms.CASES):
+                file = with_milliseconds(file, start)
             files.append(file)
             passed.append(file.path)
-        elif word.kind == forms.TIME and (time := times.milliseconds(text)) is not None:
+        elif word.kind == forms.TIME and (time := time_of(word.name, text, start)) is not None:
             passed.append(str(time))
         else:
             passed.append(text)
-    return Words(form, given, passed, files)
+    return Words(form, given, passed, files, start)

@@ -11,7 +11,7 @@ from murdjohe import documents
 from murdjohe.esmc import Capture, Heard
 from murdjohe.forms import DAY_MS
 from murdjohe.plans import Plan
-from murdjohe.wrong import Wrong
+from murdjohe.wrong import Wrong, unusable
 
 MILLISECOND = 1_000_000  # nanoseconds
 SOURCE = re.compile(r"[0-9a-f]{12}")
@@ -48,7 +48,7 @@ def where_of(word: str) -> Where:
             f'--line: "{word}" is none of LINE=SOURCE, LINE=@PORT and LINE=SOURCE@PORT, as L1>B=02:00:00:00:00:01'
         )
     if source and not SOURCE.fullmatch(source):
-        raise Wrong(f'--line: "{address}" is no source address: six octets, as 02:00:00:00:00:01')
+        raise Wrong(f'--line: "{address}" is no source address: six bytes, as 02:00:00:00:00:01')
     return Where(line, source, port)
 
 
@@ -75,12 +75,28 @@ def sorted_lines(plan: Plan, element: str, wheres: Iterable[Where]) -> tuple[set
     return into, out
 
 
+def apart(wheres: list[Where]) -> list[Where]:
+    """The same. Raises Wrong where the frames of two lines can't be told apart."""
+    seen: dict[tuple[str, str], str] = {}
+    for where in wheres:
+        other = seen.setdefault((where.source, where.port), where.line)
+        if other != where.line:
+            what = f"source {where.source}" if where.source else f"interface {where.port}"
+            remedy = f"name the interface of each too, as {where.line}={where.source}@eth1"
+            if where.port:
+                remedy = f"name the source of each too, as {where.line}=020000000001@{where.port}"
+            raise Wrong(
+                f"--line: {other} and {where.line} have the same {what}, so whose its frames are isn't known; {remedy}"
+            )
+    return wheres
+
+
 class Bench:
     """What a capture holds of the lines that are named; times are milliseconds from the first packet on."""
 
     def __init__(self, wheres: list[Where]) -> None:
         # (who says more of a frame goes first, so that an interface alone has what no source on it has)
-        self.wheres = sorted(wheres, key=lambda where: (not where.source, not where.port))
+        self.wheres = sorted(apart(wheres), key=lambda where: (not where.source, not where.port))
         self.zero: int | None = None  # nanoseconds since 1970 began, a whole millisecond
         self.messages: list[Message] = []
         self.sources: dict[str, set[str]] = {}  # who speaks on each line
@@ -113,7 +129,7 @@ def events_of(name: str, text: str) -> list[tuple[int, str]]:
     for number, line in enumerate(text.splitlines(), start=1):
         at = line.partition(",")[0]
         if line and not (at.isascii() and at.isdigit() and len(at) <= 8):
-            raise Wrong(
+            raise unusable(
                 f"{name}:{number}: `{line[:60]}`: it doesn't begin with milliseconds; write AT,WORD,TARGET,VALUE"
             )
         if line:

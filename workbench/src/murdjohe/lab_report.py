@@ -4,11 +4,11 @@ from __future__ import annotations
 
 import json
 from collections.abc import Iterator
-from dataclasses import dataclass
+from dataclasses import asdict, dataclass
 
 from murdjohe import api, columns, core, device, files, lab_lines, talk_report
 from murdjohe.clock_times import Clock
-from murdjohe.device import Finding, Limits
+from murdjohe.device import Finding, Limits, Reaction
 from murdjohe.documents import Document
 from murdjohe.esmc import Capture
 from murdjohe.forms import DAY_MS
@@ -34,6 +34,7 @@ class Asked:
     tolerance: int
     begin: int
     until: int | None
+    most: int = 0
 
 
 @dataclass(frozen=True)
@@ -43,6 +44,13 @@ class Compared:
     findings: list[Finding]
     messages: int
     limits: Limits
+    reactions: list[Reaction]
+    most: int = 0
+
+    @property
+    def is_passed(self) -> bool:
+        """Whether no more differs than may."""
+        return len(self.findings) <= self.most
 
 
 def events_of(path: str | None) -> list[tuple[int, str]]:
@@ -77,8 +85,8 @@ def levels_of(option: str, frames: set[str]) -> dict[str, tuple[str, str]]:
 
 def asked_of(asked: Asked, data: bytes, received: bytes, end: int) -> tuple[list[Message], int]:
     """What the element had to send, and up to which millisecond that is known. Raises Wrong."""
-    if len(received) > core.LONGEST_FILE:
-        most = f"{core.LONGEST_FILE} octets"
+    if len(received) > core.LONGEST_BESIDE:
+        most = f"{core.LONGEST_BESIDE} bytes"
         raise Wrong(
             f"{asked.file}: what {asked.element} received is more than {most}, which is all that is read: --until"
         )
@@ -114,7 +122,8 @@ def compared(asked: Asked, bench: Bench, plan: Plan, data: bytes, last: int | No
         raise Wrong(f"nothing can be compared: {asked.file} is at its end at {end} ms, and --from is {asked.begin} ms")
     limits = Limits(asked.tolerance, asked.begin, end)
     sent = [message for message in messages if message.line in out and message.at >= asked.begin]
-    return Compared(device.compared(wanted, messages, out, limits), len(sent), limits)
+    findings, reactions = device.looked_at(wanted, messages, out, limits)
+    return Compared(findings, len(sent), limits, reactions, asked.most)
 
 
 def remarks(bench: Bench, plan: Plan, asked: Asked, found: Compared, clock: Clock) -> Iterator[str]:
@@ -133,10 +142,36 @@ def remarks(bench: Bench, plan: Plan, asked: Asked, found: Compared, clock: Cloc
     yield f"compared: {counts}, {span}, with a tolerance of {asked.tolerance} ms"
 
 
+def verdict(found: Compared) -> str:
+    """Whether the device passes."""
+    number = said(len(found.findings), "difference") if found.findings else "no differences"
+    most = f", {found.most} may be" if found.most else ""
+    return f"{'pass' if found.is_passed else 'fail'}: {number}{most}\n"
+
+
+def reactions_text(found: Compared) -> str:
+    """How soon changes were told on each line."""
+    rows = [
+        [
+            one.line,
+            str(one.changes),
+            *("-" if time is None else str(time) for time in (one.least, one.middle, one.greatest)),
+        ]
+        for one in found.reactions
+    ]
+    heads = ["line", "changes told", "least ms", "middle ms", "greatest ms"]
+    return "reaction times\n" + "".join(f"{line}\n" for line in columns.table(heads, rows))
+
+
 def text(bench: Bench, found: Compared, clock: Clock) -> str:
-    """The findings as rows with their times of day, or that there are none."""
+    """Whether the device passes, the findings as rows with their times of day, and the reaction times."""
+    return verdict(found) + findings_text(bench, found, clock) + reactions_text(found)
+
+
+def findings_text(bench: Bench, found: Compared, clock: Clock) -> str:
+    """The findings as rows with their times of day; nothing where there are none."""
     if not found.findings:
-        return "no differences\n"
+        return ""
     zero = bench.zero or 0
     rows = [
         [str(finding.at), clock.of_day(zero + finding.at * MILLISECOND, 3), finding.line, finding.what, finding.words]
@@ -148,7 +183,15 @@ def text(bench: Bench, found: Compared, clock: Clock) -> str:
 def as_json(bench: Bench, found: Compared, said_of: list[str]) -> str:
     """The same as JSON."""
     rows = [finding._asdict() for finding in found.findings]
-    whole = {"zero": bench.zero, "messages": found.messages, "findings": rows, "said": said_of}
+    reactions = [asdict(one) for one in found.reactions]
+    passed: dict[str, object] = {"pass": found.is_passed, "reactions": reactions}
+    whole: dict[str, object] = {
+        "zero": bench.zero,
+        "messages": found.messages,
+        "findings": rows,
+        **passed,
+        "said": said_of,
+    }
     return json.dumps(whole, indent=2) + "\n"
 
 

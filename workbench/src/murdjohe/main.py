@@ -2,6 +2,7 @@
 
 from __future__ import annotations
 
+import _signal  # type: ignore[import]
 import os
 import sys
 
@@ -10,6 +11,7 @@ from murdjohe.run_form import JSON, QUIET, Settings
 from murdjohe.streams import Output
 from murdjohe.wrong import Wrong
 
+ENDING = (1, 15)  # SIGHUP and SIGTERM (the module `signal` takes long to import)
 INTERRUPTED = 130  # as a shell says of a command that Ctrl-C ended
 
 
@@ -41,13 +43,18 @@ def guarded(words: list[str], output: Output) -> int:
     except Wrong as wrong:
         streams.tell(*wrong.lines)
         return wrong.status
+    except core.NoAnswer as none:
+        streams.tell(str(none))
+        return core.MISTAKE
     except (core.Absent, core.Ended) as absent:
         streams.tell(str(absent))
         return core.UNAVAILABLE
     except streams.Lost as lost:
         if not lost.is_gone:
             streams.tell(f"standard output: {lost}")
-        return core.WRITE_FAULT
+        return lost.status
+    except Told as told:
+        return 128 + told.number
     except KeyboardInterrupt:
         return INTERRUPTED
     except MemoryError:
@@ -60,8 +67,29 @@ def guarded(words: list[str], output: Output) -> int:
         return core.MISTAKE
 
 
+class Told(KeyboardInterrupt):
+    """The process was told to end, by a signal other than that of Ctrl-C; whatever that cleans up is cleaned up too."""
+
+    def __init__(self, number: int) -> None:
+        super().__init__()
+        self.number = number
+
+
+def told(number: int, _: object) -> None:
+    """Ends the command as Ctrl-C does."""
+    raise Told(number)
+
+
+def heed() -> None:
+    """Has the signals that tell a process to end do so as Ctrl-C does, but for those that are ignored, as by nohup."""
+    for number in ENDING:
+        if _signal.getsignal(number) == _signal.SIG_DFL:
+            _signal.signal(number, told)
+
+
 def main() -> int:
     """The command: the exit status of the words that the process was given."""
+    heed()
     output = Output(streams.filled())
     return guarded(sys.argv[1:], output)
 

@@ -4,7 +4,7 @@ from __future__ import annotations
 
 from dataclasses import dataclass, field
 
-from murdjohe.wrong import Wrong
+from murdjohe.wrong import unusable
 
 SHOWN = 20  # mistakes that are told before the rest is counted
 
@@ -30,4 +30,4 @@ class Mistakes:
     def end(self) -> None:
         """Raises Wrong where there is a mistake."""
         if self.found:
-            raise Wrong(*self.lines())
+            raise unusable(*self.lines())

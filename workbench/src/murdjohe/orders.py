@@ -10,7 +10,7 @@ OWN = {"I": "QL-SEC", "II": "QL-ST3"}
 NONE = "none"
 COLUMNS = ("element", "place", "priority", "input", "neighbour", "link", "bundle", "floor", "holdoff", "wtr", "own")
 CHANGES = ("element", "what", "old", "new")
-KINDS = ("priority", "bundle", "floor", "hold-off", "wait-to-restore", "own")  # of settings, as they are told
+KINDS = ("priority", "bundle", "floor", "hold-off", "wait-to-restore", "internal")  # of settings, as they are told
 
 
 @dataclass(frozen=True)
@@ -98,7 +98,7 @@ def text_of(orders: list[Order]) -> list[str]:
         if not order.inputs:
             said.append("  no input")
         times = f"hold-off {order.holdoff} ms, wait-to-restore {order.wtr} min"
-        said.append(f"  floor {order.floor}, {times}, own clock {order.own}")
+        said.append(f"  floor {order.floor}, {times}, internal oscillator (own clock) {order.own}")
     return said
 
 
@@ -107,7 +107,7 @@ def settings_of(order: Order) -> dict[str, str]:
     inputs = {f"priority of {one.name}": str(one.priority) for one in order.inputs}
     bundles = {f"bundle of {one.name}": one.bundle for one in order.inputs if one.bundle}
     rest = {"floor": order.floor, "hold-off": f"{order.holdoff} ms", "wait-to-restore": f"{order.wtr} min"}
-    return {**inputs, **bundles, **rest, "own clock": order.own}
+    return {**inputs, **bundles, **rest, "internal oscillator (own clock)": order.own}
 
 
 def changes_of(old: list[Order], new: list[Order]) -> list[tuple[str, str, str, str]]:

@@ -10,9 +10,9 @@ from pathlib import Path
 from typing import Any
 
 import murdjohe
-from murdjohe import colours, core, page_data
-from murdjohe.plan_file import PlanFile
-from murdjohe.rehearsals import Rehearsal, clock
+from murdjohe import colours, core, page_data, plan_file
+from murdjohe.plan_file import Judgement, PlanFile
+from murdjohe.rehearsals import Rehearsal, clock, dark_text
 from murdjohe.remarks import plural
 from murdjohe.runs import EventFile
 
@@ -20,8 +20,9 @@ PARTS = Path(__file__).parent / "page"
 # The modules of the page, each after those that it imports.
 MODULES = ("model.js", "picture.js", "tables.js", "main.js")
 PROMISE = (
-    "ranks rise over every hop, so no timing loop can form in the network, whatever fails, comes back or is commanded; "
-    "two elements on a link or bundle that is nominated at both ends may face one another for a moment"
+    "no loop is possible: the ranks are greater over every step, so no timing loop can form in the network, whatever fails, comes back or is commanded; "
+    "two elements on a link or bundle that is nominated at both ends may take timing from each other until the do-not-use of one "
+    "has come to the other"
 )
 
 
@@ -54,11 +55,31 @@ def settled_text(found: Rehearsal) -> str:
     return f"yes, from {clock(found.settled_at)} after the start on: nothing changes any more by itself"
 
 
-def facts(plan: PlanFile, events: EventFile, found: Rehearsal) -> list[tuple[str, str]]:
+def agreement_text(judgement: Judgement) -> str:
+    """What the program says of the priorities of the plan."""
+    if judgement.verdict != plan_file.ACCEPTED:
+        return "it isn't looked at, since timing may go round"
+    return (
+        judgement.remedy
+        or "agreed: after a failure nobody oscillates where a level reaches that is better than every internal oscillator (own clock)"
+    )
+
+
+def cuts_text() -> str:
+    """What the cases of a page are."""
+    down, end = clock(page_data.CUT_AT), clock(page_data.CUT_UNTIL)
+    return (
+        f"each link down alone at {down} after the start, without the events of this run; the table and the map show the end, "
+        f"{end}: what is lost and back by then isn't counted"
+    )
+
+
+def facts(plan: PlanFile, events: EventFile, found: Rehearsal, has_cuts: bool = False) -> list[tuple[str, str]]:
     """The verdicts with what they promise, the versions, and the checksums."""
     with open(core.find(), "rb") as file:
         program = hashlib.file_digest(file, "sha256").hexdigest()
-    verdict = plan.verdict()
+    judgement = plan_file.judged(plan)
+    verdict = judgement.verdict
     loops = " | ".join(" ".join(walk) for walk in found.report.loops) or "none"
     rejected = plural(len(found.rejected), "command") if found.rejected else "no command"
     return [
@@ -66,10 +87,13 @@ def facts(plan: PlanFile, events: EventFile, found: Rehearsal) -> list[tuple[str
             "rank, check",
             verdict + (f": {PROMISE}" if verdict == "accepted" else ": timing may go round over these lines"),
         ),
+        ("agree", agreement_text(judgement)),
         ("sim: settled", settled_text(found)),
         ("sim: closed walks at the end", loops),
         ("commands", f"{rejected} rejected, by the table of commands"),
         ("between", "traces and walks before the end follow from what each element takes, by the rule of the report"),
+        ("at the end", dark_text(found, 0)),
+        *([("cuts", cuts_text())] if has_cuts else []),
         ("plan", f"{plan.name}, sha256 {digest(plan.data)}"),
         ("events", f"{events.name}, sha256 {digest(events.data)}"),
         ("program", f"{core.NAME}, sha256 {program}"),

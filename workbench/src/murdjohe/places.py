@@ -8,7 +8,8 @@ from dataclasses import dataclass
 from typing import Any
 
 from murdjohe import files
-from murdjohe.wrong import Wrong
+from murdjohe.core import UNAVAILABLE
+from murdjohe.wrong import Wrong, unusable
 
 LAYERED, MAP = "layered", "map"
 BOX = (1.0, 0.42)  # inches, the room of an element before the picture is brought to its page
@@ -79,10 +80,10 @@ def laid_out(tables: dict[str, Any], layout: str) -> Layout:
         picture = graph_of(tables, keys).encode()
         run = subprocess.run([program, "-Tplain"], input=picture, check=True, capture_output=True)
     except FileNotFoundError:
-        raise Wrong(f"there is no `{program}`: install graphviz") from None
+        raise Wrong(f"there is no `{program}`: install graphviz", status=UNAVAILABLE) from None
     except subprocess.CalledProcessError as fault:
         said = fault.stderr.decode(errors="replace").strip().splitlines() or ["it failed"]
-        raise Wrong(f"{program}: {said[0]}") from None
+        raise Wrong(f"{program}: {said[0]}", status=UNAVAILABLE) from None
     rows = [line.split() for line in run.stdout.decode().splitlines()]
     spots = {keys[int(row[1])]: (float(row[2]), float(row[3])) for row in rows if row[0] == "node"}
     return Layout(spots, float(rows[0][2]), float(rows[0][3]))
@@ -104,13 +105,13 @@ def read_places(path: str) -> dict[str, tuple[float, float]]:
     rows = list(csv.reader(lines, delimiter=separator))
     header = [name.strip().lower() for name in rows[0]] if rows else []
     if any(name not in header for name in ("name", "x", "y")):
-        raise Wrong(f"{path}:1: a table of places has the columns name, x and y")
+        raise unusable(f"{path}:1: a table of places has the columns name, x and y")
     found = {}
     for number, row in enumerate(rows[1:], start=2):
         fields = dict(zip(header, row))
         x, y = number_of(fields.get("x", "")), number_of(fields.get("y", ""))
         if any(field.strip() for field in row) and (x is None or y is None):
-            raise Wrong(f"{path}:{number}: x and y are numbers, as 12.5")
+            raise unusable(f"{path}:{number}: x and y are numbers, as 12.5")
         if x is not None and y is not None:
             found[fields.get("name", "").strip()] = (x, y)
     return found
@@ -121,7 +122,7 @@ def placed(tables: dict[str, Any], path: str) -> Layout:
     given = read_places(path)
     missing = [row["name"] for row in tables.get("element", []) if row["name"] not in given]
     if missing:
-        raise Wrong(f"{path}: it has no place for {', '.join(missing[:5])}" + (" .." if missing[5:] else ""))
+        raise unusable(f"{path}: it has no place for {', '.join(missing[:5])}" + (" .." if missing[5:] else ""))
     xs, ys = zip(*given.values())
     left, low = min(xs), min(ys)
     scale = max(len(given) ** 0.5 * 1.6 * BOX[0] / max(max(xs) - left, max(ys) - low, 1e-9), 1e-12)

@@ -5,6 +5,7 @@ Commands that read a plan begin here: a plan that the program refuses is told in
 
 from __future__ import annotations
 
+from dataclasses import dataclass
 from functools import cached_property
 from typing import Any
 
@@ -16,6 +17,7 @@ from murdjohe.remarks import plural
 from murdjohe.wrong import Wrong, reason
 
 ACCEPTED = "accepted"  # what `check` says of ranks that rise
+AGREED, OSCILLATES = "agreed", "may oscillate"  # whether priorities agree, by `agree`
 PROTECTED = "protected"  # what `protected` says of a plan without gaps
 
 
@@ -60,9 +62,47 @@ class PlanFile:
         return api.chains(self.data).result.rows or ()
 
 
-def judged(verdict: str, gaps: tuple[reports.Gap, ...]) -> str:
-    """What the program says of a plan: of its ranks, and whether it is protected or how many failures cut somebody off."""
-    return f"{verdict}, {plural(len(gaps), 'gap') if gaps else PROTECTED}"
+@dataclass(frozen=True)
+class Judgement:
+    """What the program says of a plan: `accepted` or the ring, the lines whose priorities may oscillate, if any, and what ends
+    that; and where it was asked, the failures that cut somebody off who needn't be."""
+
+    verdict: str
+    clash: reports.Loop | None
+    remedy: str | None
+    gaps: tuple[reports.Gap, ...] | None
+
+    @property
+    def is_good(self) -> bool:
+        """Whether no loop is possible and no elements may oscillate."""
+        return self.verdict == ACCEPTED and self.clash is None
+
+    @property
+    def text(self) -> str:
+        """The judgement in a line."""
+        said = [self.verdict]
+        if self.verdict == ACCEPTED:
+            said.append(AGREED if self.clash is None else OSCILLATES)
+        if self.gaps is not None:
+            said.append(plural(len(self.gaps), "gap") if self.gaps else PROTECTED)
+        return ", ".join(said)
+
+    @property
+    def lines(self) -> list[str]:
+        """What is said of priorities that may oscillate; nothing where none do."""
+        return [self.remedy] if self.remedy else []
+
+
+def judged(plan: PlanFile, has_gaps: bool = False) -> Judgement:
+    """What the program says of a plan: of its ranks, of its priorities, and whether it is protected where that is asked."""
+    verdict = plan.verdict()
+    clash = plan.clash() if verdict == ACCEPTED else None
+    remedy = None
+    if clash is not None:
+        from murdjohe import oscillation
+
+        remedy = oscillation.told(plan.plan, clash)
+    return Judgement(verdict, clash, remedy, plan.gaps() if has_gaps else None)
 
 
 def others_of(document: documents.Document, refused: api.Refused) -> list[str]:

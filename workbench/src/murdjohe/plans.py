@@ -35,7 +35,7 @@ LIMITS = {
     **dict.fromkeys(("priority", "priority_a", "priority_b"), (0, 255, ", where 0 is not nominated")),
     **dict.fromkeys(("delay_a", "delay_b"), (1, 2000, " milliseconds")),
 }
-ROWS = {"element": 2_000, "link": 4_000, "source": 2_000}
+ROWS = {"element": 100_000, "link": 200_000, "source": 100_000}
 INPUTS = 64  # nominated inputs that an element may have
 
 

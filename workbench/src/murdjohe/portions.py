@@ -56,7 +56,7 @@ class Held:
 
     def has_room(self, data: bytes, rows: int) -> bool:
         """Whether the program takes a table with these rows too."""
-        return self.rows + rows <= MOST_ROWS and self.octets + len(data) <= core.LONGEST_FILE
+        return self.rows + rows <= MOST_ROWS and self.octets + len(data) <= core.LONGEST_BESIDE
 
     def add(self, bunch: Bunch, start: int) -> int:
         """Takes cases of a bunch from one on, as many as there is room for; says how many."""
@@ -80,7 +80,7 @@ class Held:
 def too_large(cases: CaseList, name: str, length: int) -> Wrong:
     """That a case has more rows, or more octets, than the program takes."""
     rows = f"the case {name!r} has {cases.common.length + length:,} rows with those common to all"
-    limit = f"{MOST_ROWS:,} rows and {core.LONGEST_FILE:,} octets"
+    limit = f"{MOST_ROWS:,} rows and {core.LONGEST_BESIDE:,} bytes"
     return Wrong(f"{cases.name}: {rows}; the program takes {limit} at most", status=core.BAD_EVENTS)
 
 

@@ -2,16 +2,36 @@
 
 from __future__ import annotations
 
-from murdjohe import api, findings, nominated
+from murdjohe import api, findings, nominated, premises
 from murdjohe.documents import Document
 from murdjohe.plans import Plan
 from murdjohe.remarks import listed, plural
 
 
+def on_survival(plan: Plan, data: bytes) -> list[str]:
+    """How soon after any single failure whoever can have a clock rests on one; or which premise of that is broken."""
+    broken = premises.told(plan)
+    if broken or premises.worst_source(plan) is None:
+        return [broken] if broken else []
+    agreed = api.agree(data).result
+    if agreed.failures is None or agreed.bound is None:
+        return []
+    return [
+        f"at rest, and then one thing fails: everybody who can still have a clock rests on one within {agreed.failures / 1000:,.3f} s, "
+        f"if nothing comes up meanwhile; after a repair within {agreed.bound / 1000:,.3f} s"
+    ]
+
+
 def on_found(text: str) -> list[str]:
+    """How soon failures are over, the links and bundles that are nominated at both ends, and the elements there that want a floor."""
+    data = text.encode("utf-8")
+    plan = Plan(Document("the plan", data))
+    return on_survival(plan, data) + on_pairs(plan) if not plan.fault else []
+
+
+def on_pairs(plan: Plan) -> list[str]:
     """The links and bundles that are nominated at both ends, and the elements there that want a floor."""
-    plan = Plan(Document("the plan", text.encode("utf-8")))
-    pairs = [] if plan.fault else list(findings.pairs_of(findings.Looked(plan)))
+    pairs = list(findings.pairs_of(findings.Looked(plan)))
     if not pairs:
         return []
     what = "link or bundle is" if len(pairs) == 1 else "links or bundles are"
@@ -20,7 +40,7 @@ def on_found(text: str) -> list[str]:
     if bare:
         have = "has" if len(bare) == 1 else "have"
         said.append(
-            f"{plural(len(bare), 'element')} there {have} no floor better than the other's own clock, and may swing with it "
+            f"{plural(len(bare), 'element')} there {have} no floor better than the other's internal oscillator (own clock), and may oscillate with it "
             f"while no source reaches them: {listed(bare)}"
         )
     return said

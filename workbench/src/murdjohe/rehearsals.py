@@ -3,27 +3,32 @@ each element goes without."""
 
 from __future__ import annotations
 
-from dataclasses import asdict, dataclass
+from dataclasses import asdict, dataclass, field
+from functools import cached_property
 from typing import Any
 
-from murdjohe import moments, runs, spans, switching, wiring
+from murdjohe import idling, moments, plan_file, runs, spans, switching, wiring
 from murdjohe.moments import Event
 from murdjohe.plan_file import PlanFile
-from murdjohe.remarks import plural
+from murdjohe.remarks import listed, plural
 from murdjohe.reports import Change, Loop, Report
 from murdjohe.runs import EventFile
 from murdjohe.spans import Loss, Walk
 from murdjohe.switching import Command
+from murdjohe.times import clock as clock
 from murdjohe.wiring import Wiring
 
 EVENT, CHANGE = "event", "change"
 COLUMNS = ("at", "time", "kind", "name", "what", "input", "level", "state", "mode")
-DAY = 86_400_000
 
 
 @dataclass(frozen=True)
 class Rehearsal:
-    """A run that was rehearsed up to `until`; `settled_at` is None where the network isn't settled then."""
+    """A run that was rehearsed up to `until`; `settled_at` is None where the network isn't settled then.
+
+    `oscillation` says what ends it where the plan's priorities may oscillate, and `idle` why commands that were taken have no
+    effect, by their millisecond, word and input.
+    """
 
     until: int
     wired: Wiring
@@ -34,6 +39,26 @@ class Rehearsal:
     walks: list[Walk]
     losses: list[Loss]
     settled_at: int | None
+    oscillation: str | None = None
+    idle: dict[tuple[int, str, str], str] = field(default_factory=dict)
+
+    @cached_property
+    def beyond(self) -> frozenset[str]:
+        """The elements that no link could serve at the end."""
+        from murdjohe import reaching
+
+        rows = [(str(event.at), event.what, event.target) for event in self.events]
+        return reaching.beyond(self.wired, rows, self.until)
+
+    @property
+    def dark(self) -> dict[str, int | None]:
+        """Who follows no source at the end, by the program's traces, and since when; None for whoever never followed one."""
+        since = {loss.element: loss.dark_since for loss in self.losses}
+        return {one.element: since.get(one.element) for one in self.report.traces if one.kind != moments.SOURCE}
+
+    def hurt(self, limit: int | None) -> list[Loss]:
+        """Who is worse at the end than before, and where there is a limit, also who was for longer than that in one piece."""
+        return [one for one in self.losses if one.is_open or (limit is not None and one.longest > limit)]
 
     @property
     def rejected(self) -> list[Command]:
@@ -55,23 +80,20 @@ def rehearsed(plan: PlanFile, file: EventFile, until: int) -> Rehearsal:
     wired = wiring.wiring_of(plan.tables)
     events = tuple(event for event in file.events if event.at <= until)
     end = until if report.stopped_at is None else report.stopped_at
+    commands = switching.commands_of(wired, wiring.nominated_of(plan.tables), events)
     return Rehearsal(
         end,
         wired,
         events,
         len(file.events) - len(events),
         report,
-        switching.commands_of(wired, wiring.nominated_of(plan.tables), events),
+        commands,
         spans.walks_of(wired, report.changes),
         spans.losses_of(wired, plan.plan.option, report.changes, end),
         runs.settled_from(plan, file, report, until),
+        plan_file.judged(plan).remedy,
+        idling.idle_of(plan, file, commands),
     )
-
-
-def clock(at: int, start: int = 0) -> str:
-    """A millisecond as a time of day, in a run that began at `start`."""
-    seconds, rest = divmod((at + start) % DAY, 1000)
-    return f"{seconds // 3600:02}:{seconds // 60 % 60:02}:{seconds % 60:02}.{rest:03}"
 
 
 def seconds(length: int) -> str:
@@ -95,11 +117,16 @@ def differs(before: Change, after: Change) -> str:
     return ", ".join(said)
 
 
-def event_text(event: Event, rejected: dict[tuple[int, str, str], str]) -> str:
-    """An event in words, with why it is rejected."""
-    why = rejected.get((event.at, event.what, event.target))
+def event_text(
+    event: Event, rejected: dict[tuple[int, str, str], str], idle: dict[tuple[int, str, str], str] | None = None
+) -> str:
+    """An event in words, with why it is rejected, or why it has no effect."""
+    key = event.at, event.what, event.target
     words = " ".join(word for word in (event.what, event.target, event.value) if word)
-    return words + (f" (rejected: {why})" if why else "")
+    if why := rejected.get(key):
+        return f"{words} (rejected: {why})"
+    none = (idle or {}).get(key)
+    return words + (f" (no effect: {none})" if none else "")
 
 
 def reasons(found: Rehearsal) -> dict[tuple[int, str, str], str]:
@@ -112,7 +139,7 @@ def rows_of(found: Rehearsal) -> list[tuple[int, str, str, str, Change | None]]:
     rows: list[tuple[int, str, str, str, Change | None]] = []
     why = reasons(found)
     for event in found.events:
-        rows.append((event.at, EVENT, event.target, event_text(event, why), None))
+        rows.append((event.at, EVENT, event.target, event_text(event, why, found.idle), None))
     shown = moments.shown_first(found.wired)
     for change in found.report.changes:
         rows.append((change.at, CHANGE, change.element, differs(shown[change.element], change), change))
@@ -148,7 +175,7 @@ def walk_name(found: Rehearsal, walk: Walk) -> str:
     lines = " ".join(walk.lines)
     if walk.is_pair:
         ends = sorted(found.wired.lines[line].receiver for line in walk.lines)
-        return f"pair: {' and '.join(ends)} take from one another: {lines}"
+        return f"pair: {' and '.join(ends)} take timing from each other: {lines}"
     return f"TIMING LOOP: {lines}"
 
 
@@ -174,8 +201,43 @@ def loss_text(loss: Loss, start: int) -> str:
     """What an element goes without."""
     said = [f"{seconds(loss.below)} below {loss.best}, worst {loss.worst}"] if loss.below else []
     said += [f"{seconds(loss.unfed)} without a source"] if loss.unfed else []
+    if loss.dark_since is not None:
+        said.append(f"still without one, since {clock(loss.dark_since, start)}")
+    elif loss.open_since is not None:
+        said.append(f"still below, since {clock(loss.open_since, start)}")
     first = clock(loss.since, start) if loss.since is not None else ""
     return f"  {first}  {loss.element}: {'; '.join(said)}"
+
+
+def losses_text(found: Rehearsal, start: int) -> list[str]:
+    """What elements go without: first what goes on at the end, then what ended."""
+    still = [loss for loss in found.losses if loss.is_open]
+    over = [loss for loss in found.losses if not loss.is_open and (loss.below or loss.unfed)]
+    said = []
+    if still:
+        said.append(f"losses that go on at {clock(found.until, start)}, from when on and how long up to then:")
+        said += [loss_text(loss, start) for loss in still]
+    if over:
+        said.append("losses that ended, from when on and how long in all:")
+        said += [loss_text(loss, start) for loss in over]
+    return said or ["nobody who has a source loses it, or falls below the best level"]
+
+
+def dark_text(found: Rehearsal, start: int) -> str:
+    """The first line: who is without a source at the end, since when, and whether a link could still serve them."""
+    end = clock(found.until, start)
+    if found.report.stopped_at is not None:
+        return f"who is without a source at the end isn't known: the program stopped at {end}"
+    if not found.dark:
+        return f"nobody is without a source at the end, {end}"
+    names = [f"{name} ({dark_since(found, name, since, start)})" for name, since in found.dark.items()]
+    return f"still without a source at the end, {end}: {plural(len(names), 'element')}: {listed(names)}"
+
+
+def dark_since(found: Rehearsal, name: str, since: int | None, start: int) -> str:
+    """Since when an element is without a source, and whether a link could still serve it."""
+    first = "never had one" if since is None else f"since {clock(since, start)}"
+    return f"{first}, and no link could serve it" if name in found.beyond else first
 
 
 def ending_text(found: Rehearsal, start: int) -> list[str]:
@@ -184,29 +246,33 @@ def ending_text(found: Rehearsal, start: int) -> list[str]:
     if found.report.stopped_at is not None:
         said.append(f"the program stopped at {clock(found.until, start)}: more than 200,000 changes")
     elif found.settled_at is None:
-        said.append(f"not settled at {clock(found.until, start)}: run longer, by --until")
+        remedy = "a later end may not help" if found.oscillation else "run longer, by --until"
+        said.append(f"not settled at {clock(found.until, start)}: {remedy}")
     else:
         said.append(f"settled from {clock(found.settled_at, start)} on")
+    if found.oscillation:
+        said.append(found.oscillation)
     if found.late:
         verb = "has" if found.late == 1 else "have"
         said.append(f"{plural(found.late, 'event')} after {clock(found.until, start)} {verb} no effect")
     return said
 
 
+def commands_text(found: Rehearsal, start: int) -> list[str]:
+    """Which commands are rejected, and which are taken and have no effect."""
+    said = ["commands rejected:" if found.rejected else "no command is rejected"]
+    said += [f"  {clock(one.at, start)}  {one.word} {one.input}: {one.why}" for one in found.rejected]
+    if found.idle:
+        said.append("commands that are taken and have no effect:")
+    for (at, word, target), why in found.idle.items():
+        said.append(f"  {clock(at, start)}  {word} {target}: {why}")
+    return said
+
+
 def text_of(found: Rehearsal, start: int, has_all: bool) -> list[str]:
     """The rehearsal as a person reads it."""
-    said = list_text(found, start, has_all)
-    said += ["", "commands rejected:" if found.rejected else "no command is rejected"]
-    for one in found.rejected:
-        said.append(f"  {clock(one.at, start)}  {one.word} {one.input}: {one.why}")
-    said += walks_text(found, start)
-    lost = [loss for loss in found.losses if loss.below or loss.unfed]
-    said.append(
-        "losses, from when on and how long in all:"
-        if lost
-        else "nobody who has a source loses it, or falls below the best level"
-    )
-    return said + [loss_text(loss, start) for loss in lost] + ending_text(found, start)
+    said = [dark_text(found, start), "", *list_text(found, start, has_all), "", *commands_text(found, start)]
+    return said + walks_text(found, start) + losses_text(found, start) + ending_text(found, start)
 
 
 def as_data(found: Rehearsal, start: int) -> dict[str, Any]:
@@ -215,9 +281,18 @@ def as_data(found: Rehearsal, start: int) -> dict[str, Any]:
         "until": found.until,
         "settled_from": found.settled_at,
         "stopped_at": found.report.stopped_at,
+        "without_source_at_end": [
+            {"element": name, "since": since, "no_link_left": name in found.beyond}
+            for name, since in found.dark.items()
+        ],
+        "oscillation": found.oscillation,
         "late_events": found.late,
         "list": [dict(zip(COLUMNS, row)) | {"at": int(row[0])} for row in table_of(found, start)],
-        "commands": [asdict(command) | {"taken": command.is_taken} for command in found.commands],
+        "commands": [
+            asdict(one)
+            | {"taken": one.is_taken, "no_effect": found.idle.get((one.at, one.word, one.input or one.element))}
+            for one in found.commands
+        ],
         "walks": [asdict(walk) for walk in found.walks],
         "losses": [asdict(loss) for loss in found.losses],
     }

@@ -82,17 +82,31 @@ def certificate_of(words: Words) -> str:
         return ""
 
 
+def on_oscillation(words: Words) -> list[str]:
+    """Whether elements of a plan in which no loop is possible may oscillate, by `agree`, and which number ends that."""
+    file = words.file(forms.PLAN)
+    try:
+        answer = core.run(["agree", file.path]) if file else None
+    except (core.NoAnswer, core.Ended) as none:
+        return [f"whether elements may oscillate isn't known: {none}"]
+    if file is None or answer is None or answer.status != core.REFUTED:
+        return []
+    from murdjohe import oscillation
+
+    return oscillation.beside(file, answer)
+
+
 def on_accepted(words: Words) -> list[str]:
     """What `check` accepted."""
     top = greatest_rank(certificate_of(words))
-    first, *rest = on_plan(words, top) or ["ranks rise over every hop"]
-    return [f"accepted: {first}", *rest]
+    first, *rest = on_plan(words, top) or ["no loop is possible"]
+    return [f"accepted: {first}", *rest, *on_oscillation(words)]
 
 
 def on_ranks(words: Words, text: str) -> list[str]:
     """What was ranked."""
-    first, *rest = on_plan(words, greatest_rank(text)) or ["ranks rise over every hop"]
-    return [f"no ring is left: {first}", *rest]
+    first, *rest = on_plan(words, greatest_rank(text)) or ["no loop is possible"]
+    return [f"no loop is possible: {first}", *rest, *on_oscillation(words)]
 
 
 def nominations(words: Words, lines: list[str]) -> list[str]:
@@ -134,8 +148,8 @@ def on_fall(words: Words, before: str, line: str) -> str:
     greater = f"the rank of {line}{ranks.get(line, '')} isn't greater than that of {before}{ranks.get(before, '')}"
     form = "prio-rank" if words.form.name.startswith("prio-") else "rank"
     return (
-        f"timing may go on from line {before} to line {line}, and {greater}: `murdjohe {form}` says whether any ranks rise; "
-        "mend the ranks, or break the ring"
+        f"timing may go on from line {before} to line {line}, and {greater}: `murdjohe {form}` says whether a loop is possible; "
+        "correct the ranks, or break the loop"
     )
 
 
@@ -155,8 +169,8 @@ def on_clash(words: Words, lines: list[str]) -> list[str]:
         raise ValueError("a circle has lines")
     circle = " -> ".join([*lines, *lines[:1]])
     first = (
-        f"elements may swing for ever over {circle}: make one of these lines its element's last resort, with a greater number "
-        "than each other input there, or take its priority away"
+        f"elements may oscillate for ever over {circle}: give one of these lines the lowest priority at its element, a greater "
+        "number than each other input there, or take its priority away"
     )
     more = len(lines) - RING
     return [first, *nominations(words, lines[:RING]), *([f"and {more:,} lines more"] if more > 0 else [])]
@@ -181,27 +195,16 @@ def on_refuted(words: Words, text: str) -> list[str]:
     return [*on_ring(words, lines), "these commands make the loop: `murdjohe prio-sim PLAN EVENTS 0` shows it"]
 
 
-def after(words: Words, text: str) -> list[str]:
+def after(words: Words) -> list[str]:
     """How many events of a run stand after its end."""
-    file, until = words.file(forms.EVENTS, forms.CASES), int(words.passed[-1])
-    column = 1 if file and file.kind == forms.CASES else 0
-    try:
-        with open(file.path if file else "", encoding="utf-8-sig") as source:
-            rows = [row.split(",") for row in rows_of(source.read())]
-    except (OSError, ValueError):
-        return []
-    times = [field.strip('"') for row in rows for field in row[column : column + 1]]
-    late = sum(time.isdigit() and int(time) > until for time in times)
-    if not late:
-        return []
-    return [
-        f"{late:,} of {plural(len(times), 'event')} {'is' if late == 1 else 'are'} after {until}, and had no effect"
-    ]
+    from murdjohe import said_of_times
+
+    return said_of_times.after(words)
 
 
 def on_run(words: Words, text: str) -> list[str]:
     """What a report of `sim` or `prio-sim` says at its end that a planner should not pass over."""
-    said, part, loops, own = after(words, text), "", [], []
+    said, part, loops, own = after(words), "", [], []
     for line in text.splitlines():
         if line in ("changes", "inputs", "traces", "loops"):
             part = line
@@ -214,14 +217,20 @@ def on_run(words: Words, text: str) -> list[str]:
         said.append(f"{len(loops):,} timing {verb} at the end: {'; '.join(loops[:3])}")
     if own:
         said.append(
-            f"{plural(len(own), 'element')} {'follows' if len(own) == 1 else 'follow'} no source, but own clocks, at the end: "
+            f"{plural(len(own), 'element')} {'follows' if len(own) == 1 else 'follow'} no source, but internal oscillators (own clocks), at the end: "
             + listed(own_by(text))
         )
     if text.endswith("settled no\n"):
-        said.append(
-            "not settled: something would still change by itself; run to a later time before you judge by the end"
-        )
+        said += on_unsettled(words)
     return said
+
+
+def on_unsettled(words: Words) -> list[str]:
+    """Why a run isn't settled at its end, and what to do."""
+    clash = on_oscillation(words)
+    if clash:
+        return ["not settled, and a later end may not help", *clash]
+    return ["not settled: something would still change by itself; run to a later time before you judge by the end"]
 
 
 def on_inspection(words: Words, text: str) -> list[str]:
@@ -232,10 +241,14 @@ def on_inspection(words: Words, text: str) -> list[str]:
         for at, _, word, name, answer in (row for row in rows if len(row) == 5)
         if answer == "rejected"
     ]
-    said = after(words, text)
+    said = after(words)
     if rejected:
         verb = "was" if len(rejected) == 1 else "were"
         said.append(f"{plural(len(rejected), 'command')} {verb} rejected: {listed(rejected)}")
+    if any(len(row) == 5 and row[4] == "taken" for row in rows):
+        from murdjohe import idling
+
+        said += idling.beside(words, int(words.passed[-1]))
     six = [row for row in rows if len(row) == 6]
     idle = {row[0] for row in six if row[5] in ("holdover", "freerun")}
     barred = [row[1] for row in six if row[0] in idle and row[5] == "locked-out"]
@@ -286,7 +299,7 @@ def on_capture(words: Words, text: str) -> list[str]:
     passed = text.rpartition("passed,")[2].strip() if "passed," in text else "0"
     if passed != "0":
         what = "packet is no ESMC frame" if passed == "1" else "packets are no ESMC frames"
-        said.append(f"{passed} {what} (another protocol, a VLAN tag, or cut below 60 octets)")
+        said.append(f"{passed} {what} (another protocol, a VLAN tag, or cut below 60 bytes)")
     strange = sum(",code-" in row for row in rows)
     if rows and strange * 2 > len(rows):
         said.append(
@@ -302,15 +315,17 @@ def on_stopped(words: Words, text: str) -> list[str]:
         return [f"stopped: more than 200,000 frames; all up to {last} ms are told. Replay to an earlier time"]
     return [
         f"stopped: more than 200,000 changes; all up to {last} ms are told. Run to an earlier time, or look whether two "
-        "elements swing, each taking and dropping the other, and give both a floor"
+        "elements oscillate, each taking and dropping the other, and give both a floor"
     ]
 
 
 def on_agreed(words: Words, text: str) -> list[str]:
-    """By when a network of the plan is at rest, and what the plan has."""
-    seconds = int(text.split()[2]) / 1000
-    at_rest = f"at rest {seconds:,.3f} seconds after the last event, wherever a level reaches that is better than every own clock"
-    return [at_rest, *on_plan(words, None)]
+    """By when a network of the plan is at rest, after any events and after failures alone, and what the plan has."""
+    _, _, bound, _, failures = text.split()
+    reached = "wherever a level reaches that is better than every internal oscillator (own clock)"
+    at_rest = f"at rest {int(bound) / 1000:,.3f} seconds after the last event, {reached}"
+    soon = f"after failures alone, out of a network at rest and where nothing comes up: {int(failures) / 1000:,.3f} seconds after the last"
+    return [at_rest, soon, *on_plan(words, None)]
 
 
 def on_done(words: Words, text: str) -> list[str]:
@@ -333,11 +348,11 @@ def on_done(words: Words, text: str) -> list[str]:
     if name in ("sweep", "study"):
         from murdjohe import losses
 
-        return losses.on_cuts(text) if name == "sweep" else after(words, text) + losses.on_cases(text)
+        return losses.on_cuts(words, text) if name == "sweep" else after(words) + losses.on_cases(words, text)
     if name == "chains":
         return on_chains(text)
     if name == "protected":
-        first, *rest = on_plan(words, None) or ["no single failure cuts anybody off who needn't be"]
+        first, *rest = on_plan(words, None) or ["no element loses sync by a single failure while another path exists"]
         return [f"protected: {first}", *rest]
     if name == "agree":
         return on_agreed(words, text)
@@ -356,7 +371,12 @@ def remarks(words: Words, answer: Answer) -> list[str]:
     """The sentences on an answer that is no refusal."""
     text = answer.text.decode("utf-8", "replace")
     if answer.status == core.DONE:
-        return on_done(words, text)
+        has_times = any(word.kind == forms.TIME for word in words.form.words)
+        if not has_times:
+            return on_done(words, text)
+        from murdjohe import said_of_times
+
+        return on_done(words, text) + said_of_times.on_seconds(words)
     if answer.status == core.REFUTED:
         return on_refuted(words, text)
     return on_stopped(words, text) if answer.status == core.STOPPED else []

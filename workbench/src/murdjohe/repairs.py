@@ -6,17 +6,29 @@ import os
 import re
 import time
 from collections.abc import Collection
-from dataclasses import asdict, dataclass
+from dataclasses import asdict, dataclass, replace
 from typing import Any
 
 import networkx as nx
 
-from murdjohe import bettered, edits, first_sets, greedy_sets, knots, least_sets, nominated
+from murdjohe import (
+    agreeing as agreeing_priorities,
+    bettered,
+    edits,
+    first_sets,
+    greedy_sets,
+    knots,
+    least_sets,
+    nominated,
+)
 from murdjohe.edits import Wanted
+from murdjohe.findings import Last
 from murdjohe.knots import LARGE, Cost, Inputs
 from murdjohe.nominated import Line
+from murdjohe.plan_file import Judgement
 from murdjohe.plans import Plan
-from murdjohe.reports import Gap
+from murdjohe.remarks import plural
+from murdjohe.wrong import Wrong
 
 SETS = 3  # sets that are told
 SECONDS = 25.0  # of processor time, so that a busy machine finds the same, for all sets together
@@ -27,10 +39,13 @@ LINES = re.compile(rb"[^\n]*\n|[^\n]+")
 
 @dataclass(frozen=True)
 class Found:
-    """A set of lines to take away, in the order of the plan, and its cost."""
+    """A set of lines to take away, in the order of the plan, and its cost; the lines that get a greater number besides, so that
+    no elements oscillate, and whether the program says that none do."""
 
     lines: tuple[Line, ...]
     cost: Cost
+    raised: tuple[Last, ...] = ()
+    agrees: bool = True
 
 
 @dataclass(frozen=True)
@@ -40,6 +55,14 @@ class Repair:
     knots: list[tuple[int, int, bool]]
     sets: list[Found]
     is_least: bool
+
+    def set_of(self, number: int) -> Found:
+        """The set of this number, from 1 on. Raises Wrong."""
+        if number > len(self.sets):
+            raise Wrong(
+                f"--set {number}: {plural(len(self.sets), 'set')} {'is' if len(self.sets) == 1 else 'are'} found"
+            )
+        return self.sets[number - 1]
 
 
 def near_least(
@@ -52,17 +75,37 @@ def near_least(
     return least_sets.least_sets(search, SETS, first)
 
 
-def repair_of(tables: dict[str, Any], seconds: float = SECONDS, kept: Collection[str] = ()) -> Repair:
-    """The repair of a plan; one without sets where no ring is left. The search takes what the first set leaves of
+def without(graph: nx.DiGraph, staying: Collection[str]) -> tuple[nx.DiGraph, frozenset[str]]:
+    """The hops between the lines that may go, where those that stay are passed through; and the lines that have to go, since
+    they close a ring with none but those. Raises Wrong where lines that stay make a ring by themselves."""
+    left = graph.copy()
+    for name in sorted(staying):
+        if left.has_edge(name, name):
+            raise Wrong(f"--keep: {name} closes a loop with other lines that are kept; keep fewer of them")
+        left.add_edges_from([(one, other) for one in left.predecessors(name) for other in left.successors(name)])
+        left.remove_node(name)
+    must = frozenset(name for name in left if left.has_edge(name, name))
+    left.remove_nodes_from(must)
+    return left, must
+
+
+def repair_of(
+    tables: dict[str, Any], seconds: float = SECONDS, kept: Collection[str] = (), staying: Collection[str] = ()
+) -> Repair:
+    """The repair of a plan; one without sets where no loop is possible. The search takes what the first set leaves of
     these seconds, and little more.
 
-    Lines that are `kept` by another plan of the network, in which no ring is left, may lead to a better set.
+    Lines that are `kept` by another plan of the network, in which no loop is possible, may lead to a better set. Those that are
+    `staying` are in none. Raises Wrong where these make a ring by themselves.
     """
     lines = nominated.lines_of(tables)
     inputs = knots.inputs_of(tables, lines)
-    parts = knots.knots_of(knots.graph_of(lines))
+    graph = knots.graph_of(lines)
+    told = [(len(part), *knots.rings_in(part)) for part in knots.knots_of(graph)]
+    graph, must = without(graph, staying) if staying else (graph, frozenset())
+    parts = knots.knots_of(graph)
     if not parts:
-        return Repair([], [], True)
+        return Repair(told, [found_of(lines, inputs, must)] if must else [], True)
     # (all knots together, since a failure may cut off more only where lines of several go)
     knot = nx.compose_all(parts)
     end = time.process_time() + seconds
@@ -74,51 +117,117 @@ def repair_of(tables: dict[str, Any], seconds: float = SECONDS, kept: Collection
     else:
         other = greedy_sets.greedy_set(knot, inputs, left, set(knot) - first)
         best, is_least = [min(first, other, key=lambda lines: (inputs.cost(lines), sorted(lines)))], False
-    sets = [Found(tuple(line for line in lines if line.name in removed), inputs.cost(removed)) for removed in best]
-    return Repair([(len(part), *knots.rings_in(part)) for part in parts], sets, is_least)
+    # (what has to go besides makes the sum of costs another one, so then nothing is known to be least)
+    sets = [found_of(lines, inputs, removed | must) for removed in best]
+    return Repair(told, sets, is_least and not must)
+
+
+def found_of(lines: list[Line], inputs: Inputs, removed: frozenset[str]) -> Found:
+    """A set of lines with its cost."""
+    return Found(tuple(line for line in lines if line.name in removed), inputs.cost(removed))
+
+
+def agreeing(plan: Plan, data: bytes, found: Found, lines: list[Line], inputs: Inputs) -> Found:
+    """A set with what has to change besides, so that no elements oscillate: lines that get a greater number, or go too."""
+    gone = {line.name for line in found.lines}
+    left = edits.changed(plan, wanted(found)) if found.lines else data
+    made = agreeing_priorities.agreed(plan.document.name, left, inputs, gone)
+    if not made.removed:
+        return replace(found, raised=tuple(made.raised.values()), agrees=made.agrees)
+    whole = found_of(lines, inputs, frozenset(gone | made.removed.keys()))
+    return replace(whole, raised=tuple(made.raised.values()), agrees=made.agrees)
+
+
+def agreeing_sets(plan: Plan, data: bytes, repair: Repair) -> Repair:
+    """The same sets, each with what has to change besides, so that no elements oscillate; those for which the program says that
+    none do come first. Where no loop was possible, the one set may have such changes alone."""
+    known = repair.sets or [Found((), (0, 0, 0, 0))]
+    lines = nominated.lines_of(plan.tables)
+    inputs = knots.inputs_of(plan.tables, lines)
+    sets = [agreeing(plan, data, found, lines, inputs) for found in known]
+    sets.sort(key=lambda found: (not found.agrees, found.cost, len(found.raised)))
+    if not repair.sets and not wanted(sets[0]):
+        return repair
+    return replace(repair, sets=sets, is_least=repair.is_least and sets[0].cost == known[0].cost)
 
 
 def wanted(found: Found) -> Wanted:
-    """The priorities that a set takes away."""
-    return {("link", line.number, line.key): 0 for line in found.lines}
+    """The priorities that a set takes away, and the greater numbers that it gives."""
+    gone = {("link", line.number, line.key): 0 for line in found.lines}
+    return gone | {("link", last.line.number, last.line.key): last.priority for last in found.raised}
 
 
 @dataclass(frozen=True)
 class Edit:
-    """A key of a link that becomes 0: the line of the plan's file (from 1 on), the priority that it had, and the line that goes."""
+    """A key of a link that becomes 0, or greater: the line of the plan's file (from 1 on), the priority that it had, the line
+    that it is of, and the number that it gets."""
 
     line: int | None
     link: str
     key: str
     old: int
     goes: str
+    new: int = 0
 
     def told(self, name: str) -> str:
-        return f"{name}:{self.line}: {self.key} = 0 of link {self.link}, which was {self.old}: {self.goes} goes"
+        what = f"{self.goes} goes" if not self.new else f"{self.goes} gets the lowest priority there"
+        return f"{name}:{self.line}: {self.key} = {self.new} of link {self.link}, which was {self.old}: {what}"
 
 
 def edits_of(plan: Plan, found: Found) -> list[Edit]:
     """Each edit of a set."""
+    both = [(line, 0) for line in found.lines] + [(last.line, last.priority) for last in found.raised]
     return [
-        Edit(plan.line("link", line.number, line.key), line.name.partition(">")[0], line.key, line.priority, line.name)
-        for line in found.lines
+        Edit(
+            plan.line("link", line.number, line.key),
+            line.name.partition(">")[0],
+            line.key,
+            line.priority,
+            line.name,
+            new,
+        )
+        for line, new in both
     ]
 
 
-def as_data(plan: Plan, repair: Repair, verdict: str, gaps: tuple[Gap, ...]) -> dict[str, Any]:
-    """A repair and what the program says of the plan without its first set, as JSON has it."""
+def difference(found: Found, other: Found) -> str:
+    """In what another set differs from one."""
+    own, others = ({line.name for line in one.lines} for one in (found, other))
+    gone = [line.name for line in other.lines if line.name not in own]
+    kept = [line.name for line in found.lines if line.name not in others]
+    raised = [last.line.name for last in other.raised if last not in found.raised]
+    said = []
+    if gone or kept:
+        said.append(f"it takes away {', '.join(gone) or 'nothing'} in place of {', '.join(kept) or 'nothing'}")
+    if raised:
+        said.append(f"it gives {', '.join(raised)} a greater number")
+    return "; ".join(said) or "nothing"
+
+
+def as_data(plan: Plan, repair: Repair, number: int, judgement: Judgement) -> dict[str, Any]:
+    """A repair and what the program says of the plan without the chosen set, as JSON has it."""
+    verdict, gaps = judgement.verdict, judgement.gaps or ()
     knots_told = [{"lines": lines, "rings": rings, "all_rings": are_all} for lines, rings, are_all in repair.knots]
     sets = [
         {
             "last_inputs": found.cost[0],
             "gaps": found.cost[1],
             "first_choices": found.cost[2],
+            "agrees": found.agrees,
             "edits": [asdict(edit) for edit in edits_of(plan, found)],
         }
         for found in repair.sets
     ]
     left = [asdict(gap) for gap in gaps]
-    return {"knots": knots_told, "least": repair.is_least, "checked": verdict, "gaps": left, "sets": sets}
+    return {
+        "knots": knots_told,
+        "least": repair.is_least,
+        "set": number,
+        "checked": verdict,
+        "clash": judgement.clash,
+        "gaps": left,
+        "sets": sets,
+    }
 
 
 def hunks(changed: list[int], count: int) -> list[tuple[int, int]]:

@@ -84,9 +84,11 @@ class Protection:
 
 @dataclass(frozen=True)
 class Agreement:
-    """What `agree` says: for how many milliseconds after the last event a network may change, or the lines that clash."""
+    """What `agree` says: for how many milliseconds after the last event a network may change, and after the last failure out of a
+    network at rest; or the lines that clash."""
 
     bound: int | None
+    failures: int | None
     clash: Loop | None
 
 
@@ -240,7 +242,9 @@ def protection(answer: Answer) -> Protection:
 
 def agreement(answer: Answer) -> Agreement:
     words = answer.said.split()
-    return Agreement(int(words[2]), None) if answer.status == core.DONE else Agreement(None, tuple(words[1:]))
+    if answer.status != core.DONE:
+        return Agreement(None, None, tuple(words[1:]))
+    return Agreement(int(words[2]), int(words[4]), None)
 
 
 def hops(answer: Answer) -> Hops:

@@ -27,7 +27,7 @@ def ring_through(graph: nx.DiGraph, kept: Collection[str], start: str) -> list[s
 
 
 def rings_left(knot: nx.DiGraph, removed: Collection[str]) -> list[list[str]]:
-    """Rings of the knot without these lines, no two of which share a line; none exactly where no ring is left."""
+    """Rings of the knot without these lines, no two of which share a line; none exactly where no loop is possible."""
     graph = knot.copy()
     graph.remove_nodes_from(list(removed))
     found = []

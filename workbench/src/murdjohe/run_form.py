@@ -16,17 +16,22 @@ if TYPE_CHECKING:
 
 # Options that every form takes, as they are written.
 QUIET, JSON = ("-q", "--quiet"), ("--json",)
+# Forms that make a plan or a certificate: another answer than that isn't written to the file that is asked for.
+MAKERS = ("rank", "prio-rank", "nominate", "protect")
 COLOURS = {core.DONE: "green", core.REFUTED: "yellow", core.STOPPED: "yellow"}
 
 
 class Settings:
-    """How a command is to answer: without sentences, and with JSON in place of the program's bytes."""
+    """How a command is to answer: without sentences, with JSON in place of the program's bytes, to a file of this path in place
+    of standard output; and at which time of day its run begins, where that is said."""
 
-    __slots__ = ("is_quiet", "is_json")
+    __slots__ = ("is_quiet", "is_json", "path", "start")
 
-    def __init__(self, is_quiet: bool, is_json: bool) -> None:
+    def __init__(self, is_quiet: bool, is_json: bool, path: str | None = None, start: int | None = None) -> None:
         self.is_quiet = is_quiet
         self.is_json = is_json
+        self.path = path
+        self.start = start
 
 
 def working(name: str) -> core.Working | None:
@@ -52,35 +57,50 @@ def said_of(words: Words, answer: Answer) -> list[str]:
     return [sentence] if sentence else []
 
 
-def answered(form: Form, given: list[str]) -> tuple[Words, Answer]:
+def answered(form: Form, given: list[str], start: int | None = None) -> tuple[Words, Answer]:
     """The words as the program is given them, and what it answers. Wrong words are answered by it too: `usage`."""
-    words = inputs.taken(form, given)
+    words = inputs.taken(form, given, start)
     if words is None:
         return Words(form, given, [form.name, *given], []), core.run([])
     return words, core.run(words.passed, working(form.name))
 
 
-def put(output: Output, data: bytes, is_quiet: bool) -> bool:
-    """Writes the data; where that can't be, says so, but not where its reader only went away."""
+def put(output: Output, data: bytes, is_quiet: bool) -> int:
+    """Writes the data; where that can't be, says so, but not where its reader only went away. The status of that, or 0."""
     try:
         output.put(data)
     except streams.Lost as lost:
         if not (is_quiet or lost.is_gone):
             streams.tell(f"standard output: {lost}; free room, or keep it open, and run again")
-        return False
-    return True
+        return lost.status
+    return core.DONE
+
+
+def is_filed(form: Form, status: int) -> bool:
+    """Whether an answer is what a file is asked for: a plan or a certificate only where there is one."""
+    return status in (core.DONE, core.STOPPED) or (status == core.REFUTED and form.name not in MAKERS)
 
 
 def run(form: Form, given: list[str], settings: Settings, output: Output) -> int:
     """Answers the words of a form, and gives the exit status."""
-    words, answer = answered(form, given)
+    words, answer = answered(form, given, settings.start)
+    said: list[str] | None = None
+    data = answer.text
     if settings.is_json:
         from murdjohe import as_json
 
-        is_put = put(output, as_json.text(words, answer, said_of(words, answer)), settings.is_quiet)
-        return answer.status if is_put else core.WRITE_FAULT
-    if not put(output, answer.text, settings.is_quiet):
-        return core.WRITE_FAULT
+        said = said_of(words, answer)
+        data = as_json.text(words, answer, said)
+    if settings.path is not None and is_filed(form, answer.status):
+        from murdjohe import files
+
+        files.written(settings.path, data)
+    elif status := put(output, data, settings.is_quiet):
+        return status
+    elif settings.path is not None and not settings.is_quiet:
+        streams.tell(f"{settings.path} isn't written: there is no answer for it", colour="yellow")
+    if settings.is_json:
+        return answer.status
     if not settings.is_quiet:
         streams.tell(*said_of(words, answer), colour=COLOURS.get(answer.status, "red"))
     return answer.status

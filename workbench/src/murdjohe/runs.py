@@ -4,7 +4,7 @@ from __future__ import annotations
 
 import csv
 
-from murdjohe import api, core, forms, inputs, inspections, reports
+from murdjohe import api, core, event_times, forms, inputs, inspections, reports, times
 from murdjohe.inputs import File
 from murdjohe.inspections import Inspection
 from murdjohe.moments import Event
@@ -18,11 +18,13 @@ AFTER = 1_200_000  # milliseconds that a run goes on after its last event: longe
 
 
 class EventFile:
-    """An event list: its name in sentences, its octets, and its rows, as far as they are rows."""
+    """An event list: its name in sentences, its octets with times in milliseconds, and its rows, as far as they are rows; where the
+    user's file has other times, its octets as well."""
 
-    def __init__(self, name: str, data: bytes) -> None:
+    def __init__(self, name: str, data: bytes, original: bytes | None = None) -> None:
         self.name = name
         self.data = data
+        self.original = original
 
     @property
     def events(self) -> tuple[Event, ...]:
@@ -32,12 +34,14 @@ class EventFile:
         return tuple(Event(int(at), what, target, value) for at, what, target, value in rows)
 
 
-def read_events(path: str) -> EventFile:
-    """The octets of an event list. Raises Wrong."""
+def read_events(path: str, start: int | None = None) -> EventFile:
+    """An event list, in a run that begins at a time of day, where that is said. Raises Wrong."""
     name = "standard input" if path == inputs.STDIN else path
     try:
         with open(0 if path == inputs.STDIN else path, "rb", closefd=path != inputs.STDIN) as file:
-            return EventFile(name, file.read(core.LONGEST_FILE + 1))
+            data = file.read(core.LONGEST_FILE + 1)
+        made = event_times.turned(name, data, False, start)
+        return EventFile(name, made, None if made == data else data)
     except OSError as fault:
         raise Wrong(str(reason(name, fault)), status=core.READ_FAULT) from None
     except ValueError as fault:  # (a name with a zero octet)
@@ -48,7 +52,8 @@ def answer_of(name: str, plan: PlanFile, events: EventFile, at: int, running: se
     """What a form answers to a plan, events and a millisecond. Raises Wrong, with the program's status, where it refuses them."""
     form = forms.FORMS[name]
     with api.named([plan.data, events.data]) as (plan_path, events_path):
-        files = [File(forms.PLAN, plan.name, plan_path), File(forms.EVENTS, events.name, events_path)]
+        its = File(forms.EVENTS, events.name, events_path, original=events.original)
+        files = [File(forms.PLAN, plan.name, plan_path), its]
         words = inputs.Words(form, [plan.name, events.name, str(at)], [], files)
         given = [form.name, plan_path, events_path, str(at)]
         answer = core.run(given) if running is None else core.run_kept(given, running)
@@ -73,6 +78,14 @@ def inspection_of(plan: PlanFile, events: EventFile, at: int) -> Inspection:
 def report_of(plan: PlanFile, events: EventFile, until: int, running: set[int] | None = None) -> Report:
     """The report of a run. Raises Wrong."""
     return reports.report(core.Answer(core.DONE, report_text(plan, events, until, running)))
+
+
+def likely_seconds(events: EventFile, until: int | None = None) -> list[str]:
+    """What is said where all events, or the end of a run, come within the first second."""
+    last = max((event.at for event in events.events), default=None)
+    return times.likely_seconds(last, f"the last event of {events.name}") + times.likely_seconds(
+        until, "the end of the run"
+    )
 
 
 def usual_end(events: EventFile) -> int:

@@ -254,7 +254,7 @@ def drawn_legend(page: Page, view: View) -> None:
     for word in dict.fromkeys(view.red.values()):
         keys.append(
             stroke(
-                {"PAIR": "pair that faces one another", "RING": "ring that may loop"}.get(word, "TIMING LOOP"),
+                {"PAIR": "pair that takes timing from each other", "RING": "possible loop"}.get(word, "TIMING LOOP"),
                 color=colours.LOOP,
                 linewidth=3,
             )

@@ -30,6 +30,9 @@ class Walk:
 class Loss:
     """What an element went without: milliseconds below its best level since it first had that, the worst level in them, and
     milliseconds since it first followed a source in which it followed none; and when the first of these was, if there is one.
+
+    `longest` is the longest time in one piece in which it was worse in one of the two ways. Where it still is at the end,
+    `open_since` is when that time began, and `dark_since` since when it has followed no source, where it follows none.
     """
 
     element: str
@@ -38,6 +41,14 @@ class Loss:
     worst: str
     unfed: int
     since: int | None
+    longest: int = 0
+    open_since: int | None = None
+    dark_since: int | None = None
+
+    @property
+    def is_open(self) -> bool:
+        """Whether the element is still worse than it was at the end of the run."""
+        return self.open_since is not None
 
 
 def by_time(changes: Iterable[Change]) -> Iterator[tuple[int, list[Change]]]:
@@ -126,8 +137,10 @@ def walks_of(wiring: Wiring, changes: Iterable[Change]) -> list[Walk]:
     return sorted(found, key=lambda walk: (walk.start, wiring.lines[walk.lines[0]].number))
 
 
-def gaps_of(wiring: Wiring, changes: Iterable[Change], end: int) -> dict[str, list[tuple[int, int]]]:
-    """From when to when each element followed no source, after it first did."""
+def gaps_of(
+    wiring: Wiring, changes: Iterable[Change], end: int
+) -> tuple[dict[str, list[tuple[int, int]]], dict[str, int]]:
+    """From when to when each element followed no source, after it first did; and since when it hasn't, where that goes on."""
     network = Network(wiring)
     lost: dict[str, int] = {}
     found: dict[str, list[tuple[int, int]]] = {name: [] for name in wiring.elements}
@@ -139,7 +152,7 @@ def gaps_of(wiring: Wiring, changes: Iterable[Change], end: int) -> dict[str, li
                 found[name].append((lost.pop(name), at))
     for name, at in lost.items():
         found[name].append((at, end))
-    return found
+    return found, lost
 
 
 def shown_by(wiring: Wiring, changes: Iterable[Change]) -> dict[str, list[Change]]:
@@ -155,8 +168,19 @@ def best_of(own: Iterable[Change], option: str) -> str:
     return min((row.level or "" for row in own), key=LEVELS[option].index)
 
 
-def loss_of(own: list[Change], option: str, end: int, gaps: list[tuple[int, int]]) -> Loss:
-    """What an element went without, by what it shows and by when it followed no source."""
+def joined(spans: Iterable[tuple[int, int]]) -> list[tuple[int, int]]:
+    """Spans of time as pieces that neither touch nor overlap, in order."""
+    found: list[tuple[int, int]] = []
+    for start, stop in sorted(spans):
+        if found and start <= found[-1][1]:
+            found[-1] = found[-1][0], max(found[-1][1], stop)
+        else:
+            found.append((start, stop))
+    return found
+
+
+def loss_of(own: list[Change], option: str, end: int, gaps: list[tuple[int, int]], dark_since: int | None) -> Loss:
+    """What an element went without, by what it shows, by when it followed no source, and since when it hasn't."""
     order = {level: place for place, level in enumerate(LEVELS[option])}
     best = best_of(own, option)
     after = own[next(place for place, row in enumerate(own) if row.level == best) :]
@@ -164,12 +188,16 @@ def loss_of(own: list[Change], option: str, end: int, gaps: list[tuple[int, int]
     worse = [(row.at, stop, row.level or "") for row, stop in spans if row.level != best and row.at < stop]
     worst = max((level for _, _, level in worse), key=lambda level: order[level], default=best)
     since = min([start for start, _, _ in worse] + [start for start, stop in gaps if start < stop], default=None)
-    below = sum(stop - start for start, stop, _ in worse)
-    return Loss(own[0].element, best, below, worst, sum(stop - start for start, stop in gaps), since)
+    below, unfed = sum(stop - start for start, stop, _ in worse), sum(stop - start for start, stop in gaps)
+    pieces = joined([(start, stop) for start, stop, _ in worse] + gaps)
+    is_worse = after[-1].level != best or dark_since is not None
+    open_since = (pieces[-1][0] if pieces and pieces[-1][1] == end else end) if is_worse else None
+    longest = max((stop - start for start, stop in pieces), default=0)
+    return Loss(own[0].element, best, below, worst, unfed, since, longest, open_since, dark_since)
 
 
 def losses_of(wiring: Wiring, option: str, changes: tuple[Change, ...], end: int) -> list[Loss]:
     """What each element went without, up to the end of a run, in the order of the plan."""
     its = shown_by(wiring, changes)
-    gaps = gaps_of(wiring, changes, end)
-    return [loss_of(rows, option, end, gaps[name]) for name, rows in its.items()]
+    gaps, dark = gaps_of(wiring, changes, end)
+    return [loss_of(rows, option, end, gaps[name], dark.get(name)) for name, rows in its.items()]

@@ -6,6 +6,8 @@ import errno
 import os
 import sys
 
+from murdjohe.core import NO_SPACE, WRITE_FAULT
+
 TYPE_CHECKING = False
 if TYPE_CHECKING:
     from collections.abc import Iterable
@@ -21,6 +23,7 @@ class Lost(Exception):
     def __init__(self, fault: int) -> None:
         super().__init__(os.strerror(fault))
         self.is_gone = fault == errno.EPIPE
+        self.status = NO_SPACE if fault in (errno.ENOSPC, errno.EDQUOT) else WRITE_FAULT
 
 
 def filled() -> bool:

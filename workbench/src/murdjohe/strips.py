@@ -5,7 +5,7 @@ from __future__ import annotations
 from dataclasses import dataclass
 from typing import Any
 
-from murdjohe import bands, colours, figures
+from murdjohe import bands, colours, figures, times
 from murdjohe.bands import Band, Row
 from murdjohe.moments import Event
 
@@ -13,7 +13,7 @@ HATCHES = {"holdover": "///", "freerun": "xxx", "forced": "..", "manual": "oo"} 
 HIGH = 40  # elements from which on the times are written above too
 FOOT = 1.45  # inches below the strips, for times and the legend
 LOOP, PAIR, CLOSED = "LOOP", "PAIR", "CLOSED"  # closed is a walk of which only a plan tells whether it is of one bundle
-MEANINGS = {LOOP: "TIMING LOOP", PAIR: "pair, facing one another", CLOSED: "closed walk, by another link"}
+MEANINGS = {LOOP: "TIMING LOOP", PAIR: "pair, taking timing from each other", CLOSED: "closed walk, by another link"}
 LABELLED = 60  # events that are written beside their marks
 STROKE = 0.6  # points of a hatch
 
@@ -43,6 +43,11 @@ class Timeline:
     red: list[Red]
     end: int
     fold: int
+    day: int | None = None  # the time of day at which the run begins, where times of day are shown
+
+    def time(self, at: int) -> str:
+        """A millisecond as the axis has it."""
+        return bands.minutes(at) if self.day is None else times.clock(at, self.day).removesuffix(".000")
 
     @property
     def start(self) -> int:
@@ -122,12 +127,16 @@ class Strips:
         """The times below, and above too where there are many elements; the elements at the left."""
         shown = bands.labelled(self.line.moments, self.places, self.width / 70)
         ticks = [self.places[at] for at in shown]
-        self.axes.set_xticks(ticks, [bands.minutes(at) for at in shown], rotation=90, fontsize=7)
+        self.axes.set_xticks(ticks, [self.line.time(at) for at in shown], rotation=90, fontsize=7)
         is_high = len(self.its) > HIGH and not self.line.events
         self.axes.tick_params(axis="x", labeltop=is_high, top=is_high)
         self.axes.set_yticks(range(len(self.its)), list(self.its), fontsize=8)
         low = len(self.its) - 0.4 + self.foot_rows
-        self.axes.set(xlim=(0, self.width), ylim=(low, -0.6), xlabel="minutes:seconds from the start")
+        self.axes.set(
+            xlim=(0, self.width),
+            ylim=(low, -0.6),
+            xlabel="minutes:seconds from the start" if self.line.day is None else "time of day",
+        )
 
     def drawn_legend(self) -> None:
         """Levels by colour, best first; states and switches by hatch."""

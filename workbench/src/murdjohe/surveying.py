@@ -118,6 +118,7 @@ class Survey:
         self.tell = tell
         self.slots: deque[Slot] = deque()
         self.worked = self.found = 0
+        self.part: Part | None = None  # that of the rows that were given last
 
     def look(self, slot: Slot) -> None:
         """Takes the rows of a part where it is finished; else has it worked, unless another survey does."""
@@ -141,7 +142,8 @@ class Survey:
         try:
             slot.rows = study_runs.rows_of(answer.text, slot.part.names)._replace(packed=worked.packed)
         except ValueError as fault:
-            raise Wrong(f"the program's answer to a part can't be read: {fault}") from None
+            said = f"the program's answer to a part can't be read: {fault}"
+            raise Wrong(said, status=core.MISTAKE) from None
         self.finished.keep(slot.part, slot.rows)
         self.finished.leave(slot.part)
         self.worked += len(slot.part.names)
@@ -168,7 +170,7 @@ class Survey:
     def ready(self) -> Iterator[Rows]:
         """The rows of the parts that come next and are done."""
         while self.slots and (rows := self.slots[0].rows) is not None:
-            self.slots.popleft()
+            self.part = self.slots.popleft().part
             yield rows
 
     def rows(self, parts: Iterable[Part]) -> Generator[Rows, None, None]:

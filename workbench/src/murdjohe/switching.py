@@ -17,13 +17,15 @@ WORDS = ("lockout", "unlock", "forced", "manual", "clear")
 
 @dataclass(frozen=True)
 class Command:
-    """A command: when, to which element, its word, its input (empty for `clear`), and why it is rejected, if it is."""
+    """A command: when, to which element, its word, its input (empty for `clear`), why it is rejected, if it is, and why it
+    changes nothing of what commands have set, if it is taken and doesn't."""
 
     at: int
     element: str
     word: str
     input: str
     why: str | None
+    idle: str | None = None
 
     @property
     def is_taken(self) -> bool:
@@ -43,6 +45,16 @@ class Switches:
             return f"{target} is locked out"
         if word == "manual" and self.forced is not None:
             return f"{self.forced} is forced"
+        return None
+
+    def why_idle(self, word: str, target: str) -> str | None:
+        """Why a command that isn't rejected changes nothing of what is set; None where it may."""
+        if word == "lockout" and target in self.locked:
+            return f"{target} is locked out already"
+        if word == "unlock" and target not in self.locked:
+            return f"{target} isn't locked out"
+        if word == "forced" and self.forced == target:
+            return f"{target} is forced already"
         return None
 
     def carry_out(self, word: str, target: str) -> None:
@@ -72,7 +84,9 @@ def commands_of(wiring: Wiring, nominated: frozenset[str], events: Iterable[Even
             why = f"{event.target} is not nominated"
         else:
             why = switches[element].why_not(event.what, event.target)
+        idle = None
         if why is None:
+            idle = switches[element].why_idle(event.what, event.target)
             switches[element].carry_out(event.what, event.target)
-        found.append(Command(event.at, element, event.what, "" if is_clear else event.target, why))
+        found.append(Command(event.at, element, event.what, "" if is_clear else event.target, why, idle))
     return found

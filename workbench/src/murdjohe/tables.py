@@ -145,7 +145,7 @@ class Reading:
         if table.extra and not (self.settings.ignores_extra or self.settings.is_netbox):
             for name in table.extra:
                 hint = documents.hint(name, columns.all, 0.6)
-                right = f"the columns are {', '.join(columns.all)}; --map names one, --ignore-extra passes it over"
+                right = f"the columns are {', '.join(columns.all)}; --map names one, --ignore-extra ignores it"
                 self.mistakes.add(path, 1, f"there is no column {name!r} in a table of {kind}s{hint}; {right}")
         if kind == "element" and not table.rows and not self.mistakes.found:
             self.mistakes.add(path, 1, "there is no element below the header; write a row for each")
@@ -216,7 +216,7 @@ class Reading:
                     if end and end not in known:
                         hint = documents.hint(end, elements)
                         self.wrong(
-                            table, row, column, f"which names no element{hint}; mend the name, or add the element"
+                            table, row, column, f"which names no element{hint}; correct the name, or add the element"
                         )
                 if kind == "link" and row.fields.get("a") and row.fields.get("a") == row.fields.get("b"):
                     self.wrong(table, row, "b", "as a is; a link joins two elements")
@@ -258,7 +258,7 @@ class Reading:
         wanted = {header for headers in self.settings.headers.values() for header in headers}
         for header in sorted(wanted - there):
             path = self.tables["element"].path
-            self.mistakes.add(path, 1, f"no table has the header {header!r}, which --map names; mend its spelling")
+            self.mistakes.add(path, 1, f"no table has the header {header!r}, which --map names; correct its spelling")
 
 
 def value_of(column: str, value: str) -> str:

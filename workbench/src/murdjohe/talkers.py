@@ -10,12 +10,14 @@ from collections.abc import Iterable, Iterator
 from dataclasses import dataclass, field
 
 from murdjohe.capture_files import SECOND
-from murdjohe.esmc import Heard
+from murdjohe import talk_faults
+from murdjohe.esmc import UNKNOWN, Extended, Heard
 
 LOST = 5 * SECOND  # after so long without a message its level is lost
 CROWD = 10  # messages of a slow protocol within a second at most
 ASKED_RATE = 1.0  # information messages a second
 RATES = (0.9, 1.1)  # outside of them a rate is told
+KINDS = 1_000  # different extended TLVs of a source that are kept
 KEPT = 10_000  # changes and silences that are kept; the others are counted
 Who = tuple[str, str]  # interface and source
 
@@ -58,6 +60,9 @@ class Talker:
     informed: tuple[int, int] | None = None  # the first and the last information message
     crowded: int | None = None  # when for the first time more than ten came within a second
     recent: deque[int] = field(default_factory=lambda: deque(maxlen=CROWD))
+    reserved: Counter[str] = field(default_factory=Counter)  # frames in which reserved bits are set, by where
+    unknown: Counter[str] = field(default_factory=Counter)  # and of codes that the option doesn't know
+    extended: Counter[Extended] = field(default_factory=Counter)  # and with an extended TLV, by what it says
 
     @property
     def rate(self) -> float | None:
@@ -81,6 +86,11 @@ class Talker:
             self.crowded = at
         self.recent.append(at)
         self.last, self.level = at, heard.says.level
+        self.reserved.update(talk_faults.reserved_of(heard.octets))
+        if heard.says.level.startswith(UNKNOWN):
+            self.unknown[heard.says.level] += 1
+        if heard.says.clock is not None and (len(self.extended) < KINDS or heard.extended in self.extended):
+            self.extended[heard.extended] += 1
 
 
 class Talk:

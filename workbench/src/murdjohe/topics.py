@@ -30,7 +30,8 @@ Without priorities `murdjohe nominate` gives them, and `murdjohe protect` so tha
 may have option = "I" or "II", and version = 2, in which a link may have a bundle. The keys of each row, and their limits:
 """
 EVENTS = """\
-An event list is a table with commas. `at` is in milliseconds and rises; `value` is empty but for `level`.
+An event list is a table with commas. `at` is in milliseconds, or a time as 90s, 5m, 02:10 or 23:00:00, and rises; with --start
+a time with colons is a time of day. `value` is empty but for `level`.
 
 at,what,target,value
 60000,down,L1,
@@ -42,7 +43,7 @@ at,what,target,value
 CASES = """\
 A list of cases is a table with commas: events, each behind the name of its case. In the run of a case its own events
 happen and those without a name, which are common to all and stand above all cases. The rows of one case stand together;
-their times rise, and begin anew with each case. `murdjohe help events` has the words of an event.
+their times rise, and begin anew with each case. `murdjohe help events` has the words of an event, and the times.
 
 case,at,what,target,value
 ,1000,lockout,L1>B,
@@ -85,6 +86,8 @@ CORE = f"""\
 
 In a checkout `make core` builds it, and `make install` installs both.
 """
+
+SIGNALS = "  129, 130, 143  ended by SIGHUP, by Ctrl-C, by SIGTERM: nothing half-written is left\n"
 
 
 def limits(key: str) -> str:
@@ -140,10 +143,13 @@ TOPICS = {
     "cases": ("the list of cases", lambda: CASES),
     "certificate": ("the certificate", lambda: CERTIFICATE),
     "levels": ("quality levels", level_table),
-    "statuses": ("exit statuses", lambda: "Exit statuses:\n\n" + statuses()),
+    "statuses": ("exit statuses", lambda: "Exit statuses, none of which means two things:\n\n" + statuses() + SIGNALS),
     "core": ("the proved program, and where it is", lambda: CORE),
 }
-ALWAYS = (core.USAGE, core.WRITE_FAULT, core.NO_MEMORY, core.UNAVAILABLE, core.MISTAKE)
+ALWAYS = (
+    *(core.USAGE, core.WRITE_FAULT, core.NO_MEMORY, core.THERE, core.NO_SPACE),
+    *(core.UNAVAILABLE, core.MISTAKE),
+)
 
 
 def of_form(form: forms.Form) -> str:

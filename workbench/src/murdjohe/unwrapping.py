@@ -26,7 +26,7 @@ STACKED = "carried several VLAN tags (QinQ): taken off"
 COOKED_HEAD = (
     "had a cooked header in place of the Ethernet header, as of a capture on `any`: taken as sent to 01-80-c2-00-00-02"
 )
-PADDED = "had fewer than 60 octets, as before padding: padded with zeros"
+PADDED = "had fewer than 60 bytes, as before padding: padded with zeros"
 CUT = "had been cut by the capture behind the TLVs: padded with zeros"
 # Protocols by Ethertype, as reasons.
 PROTOCOLS = {
@@ -76,8 +76,8 @@ def padded(frame: bytes, is_cut: bool, is_short: bool) -> tuple[bytes, tuple[str
         return frame, ()
     has_more = is_cut or frame[QL_END : QL_END + 1] == EXTENDED
     if len(frame) < (EXTENDED_END if has_more else QL_END):
-        cut = f"slow protocol, of which the capture holds {len(frame)} octets: capture at least {LEAST}"
-        return cut if is_cut else f"slow protocol of {len(frame)} octets, which ends before its TLVs do"
+        cut = f"slow protocol, of which the capture holds {len(frame)} bytes: capture at least {LEAST}"
+        return cut if is_cut else f"slow protocol of {len(frame)} bytes, which ends before its TLVs do"
     done = (CUT,) if is_cut else (PADDED,) if is_short else ()
     return frame.ljust(LEAST, b"\0"), done
 

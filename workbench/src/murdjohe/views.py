@@ -5,11 +5,11 @@ from __future__ import annotations
 from dataclasses import dataclass, field
 from typing import Any
 
-from murdjohe import core, files, moments, network, rehearsals, reports, wiring
+from murdjohe import core, files, moments, network, rehearsals, reports, times, wiring
 from murdjohe.moments import Event
 from murdjohe.reports import Change, Loop, Report
 from murdjohe.wiring import Wiring
-from murdjohe.wrong import Wrong
+from murdjohe.wrong import Wrong, unusable
 
 DOWN = ("failed", "holdoff")
 RING, LOOP, PAIR = "RING", "LOOP", "PAIR"  # the words beside closed walks
@@ -56,13 +56,13 @@ def read_report(path: str) -> Report:
     """The report of a file. Raises Wrong where it is none of `sim`."""
     text = files.text(path)
     if not text.startswith("changes\n"):
-        raise Wrong(f"{path}: it is no report of sim")
+        raise unusable(f"{path}: it is no report of sim")
     try:
         report = reports.report(core.Answer(core.DONE, text.encode()))
     except (ValueError, IndexError, TypeError):
-        raise Wrong(f"{path}: it is no report of sim") from None
+        raise unusable(f"{path}: it is no report of sim") from None
     if any(change.level is None for change in report.changes):
-        raise Wrong(f"{path}: it is a report of prio-sim, which has no levels; `sim` gives one with levels")
+        raise unusable(f"{path}: it is a report of prio-sim, which has no levels; `sim` gives one with levels")
     return report
 
 
@@ -74,11 +74,11 @@ def of_this_plan(path: str, report: Report, wired: Wiring) -> Report:
     missing = sorted(name for name in inputs if wired.element_of(name) is None)
     if named - own or missing:
         name = min(named - own, default="") or missing[0]
-        raise Wrong(f"{path}: it is a report of another plan, since {name} is not in this one")
+        raise unusable(f"{path}: it is a report of another plan, since {name} is not in this one")
     if report.traces and tuple(trace.element for trace in report.traces) != wired.elements:
-        raise Wrong(f"{path}: it is a report of another plan, which has other elements, or in another order")
+        raise unusable(f"{path}: it is a report of another plan, which has other elements, or in another order")
     if any(wired.element_of(change.input) != change.element for change in report.changes if change.input):
-        raise Wrong(f"{path}: it is a report of another plan, in which inputs lead to other elements")
+        raise unusable(f"{path}: it is a report of another plan, in which inputs lead to other elements")
     return report
 
 
@@ -93,7 +93,14 @@ def plain_view(title: str, tables: dict[str, Any]) -> View:
     return View(tables, wiring.wiring_of(tables), title, unfed=unfed)
 
 
-def view_of(title: str, tables: dict[str, Any], report: Report, events: tuple[Event, ...], at: int | None) -> View:
+def view_of(
+    title: str,
+    tables: dict[str, Any],
+    report: Report,
+    events: tuple[Event, ...],
+    at: int | None,
+    start: int = 0,
+) -> View:
     """The plan at a millisecond of a report, or at its end. What is cut is told by events, and by the report at its end."""
     wired = wiring.wiring_of(tables)
     last = report.changes[-1].at if report.changes else 0
@@ -101,14 +108,14 @@ def view_of(title: str, tables: dict[str, Any], report: Report, events: tuple[Ev
     taken = moments.taken_of(shown)
     traces = moments.traces_of(wired, taken)
     unfed = frozenset(name for name, trace in traces.items() if trace.kind != moments.SOURCE)
-    cut = moments.cut_at(wired, events, rehearsals.DAY if at is None else at)
+    cut = moments.cut_at(wired, events, times.DAY if at is None else at)
     ended = report.inputs if at is None else ()
     down = cut.down | {row.input for row in ended if row.condition in DOWN}
     waiting = frozenset(row.input for row in ended if row.condition == "restoring")
     when = (
-        f"at {rehearsals.clock(at)}"
+        f"at {rehearsals.clock(at, start)}"
         if at is not None
-        else f"at the end of the run, last change at {rehearsals.clock(last)}"
+        else f"at the end of the run, last change at {rehearsals.clock(last, start)}"
     )
     red = words_of(wired, moments.loops_of(wired, taken))
     return View(tables, wired, f"{title}, {when}", shown, unfed, frozenset(down), waiting, red)

@@ -128,7 +128,7 @@ def on_below_floor(why: Why, reason: Reason, moment: Moment) -> str:
     line = why.history.wired.lines.get(reason.input)
     row = why.shown(line.sender) if line else None
     if row and row.input is None and row.level == reason.level:
-        said += f"; {row.element} takes nothing, and has this of its own clock"
+        said += f"; {row.element} takes nothing, and has this of its internal oscillator (own clock)"
     return said
 
 

@@ -37,7 +37,7 @@ def chosen_text(why: Why, moment: Moment) -> str:
     """What the element takes, its level and state."""
     chosen, since = why.chosen, why.since
     if chosen.input is None:
-        own = f"has the level of its own clock, {chosen.level}"
+        own = f"has the level of its internal oscillator (own clock), {chosen.level}"
         what = "is in holdover" if chosen.state == "holdover" else "runs free, as it never took anything"
         taken = f"takes nothing{since_text(why, since.input, moment)}: it {what}, and {own}"
         return f"At {moment(why.at)} {chosen.element} {taken}."
@@ -95,14 +95,16 @@ def end_text(why: Why, moment: Moment) -> str:
     way = why.way
     if way.kind == moments.LOOP:
         walk = way.walk or ()
-        what = "two elements take from one another" if moments.is_pair(why.history.wired, walk) else "a timing loop"
+        what = (
+            "two elements take timing from each other" if moments.is_pair(why.history.wired, walk) else "a timing loop"
+        )
         return f"There it goes round: {what}, {' '.join(walk)}."
     if way.kind == moments.SOURCE:
         element = why.history.wired.sources[way.name]
         return f"  {element} takes its source {way.name}, at {why.shown(element).level}."
     row = why.shown(way.name)
     state = "in holdover" if row.state == "holdover" else "running free"
-    return f"  {way.name} takes nothing: its own clock, {state}, at {row.level}."
+    return f"  {way.name} takes nothing: its internal oscillator (own clock), {state}, at {row.level}."
 
 
 def way_text(why: Why, moment: Moment) -> list[str]:
@@ -110,7 +112,10 @@ def way_text(why: Why, moment: Moment) -> list[str]:
     way = why.way
     if not way.lines:
         return []
-    ends = {moments.SOURCE: f"to the source {way.name}", moments.OWN: f"to the own clock of {way.name}"}
+    ends = {
+        moments.SOURCE: f"to the source {way.name}",
+        moments.OWN: f"to the internal oscillator (own clock) of {way.name}",
+    }
     end = ends.get(way.kind, "and no clock")
     said = [f"Up the trace, {plural(len(way.lines), 'line')} {end}:"]
     return said + [hop_text(why, line.name) for line in way.lines] + [end_text(why, moment)]
@@ -122,7 +127,8 @@ def cause_text(why: Why, cause: Cause, moment: Moment) -> str:
         return f"* {' '.join(word for word in (cause.what, cause.target, cause.value) if word)}"
     if isinstance(cause, Command):
         rejected = "" if cause.is_taken else f" (rejected: {cause.why})"
-        return f"* {cause.word} {cause.input or cause.element}{rejected}"
+        none = f" (no effect: {cause.idle})" if cause.idle else ""
+        return f"* {cause.word} {cause.input or cause.element}{rejected}{none}"
     if isinstance(cause, Turn):
         return turn_text(why, cause, moment)
     if isinstance(cause, Message):

@@ -8,9 +8,10 @@ import difflib
 from collections.abc import Iterator
 from dataclasses import dataclass, replace
 
-from murdjohe import causes, moments, orders, runs, switching, wiring
+from murdjohe import causes, idling, moments, orders, runs, switching, wiring
 from murdjohe.causes import Cause
 from murdjohe.history import History, Network
+from murdjohe.idling import Idle
 from murdjohe.inspections import Inspected, Inspection, Reason
 from murdjohe.moments import OWN, SOURCE, Event
 from murdjohe.plan_file import PlanFile
@@ -82,12 +83,22 @@ def network_of(plan: PlanFile) -> Network:
     return Network(option, wiring.wiring_of(plan.tables), its, levels)
 
 
-def commands_of(network: Network, events: tuple[Event, ...], inspection: Inspection) -> tuple[Command, ...]:
-    """Each command with whether it was taken, as the program says, and if not why, by the table of commands."""
+def commands_of(
+    network: Network, events: tuple[Event, ...], inspection: Inspection, idle: Idle | None = None
+) -> tuple[Command, ...]:
+    """Each command with whether it was taken, as the program says, and if not why, by the table of commands; and why it has no
+    effect, where it is taken and has none."""
     nominated = frozenset(one.name for order in network.orders.values() for one in order.inputs)
     told = switching.commands_of(network.wired, nominated, events)
     pairs = zip(told, inspection.commands, strict=True)
-    return tuple(replace(one, why=None if row.is_taken else one.why or "by the program") for one, row in pairs)
+    return tuple(
+        replace(
+            one,
+            why=None if row.is_taken else one.why or "by the program",
+            idle=(idle or {}).get((one.at, one.word, one.input or one.element)),
+        )
+        for one, row in pairs
+    )
 
 
 def known(network: Network, name: str, plan: str) -> None:
@@ -209,7 +220,7 @@ def roots_of_verdict(history: History, reason: Reason, at: int) -> Iterator[Caus
 
 def roots_of(history: History, inspection: Inspection, element: str, way: Way, at: int) -> Iterator[Cause]:
     """What is asked after: the changes that made an element and those on its way to a clock what they are, its inputs, and the
-    commands to it that were rejected."""
+    commands to it that were rejected or had no effect."""
     on_way = {element, *(line.sender for line in way.lines)}
     for row in inspection.elements:
         if row.element in on_way:
@@ -220,7 +231,7 @@ def roots_of(history: History, inspection: Inspection, element: str, way: Way, a
             yield from roots_of_condition(history, reason, at)
         if is_other:
             yield from roots_of_verdict(history, reason, at)
-    yield from (one for one in history.commands if one.element == element and not one.is_taken)
+    yield from (one for one in history.commands if one.element == element and (one.idle or not one.is_taken))
 
 
 @dataclass(frozen=True)
@@ -232,10 +243,17 @@ class Asked:
     most: int | None
 
 
-def why_of(network: Network, events: tuple[Event, ...], inspection: Inspection, report: Report, asked: Asked) -> Why:
+def why_of(
+    network: Network,
+    events: tuple[Event, ...],
+    inspection: Inspection,
+    report: Report,
+    asked: Asked,
+    idle: Idle | None = None,
+) -> Why:
     """What is to be told, by what the program answered. The events are those up to the millisecond."""
     element, at = asked.element, asked.at
-    history = History(network, events, commands_of(network, events, inspection), report.changes)
+    history = History(network, events, commands_of(network, events, inspection, idle), report.changes)
     chosen = next(row for row in inspection.elements if row.element == element)
     way = way_of(network, inspection, element)
     found: list[Cause] = []
@@ -255,4 +273,6 @@ def answered(plan: PlanFile, file: EventFile, asked: Asked) -> Why:
     report = runs.report_of(plan, file, asked.at)
     inspection = runs.inspection_of(plan, file, asked.at)
     events = tuple(event for event in file.events if event.at <= asked.at)
-    return why_of(network, events, inspection, report, asked)
+    nominated = frozenset(one.name for order in network.orders.values() for one in order.inputs)
+    own = [one for one in switching.commands_of(network.wired, nominated, events) if one.element == asked.element]
+    return why_of(network, events, inspection, report, asked, idling.idle_of(plan, file, own))

@@ -5,10 +5,11 @@ use Rattle.std.specs.Str.{bytes_eq}
 use Rattle.sync_topo.specs.declared.event.Case.{Case}
 use Rattle.sync_topo.specs.declared.event.Event.{Event}
 use Rattle.sync_topo.specs.Topology.{Topology}
+use Rattle.sync_topo.specs.Sizes.{event_limit}
 use Rattle.sync_topo.specs.Names.{is_named}
 use Rattle.sync_topo.specs.Events.{IsEventList}
 use Rattle.event_file.specs.declared.progress.CasesSoFar.{CasesSoFar}
-use Rattle.event_file.specs.Rows.{Fields, event_limit, last_time}
+use Rattle.event_file.specs.Rows.{Fields, last_time}
 use Rattle.event_file.specs.EventText.{events_in}
 use Rattle.event_file.specs.CaseRows.{is_common, case_before, rows_of, time_after, case_refusal_at}
 use Rattle.event_file.specs.CaseText.{names_of, case_of}
@@ -63,7 +64,7 @@ IsCurrent plan done names whole name (Some case) = IsLast plan done names whole 
 -- none of these rows is refused, they gave what is kept, and the next row is of this case
 pub record AreSorted (plan : Topology) (done : List Fields) (name : List ℕ) (kept : CasesSoFar) : Type 0 where
   pub numbered : kept.rows ≡ length done
-  pub few : kept.rows ≤ event_limit
+  pub few : kept.rows ≤ event_limit plan
   pub sound : (place : ℕ) → place < length done → case_refusal_at plan done place ≡ None
   pub all_names : kept.names ≡ names_with done name
   pub same_names : kept.listed ≡ kept.names

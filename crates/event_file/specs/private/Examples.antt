@@ -4,6 +4,7 @@ use Rattle.sync_topo.specs.declared.event.Part.TheVariants as part
 use Rattle.sync_topo.specs.declared.event.What.TheVariants as what
 use Rattle.sync_text.specs.Number.{number_of}
 use Rattle.sync_topo.specs.private.Examples.{twin}
+use Rattle.sync_topo.specs.Sizes.{size_of, event_limit}
 use Rattle.event_file.specs.declared.error.EventErr.TheVariants as refusal
 use Rattle.event_file.specs.Rows.{event_in, row_refusal}
 
@@ -16,17 +17,17 @@ unfolding number_of
 line_has_the_receivers_name = refl
 
 pub time_may_stay : row_refusal twin 2 10 (codes "10" ∷ codes "clear" ∷ codes "A" ∷ [] ∷ []) ≡ None
-unfolding row_refusal number_of
+unfolding row_refusal number_of event_limit size_of
 time_may_stay = refl
 
 pub time_may_not_fall : row_refusal twin 2 10 (codes "9" ∷ codes "jump" ∷ codes "A" ∷ [] ∷ []) ≡ Some (refusal.Order 2)
-unfolding row_refusal number_of
+unfolding row_refusal number_of event_limit size_of
 time_may_not_fall = refl
 
 pub clear_takes_no_line : row_refusal twin 1 0 (codes "9" ∷ codes "clear" ∷ codes "L1>A" ∷ codes "1" ∷ []) ≡ Some (refusal.Target 1)
-unfolding row_refusal number_of
+unfolding row_refusal number_of event_limit size_of
 clear_takes_no_line = refl
 
 pub one_row_too_many : row_refusal twin 100001 0 [] ≡ Some refusal.Limit
-unfolding row_refusal
+unfolding row_refusal event_limit size_of
 one_row_too_many = refl

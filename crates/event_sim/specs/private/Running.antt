@@ -7,7 +7,7 @@ use Rattle.sync_topo.specs.declared.event.Event.{Event}
 use Rattle.net_rules.specs.Activity.{is_active}
 use Rattle.sync_net.specs.NetState.{NetState}
 use Rattle.sync_net.specs.Standing as Net
-use Rattle.sync_ql.specs.declared.limits.TheConstants.{MOST_ROWS}
+use Rattle.sync_topo.specs.Sizes.{most_rows}
 use Rattle.event_sim.specs.declared.change.Change.{Change}
 use Rattle.event_sim.specs.declared.change.Watch.{Watch}
 use Rattle.event_sim.specs.declared.change.Watch.TheVariants.{Nothing}
@@ -22,7 +22,7 @@ use Rattle.event_sim.specs.private.Showing.{AreShownIf}
 pub record IsOpen (run : Run) : Type 0 where
   pub live : run.net.spent ≡ false
   pub in_range : run.net.next ≤ LAST_MILLISECOND + 1
-  pub few : length run.changes.items ≤ MOST_ROWS
+  pub few : length run.changes.items ≤ most_rows run.net.plan
   pub first : run.net.next ≡ 0 → run.changes.items ≡ []
   pub shown : AreShownIf run.watch run.net run.shown.items
 

@@ -9,7 +9,7 @@ use Rattle.sync_topo.specs.Topology.{Topology}
 use Rattle.sync_topo.specs.Lines.{IsInput}
 use Rattle.net_rules.specs.History.{settings_of}
 use Rattle.sync_net.specs.NetState.{NetState}
-use Rattle.sync_ql.specs.declared.limits.TheConstants.{MOST_ROWS}
+use Rattle.sync_topo.specs.Sizes.{most_rows}
 use Rattle.event_sim.specs.declared.shown.Shown.{Shown}
 use Rattle.event_sim.specs.declared.change.Change.{Change}
 use Rattle.event_sim.specs.declared.change.Watch.{Watch}
@@ -29,7 +29,7 @@ kept_in plan shown place = slice_index_or shown place (shown_after plan place []
 
 -- each element of a network shows what is kept, and the changes of one millisecond fit
 pub record AreShown (net : NetState) (shown : List Shown) : Type 0 where
-  pub few : length net.plan.elements ≤ MOST_ROWS
+  pub few : length net.plan.elements ≤ most_rows net.plan
   pub count : length shown ≡ length net.plan.elements
   pub each : (place : ℕ) (other : ElementState) → place < length net.plan.elements
       → Shows net.plan place (slice_index_or net.elements place other) (kept_in net.plan shown place)
@@ -59,11 +59,11 @@ rows_between plan t was now = map (λ place. row_of t place (kept_in plan now pl
 -- after a step all that it changed is noted; or it would be too much, and nothing is noted
 pub record IsNoted (net : NetState) (t : ℕ) (was now : List Shown) (before after : List Change) : Type 0 where
   pub rows : after ≡ before ++ rows_between net.plan t was now
-  pub few : length after ≤ MOST_ROWS
+  pub few : length after ≤ most_rows net.plan
 
 pub record IsTooMuch (net : NetState) (t : ℕ) (was now : List Shown) (before after : List Change) : Type 0 where
   pub rows : after ≡ before
-  pub many : MOST_ROWS < length (before ++ rows_between net.plan t was now)
+  pub many : most_rows net.plan < length (before ++ rows_between net.plan t was now)
 
 abbrev pub AreNoted : Bool → NetState → ℕ → List Shown → List Shown → List Change → List Change → Type 0
 AreNoted true net t was now before after = IsNoted net t was now before after

@@ -2,7 +2,7 @@
 use Rattle.std.specs.Prelude.{◌≡◌, ◌≤◌, ◌<◌, ◌+◌, ◌%◌, ℕ, false, ◌&&◌, nat_eq, List, [], map, IfSome}
 use Rattle.sync_text.specs.Each.{Each}
 use Rattle.sync_ql.specs.declared.levels.NetOption.{NetOption}
-use Rattle.sync_ql.specs.declared.limits.TheConstants.{LAST_MILLISECOND, MOST_ROWS}
+use Rattle.sync_ql.specs.declared.limits.TheConstants.{LAST_MILLISECOND}
 use Rattle.sync_ql.specs.Messages.{second}
 use Rattle.sync_ql.specs.Moment.{Moment}
 use Rattle.sync_ql.specs.Output.{clock_level_at}
@@ -10,6 +10,7 @@ use Rattle.sync_ql.specs.Told.{moments_until, IsOfOption}
 use Rattle.sync_element.specs.ElementState.{ElementState, IsInTime}
 use Rattle.sync_element.specs.StandsFor as Element
 use Rattle.sync_topo.specs.Topology.{Topology}
+use Rattle.sync_topo.specs.Sizes.{most_rows}
 use Rattle.sync_topo.specs.Lines.{inputs_of, IsInput}
 use Rattle.sync_topo.specs.WellFormed.{IsWellFormed}
 use Rattle.net_rules.specs.History.{settings_of, taken_by}
@@ -53,7 +54,7 @@ pub record IsRun (plan : Topology) (number : ℕ) (run : Run) : Type 0 where
   pub options : Each (IsKeptOf plan.option) run.inputs.items
   pub lines : map (λ out. out.line.0) run.lines_out.items ≡ lines_out plan number
   pub shows : Shows plan number run.element run.shown
-  pub rows : run.rows ≤ MOST_ROWS
+  pub rows : run.rows ≤ most_rows plan
   pub in_range : run.next ≤ LAST_MILLISECOND + 1
   pub first : run.element.next ≡ 0 → run.next ≡ 0
   pub wakes_first : run.next ≡ 0 → run.wake ≡ 0

@@ -4,12 +4,12 @@ use Rattle.std.specs.List.{All, concat}
 use Rattle.sync_ql.specs.Messages.{second}
 use Rattle.sync_element.specs.StandsAfter.{IsStepped}
 use Rattle.sync_topo.specs.Topology.{Topology}
+use Rattle.sync_topo.specs.Sizes.{most_rows}
 use Rattle.sync_topo.specs.Lines.{inputs_of}
 use Rattle.node_file.specs.declared.row.NodeRow.{NodeRow}
 use Rattle.node_replay.specs.declared.inputs.InputNow.{InputNow}
 use Rattle.node_replay.specs.declared.frames.Sent.{Sent}
 use Rattle.node_replay.specs.declared.running.Run.{Run}
-use Rattle.sync_ql.specs.declared.limits.TheConstants.{MOST_ROWS}
 use Rattle.node_replay.specs.private.Keeping.{heard_of, input_after, out_after, sent_row}
 use Rattle.node_replay.specs.private.Telling.{all_told}
 use Rattle.node_replay.specs.private.Running.{Shows}
@@ -41,8 +41,8 @@ pub record IsWritten (plan : Topology) (number now : ℕ) (frames : List Sent) (
   pub lines_out : after.lines_out.items ≡ before.lines_out.items
   pub next : after.next ≡ before.next
   pub wake : after.wake ≡ before.wake
-  pub fits : before.rows + length frames ≤ MOST_ROWS
+  pub fits : before.rows + length frames ≤ most_rows plan
       → (after.rows ≡ before.rows + length frames) × (after.text ≡ before.text ++ concat (map (sent_row plan number now) frames))
       × (after.stopped ≡ before.stopped)
-  pub full : MOST_ROWS < before.rows + length frames
+  pub full : most_rows plan < before.rows + length frames
       → (after.rows ≡ before.rows) × (after.text ≡ before.text) × (after.stopped ≡ Some (now - 1))

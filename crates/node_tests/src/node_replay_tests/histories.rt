@@ -7,7 +7,7 @@ use std::process::Abort;
 use std::test::Fail;
 use sync_ql::limits::LAST_MILLISECOND;
 use sync_text::{NoMemory, Text};
-use sync_topo::Plan;
+use sync_topo::{Plan, Size};
 use test_makers::CHAIN;
 
 /// A line of a file: what stands before its frame, and the octet of the frame's code; "" where it has no
@@ -156,7 +156,7 @@ fn gives(
 }
 
 fn in_all_pieces(rt: &(impl Abort + AllocGlobal), case: &Case, file: &[u8]) -> Result<(), Fail> {
-    let plan = read_plan(rt.alloc(), case.plan)?;
+    let plan = read_plan(rt.alloc(), case.plan, Size::Standard)?;
     for size in SIZES {
         gives(rt, &plan, case, file, size)?;
     }

@@ -8,7 +8,7 @@ use std::alloc::Global;
 use std::process::Abort;
 use std::test::Fail;
 use sync_text::{NoMemory, Text};
-use sync_topo::Plan;
+use sync_topo::{Plan, Size};
 use test_makers::CHAIN;
 
 /// A file, the size of its last piece, which brings the end of a line that breaks a rule, and the refusal.
@@ -94,7 +94,7 @@ fn are_refused(
 
 #[test]
 fn a_refusal_comes_with_the_end_of_its_line(rt: HostRuntime) -> Result<(), Fail> {
-    let plan = read_plan(rt.alloc(), WITH_SOURCE)?;
+    let plan = read_plan(rt.alloc(), WITH_SOURCE, Size::Standard)?;
     are_refused(&rt, &plan, &REFUSED)
 }
 
@@ -112,7 +112,7 @@ fn line_of(alloc: Global, bytes: usize) -> Result<Text, NoMemory> {
 /// next byte is one too many, whether a line feed follows or not.
 #[test]
 fn a_line_has_4096_bytes(rt: HostRuntime) -> Result<(), Fail> {
-    let plan = read_plan(rt.alloc(), CHAIN)?;
+    let plan = read_plan(rt.alloc(), CHAIN, Size::Standard)?;
     let cases: [(usize, &[u8], NodeErr); 5] = [
         (4096, b"\n", NodeErr::Frame(1, FrameErr::Length)),
         (4096, b"0", NodeErr::Fields(1)),

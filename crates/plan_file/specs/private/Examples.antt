@@ -16,7 +16,8 @@ use Rattle.plan_file.specs.declared.error.PlanFileErr.TheVariants.{Syntax, Key, 
 use Rattle.plan_file.specs.Rules.{refusal_of}
 use Rattle.plan_file.specs.Rows.{element_row, link_row, source_row, said_rows, rows_of_document}
 use Rattle.plan_file.specs.private.Rows.{first_refusal}
-use Rattle.plan_file.specs.PlanText.{document_of, plan_of}
+use Rattle.sync_topo.specs.declared.sizes.Size.TheVariants.{Standard}
+use Rattle.plan_file.specs.PlanText.{document_of, plan_of_size}
 use Rattle.plan_file.specs.Spelling.{plan_text}
 use Rattle.std.specs.Fmt.{digits}
 use Rattle.std.proofs.Common.{lit<}
@@ -29,8 +30,8 @@ first_fault text = option_and_then first_refusal (document_of text)
 abbrev at : Section → ℕ → Place
 at section row = record { section = section; row = row }
 
-pub open_text_is_no_document : plan_of (codes "a='") ≡ Err Syntax
-unfolding toml_on_literals is_utf8 chars plan_of
+pub open_text_is_no_document : plan_of_size Standard (codes "a='") ≡ Err Syntax
+unfolding toml_on_literals is_utf8 chars plan_of_size
 open_text_is_no_document = refl
 
 pub unknown_key_comes_before_a_wrong_kind : first_fault (codes "version=2\ncolor=1") ≡ Some (Key (at Head 0))
@@ -93,22 +94,22 @@ each_key_has_its_field = refl
 abbrev plain_element : List ℕ → Element
 plain_element name = record { name = name; own = default_own I; floor = None; holdoff = 300; wtr = 300000 }
 
-pub no_bytes_are_the_empty_plan : plan_of [] ≡ Ok (record { option = I; elements = []; links = []; sources = [] })
-unfolding toml_on_literals is_utf8 chars refusal_of rows_of_document plan_of plan_of_rows
+pub no_bytes_are_the_empty_plan : plan_of_size Standard [] ≡ Ok (record { option = I; elements = []; links = []; sources = [] })
+unfolding toml_on_literals is_utf8 chars refusal_of rows_of_document plan_of_size plan_of_rows
 no_bytes_are_the_empty_plan = refl
 
-pub delay_a_is_of_the_line_into_a : plan_of (codes "element=[{name='A'},{name='B'}]\nlink=[{name='L',a='A',b='B',priority_b=1,delay_a=7}]")
+pub delay_a_is_of_the_line_into_a : plan_of_size Standard (codes "element=[{name='A'},{name='B'}]\nlink=[{name='L',a='A',b='B',priority_b=1,delay_a=7}]")
     ≡ Ok (record {
       option = I;
       elements = plain_element (codes "A") ∷ plain_element (codes "B") ∷ [];
       links = record { name = codes "L"; a = 0; b = 1; priority_a = 0; priority_b = 1; delay_a = 7; delay_b = 1; bundle = None } ∷ [];
       sources = [];
     })
-unfolding toml_on_literals is_utf8 chars refusal_of element_row link_row rows_of_document plan_of plan_of_rows
+unfolding toml_on_literals is_utf8 chars refusal_of element_row link_row rows_of_document plan_of_size plan_of_rows
 delay_a_is_of_the_line_into_a = refl
 
-pub link_to_no_element_is_a_refusal_of_the_rows : plan_of (codes "element=[{name='A'}]\nlink=[{name='L',a='A',b='B'}]") ≡ Err (Plan (NoElement (at Links 1)))
-unfolding toml_on_literals is_utf8 chars refusal_of element_row link_row rows_of_document plan_of plan_of_rows
+pub link_to_no_element_is_a_refusal_of_the_rows : plan_of_size Standard (codes "element=[{name='A'}]\nlink=[{name='L',a='A',b='B'}]") ≡ Err (Plan (NoElement (at Links 1)))
+unfolding toml_on_literals is_utf8 chars refusal_of element_row link_row rows_of_document plan_of_size plan_of_rows
 link_to_no_element_is_a_refusal_of_the_rows = refl
 
 -- a text that is written, worked out by hand

@@ -5,7 +5,7 @@ use Rattle.std.proofs.Common.{lit<, lit≤}
 use native.Mathlib.Decide.{dec_lt}
 use Rattle.sync_ql.specs.declared.levels.Level.{Level}
 use Rattle.sync_ql.specs.declared.levels.NetOption.TheVariants.{I}
-use Rattle.sync_ql.specs.Level.{level_of_name, do_not_use_of, IsBetter}
+use Rattle.sync_ql.specs.Level.{level_of_name, do_not_use_of}
 use Rattle.sync_topo.specs.declared.event.Part.TheVariants as part
 use Rattle.sync_topo.specs.declared.event.What.TheVariants.{Down, Up, EsmcOff}
 use Rattle.sync_topo.specs.Topology.{Topology}
@@ -55,10 +55,10 @@ links_go_with_a_bundle : links_gone bundled (fails.Bundle 1) ≡ 1 ∷ 2 ∷ []
 unfolding lowest_of_bundle dec_lt
 links_go_with_a_bundle = refl
 
--- where L1 fails it may go down and come up again, or one of its lines alone may; nothing else goes down, and no ESMC goes off
+-- where L1 fails it may go down and come up again, or one of its lines alone may, or fall silent; nothing else does
 what_may_happen : map (is_of_failure (ring 2) (fails.Link 0))
-    (Down (part.Link 0) ∷ Down (part.Line (line_id 1)) ∷ Down (part.Link 1) ∷ Down (part.Line (line_id 2)) ∷ Down (part.Source 0) ∷ Up (part.Link 0) ∷ EsmcOff (line_id 0) ∷ [])
-    ≡ true ∷ true ∷ false ∷ false ∷ false ∷ true ∷ false ∷ []
+    (Down (part.Link 0) ∷ Down (part.Line (line_id 1)) ∷ Down (part.Link 1) ∷ Down (part.Line (line_id 2)) ∷ Down (part.Source 0) ∷ Up (part.Link 0) ∷ EsmcOff (line_id 0) ∷ EsmcOff (line_id 2) ∷ [])
+    ≡ true ∷ true ∷ false ∷ false ∷ false ∷ true ∷ true ∷ false ∷ []
 unfolding lowest_of_bundle dec_lt
 what_may_happen = refl
 
@@ -100,7 +100,6 @@ no_floor_is_better (suc (suc (suc element))) within = refl
 its_clocks_are_better : AreClocksBetter (ring 2) prc
 unfolding dec_lt
 its_clocks_are_better = record {
-  above = of_its_source (λ level. IsBetter level (do_not_use_of level.option)) (lit< tt);
   own_worse = of_its_source (λ level. AreOwnWorse (ring 2) level) own_clocks_are_worse;
   least = of_its_source (λ level. IsNoWorse level prc) (lit≤ tt);
   floors = no_floor_is_better;

@@ -1,18 +1,11 @@
 -- What a network is that was told nothing.
-use Rattle.std.specs.Prelude.{◌≡◌, ◌<◌, ℕ, ◌+◌, true, nat_eq, List, [], length, replicate, slice_index_or, Option, None, IsSome, IfSome}
-use Rattle.std.specs.List.{All, list_any}
-use Rattle.sync_ql.specs.Moment.{Moment}
+use Rattle.std.specs.Prelude.{◌≡◌, ℕ, ◌+◌, true, List, [], length, replicate, Option, None, IsSome, IfSome}
 use Rattle.sync_ql.specs.Messages.{LineMoment, IsLineDue}
-use Rattle.sync_ql.specs.Quiet.{IsElementDue}
 use Rattle.agenda.specs.Marked.{none_marked}
-use Rattle.sync_element.specs.declared.config.InputConfig.{InputConfig}
-use Rattle.sync_element.specs.ElementState.{ElementState}
-use Rattle.sync_element.specs.StandsFor as Element
 use Rattle.link_model.specs.LineState.{LineState}
 use Rattle.link_model.specs.StandsFor as Line
-use Rattle.sync_topo.specs.declared.input.InputId.{InputId}
 use Rattle.sync_topo.specs.Topology.{Topology}
-use Rattle.sync_topo.specs.Lines.{line_count, delay_of, sender_of, input_priority, IsNominated}
+use Rattle.sync_topo.specs.Lines.{line_count, delay_of, IsNominated}
 use Rattle.sync_topo.specs.WellFormed.{IsWellFormed}
 use Rattle.net_rules.specs.Signals.{planned_level}
 use Rattle.net_rules.specs.History.{by_levels}

@@ -1,32 +1,16 @@
 -- Private to this crate: what events make of the levels of sources, and the words in which that is
 -- told.
-use Rattle.std.specs.Prelude.{◌≡◌, ℕ, Bool, false, nat_eq, if◌then◌else◌, List, [], ◌∷◌, ◌++◌, length, Option, None, Some}
+use Rattle.std.specs.Prelude.{◌≡◌, ℕ, Bool, if◌then◌else◌, List, [], ◌∷◌, ◌++◌, length, Option, None, Some}
 use Rattle.std.specs.List.{list_any}
 use Rattle.sync_ql.specs.declared.rules.InputEvent.{InputEvent}
 use Rattle.sync_topo.specs.declared.input.InputId.TheVariants.{Source}
-use Rattle.sync_topo.specs.declared.event.Part.TheVariants as part
-use Rattle.sync_topo.specs.declared.event.What.{What}
-use Rattle.sync_topo.specs.declared.event.What.TheVariants.{Down, Up, SourceLevel}
 use Rattle.sync_topo.specs.declared.event.Event.{Event}
 use Rattle.sync_topo.specs.Topology.{Topology}
 use Rattle.sync_net.specs.declared.signals.SourceSignal.{SourceSignal}
 use Rattle.net_words.specs.declared.input_words.Saying.TheVariants.{HasLevel}
+use Rattle.sync_net.specs.Named.{named_source, names_source}
 use Rattle.sync_net.specs.private.Noting.{source_at}
 use Rattle.net_words.specs.Words.{input_words}
-
--- the source that an event goes down, comes up or gets a level by it
-abbrev pub named_source : What → Option ℕ
-named_source (Down (part.Source source)) = Some source
-named_source (Up (part.Source source)) = Some source
-named_source (SourceLevel source level) = Some source
-named_source what = None
-
-abbrev pub is_it : Option ℕ → ℕ → Bool
-is_it None source = false
-is_it (Some named) source = nat_eq source named
-
-abbrev pub names_source : ℕ → Event → Bool
-names_source source event = is_it (named_source event.what) source
 
 -- a source that is up has the level that was said last
 abbrev pub settled : SourceSignal → SourceSignal

@@ -6,13 +6,15 @@ use Rattle.sync_topo.specs.declared.event.Event.{Event}
 use Rattle.sync_topo.specs.Topology.{Topology}
 use Rattle.sync_topo.specs.Lines.{IsNominated}
 use Rattle.net_rules.specs.Activity.{touches}
+use Rattle.net_rules.specs.Settling.{switches_line}
 use Rattle.sync_net.specs.declared.signals.LineSignal.{LineSignal}
 use Rattle.sync_net.specs.declared.signals.SourceSignal.{SourceSignal}
 use Rattle.net_words.specs.declared.tellings.Tellings.{Tellings}
 use Rattle.sync_net.specs.Kept.{Kept}
 use Rattle.sync_net.specs.private.Noted.{AreNoted}
 use Rattle.agenda.specs.Called.{is_marked}
-use Rattle.sync_net.specs.private.Noting.{line_at, names_line}
+use Rattle.sync_net.specs.Named.{names_source}
+use Rattle.sync_net.specs.private.Noting.{line_at, source_at, names_line}
 use Rattle.sync_net.specs.private.Telling.{IsTold}
 use Rattle.net_words.specs.Tellings.{told_to, is_active}
 
@@ -47,3 +49,6 @@ pub record AreTaken (plan : Topology) (events : List Event) (was now : Taking) :
   -- marked is as it was
   pub marked : (line : ℕ) → is_marked now.marks line ≡ (list_any (names_line plan line) events || is_marked was.marks line)
   pub unmarked : (line : ℕ) → IsNominated plan line → is_marked now.marks line ≡ false → line_at now.lines line ≡ line_at was.lines line
+  -- a line that no event switches is as it was, and a source that none names
+  pub unswitched : (line : ℕ) → list_any (λ event. switches_line line event.what) events ≡ false → line_at now.lines line ≡ line_at was.lines line
+  pub unnamed : (source : ℕ) → list_any (names_source source) events ≡ false → source_at now.sources source ≡ source_at was.sources source

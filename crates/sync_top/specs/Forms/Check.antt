@@ -2,6 +2,7 @@
 use Rattle.std.specs.Prelude.{◌≡◌, ℕ, List, [], ◌++◌, codes, Result, Ok, Err}
 use Rattle.sync_edge.specs.Contents.{Contents}
 use Rattle.sync_topo.specs.Topology.{Topology}
+use Rattle.sync_topo.specs.Sizes.{size_of}
 use Rattle.sync_topo.specs.Lines.{line_name}
 use Rattle.sync_topo.specs.Hops.{hops}
 use Rattle.sync_topo.specs.Ranks.{HopTest, Rises}
@@ -14,6 +15,7 @@ use Rattle.rank_cert.specs.declared.error.CertErr.{CertErr}
 use Rattle.rank_cert.specs.declared.error.CertErr.TheVariants as broken
 use Rattle.rank_cert.specs.Ranks.{Ranks, rank_of, IsFirstFallOver}
 use Rattle.rank_cert.specs.CertificateText.{certificate_of}
+use Rattle.sync_top.specs.Form.{PlanName}
 use Rattle.sync_top.specs.Reading.{text_line, End, answered, file, refusal_line, plan_in}
 
 -- where a certificate is refused: the row, or the line that has none
@@ -38,11 +40,11 @@ accepted_ranks plan (Err refused) = Err (answered BadCert (text_line (certificat
 -- the ranks that a file gives the lines of a plan
 abbrev pub ranks_in : Topology → List ℕ → Contents → Result Ranks End
 ranks_in plan name files = do
-  bytes ← file name files
+  bytes ← file (size_of plan) name files
   accepted_ranks plan (certificate_of plan bytes)
 
 -- the plan first, and then its certificate
-abbrev pub documents : List ℕ → List ℕ → Contents → Result (Topology × Ranks) End
+abbrev pub documents : PlanName → List ℕ → Contents → Result (Topology × Ranks) End
 documents plan_name certificate_name files = do
   plan ← plan_in plan_name files
   ranks ← ranks_in plan certificate_name files

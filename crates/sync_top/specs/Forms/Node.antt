@@ -4,6 +4,7 @@ use Rattle.std.specs.Fmt.{decimal}
 use Rattle.sync_edge.specs.Contents.{Contents}
 use Rattle.sync_text.specs.Chain.{◌>>=◌}
 use Rattle.sync_topo.specs.Topology.{Topology}
+use Rattle.sync_topo.specs.Sizes.{size_of}
 use Rattle.sync_topo.specs.Names.{place_of, element_names}
 use Rattle.esmc_frame.specs.Numbers.{number_of as frame_number}
 use Rattle.node_file.specs.declared.error.NodeErr.{NodeErr}
@@ -14,6 +15,7 @@ use Rattle.node_file.specs.NodeFile.{rows_of}
 use Rattle.node_rules.specs.NodeText.{AllFit, IsLastFit, whole_text, stopped_text}
 use Rattle.sync_top.specs.declared.status.Status.{Status}
 use Rattle.sync_top.specs.declared.status.Status.TheVariants.{Done, BadFrames, Stopped}
+use Rattle.sync_top.specs.Form.{PlanName}
 use Rattle.sync_top.specs.Reading.{text_line, End, answered, Answered, file, refusal_line, plan_in}
 
 -- where a file of an element is refused: the line, and for a frame the number of its first wrong part
@@ -49,7 +51,7 @@ abbrev pub element_in : Topology → List ℕ → Result ℕ End
 element_in plan name = element_there (place_of (element_names plan.elements) name)
 
 -- an element of the plan of a file
-abbrev pub element_of_plan : List ℕ → List ℕ → Contents → Result ℕ End
+abbrev pub element_of_plan : PlanName → List ℕ → Contents → Result ℕ End
 element_of_plan plan_name element_name files = do
   plan ← plan_in plan_name files
   element_in plan element_name
@@ -58,11 +60,11 @@ element_of_plan plan_name element_name files = do
 abbrev pub received_in : Topology → List ℕ → List ℕ → Contents → Result (ℕ × List ℕ) End
 received_in plan element_name file_name files = do
   element ← element_in plan element_name
-  bytes ← file file_name files
+  bytes ← file (size_of plan) file_name files
   Ok (element, bytes)
 
 -- the plan first, then its element, and then the bytes of the file
-abbrev pub node_bytes : List ℕ → List ℕ → List ℕ → Contents → Result (Topology × ℕ × List ℕ) End
+abbrev pub node_bytes : PlanName → List ℕ → List ℕ → Contents → Result (Topology × ℕ × List ℕ) End
 node_bytes plan_name element_name file_name files = do
   plan ← plan_in plan_name files
   received ← received_in plan element_name file_name files

@@ -3,6 +3,7 @@ use Rattle.std.specs.Prelude.{◌≡◌, ℕ, ◌≤◌, ⊤, List, length, Opti
 use Rattle.sync_edge.specs.Contents.{Contents}
 use Rattle.sync_topo.specs.declared.event.Event.{Event}
 use Rattle.sync_topo.specs.Topology.{Topology}
+use Rattle.sync_topo.specs.Sizes.{size_of}
 use Rattle.sync_topo.specs.Lines.{is_nominated}
 use Rattle.sync_topo.specs.Ranks.{Rises, AreLeastRanks, IsFirstCycle}
 use Rattle.rank_cert.specs.Ranks.{Ranks, rank_at, rank_of}
@@ -29,10 +30,10 @@ IsPriorityVerdict plan ranks status text = IsVerdictOver (hops_any plan) plan ra
 abbrev pub IsPriorityPlanned : Topology → Status → List ℕ → Type 0
 IsPriorityPlanned plan Done text =
     (ranks : Ranks) × AreLeastRanks (hops_any plan) (is_nominated plan) (rank_at ranks) × Rises (hops_any plan) (rank_of ranks)
-    × (text ≡ certificate_text plan ranks) × (certificate_of plan text ≡ Ok ranks) × (length text ≤ file_limit)
+    × (text ≡ certificate_text plan ranks) × (certificate_of plan text ≡ Ok ranks) × (length text ≤ file_limit (size_of plan))
 IsPriorityPlanned plan Refuted text =
     (lines : List ℕ) × IsFirstCycle (hops_any plan) lines × IsForcedLoop plan lines × (text ≡ forced_text plan lines)
-    × (events_of plan text ≡ Ok (forced_on lines)) × (length text ≤ file_limit)
+    × (events_of plan text ≡ Ok (forced_on lines)) × (length text ≤ file_limit (size_of plan))
 IsPriorityPlanned plan status text = ⊥
 
 -- the report of a run

@@ -1,6 +1,7 @@
 -- The answer to `protect`.
 use Rattle.std.specs.Prelude.{◌≡◌, ◌≤◌, ℕ, List, length}
 use Rattle.sync_topo.specs.Topology.{Topology}
+use Rattle.sync_topo.specs.Sizes.{size_of}
 use Rattle.plan_file.specs.IsPlanText.{IsPlanText}
 use Rattle.plan_file.specs.Spelling.{plan_text}
 use Rattle.reach_rules.specs.Protection.{IsProtected}
@@ -16,6 +17,6 @@ use Rattle.sync_top.specs.Forms.Protected.{gaps_text}
 -- file; or the rows of the failures that cut somebody off in the one that is found
 abbrev pub IsProtectingText : Topology → Status → List ℕ → Type 0
 IsProtectingText plan Done text =
-    (found : Topology) × IsFound plan found × IsProtected found × (text ≡ plan_text found) × IsPlanText found text × (length text ≤ file_limit)
+    (found : Topology) × IsFound plan found × IsProtected found × (text ≡ plan_text found) × IsPlanText found text × (length text ≤ file_limit (size_of found))
 IsProtectingText plan Refuted text = (gaps : List Gap) × AreFoundGaps plan gaps × (text ≡ gaps_text plan gaps)
 IsProtectingText plan status text = ⊥

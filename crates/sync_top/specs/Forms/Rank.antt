@@ -2,6 +2,7 @@
 use Rattle.std.specs.Prelude.{◌≡◌, ℕ, ◌≤◌, List, ◌++◌, length, map, codes, Ok}
 use Rattle.std.specs.List.{concat}
 use Rattle.sync_topo.specs.Topology.{Topology}
+use Rattle.sync_topo.specs.Sizes.{size_of}
 use Rattle.sync_topo.specs.Lines.{line_name, is_nominated}
 use Rattle.sync_topo.specs.Hops.{hops, IsRising}
 use Rattle.sync_topo.specs.Ranks.{AreLeastRanks, IsFirstCycle}
@@ -24,6 +25,6 @@ cycle_text plan lines = lines_text (codes "cycle") plan lines
 abbrev pub IsPlanned : Topology → Status → List ℕ → Type 0
 IsPlanned plan Done text =
     (ranks : Ranks) × AreLeastRanks (hops plan) (is_nominated plan) (rank_at ranks) × IsRising plan (rank_of ranks)
-    × (text ≡ certificate_text plan ranks) × (certificate_of plan text ≡ Ok ranks) × (length text ≤ file_limit)
+    × (text ≡ certificate_text plan ranks) × (certificate_of plan text ≡ Ok ranks) × (length text ≤ file_limit (size_of plan))
 IsPlanned plan Refuted text = (lines : List ℕ) × IsFirstCycle (hops plan) lines × (text ≡ cycle_text plan lines)
 IsPlanned plan status text = ⊥

@@ -5,16 +5,17 @@ use Rattle.sync_edge.specs.Contents.{Contents}
 use Rattle.sync_topo.specs.declared.event.Event.{Event}
 use Rattle.sync_text.specs.Chain.{◌>>=◌}
 use Rattle.sync_topo.specs.Topology.{Topology}
+use Rattle.sync_topo.specs.Sizes.{size_of, most_rows}
 use Rattle.event_file.specs.declared.error.EventErr.{EventErr}
 use Rattle.event_file.specs.declared.error.EventErr.TheVariants as refusal
 use Rattle.event_file.specs.EventText.{events_of}
 use Rattle.event_file.specs.Refusal.{number_of as event_number}
-use Rattle.sync_ql.specs.declared.limits.TheConstants.{MOST_ROWS}
 use Rattle.event_sim.specs.Rows.{rows_until}
 use Rattle.event_sim.specs.Answers.{IsLastFit}
 use Rattle.trace_report.specs.Report.{IsWholeReport, stopped_report}
 use Rattle.sync_top.specs.declared.status.Status.{Status}
 use Rattle.sync_top.specs.declared.status.Status.TheVariants.{Done, BadEvents, Stopped}
+use Rattle.sync_top.specs.Form.{PlanName}
 use Rattle.sync_top.specs.Reading.{text_line, End, answered, file, refusal_line, plan_in}
 
 -- where events are refused: the row
@@ -43,11 +44,11 @@ accepted_events (Err refused) = Err (answered BadEvents (text_line (event_refusa
 -- the events of a file over a plan
 abbrev pub events_in : Topology → List ℕ → Contents → Result (List Event) End
 events_in plan name files = do
-  bytes ← file name files
+  bytes ← file (size_of plan) name files
   accepted_events (events_of plan bytes)
 
 -- the plan first, and then its events
-abbrev pub plan_and_events : List ℕ → List ℕ → Contents → Result (Topology × List Event) End
+abbrev pub plan_and_events : PlanName → List ℕ → Contents → Result (Topology × List Event) End
 plan_and_events plan_name events_name files = do
   plan ← plan_in plan_name files
   events ← events_in plan events_name files
@@ -57,7 +58,7 @@ plan_and_events plan_name events_name files = do
 -- which all fit
 abbrev pub IsReport : Topology → List Event → ℕ → Status → List ℕ → Type 0
 IsReport plan events until Done text =
-    (length (rows_until plan events (suc until)) ≤ MOST_ROWS) × IsWholeReport plan events until text
+    (length (rows_until plan events (suc until)) ≤ most_rows plan) × IsWholeReport plan events until text
 IsReport plan events until Stopped text =
     (t : ℕ) × IsLastFit plan events t until × (text ≡ stopped_report plan events t)
 IsReport plan events until status text = ⊥

@@ -6,13 +6,13 @@ use Rattle.sync_topo.specs.declared.event.Event.{Event}
 use Rattle.sync_topo.specs.declared.event.What.TheVariants.{Down}
 use Rattle.sync_topo.specs.declared.event.Part.TheVariants.{Link}
 use Rattle.sync_topo.specs.Topology.{Topology}
+use Rattle.sync_topo.specs.Sizes.{most_rows}
 use Rattle.plan_gen.specs.Ladder.{ladder}
 use Rattle.net_rules.specs.Signals.{signals_by}
 use Rattle.net_rules.specs.History.{out_at}
 use Rattle.net_rules.specs.Settled.{IsSettled}
 use Rattle.net_rules.specs.Settling.{IsGreatest, IsRank}
 use Rattle.net_rules.specs.Safety.{IsLoopFree}
-use Rattle.sync_ql.specs.declared.limits.TheConstants.{MOST_ROWS}
 use Rattle.event_sim.specs.declared.change.Change.{Change}
 use Rattle.event_sim.specs.Rows.{rows_until}
 use Rattle.event_sim.specs.Answers.{IsLastFit}
@@ -30,7 +30,7 @@ trial_events = record { at = LINK_FAILS_AT; what = Down (Link 0) } ∷ []
 -- to the last millisecond up to which all fit
 abbrev pub AreReportRows : Topology → List Event → ℕ → List Change → Type 0
 AreReportRows plan events until rows =
-    ((length (rows_until plan events (suc until)) ≤ MOST_ROWS) × (rows ≡ rows_until plan events (suc until)))
+    ((length (rows_until plan events (suc until)) ≤ most_rows plan) × (rows ≡ rows_until plan events (suc until)))
     ⊎ ((t : ℕ) × IsLastFit plan events t until × (rows ≡ rows_until plan events (suc t)))
 
 -- a line of a word and a number

@@ -2,7 +2,7 @@
 use Rattle.std.specs.Prelude.{◌≡◌, ◌≤◌, ℕ, suc, true, false, List, length, Some}
 use Rattle.sync_topo.specs.declared.event.Event.{Event}
 use Rattle.sync_topo.specs.Topology.{Topology}
-use Rattle.sync_ql.specs.declared.limits.TheConstants.{MOST_ROWS}
+use Rattle.sync_topo.specs.Sizes.{most_rows}
 use Rattle.event_sim.specs.declared.change.Watch.{Watch}
 use Rattle.event_sim.specs.declared.change.Watch.TheVariants.{Changes}
 use Rattle.event_sim.specs.declared.change.Reach.{Reach}
@@ -23,6 +23,6 @@ pub record HasRun (plan : Topology) (events : List Event) (watch : Watch) (until
   pub of_plan : sim.net.plan ≡ plan
   pub watches : sim.watch ≡ watch
   pub live : sim.spent ≡ false
-  pub few : length sim.changes ≤ MOST_ROWS
+  pub few : length sim.changes ≤ most_rows sim.net.plan
   pub stands : StandsFor sim events
   pub came : CameTo plan events watch until sim reach

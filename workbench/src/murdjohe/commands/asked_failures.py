@@ -9,11 +9,12 @@ from typing import Any, TypeVar
 
 import click
 
-from murdjohe import bands, failures, files, forms, runs
-from murdjohe.commands.common import Milliseconds
+from murdjohe import bands, failures, files, forms, runs, times
+from murdjohe.commands.common import START, Milliseconds, from_start
 from murdjohe.failures import KINDS, Failure
 from murdjohe.moments import Event
 from murdjohe.plan_file import PlanFile
+from murdjohe.remarks import listed, plural
 from murdjohe.wrong import Wrong
 
 CommandT = TypeVar("CommandT", bound=Callable[..., Any])
@@ -28,6 +29,7 @@ OPTIONS = (
     click.option("--pairs", is_flag=True, help="also each two of these together"),
     click.option("--at", type=Milliseconds(), default="10m", show_default=True, help="when what fails goes down"),
     click.option("--during", type=click.Path(), help="an event list whose events are common to all cases"),
+    START,
     click.option("--cases", "span", metavar="FROM-TO", help="only these cases, by their numbers from 1 on"),
 )
 
@@ -43,6 +45,46 @@ def within_a_day(time: int | None, word: str) -> None:
     """Raises Wrong where a time is longer than any run."""
     if time is not None and time > forms.DAY_MS:
         raise Wrong(f"{word}: at most a day, 24h")
+
+
+def with_start(asked: dict[str, Any], until: int | None = None) -> int | None:
+    """Turns the time of what is asked into one from the start of the run on, and gives the end as such a one. Raises Wrong."""
+    asked["at"] = from_start(asked["at"], asked["start"], "--at")
+    within_a_day(asked["at"], "--at")
+    end = from_start(until, asked["start"], "--until")
+    within_a_day(end, "--until")
+    return end
+
+
+def clock(asked: dict[str, Any], at: int) -> str:
+    """A millisecond as it is told: as a time of day where the run begins at one, and in milliseconds."""
+    return f"{times.clock(at, asked['start'] or 0)} ({at:,} ms)"
+
+
+def mended(found: list[Failure], common: tuple[Event, ...], at: int) -> list[Event]:
+    """The events common to all cases that mend something which a case has taken down before."""
+    down = {part for one in found for part in one.down}
+    return [event for event in common if event.what == "up" and event.at >= at and parts_of(event.target) & down]
+
+
+def parts_of(target: str) -> set[str]:
+    """The link or source that an event is of, by itself or by one of its lines."""
+    return {target, target.partition(">")[0]}
+
+
+def remarks(found: list[Failure], common: tuple[Event, ...], asked: dict[str, Any]) -> list[str]:
+    """When what fails goes down, and which works mend it again."""
+    at = asked["at"]
+    said = [f"what fails goes down at {clock(asked, at)}"]
+    again = mended(found, common, at)
+    if again:
+        names = [f"{event.target} at {times.clock(event.at, asked['start'] or 0)}" for event in again]
+        cases = {one.name for one in found for event in again if parts_of(event.target) & set(one.down)}
+        said.append(
+            f"the common events bring up again what {plural(len(cases), 'failure')} took down: `up` of {listed(names)}; after that "
+            "these cases are as without the failure"
+        )
+    return said + times.likely_seconds(at, "--at")
 
 
 def span_of(words: str | None) -> tuple[int, int | None]:
@@ -77,10 +119,10 @@ def words_of(asked: dict[str, Any]) -> str:
     return f"{', '.join([*kinds_of(asked), *groups])}{pairs} down at {bands.minutes(asked['at'])}{during}"
 
 
-def common_of(taken: PlanFile, path: str | None) -> tuple[Event, ...]:
+def common_of(taken: PlanFile, asked: dict[str, Any]) -> tuple[Event, ...]:
     """The events that are common to all cases, where the program takes them. Raises Wrong with its status."""
-    if path is None:
+    if asked["during"] is None:
         return ()
-    file = runs.read_events(path)
+    file = runs.read_events(asked["during"], asked["start"])
     runs.report_of(taken, file, 0)
     return file.events

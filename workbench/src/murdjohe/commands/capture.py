@@ -2,18 +2,21 @@
 
 from __future__ import annotations
 
+from collections.abc import Callable, Iterator
+from contextlib import contextmanager
 from typing import Any
 
 import click
 
-from murdjohe import core, streams
-from murdjohe.commands.common import Milliseconds
-from murdjohe.streams import Output
+from murdjohe import core, streams, talk_faults
+from murdjohe.commands.common import Milliseconds, free, output_options, put
 from murdjohe.wrong import Wrong
 
 TYPE_CHECKING = False
 if TYPE_CHECKING:
     from murdjohe import esmc, lab_lines
+    from murdjohe.clock_times import Clock
+    from murdjohe.talkers import Talk
 
 OPTION = click.option(
     "--option", type=click.Choice(["I", "II"]), default="I", help="the network option; I where none is given"
@@ -39,7 +42,7 @@ def capture(context: click.Context) -> None:
     """Reads any capture, makes what an element received of it, and compares a device with the rules.
 
     A capture is a pcap in micro- or nanoseconds or a pcapng, packed by gzip or not, of Ethernet or with the cooked headers of
-    `tcpdump -i any`. VLAN and QinQ tags are taken off, and frames of fewer than 60 octets padded; what was done is said with
+    `tcpdump -i any`. VLAN and QinQ tags are taken off, and frames of fewer than 60 bytes padded; what was done is said with
     counts. Each ESMC frame is decoded by the proved program.
     """
     if context.invoked_subcommand is None:
@@ -72,13 +75,22 @@ def ended(context: click.Context, taken: esmc.Capture, said: list[str]) -> int:
     "--rows", "what", flag_value="rows", help="each frame as a row of `pcap-decode`, as `capture write` takes it"
 )
 @click.option("--json", "what", flag_value="json", help="the report as JSON")
+@click.option(
+    "--fail-on",
+    multiple=True,
+    type=click.Choice(talk_faults.FAILING),
+    help="has the status 21 where this is found; may be given again",
+)
 @click.option("-q", "--quiet", is_flag=True, help="without sentences on standard error")
+@output_options
 @click.pass_context
-def read(context: click.Context, file: str, option: str, local: bool, what: str | None, quiet: bool) -> int:
+def read(context: click.Context, file: str, option: str, local: bool, what: str | None, **asked: Any) -> int:
     """Says who speaks in a capture, at what rate, how levels change, and who was silent for more than five seconds.
 
     FILE is a capture, or - for standard input. A rate that is off the one information message a second by more than a tenth
-    is marked. The status is 0, 6 where the capture is damaged, and 2 where it can't be read.
+    is marked. What counters an extended TLV has, bits that are reserved and set, codes that the option doesn't know, and group
+    addresses as sources are told beside it. The status is 0, 6 where the capture is damaged, and 21 where what --fail-on names
+    is found.
 
     \b
       $ echo 1,5,020000000001,info,QL-PRC > rows
@@ -87,33 +99,57 @@ def read(context: click.Context, file: str, option: str, local: bool, what: str 
     """
     from murdjohe import clock_times, esmc, progress, talk_report, talkers
 
+    output = asked["output"]
+    free(output, asked["force"], file)
     taken, talk, clock = esmc.Capture(file, option), talkers.Talk(), clock_times.Clock(local)
     what = what or ("json" if context.find_root().params["json"] else None)
     clock.has_days = what == "frames"
-    with progress.watched("capture read"):
-        lines = [talk_report.FRAMES_HEAD] if what == "frames" else []
-        for frame, since in talk.heard(taken.heard()):
-            if what == "rows":
-                lines.append(talk_report.as_row(frame))
-            elif what == "frames":
-                lines.append(talk_report.as_line(frame, since, clock))
-            lines = flushed(context.obj, lines, PIECE)
-    flushed(context.obj, lines, 1)
-    talk.ended(taken.last)
+    with progress.watched("capture read"), printed(context, output) as sink:
+        all_heard(taken, talk, clock, what, sink)
     clock.spans(taken.first, taken.last)
-    said = list(talk_report.remarks(taken, talk, clock))
+    # (whoever wants frames or rows sees all of this in them)
+    seen = [] if what in ("frames", "rows") else talk_faults.remarks(taken, talk)
+    said = [*talk_report.remarks(taken, talk, clock), *seen]
     if what == "json":
-        context.obj.put(talk_report.as_json(taken, talk, said).encode())
+        put(context, output, talk_report.as_json(taken, talk, said).encode())
     elif what is None and not (taken.damage and not taken.packets):
-        context.obj.put(talk_report.text(taken, talk, clock, file).encode("utf-8", "backslashreplace"))
-    return ended(context, taken, said)
+        put(context, output, talk_report.text(taken, talk, clock, file).encode("utf-8", "backslashreplace"))
+    status = ended(context, taken, said)
+    return status or (core.FOUND if talk_faults.found(taken, talk, asked["fail_on"]) else core.DONE)
 
 
-def flushed(output: Output, lines: list[str], count: int) -> list[str]:
+def all_heard(taken: esmc.Capture, talk: Talk, clock: Clock, what: str | None, sink: Callable[[bytes], None]) -> None:
+    """Takes in all frames of a capture; each is written where frames or rows are wanted."""
+    from murdjohe import talk_report
+
+    lines = [talk_report.FRAMES_HEAD] if what == "frames" else []
+    for frame, since in talk.heard(taken.heard()):
+        if what == "rows":
+            lines.append(talk_report.as_row(frame))
+        elif what == "frames":
+            lines.append(talk_report.as_line(frame, since, clock))
+        lines = flushed(sink, lines, PIECE)
+    flushed(sink, lines, 1)
+    talk.ended(taken.last)
+
+
+@contextmanager
+def printed(context: click.Context, output: str | None) -> Iterator[Callable[[bytes], None]]:
+    """What takes lines: standard output, or a file that is there once all of them are written, if any were."""
+    if output is None or output == "-":
+        yield context.obj.put
+        return
+    pieces: list[bytes] = []
+    yield pieces.append
+    if pieces:
+        put(context, output, b"".join(pieces))
+
+
+def flushed(sink: Callable[[bytes], None], lines: list[str], count: int) -> list[str]:
     """Writes the lines where there are so many, and gives those that still wait."""
     if len(lines) < count:
         return lines
-    output.put("".join(lines).encode("utf-8", "backslashreplace"))
+    sink("".join(lines).encode("utf-8", "backslashreplace"))
     return []
 
 
@@ -136,6 +172,7 @@ def bench_of(path: str, option: str, words: tuple[str, ...]) -> tuple[lab_lines.
 @LOCAL
 @EVENTS
 @click.option("-q", "--quiet", is_flag=True, help="without sentences on standard error")
+@output_options
 @click.pass_context
 def node(
     context: click.Context,
@@ -146,11 +183,13 @@ def node(
     local: bool,
     events: str | None,
     quiet: bool,
+    output: str | None,
+    force: bool,
 ) -> int:
     """Makes of a capture what ELEMENT received: the file that `murdjohe node` takes.
 
     FILE is a capture, or - for standard input. Of the lines that are named those into ELEMENT count, as L1>B for B. Millisecond
-    0 is that of the first packet. The status is 0, 6 where the capture is damaged, and 2 where it can't be taken.
+    0 is that of the first packet. The status is 0, or 6 where the capture is damaged.
 
     \b
       $ murdjohe gen 2 > plan.toml
@@ -161,6 +200,7 @@ def node(
     """
     from murdjohe import clock_times, lab_lines, lab_report, talk_report
 
+    free(output, force, file, events)
     lines = {where.line for where in map(lab_lines.where_of, line) if where.line.endswith(f">{element}")}
     if not lines:
         raise Wrong(f"--line: none of the lines leads into {element}, as L1>{element} does")
@@ -168,7 +208,7 @@ def node(
     if taken.damage and not taken.packets:
         return ended(context, taken, [])
     text = lab_lines.received(bench.messages, lines, lab_report.events_of(events))
-    context.obj.put(text.encode())
+    put(context, output, text.encode())
     said = [*lab_report.of_bench(bench, lines, clock_times.Clock(local)), *talk_report.of_capture(taken)]
     return ended(context, taken, said)
 
@@ -185,17 +225,19 @@ def node(
     "--from", "begin", type=Milliseconds(), default="5s", show_default=True, help="nothing before is compared"
 )
 @click.option("--until", type=Milliseconds(), help="nothing after is compared; without it to the capture's end")
+@click.option("--most", type=click.IntRange(0), default=0, show_default=True, help="how many differences still pass")
 @click.option("--json", "is_json", is_flag=True, help="the findings as JSON")
 @click.option("-q", "--quiet", is_flag=True, help="without sentences on standard error")
+@output_options
 @click.pass_context
 def compare(context: click.Context, plan: str, element: str, file: str, line: tuple[str, ...], **settings: Any) -> int:
     """Compares what a device sent with what ELEMENT of PLAN has to send for what the device received.
 
     What it received are the frames of the capture FILE on lines into ELEMENT, which `murdjohe node` is given; what it sent
-    are those on lines out of it. What differs is a row: missing, late by more than the tolerance, wrong level, or
-    unexpected. Information messages may come in any part of a second. Millisecond 0 is that of the first packet; what the
-    device had heard before isn't known, so the first five seconds aren't compared. The status is 0 where nothing differs,
-    else 1; 3 and 6 for a plan and a capture that are refused; and 2 for what can't be taken.
+    are those on lines out of it. The first line is `pass` or `fail`. What differs is a row: missing, late by more than the
+    tolerance, wrong level, unexpected, or too many. Below stands how soon the changes of each line were told. Information messages may come in any part of a second. Millisecond 0 is that of the first packet; what the
+    device had heard before isn't known, so the first five seconds aren't compared. The status is 0 where it passes, else 1; 3
+    and 6 for a plan and a capture that are refused.
 
     \b
       $ murdjohe gen 2 > plan.toml
@@ -205,6 +247,8 @@ def compare(context: click.Context, plan: str, element: str, file: str, line: tu
     """
     from murdjohe import api, clock_times, lab_report, talk_report
 
+    output, force = settings.pop("output"), settings.pop("force")
+    free(output, force, plan, file, settings["events"])
     is_json, _ = settings.pop("is_json") or context.find_root().params["json"], settings.pop("quiet")
     asked = lab_report.Asked(plan, element, file, line, **settings)
     try:
@@ -219,21 +263,22 @@ def compare(context: click.Context, plan: str, element: str, file: str, line: tu
     clock = lab_report.day_of(bench, taken, asked.local)
     said = [*lab_report.remarks(bench, read_plan, asked, found, clock), *talk_report.of_capture(taken)]
     shown = lab_report.as_json(bench, found, said) if is_json else lab_report.text(bench, found, clock)
-    context.obj.put(shown.encode("utf-8", "backslashreplace"))
-    return ended(context, taken, said) or (core.REFUTED if found.findings else core.DONE)
+    put(context, output, shown.encode("utf-8", "backslashreplace"))
+    return ended(context, taken, said) or (core.DONE if found.is_passed else core.REFUTED)
 
 
 @capture.command("write", short_help="a capture to send, of rows")
 @click.argument("rows", type=click.Path())
 @OPTION
 @click.option("--every", type=Milliseconds(), default="1s", show_default=True, help="between rows without times")
-@click.option("-o", "--output", type=click.Path(), help="writes to this file, whole or not at all")
-def write(rows: str, option: str, every: int, output: str | None) -> int:
+@output_options
+@click.pass_context
+def write(context: click.Context, rows: str, option: str, every: int, output: str | None, force: bool) -> int:
     """Makes a capture of rows, for a sender such as tcpreplay.
 
     ROWS are rows as `capture read --rows` or `pcap-decode` prints them, SEC,USEC,SOURCE,KIND,LEVEL and more, or as `decode`
     does, SOURCE,KIND,LEVEL and more, which get times; or - for standard input. It is a classic pcap of Ethernet. The status is
-    0, 6 where a row is refused, and 2 where the file can't be read or written.
+    0, or 6 where a row is refused.
 
     \b
       $ printf '020000000001,info,QL-PRC\\n020000000001,event,QL-SEC\\n' > rows
@@ -242,16 +287,14 @@ def write(rows: str, option: str, every: int, output: str | None) -> int:
     """
     from murdjohe import files, rows_written
 
+    free(output, force, rows)
     name = "standard input" if rows == "-" else rows
     try:
         data = b"".join(rows_written.capture_of(name, files.octets(rows), option, every))
     except rows_written.Refused as refused:
         streams.tell(str(refused))
         return refused.status
-    if output is None:
-        click.get_current_context().obj.put(data)
-    else:
-        files.written(output, data)
+    put(context, output, data)
     return core.DONE
 
 

@@ -1,12 +1,21 @@
-"""What commands share: words that are times."""
+"""What commands share: words that are times, the start of a run, and where what they print goes."""
 
 from __future__ import annotations
 
-from typing import Any
+from collections.abc import Callable, Iterable
+from typing import Any, TypeVar
 
 import click
 
-from murdjohe import times
+from murdjohe import cli, files, times
+from murdjohe.inputs import STDIN
+from murdjohe.wrong import Wrong
+
+CommandT = TypeVar("CommandT", bound=Callable[..., Any])
+
+
+class TimeOfDay(int):
+    """Milliseconds that were spelled with colons: in a run that begins at a time of day, a time of day too."""
 
 
 class Milliseconds(click.ParamType):
@@ -18,6 +27,50 @@ class Milliseconds(click.ParamType):
         if isinstance(value, int):
             return value
         time = times.milliseconds(value)
-        if time is None and times.is_digits(value):
-            time = int(value)
-        return time if time is not None else self.fail(f"{value!r} is no time, as 60000, 20m or 1h30m", param, ctx)
+        if time is not None:
+            return TimeOfDay(time) if ":" in value else time
+        if times.is_digits(value):
+            return int(value)
+        return self.fail(f"{value!r} is no time, as 60000, 20m, 1h30m or 02:10", param, ctx)
+
+
+class Start(click.ParamType):
+    """The time of day at which a run begins."""
+
+    name = "TIME"
+
+    def convert(self, value: Any, param: click.Parameter | None, ctx: click.Context | None) -> int:
+        return value if isinstance(value, int) else cli.time_of_day(value) or 0
+
+
+START = click.option("--start", type=Start(), help="the time of day at which the run begins, as 02:00 or 23:00:00")
+
+
+def from_start(time: int | None, start: int | None, word: str) -> int | None:
+    """A time of a run that begins at a time of day. Raises Wrong where it is a time of day before that."""
+    if not isinstance(time, TimeOfDay):
+        return time
+    try:
+        return times.from_start(time, start)
+    except times.Early as early:
+        raise Wrong(f"{word}: {early}") from None
+
+
+def output_options(command: CommandT) -> CommandT:
+    """The command with the options by which what it prints goes to a file."""
+    force = click.option("--force", is_flag=True, help="writes over a file that is there already")
+    output = click.option("-o", "--output", type=click.Path(), help="writes to this file in place of standard output")
+    return output(force(command))
+
+
+def free(output: str | None, force: bool, *inputs: str | None, more: Iterable[str | None] = ()) -> None:
+    """Raises Wrong where the output is there already, or is one of the files that are read."""
+    files.free([path for path in (output, *more) if path], force, inputs)
+
+
+def put(context: click.Context, output: str | None, data: bytes) -> None:
+    """Writes what a command prints to its file, or to standard output. Raises Wrong."""
+    if output is None or output == STDIN:
+        context.obj.put(data)
+    else:
+        files.written(output, data)

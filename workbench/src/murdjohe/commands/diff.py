@@ -8,18 +8,24 @@ import io
 
 import click
 
-from murdjohe import api, core, differences, plain_json, plan_file, progress, streams
+from murdjohe import api, core, differences, plain_json, plan_file, progress, streams, times
+from murdjohe.commands.common import START, free, output_options, put
 from murdjohe.plan_file import PlanFile
 from murdjohe.wrong import Wrong
 
 
-def swept(taken: PlanFile, times: tuple[str, str]) -> differences.Facts:
+def swept(taken: PlanFile, words: tuple[str, str], start: int | None) -> differences.Facts:
     """What the program says of each link's failure. Raises Wrong where it refuses the times."""
     try:
+        moments = [
+            str(times.of_word(word, start)) if ":" in word and times.milliseconds(word) else word for word in words
+        ]
         with progress.watched("diff"):
-            return differences.facts_of_cuts(api.sweep(taken.data, *times).result)
+            return differences.facts_of_cuts(api.sweep(taken.data, *moments).result)
     except api.Refused as refused:
         raise Wrong(f"--sweep: {refused.sentence}", status=refused.status) from None
+    except times.Early as early:
+        raise Wrong(f"--sweep: {early}") from None
 
 
 def shown(found: list[differences.Difference], form: str) -> bytes:
@@ -42,8 +48,19 @@ def shown(found: list[differences.Difference], form: str) -> bytes:
 )
 @click.option("--csv", "form", flag_value="csv", help="as a table with commas: part, subject, what, old, new")
 @click.option("--json", "form", flag_value="json", help="as JSON: the rows of that table")
+@START
+@output_options
 @click.pass_context
-def diff(context: click.Context, old: str, new: str, sweep: tuple[str, str] | None, form: str | None) -> int:
+def diff(
+    context: click.Context,
+    old: str,
+    new: str,
+    sweep: tuple[str, str] | None,
+    form: str | None,
+    start: int | None,
+    output: str | None,
+    force: bool,
+) -> int:
     """Says what differs in plan B from plan A, whatever their order and spelling.
 
     Topology, priorities, floors, times and levels, where keys that are left out count as their defaults; with --sweep also
@@ -55,16 +72,19 @@ def diff(context: click.Context, old: str, new: str, sweep: tuple[str, str] | No
       $ sed 's/QL-PRC/QL-ePRC/' plan.toml > other.toml
       $ murdjohe diff plan.toml other.toml --sweep 60s 20m || true
     """
+    free(output, force, old, new)
     pair = [plan_file.read(old), plan_file.read(new)]
     facts = [differences.facts_of(taken.tables, taken.plan.option) for taken in pair]
     if sweep:
-        facts = [said | swept(taken, sweep) for taken, said in zip(pair, facts)]
+        facts = [said | swept(taken, sweep, start) for taken, said in zip(pair, facts)]
     found = differences.between(*facts)
-    context.obj.put(shown(found, form or ("json" if context.find_root().params["json"] else "")))
+    put(context, output, shown(found, form or ("json" if context.find_root().params["json"] else "")))
     if not context.find_root().params["quiet"]:
-        verdicts = "; ".join(f"{taken.name} checked: {taken.verdict()}" for taken in pair)
+        judgements = [plan_file.judged(taken) for taken in pair]
+        verdicts = "; ".join(f"{taken.name} checked: {one.text}" for taken, one in zip(pair, judgements))
         number = f"{len(found):,} difference{'' if len(found) == 1 else 's'}"
-        streams.tell(f"{number}; {verdicts}", colour="yellow" if found else "green")
+        lines = [line for one in judgements for line in one.lines]
+        streams.tell(f"{number}; {verdicts}", *lines, colour="yellow" if found else "green")
     return core.REFUTED if found else core.DONE
 
 

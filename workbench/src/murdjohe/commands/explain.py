@@ -67,7 +67,7 @@ def explain(context: click.Context, words: tuple[str, ...]) -> int:
     text = files.octets(inputs.STDIN)
     status = status_of(name, text)
     if name not in FORMS:
-        said = [f'"{name}" is no form of the program{documents.hint(name, FORMS)}']
+        said = [f'"{name}" is an unknown command{documents.hint(name, FORMS)}']
     else:
         form = FORMS[name]
         taken = inputs.taken(form, given)

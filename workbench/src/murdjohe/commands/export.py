@@ -5,8 +5,11 @@ from __future__ import annotations
 import os
 
 import click
+from click.core import ParameterSource
 
 from murdjohe import core, export, files, plan_file, streams
+from murdjohe.commands import common
+from murdjohe.inputs import STDIN
 from murdjohe.tables import TABLES
 
 
@@ -14,7 +17,9 @@ from murdjohe.tables import TABLES
 @click.argument("plan", type=click.Path())
 @click.option("-o", "--output", type=click.Path(), default=".", show_default=True, help="the folder of the tables")
 @click.option(
-    "--only", type=click.Choice([f"{kind}s" for kind in TABLES]), help="writes this table to standard output instead"
+    "--only",
+    type=click.Choice([f"{kind}s" for kind in TABLES]),
+    help="writes this table to standard output, or to the file of -o",
 )
 @click.option("--force", is_flag=True, help="writes over files that are there already")
 @click.pass_context
@@ -30,10 +35,13 @@ def export_tables(context: click.Context, plan: str, output: str, only: str | No
     """
     taken = plan_file.read(plan)
     if only:
-        context.obj.put(export.table_of(taken.tables, only.removesuffix("s")))
+        is_asked = context.get_parameter_source("output") == ParameterSource.COMMANDLINE
+        path = output if is_asked and output != STDIN and not os.path.isdir(output) else None
+        files.free([path] if path else [], force, [plan])
+        common.put(context, path, export.table_of(taken.tables, only.removesuffix("s")))
         return core.DONE
     contents = {os.path.join(output, f"{kind}s.csv"): export.table_of(taken.tables, kind) for kind in TABLES}
-    files.free(list(contents), force)
+    files.free(list(contents), force, [plan])
     files.all_written(contents)
     if taken.plan.option == "II" and not context.find_root().params["quiet"]:
         streams.tell("the plan is of option II, which no table says: import them with --option II", colour="yellow")

@@ -6,8 +6,9 @@ from typing import Any
 
 import click
 
-from murdjohe import core, failures, files, plain_json, plan_file, streams
+from murdjohe import core, failures, plain_json, plan_file, streams
 from murdjohe.commands import asked_failures
+from murdjohe.commands.common import free, output_options, put
 from murdjohe.failures import Case
 from murdjohe.remarks import plural
 from murdjohe.sentences.records import MOST_ROWS
@@ -16,9 +17,9 @@ from murdjohe.wrong import Wrong
 
 def small_enough(rows: int, data: bytes, cases: list[Case]) -> None:
     """Raises Wrong where a table is larger than the program takes one."""
-    limit = f"a table of cases has at most {MOST_ROWS:,} rows and {core.LONGEST_FILE:,} octets"
+    limit = f"a table of cases has at most {MOST_ROWS:,} rows and {core.LONGEST_FILE:,} bytes"
     if rows > MOST_ROWS or len(data) > core.LONGEST_FILE:
-        told = f"{plural(len(cases), 'case')} have {rows:,} rows and {len(data):,} octets"
+        told = f"{plural(len(cases), 'case')} have {rows:,} rows and {len(data):,} bytes"
         raise Wrong(f"{told}, and {limit}: write some after others, as by --cases 1-5000")
 
 
@@ -26,8 +27,7 @@ def small_enough(rows: int, data: bytes, cases: list[Case]) -> None:
 @click.argument("plan", type=click.Path())
 @asked_failures.options
 @click.option("--json", "as_json", is_flag=True, help="JSON: the cases with what fails in each")
-@click.option("-o", "--output", type=click.Path(), help="writes to this file in place of standard output")
-@click.option("--force", is_flag=True, help="writes over a file that is there already")
+@output_options
 @click.pass_context
 def write_failures(
     context: click.Context, plan: str, span: str | None, as_json: bool, output: str | None, force: bool, **asked: Any
@@ -37,7 +37,7 @@ def write_failures(
     The columns are case, at, what, target and value; rows without a case are common to all. Links come first, then bundles,
     sources, elements, groups and pairs, each in the order of the plan. A case is named as what fails, pairs with `--` between
     their names; where that is no name or stood before, by its kind and number. A pair of whom one takes down all that the other
-    does is left out, and so is an element without links and sources. The events of --during are put before the program.
+    does is left out, and so is an element without links and sources. The events of --during are verified by the program.
 
     \b
       $ murdjohe gen 5 > plan.toml
@@ -45,11 +45,11 @@ def write_failures(
       $ murdjohe study plan.toml cases.csv 20m
     """
     first, last = asked_failures.span_of(span)
-    asked_failures.within_a_day(asked["at"], "--at")
-    files.free([output] if output else [], force)
+    asked_failures.with_start(asked)
+    free(output, force, plan, asked["groups"], asked["during"])
     taken = plan_file.read(plan)
     found = asked_failures.asked_of(taken, asked)
-    common, at = asked_failures.common_of(taken, asked["during"]), asked["at"]
+    common, at = asked_failures.common_of(taken, asked), asked["at"]
     every = failures.cases_of(found, asked["pairs"], failures.in_order(taken.tables))
     cases = list(failures.chosen(every, first, last))
     data = failures.table_of(common, cases, at)
@@ -57,12 +57,10 @@ def write_failures(
     small_enough(rows, data, cases)
     if as_json or context.find_root().params["json"]:
         data = plain_json.text(failures.as_data(common, cases, at))
-    if output:
-        files.written(output, data)
-    else:
-        context.obj.put(data)
+    put(context, output, data)
     if not context.find_root().params["quiet"]:
-        streams.tell(f"{plural(len(cases), 'case')}, {plural(rows, 'row')}", colour="green")
+        said = asked_failures.remarks(found, common, asked)
+        streams.tell(f"{plural(len(cases), 'case')}, {plural(rows, 'row')}", *said, colour="green")
     return core.DONE
 
 

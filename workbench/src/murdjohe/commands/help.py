@@ -32,7 +32,7 @@ def help_command(context: click.Context, topic: str | None) -> int:
         text = found.get_help(click.Context(found, root, info_name=topic)) if found else ""
     else:
         hint = documents.hint(topic, [*topics.TOPICS, *FORMS, *cli.OWN])
-        streams.tell(f'"{topic}" is no command and no topic{hint}; the topics are {", ".join(topics.TOPICS)}')
+        streams.tell(f'unknown command or topic "{topic}"{hint}; the topics are {", ".join(topics.TOPICS)}')
         return core.USAGE
     context.obj.put((text.rstrip("\n") + "\n").encode())
     return core.DONE

@@ -8,7 +8,11 @@ import io
 import click
 
 from murdjohe import core, files, plan_file, streams, tables, topics
+from murdjohe.commands.common import output_options
+from murdjohe.inputs import STDIN
+from murdjohe.plan_file import PlanFile
 from murdjohe.tables import Made, Settings
+from murdjohe.wrong import Wrong
 
 
 def renamed_table(made: Made) -> bytes:
@@ -21,7 +25,7 @@ def renamed_table(made: Made) -> bytes:
 
 def notes(made: Made, sources: str | None, rename: str | None) -> list[str]:
     """What is to be known beside the plan."""
-    said = [f"{ignored}: no columns of a plan, and passed over" for ignored in made.ignored]
+    said = [f"{ignored}: no columns of a plan, and ignored" for ignored in made.ignored]
     if rename:
         number = len(made.renamed)
         said.append(f"{number:,} name{'' if number == 1 else 's'} changed, as {rename} lists them")
@@ -30,18 +34,26 @@ def notes(made: Made, sources: str | None, rename: str | None) -> list[str]:
     return said
 
 
+def on_priorities(taken: PlanFile) -> list[str]:
+    """What the program says of the priorities of the plan, where a loop is possible or elements may oscillate."""
+    judgement = plan_file.judged(taken)
+    if judgement.verdict != plan_file.ACCEPTED:
+        ring = judgement.verdict.split()[1:]
+        return [f"timing may go round over {' -> '.join([*ring, ring[0]])}: `murdjohe repair` finds what to take away"]
+    return judgement.lines
+
+
 @click.command("import", epilog="\b\n" + topics.TABLES.replace("\n\n", "\n\n\b\n"))
 @click.option("--option", type=click.Choice(["I", "II"]), default="I", help="the network option; I where none is given")
 @click.option(
     "--map", "pairs", multiple=True, metavar="COLUMN=HEADER", help="a column has this header; may be given again"
 )
-@click.option("--ignore-extra", is_flag=True, help="passes over columns that a plan doesn't have")
+@click.option("--ignore-extra", is_flag=True, help="ignores columns that a plan doesn't have")
 @click.option(
     "--rename", type=click.Path(), help="changes names that a plan can't have, and writes the old and new ones"
 )
 @click.option("--netbox", is_flag=True, help="the tables are NetBox's exports of devices and cables")
-@click.option("-o", "--output", type=click.Path(), help="writes the plan to this file in place of standard output")
-@click.option("--force", is_flag=True, help="writes over files that are there already")
+@output_options
 @click.argument("elements", type=click.Path())
 @click.argument("links", type=click.Path())
 @click.argument("sources", required=False, type=click.Path())
@@ -62,19 +74,23 @@ def import_tables(
     """Makes a plan of tables of elements, links and sources, as inventories give them.
 
     Without priorities it is a plan for `murdjohe nominate`. All mistakes of the tables are told at once, each with its file,
-    line, column and value, and the status is 2: nothing is written then. The plan is put before the program, which takes it.
+    line, column and value, and nothing is written then. The plan is verified by the program: beside it stands whether a loop is
+    possible in it, and whether elements may oscillate after a failure.
     """
     paths = {"element": elements, "link": links} | ({"source": sources} if sources else {})
     headers = tables.mapping_of(list(pairs))
     made = tables.made_of(paths, Settings(option, headers, ignore_extra, rename is not None, netbox))
     data = made.plan.encode()
-    plan_file.taken("the plan of these tables", data)
-    contents = ({output: data} if output else {}) | ({rename: renamed_table(made)} if rename else {})
-    files.free(list(contents), force)
+    taken = plan_file.taken(output or "the plan of these tables", data)
+    is_filed = output is not None and output != STDIN
+    contents = ({output: data} if output and is_filed else {}) | ({rename: renamed_table(made)} if rename else {})
+    files.free(list(contents), force, paths.values())
+    if rename and rename == output:
+        raise Wrong(f"-o and --rename are one file, {rename}: name two")
     files.all_written(contents)
-    if not output:
+    if not is_filed:
         context.obj.put(data)
-    if not context.find_root().params["quiet"] and (said := notes(made, sources, rename)):
+    if not context.find_root().params["quiet"] and (said := notes(made, sources, rename) + on_priorities(taken)):
         streams.tell(*said, colour="yellow")
     return core.DONE
 

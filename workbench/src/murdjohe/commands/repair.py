@@ -2,11 +2,15 @@
 
 from __future__ import annotations
 
+from dataclasses import dataclass
+from typing import Any
+
 import click
 
-from murdjohe import core, files, plain_json, plan_file, progress, protecting, repairs, streams
+from murdjohe import core, documents, files, nominated, plain_json, plan_file, progress, protecting, repairs, streams
+from murdjohe.commands.common import free
 from murdjohe.inputs import STDIN
-from murdjohe.plan_file import PlanFile
+from murdjohe.plan_file import Judgement, PlanFile
 from murdjohe.remarks import plural
 from murdjohe.repairs import Found, Repair
 from murdjohe.wrong import Wrong
@@ -15,11 +19,11 @@ TEXT, PATCH, JSON = "text", "patch", "json"  # what standard output has
 
 
 def on_knots(repair: Repair) -> list[str]:
-    """How many knots there are, with their lines and rings."""
+    """How many groups of interlocked inputs there are, with how many loops are possible in each."""
     said = []
     for lines, rings, are_all in repair.knots:
-        number = plural(rings, "ring") if are_all else f"more than {rings:,} rings"
-        said.append(f"a knot of {lines:,} lines with {number}")
+        number = plural(rings, "possible loop") if are_all else f"more than {rings:,} possible loops"
+        said.append(f"a group of {lines:,} interlocked inputs, {number}")
     return said
 
 
@@ -34,18 +38,44 @@ def on_cost(found: Found) -> str:
     return ", ".join(parts)
 
 
-def report(taken: PlanFile, repair: Repair, verdict: str) -> list[str]:
-    """The knots, the edits of the best set and what the program says of it, and the next best sets."""
-    if not repair.sets:
-        return [f"no ring is left; checked: {verdict}"]
-    best, *others = repair.sets
-    kind = "least" if repair.is_least else "found, perhaps not least"
-    said = on_knots(repair)
-    said.append(f"take away {plural(len(best.lines), 'nomination')} ({kind}): {on_cost(best)}")
-    said += [edit.told(taken.name) for edit in repairs.edits_of(taken.plan, best)]
-    said.append(f"checked: {verdict}")
-    said += [f"or {' '.join(line.name for line in found.lines)}: {on_cost(found)}" for found in others]
+def on_set(found: Found, kind: str) -> list[str]:
+    """What a set takes away, and what it costs."""
+    said = [f"take away {plural(len(found.lines), 'nomination')} ({kind}): {on_cost(found)}"] if found.lines else []
+    if found.raised:
+        number = plural(len(found.raised), "input")
+        said.append(f"give {number} a greater number, so that no elements oscillate after a failure")
     return said
+
+
+def on_others(repair: Repair, chosen: Found) -> list[str]:
+    """The other sets: what they cost, and in what they differ."""
+    said = []
+    for number, found in enumerate(repair.sets, start=1):
+        if found is not chosen:
+            agrees = "" if found.agrees else "; elements may oscillate after it"
+            said.append(f"--set {number}: {on_cost(found)}{agrees}; {repairs.difference(chosen, found)}")
+    return said
+
+
+def report(taken: PlanFile, repair: Repair, number: int, judgement: Judgement) -> list[str]:
+    """The groups, the edits of the chosen set and what the program says of it, and what the others differ in."""
+    checked = [f"checked: {judgement.text}", *judgement.lines]
+    if not repair.sets:
+        return [f"no loop is possible; {checked[0]}", *checked[1:]]
+    chosen = repair.set_of(number)
+    kind = "least" if repair.is_least and number == 1 else "found, perhaps not least"
+    said = (on_knots(repair) or ["no loop is possible"]) + on_set(chosen, kind)
+    said += [edit.told(taken.name) for edit in repairs.edits_of(taken.plan, chosen)]
+    return said + checked + on_others(repair, chosen)
+
+
+def staying_of(taken: PlanFile, keep: tuple[str, ...]) -> tuple[str, ...]:
+    """The lines that stay nominated. Raises Wrong where one is no nominated line."""
+    names = [line.name for line in nominated.lines_of(taken.tables)]
+    for name in keep:
+        if name not in names:
+            raise Wrong(f'--keep: the plan has no nominated line "{name}"{documents.hint(name, names)}')
+    return keep
 
 
 def form_of(plan: str, patch: bool, as_json: bool) -> str:
@@ -57,24 +87,83 @@ def form_of(plan: str, patch: bool, as_json: bool) -> str:
     return PATCH if patch else JSON if as_json else TEXT
 
 
+def sought(taken: PlanFile, keep: tuple[str, ...]) -> Repair:
+    """The sets for a plan. Raises Wrong."""
+    staying = staying_of(taken, keep)
+    with progress.watched("repair"):
+        kept = protecting.lines_kept(taken.data) if taken.ranking.ring else ()
+        repair = repairs.repair_of(taken.tables, kept=kept, staying=staying)
+        return repairs.agreeing_sets(taken.plan, taken.data, repair)
+
+
+@dataclass(frozen=True)
+class Made:
+    """A plan that was taken, its repair with the number of the chosen set, the repaired plan, and what the program says of it."""
+
+    taken: PlanFile
+    repair: Repair
+    number: int
+    data: bytes
+    judgement: Judgement
+
+
+def made_of(taken: PlanFile, repair: Repair, number: int) -> Made:
+    """The repaired plan by the chosen set, or the plan as it is where there is none. Raises Wrong."""
+    if not repair.sets:
+        return Made(taken, repair, number, taken.data, plan_file.judged(taken, has_gaps=True))
+    data = repairs.mended(taken.plan, repair.set_of(number))
+    return Made(
+        taken, repair, number, data, plan_file.judged(plan_file.taken("the repaired plan", data), has_gaps=True)
+    )
+
+
+def printed(context: click.Context, made: Made, form: str, is_plan: bool) -> None:
+    """Prints the plan, or the repair in one of its forms; what isn't on standard output is said beside it."""
+    said = report(made.taken, made.repair, made.number, made.judgement)
+    if is_plan:
+        context.obj.put(made.data)
+    elif form == JSON:
+        context.obj.put(plain_json.text(repairs.as_data(made.taken.plan, made.repair, made.number, made.judgement)))
+    elif form == PATCH and made.repair.sets:
+        context.obj.put(repairs.patch(made.taken.name, made.taken.data, made.data))
+    elif made.repair.sets:
+        context.obj.put("".join(f"{line}\n" for line in said).encode("utf-8", "surrogateescape"))
+    is_beside = is_plan or form == PATCH or (form == TEXT and not made.repair.sets)
+    if is_beside and not context.find_root().params["quiet"]:
+        streams.tell(*said, colour="green" if made.judgement.is_good else "yellow")
+
+
 @click.command("repair")
 @click.argument("plan", type=click.Path())
 @click.option(
     "--patch", is_flag=True, help="prints the first set as a patch, which `git apply` takes; the rest is said beside it"
 )
-@click.option("--json", "as_json", is_flag=True, help="JSON: knots, sets with their edits, and what the program says")
+@click.option(
+    "--json",
+    "as_json",
+    is_flag=True,
+    help="JSON: groups of interlocked inputs, sets with their edits, and what the program says",
+)
+@click.option("--keep", multiple=True, metavar="LINE", help="this line keeps its priority; may be given again")
+@click.option(
+    "--set", "number", type=click.IntRange(1), default=1, show_default=True, help="the set that is taken away"
+)
 @click.option("-o", "--output", type=click.Path(), help="writes the repaired plan to this file")
-@click.option("--force", is_flag=True, help="writes over a file that is there already, PLAN too")
+@click.option("--force", is_flag=True, help="writes over a file that is there already")
 @click.pass_context
-def repair_plan(context: click.Context, plan: str, patch: bool, as_json: bool, output: str | None, force: bool) -> int:
-    """Finds the cheapest nominations to take away where `rank` says `cycle`.
+def repair_plan(context: click.Context, plan: str, patch: bool, as_json: bool, **asked: Any) -> int:
+    """Finds the cheapest nominations to take away where `rank` says `cycle`, and what ends oscillation where `agree` says `clash`.
 
-    All knots of lines are looked at, and how many rings they have. A set costs first the elements that lose their last input,
-    then the gaps that arise: single failures that cut off more than before. Then come the first choices that it takes, and how
-    high its priorities are. The search begins with the lines that `protect` would keep, betters that set part by part, and
-    then seeks what is cheaper. It is told as least where nothing is: up to 400 lines in a knot, and within 25 seconds of
-    processor time; else as found, perhaps not least. Up to three sets are told. The plan without the first is put before the
-    program, which says too whether it is protected. The status is 0 where the program accepts it, and where no ring was there.
+    All groups of interlocked inputs are looked at, and how many loops are possible in each. A set costs first the elements that
+    lose their last input, then the gaps that arise: single failures that cut off more than before. Then come the first choices
+    that it takes, and how high its priorities are. The search begins with the lines that `protect` would keep, betters that set
+    part by part, and then seeks what is cheaper. It is told as least where nothing is: up to 400 inputs in a group, and within
+    25 seconds of processor time; else as found, perhaps not least. Up to three sets are told, with what they differ in; --set
+    takes another one than the first, and a LINE of --keep is in none.
+
+    Where elements may oscillate after a failure without a set, some of its inputs get a greater number besides, as the last
+    resort of their elements; sets after which nobody oscillates come first. The plan without the set is verified by the
+    program, which says too whether it is protected. The status is 0 where no loop is possible in it and no elements oscillate.
 
     \b
       $ printf '[[element]]\\nname = "A"\\n[[element]]\\nname = "B"\\n[[element]]\\nname = "C"\\n' > plan.toml
@@ -83,28 +172,14 @@ def repair_plan(context: click.Context, plan: str, patch: bool, as_json: bool, o
       $ printf '[[link]]\\nname = "L3"\\na = "C"\\nb = "A"\\npriority_b = 2\\n' >> plan.toml
       $ murdjohe repair plan.toml
     """
-    root = context.find_root().params
-    form = form_of(plan, patch, as_json or root["json"])
-    files.free([output] if output else [], force)
+    form, output = form_of(plan, patch, as_json or context.find_root().params["json"]), asked["output"]
+    free(output, asked["force"], plan)
     taken = plan_file.read(plan)
-    with progress.watched("repair"):
-        kept = protecting.lines_kept(taken.data) if taken.ranking.ring else ()
-        repair = repairs.repair_of(taken.tables, kept=kept)
-    data = repairs.mended(taken.plan, repair.sets[0]) if repair.sets else taken.data
-    result = plan_file.taken("the repaired plan", data) if repair.sets else taken
-    verdict, gaps = result.verdict(), result.gaps()
-    said = report(taken, repair, plan_file.judged(verdict, gaps))
-    if output and repair.sets:
-        files.written(output, data)
-    if form == JSON:
-        context.obj.put(plain_json.text(repairs.as_data(taken.plan, repair, verdict, gaps)))
-    elif form == PATCH and repair.sets:
-        context.obj.put(repairs.patch(plan, taken.data, data))
-    elif repair.sets:
-        context.obj.put("".join(f"{line}\n" for line in said).encode("utf-8", "surrogateescape"))
-    if not root["quiet"] and (form == PATCH or (form == TEXT and not repair.sets)):
-        streams.tell(*said, colour="green")
-    return core.DONE if verdict == plan_file.ACCEPTED else core.REFUTED
+    made = made_of(taken, sought(taken, asked["keep"]), asked["number"])
+    if output and output != STDIN and made.repair.sets:
+        files.written(output, made.data)
+    printed(context, made, form, output == STDIN)
+    return core.DONE if made.judgement.is_good else core.REFUTED
 
 
 COMMAND = repair_plan

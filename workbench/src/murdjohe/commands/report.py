@@ -6,8 +6,8 @@ import os
 
 import click
 
-from murdjohe import core, files, forms, page_data, pages, places, plan_file, progress, rehearsals, runs
-from murdjohe.commands.common import Milliseconds
+from murdjohe import core, forms, page_data, pages, places, plan_file, progress, rehearsals, runs, streams
+from murdjohe.commands.common import START, Milliseconds, free, from_start, put
 from murdjohe.inputs import STDIN
 from murdjohe.wrong import Wrong
 
@@ -16,7 +16,7 @@ from murdjohe.wrong import Wrong
 @click.argument("plan", type=click.Path())
 @click.argument("events", type=click.Path())
 @click.option("--until", type=Milliseconds(), help="the end of the run; 20 minutes after the last event without it")
-@click.option("--start", type=Milliseconds(), default=0, help="the time of day at which the run begins, as 02:00:00")
+@START
 @click.option("--cuts", is_flag=True, help="also each link's failure alone, as a table and a map of cases and elements")
 @click.option("--layout", type=click.Choice([places.MAP, places.LAYERED]), help="a map, or layers; by the plan without")
 @click.option(
@@ -24,11 +24,13 @@ from murdjohe.wrong import Wrong
 )
 @click.option("--force", is_flag=True, help="writes over a file that is there already")
 @click.option("-o", "--output", type=click.Path(), required=True, help="the page, a file that ends in .html")
+@click.pass_context
 def report(
+    context: click.Context,
     plan: str,
     events: str,
     until: int | None,
-    start: int,
+    start: int | None,
     cuts: bool,
     layout: str | None,
     table: str | None,
@@ -37,8 +39,8 @@ def report(
 ) -> int:
     """Writes a page that shows a run: one file that opens from disk in any browser and asks for nothing from outside.
 
-    The network at any moment, by a slider and by the arrow keys from change to change; what each element shows and whence it has
-    its timing, by a click; the list of events and changes; what each element lost; what the program says, with what it promises,
+    The network at any moment, by a slider and by the arrow keys from change to change; what each element shows and where it gets
+    its timing from, by a click; the list of events and changes; what each element lost; what the program says, with what it promises,
     and checksums. It prints on A4. The status is 0, 11 where the program stopped the run, or that of what was refused.
 
     \b
@@ -46,31 +48,40 @@ def report(
       $ printf 'at,what,target,value\\n60000,down,S1,\\n' > events.csv
       $ murdjohe report plan.toml events.csv -o page.html
     """
-    if not output.endswith(".html"):
+    until = from_start(until, start, "--until")
+    if output != STDIN and not output.endswith(".html"):
         raise Wrong(f"{output}: a page ends in .html")
     if plan == STDIN and events == STDIN:
         raise Wrong("standard input is one file: the plan or the events")
     if until is not None and until > forms.DAY_MS:
         raise Wrong("--until: at most a day, 24h")
-    files.free([output], force)
+    free(output, force, plan, events, table)
     with progress.watched("report"):
-        data, status = made(plan, events, until, start, cuts, layout, table)
-    files.written(output, data)
+        data, status, said = made(plan, events, until, start, cuts, layout, table)
+    put(context, output, data)
+    if not context.find_root().params["quiet"]:
+        streams.tell(*said, colour="yellow")
     return status
 
 
 def made(
-    plan: str, events: str, until: int | None, start: int, cuts: bool, layout: str | None, table: str | None
-) -> tuple[bytes, int]:
-    """The page, and the status. Raises Wrong."""
-    taken, file = plan_file.read(plan), runs.read_events(events)
+    plan: str, events: str, until: int | None, start: int | None, cuts: bool, layout: str | None, table: str | None
+) -> tuple[bytes, int, list[str]]:
+    """The page, the status, and what is said beside it. Raises Wrong."""
+    taken, file = plan_file.read(plan), runs.read_events(events, start)
     runs.report_of(taken, file, 0)  # (events that can't be read are told before their end is looked for)
     found = rehearsals.rehearsed(taken, file, runs.usual_end(file) if until is None else until)
     title = f"{os.path.basename(taken.name)}, {os.path.basename(file.name)}"
     spots = places.layout_of(taken.tables, layout, table)
-    data = page_data.data_of(taken, found, spots, start, title, cuts)
+    data = page_data.data_of(taken, found, spots, start or 0, title, cuts)
     status = core.DONE if found.report.stopped_at is None else core.STOPPED
-    return pages.page(title, data, pages.facts(taken, file, found)), status
+    said = [rehearsals.dark_text(found, start or 0)] if found.dark else []
+    said += [found.oscillation] if found.oscillation else []
+    return (
+        pages.page(title, data, pages.facts(taken, file, found, cuts)),
+        status,
+        said + runs.likely_seconds(file, until),
+    )
 
 
 COMMAND = report

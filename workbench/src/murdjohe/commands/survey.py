@@ -10,17 +10,32 @@ from typing import Any
 import click
 from click.core import ParameterSource
 
-from murdjohe import case_files, case_lists, case_refusals, core, files, forms, inputs, plain_json, plan_file
-from murdjohe import portions, progress, runs, streams, study_runs, survey_report, surveying
+from murdjohe import (
+    case_files,
+    case_lists,
+    case_refusals,
+    core,
+    failures,
+    forms,
+    inputs,
+    moments,
+    plain_json,
+    plan_file,
+)
+from murdjohe import portions, progress, runs, streams, study_runs, survey_report, surveying, times, wiring
 from murdjohe.case_lists import CaseList
 from murdjohe.commands import asked_failures, asked_map
-from murdjohe.commands.common import Milliseconds
+from murdjohe.commands.common import Milliseconds, free
 from murdjohe.failures import KINDS
 from murdjohe.files import Growing
 from murdjohe.finished import Finished
+from murdjohe.moments import Event
+from murdjohe.needless import Losses
 from murdjohe.plan_file import PlanFile
 from murdjohe.remarks import plural
+from murdjohe.runs import EventFile
 from murdjohe.sentences.records import MOST_ROWS
+from murdjohe.survey_report import FAILING
 from murdjohe.surveying import Crew, Here, Survey
 from murdjohe.tallies import Tally
 from murdjohe.wrong import Wrong
@@ -36,10 +51,12 @@ def cases_of(context: click.Context, taken: PlanFile, table: str | None, asked: 
         given = [name for name in OF_FAILURES if context.get_parameter_source(name) == ParameterSource.COMMANDLINE]
         if given:
             raise Wrong(f"--{given[0]} makes cases, and {table} has them: leave out one or the other")
-        return case_files.CaseFile(table).listed(span)
-    asked_failures.within_a_day(asked["at"], "--at")
+        asked["remarks"], asked["common"] = [], ()
+        return case_files.CaseFile(table, asked["start"]).listed(span)
     found = asked_failures.asked_of(taken, asked)
-    common = asked_failures.common_of(taken, asked["during"])
+    common = asked_failures.common_of(taken, asked)
+    asked["remarks"] = asked_failures.remarks(found, common, asked)
+    asked["common"] = common
     return case_lists.of_failures(taken.tables, found, asked["pairs"], asked["at"], common, span)
 
 
@@ -54,7 +71,9 @@ def crew_of(scheduler: str | None, jobs: int | None, plan: bytes, until: int) ->
     return Cluster(scheduler, plan, until)
 
 
-def gone_through(cases: CaseList, survey: Survey, size: int, most: int, file: Growing | None) -> Tally:
+def gone_through(
+    cases: CaseList, survey: Survey, size: int, most: int, file: Growing | Standard | None, losses: Losses
+) -> Tally:
     """Has all cases worked: their rows are counted, and written where there is a file for them. Raises Wrong."""
     tally = Tally(most)
     if file:
@@ -63,6 +82,8 @@ def gone_through(cases: CaseList, survey: Survey, size: int, most: int, file: Gr
         for rows in found:
             if file:
                 file.write(rows.data, rows.packed)
+            if survey.part is not None:
+                losses.add(survey.part, rows, tally.cases)
             tally.add_all(rows.names, rows.tails)
     return tally
 
@@ -72,16 +93,32 @@ def kept(survey: Survey, cases: CaseList, parts: str) -> Iterator[None]:
     """Where what stands inside is ended before it is done, it is told where the survey goes on."""
     try:
         yield
-    except (KeyboardInterrupt, core.Absent, core.Ended):
+    except (KeyboardInterrupt, core.Absent, core.Ended, core.NoAnswer):
         done, of = survey.worked + survey.found, plural(cases.total, "case")
         streams.tell(f"{done:,} of {of} are worked, and kept in {parts}: the same command goes on there")
         raise
 
 
+def works_alone(taken: PlanFile, common: tuple[Event, ...], until: int) -> list[str] | None:
+    """Who has no source at the end where only the events common to all cases happen; None where there are none, or the program
+    stopped."""
+    if not common:
+        return None
+    rows = failures.lines_of((event.at, event.what, event.target, event.value) for event in common)
+    report = runs.report_of(taken, EventFile("the common events", runs.NO_EVENTS + rows.encode()), until)
+    if report.stopped_at is not None:
+        return None
+    return [trace.element for trace in report.traces if trace.kind != moments.SOURCE]
+
+
 def worked(
-    taken: PlanFile, cases: CaseList, until: int, settings: dict[str, Any], file: Growing | None
+    taken: PlanFile, cases: CaseList, until: int, settings: dict[str, Any], file: Growing | Standard | None
 ) -> tuple[Tally, Survey]:
     """The summary of the cases, and what was worked for it."""
+    alone = works_alone(taken, settings["common"], until)
+    wired = wiring.wiring_of(taken.tables)
+    losses = Losses(wired, until, settings["worst"], None if alone is None else len(alone))
+    settings["alone"], settings["losses"] = alone, losses
     crew = crew_of(settings["scheduler"], settings["jobs"], taken.data, until)
     finished = Finished(settings["parts"], taken.data, until, study_runs.core_sum())
     refused = partial(case_refusals.refused, cases, taken.plan)
@@ -89,12 +126,21 @@ def worked(
         survey = Survey(crew, finished, refused, tell)
         with kept(survey, cases, settings["parts"]):
             size = settings["size"] or portions.usual(cases.total)
-            tally = gone_through(cases, survey, size, settings["worst"], file)
+            tally = gone_through(cases, survey, size, settings["worst"], file, losses)
     return tally, survey
 
 
-def growing(stack: ExitStack, path: str | None) -> Growing | None:
+class Standard:
+    """Standard output as a file that rows are written to."""
+
+    def write(self, data: bytes, packed: bytes | None = None) -> None:
+        click.get_current_context().obj.put(data)
+
+
+def growing(stack: ExitStack, path: str | None) -> Growing | Standard | None:
     """A file that is there once what stands inside is done, where one is named. Raises Wrong."""
+    if path == inputs.STDIN:
+        return Standard()
     return stack.enter_context(Growing(path)) if path else None
 
 
@@ -111,14 +157,20 @@ def written(
     return tally, survey
 
 
-def told(context: click.Context, tally: Tally, done: Survey, until: int, asked: dict[str, Any], as_json: bool) -> None:
-    """Prints the summary, and says how much was worked for it."""
+def told(context: click.Context, tally: Tally, done: Survey, until: int, asked: dict[str, Any]) -> None:
+    """Prints the summary, beside the rows where these are on standard output, and says how much was worked for it."""
     root = context.find_root().params
-    if as_json or root["json"]:
-        context.obj.put(plain_json.text(survey_report.as_data(tally, until)))
+    ends = survey_report.Ends(until, asked["start"], asked["alone"], asked["losses"])
+    if asked["is_filled"]:
+        streams.tell(*survey_report.text_of(tally, asked["worst"], ends), colour="green")
+    elif asked["as_json"] or root["json"]:
+        context.obj.put(plain_json.text(survey_report.as_data(tally, ends)))
     else:
-        context.obj.put("".join(f"{line}\n" for line in survey_report.text_of(tally, asked["worst"])).encode())
+        context.obj.put("".join(f"{line}\n" for line in survey_report.text_of(tally, asked["worst"], ends)).encode())
     if not root["quiet"]:
+        streams.tell(
+            *asked["remarks"], *asked["clash"], *times.likely_seconds(asked["last"], "the last event"), colour="yellow"
+        )
         before = f"{done.found:,} were worked before; parts are in {asked['parts']}"
         streams.tell(f"{plural(done.worked, 'case')} worked up to {until}, {before}", colour="green")
 
@@ -141,6 +193,12 @@ def told(context: click.Context, tally: Tally, done: Survey, until: int, asked: 
 @click.option(
     "--parts", type=click.Path(), default=PARTS, show_default=True, help="a folder in which finished parts are kept"
 )
+@click.option(
+    "--fail-on",
+    type=click.Choice(FAILING),
+    help="has the status 21 where a case leaves anybody without a source at its end (lost), or whom a link could still serve "
+    "(needless), is unsettled there, or has loops",
+)
 @click.option("--json", "as_json", is_flag=True, help="JSON: the summary")
 @click.option("--map", type=click.Path(), help="draws who has no source in the worst cases: .svg, .png or .pdf")
 @click.option("-o", "--output", type=click.Path(), help="all rows go to this file, packed where it ends in .gz")
@@ -151,19 +209,22 @@ def survey(
     plan: str,
     table: str | None,
     until: int | None,
-    as_json: bool,
     output: str | None,
     force: bool,
     **asked: Any,
 ) -> int:
-    """Says what becomes of a network in each of many cases, and prints the worst.
+    """Says what a network has come to at the end of each of many cases, and prints the worst.
+
+    Only the end is looked at, the millisecond of --until: what is lost before and has come back by then isn't counted. Elements
+    that are taken away themselves, or that no link could still serve, are counted apart from those that needn't have lost their
+    source. With --during it is said what the common events do alone, and which of them mend what a case took down.
 
     The cases are those that `failures` would write by the same options, or those of the table CASES, of any length. The program
     works them by `study`, --size of them at once, on all processors or on a cluster. A survey that was stopped goes on where it
     was by the same command: finished parts stand in --parts, and none is worked twice; that folder may go once it is done.
 
-    --map draws the worst cases, each of which is run once more by `sim`: a line for each, a column for each element that is
-    without a source at the end of one of them, and in each field what the element follows.
+    --map draws the worst cases, each of which is run once more by `sim`: a column for each element that has no source at the end
+    of one of them, and in each field what the element follows.
 
     \b
       $ murdjohe gen 5 > plan.toml
@@ -171,15 +232,17 @@ def survey(
     """
     if plan == inputs.STDIN and table == inputs.STDIN:
         raise Wrong("standard input is one file: the plan or the cases")
-    asked_failures.within_a_day(until, "--until")
+    until = asked_failures.with_start(asked, until)
     asked_map.can_be_drawn(asked["map"], output, asked["worst"])
-    files.free([path for path in (output, asked["map"]) if path], force)
+    free(output, force, plan, table, asked["groups"], asked["during"], more=[asked["map"]])
     taken = plan_file.read(plan)
     cases = cases_of(context, taken, table, asked)
     end = min(cases.last + runs.AFTER, forms.DAY_MS) if until is None else until
+    asked["last"] = cases.last if until is None else until
     tally, done = written(taken, cases, end, asked, output)
-    told(context, tally, done, end, asked, as_json)
-    return core.DONE
+    clash = plan_file.judged(taken).lines if tally.unsettled else []
+    told(context, tally, done, end, asked | {"clash": clash, "is_filled": output == inputs.STDIN})
+    return core.FOUND if survey_report.has(tally, asked["losses"], asked["fail_on"]) else core.DONE
 
 
 COMMAND = survey

@@ -2,10 +2,13 @@
 
 from __future__ import annotations
 
+from typing import Any
+
 import click
 
-from murdjohe import bands, core, drawing, figures, files, progress, runs, spans, strips, views, wiring
-from murdjohe.commands.common import Milliseconds
+from murdjohe import bands, core, drawing, figures, progress, runs, spans, strips, times, views, wiring
+from murdjohe.commands.common import START, Milliseconds, free, from_start, put
+from murdjohe.inputs import STDIN
 from murdjohe.reports import Loop, Report
 from murdjohe.strips import Red, Timeline
 from murdjohe.wrong import Wrong
@@ -66,28 +69,48 @@ def within(red: list[Red], start: int, end: int) -> list[Red]:
     ]
 
 
+def timeline_of(report: str, asked: dict[str, Any]) -> Timeline:
+    """What is drawn. Raises Wrong."""
+    start, plan, events, fold = asked["start"], asked["plan"], asked["events"], asked["fold"]
+    first, until = from_start(asked["first"], start, "--from"), from_start(asked["until"], start, "--until")
+    rows, order = bands.changes_of(report)
+    last = rows[-1].at
+    if first is not None:
+        rows = bands.rows_from(rows, first)
+    end = last + fold if until is None else until
+    if end < last:
+        raise Wrong(f"--until: the last change is at {last}")
+    red = within(red_of(report, plan, end), rows[0].at, end)
+    its = runs.read_events(events, start).events if events else ()
+    marks = tuple(one for one in its if rows[0].at <= one.at <= end)
+    up_to = bands.minutes(end) if start is None else times.clock(end, start)
+    title = f"{plan or report}" + (f", {events}" if events else "") + f", up to {up_to}"
+    return Timeline(title, rows, order, marks, red, end, fold, start)
+
+
 @click.command("timeline")
 @click.argument("report", type=click.Path())
 @click.option(
     "--plan", type=click.Path(), help="the plan of the run: closed walks at any time, and not only at its end"
 )
 @click.option("--events", type=click.Path(), help="the events of the run, drawn as marks")
-@click.option("--from", "start", type=Milliseconds(), help="the picture begins there, with what changes after it")
+@click.option("--from", "first", type=Milliseconds(), help="the picture begins there, with what changes after it")
 @click.option("--until", type=Milliseconds(), help="the end of the run; without it a little after the last change")
 @click.option(
     "--fold", type=Milliseconds(), default=1000, show_default=True, help="longer times without a change are left out"
 )
+@START
+@click.option("--force", is_flag=True, help="writes over a file that is there already")
 @click.option("-o", "--output", type=click.Path(), required=True, help="a file that ends in .svg, .png or .pdf")
-def timeline(
-    report: str, plan: str | None, events: str | None, start: int | None, until: int | None, fold: int, output: str
-) -> int:
+@click.pass_context
+def timeline(context: click.Context, report: str, force: bool, output: str, **asked: Any) -> int:
     """Draws the changes of a report over time: a band for each element, coloured by its quality level.
 
     REPORT is what `murdjohe sim` printed, or - for standard input. Colours are those of `draw`. A band is hatched where its
     element is in holdover or free-running, or has a forced or manual switch; the input is written in it where there is room; a
     timing loop is a red strip. Where nothing changes for longer than --fold, the rest of that time is left out, and a dotted
-    line says how long it is; close changes are drawn a twentieth of that apart. The status is 0, or 2 where a file can't be
-    taken or written.
+    line says how long it is; close changes are drawn a twentieth of that apart. A file that is there
+    is written over by --force alone.
 
     \b
       $ murdjohe gen 5 > plan.toml
@@ -95,22 +118,14 @@ def timeline(
       $ murdjohe sim plan.toml events.csv 10m > report
       $ murdjohe timeline report --plan plan.toml --events events.csv --until 10m -o timeline.svg
     """
-    ending = figures.ending_of(output)
-    if fold < 1:
+    ending = "svg" if output == STDIN else figures.ending_of(output)
+    if asked["fold"] < 1:
         raise Wrong("--fold: at least 1 millisecond")
-    rows, order = bands.changes_of(report)
-    last = rows[-1].at
-    if start is not None:
-        rows = bands.rows_from(rows, start)
-    end = last + fold if until is None else until
-    if end < last:
-        raise Wrong(f"--until: the last change is at {last}")
-    red = within(red_of(report, plan, end), rows[0].at, end)
-    marks = tuple(one for one in (runs.read_events(events).events if events else ()) if rows[0].at <= one.at <= end)
-    title = f"{plan or report}" + (f", {events}" if events else "") + f", up to {bands.minutes(end)}"
+    free(output, force, report, asked["plan"], asked["events"])
+    drawn = timeline_of(report, asked)
     with progress.watched("timeline"):
-        data = strips.picture(Timeline(title, rows, order, marks, red, end, fold), ending)
-    files.written(output, data)
+        data = strips.picture(drawn, ending)
+    put(context, output, data)
     return core.DONE
 
 

@@ -2,12 +2,15 @@
 
 from __future__ import annotations
 
+from typing import Any
+
 import click
 from click.shell_completion import CompletionItem
 
-from murdjohe import cli, core, forms, plain_json, plan_file, progress, runs, why_text, whys
-from murdjohe.commands.common import Milliseconds
+from murdjohe import cli, core, forms, plain_json, plan_file, progress, runs, streams, why_text, whys
+from murdjohe.commands.common import START, Milliseconds, free, from_start, output_options, put
 from murdjohe.inputs import STDIN
+from murdjohe.whys import Why
 from murdjohe.wrong import Wrong
 
 
@@ -16,28 +19,29 @@ def completed(context: click.Context, _: click.Parameter, incomplete: str) -> li
     return cli.names_in(context.params.get("plan") or "", incomplete)
 
 
+def shown(found: Why, start: int | None, is_json: bool) -> bytes:
+    """The answer in sentences, or as JSON."""
+    if is_json:
+        return plain_json.text(why_text.as_data(found, start))
+    return "".join(f"{line}\n" for line in why_text.text_of(found, start)).encode()
+
+
 @click.command("why")
 @click.argument("plan", type=click.Path())
 @click.argument("events", type=click.Path())
 @click.argument("element", shell_complete=completed)
 @click.argument("at", type=Milliseconds())
-@click.option("--start", type=Milliseconds(), help="tells times of day, in a run that begins at this one, as 02:00:00")
+@START
 @click.option(
     "--all", "has_all", is_flag=True, help=f"all that brought it about, not the last {whys.USUAL} things alone"
 )
 @click.option("--json", "as_json", is_flag=True, help="JSON: the same, with times in milliseconds")
+@output_options
 @click.pass_context
-def why(
-    context: click.Context,
-    plan: str,
-    events: str,
-    element: str,
-    at: int,
-    start: int | None,
-    has_all: bool,
-    as_json: bool,
-) -> int:
-    """Says why ELEMENT takes what it takes at AT, counted from the beginning of the run, and what brought that about.
+def why(context: click.Context, plan: str, events: str, element: str, at: int, **asked: Any) -> int:
+    """Says why ELEMENT takes what it takes at AT, and what brought that about.
+
+    AT counts from the beginning of the run; with --start a time with colons is a time of day.
 
     First what it takes, at which level and since when; then of each other input why not; then the way up the trace to the
     clock, line by line, or the loop. Below stands what led to all of this, in order of time: events, behind a star, hold-off and
@@ -55,16 +59,17 @@ def why(
     """
     if plan == STDIN and events == STDIN:
         raise Wrong("standard input is one file: the plan or the events")
+    start, root = asked["start"], context.find_root().params
+    at = from_start(at, start, "AT") or 0
     if at > forms.DAY_MS:
         raise Wrong(f"AT: {at} ms is more than a day; at most {forms.DAY_MS}, or 24h")
-    taken = plan_file.read(plan)
-    file = runs.read_events(events)
+    free(asked["output"], asked["force"], plan, events)
+    taken, file = plan_file.read(plan), runs.read_events(events, start)
     with progress.watched("why"):
-        found = whys.answered(taken, file, whys.Asked(element, at, None if has_all else whys.USUAL))
-    if as_json or context.find_root().params["json"]:
-        context.obj.put(plain_json.text(why_text.as_data(found, start)))
-    else:
-        context.obj.put("".join(f"{line}\n" for line in why_text.text_of(found, start)).encode())
+        found = whys.answered(taken, file, whys.Asked(element, at, None if asked["has_all"] else whys.USUAL))
+    put(context, asked["output"], shown(found, start, asked["as_json"] or root["json"]))
+    if not root["quiet"]:
+        streams.tell(*runs.likely_seconds(file), colour="yellow")
     return core.DONE if found.stopped_at is None else core.STOPPED
 
 

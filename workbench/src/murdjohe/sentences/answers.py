@@ -49,7 +49,7 @@ def on_words(form: forms.Form, given: list[str]) -> str:
         missing = form.words[len(given)]
         return f"{form.name}: {missing.name} is missing, {forms.MEANINGS[missing.kind]}; {told}"
     if len(given) > len(form.words):
-        return f'{form.name}: "{given[len(form.words)]}" is one word too many; {told}'
+        return f'{form.name}: "{given[len(form.words)]}" is an unexpected argument; {told}'
     if sum(word.is_file and text == STDIN for word, text in zip(form.words, given)) > 1:
         return f"{form.name}: `-`, standard input, can be read for one word alone; {told}"
     for word, text in zip(form.words, given):
@@ -75,20 +75,27 @@ def on_reading(words: Words) -> str:
     """Which file can't be read, and why. The program reads them in the order of the words."""
     for file in words.files:
         if why := read_fault(file):
-            return f"{file.name}: {why}; mend its name or its rights"
+            return f"{file.name}: {why}; correct its name or its rights"
     return f"one of {', '.join(file.name for file in words.files)} could not be read a moment ago, and now it can"
 
 
 def on_length(words: Words) -> str:
-    """Which file is too long."""
+    """Which file is too long: of more bytes than any may have; or than one may have that isn't a plan, and stands beside none or
+    beside a plan of standard size."""
+    sizes = []
     for file in words.files:
         try:
-            size = len(documents.read(file).data)
+            sizes.append((file, len(documents.read(file).data)))
         except OSError:
             continue
-        if size > core.LONGEST_FILE:
-            remedy = "a capture is split by `editcap -c`" if file.kind == forms.CAPTURE else "split it"
-            return f"{file.name}: it has more than {core.LONGEST_FILE:,} bytes; {remedy}"
+    for most, among in [
+        (core.LONGEST_FILE, sizes),
+        (core.LONGEST_BESIDE, [s for s in sizes if s[0].kind != forms.PLAN]),
+    ]:
+        for file, size in among:
+            if size > most:
+                remedy = "a capture is split by `editcap -c`" if file.kind == forms.CAPTURE else "split it"
+                return f"{file.name}: it has more than {most:,} bytes; {remedy}"
     return f"a file has more than {core.LONGEST_FILE:,} bytes; split it"
 
 

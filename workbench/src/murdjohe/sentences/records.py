@@ -178,12 +178,13 @@ def on_value(plan: Plan | None, fields: list[str]) -> tuple[str, str]:
 
 def on_time(field: str) -> tuple[str, str]:
     """What is wrong with the time of an event, and what would be right."""
+    remedy = f"{refusals.remedy('events', 28)}, or 90s, 5m, 02:10"
     time = times.milliseconds(field.strip())
-    if time is not None:
-        return f'the time "{field}" has units', f"write milliseconds: {time}"
+    if time is not None and time > times.DAY:
+        return f'the time "{field}" is more than a day', "write at most 24h"
     if field != field.strip():
-        return f'the time "{field}" has blanks', refusals.remedy("events", 28)
-    return f'"{field}" is no number from 0 to 86400000', refusals.remedy("events", 28)
+        return f'the time "{field}" has blanks', remedy
+    return f'"{field}" is no number from 0 to 86400000', remedy
 
 
 def on_fields(row: Row, table: str) -> tuple[str, str]:

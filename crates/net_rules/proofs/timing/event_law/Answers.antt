@@ -1,4 +1,5 @@
 use Rattle.net_rules.proofs.FinalLaws.{pair-by_events, stays-by_events, bound-by_events}
+use Rattle.net_rules.proofs.LosingLaws.{soon-by_events}
 use Rattle.net_rules.proofs.timing.event_law.Goals as goal
 
 pub returns-clause-pair : goal.returns-clause-pair
@@ -9,3 +10,6 @@ returns-clause-stays c = stays-by_events
 
 pub returns-clause-bound : goal.returns-clause-bound
 returns-clause-bound c = bound-by_events
+
+pub returns-clause-soon : goal.returns-clause-soon
+returns-clause-soon c = soon-by_events

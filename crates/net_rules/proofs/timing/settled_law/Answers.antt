@@ -3,6 +3,7 @@ use Rattle.net_rules.proofs.QuietLaws.{settled-stays}
 use Rattle.net_rules.proofs.BoundLaws.{bound-settles}
 use Rattle.net_rules.proofs.NewsLaws.{settled-by_news, news-by_settled}
 use Rattle.net_rules.proofs.SettledLaws.{no-pair}
+use Rattle.net_rules.proofs.LosingLaws.{soon-settles}
 use Rattle.net_rules.proofs.timing.settled_law.Goals as goal
 
 pub returns-clause-stays : goal.returns-clause-stays
@@ -16,3 +17,6 @@ returns-clause-news c = λ plan signals out t. (settled-by_news plan signals out
 
 pub returns-clause-unpaired : goal.returns-clause-unpaired
 returns-clause-unpaired c = no-pair
+
+pub returns-clause-soon : goal.returns-clause-soon
+returns-clause-soon c = soon-settles

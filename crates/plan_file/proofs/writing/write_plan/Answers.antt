@@ -17,4 +17,4 @@ pub returns-clause-text : goal.returns-clause-text
 returns-clause-text c = subst (IsPlanText c.args.plan.now) (sym (returns-clause-spelled c)) (plan_text-read c.args.plan.now c.put_head.ensures.well_formed)
 
 pub returns-clause-short : goal.returns-clause-short
-returns-clause-short c = subst (λ text. length text ≤ plan_size) (sym (returns-clause-spelled c)) (plan_text-short c.args.plan.now c.put_head.ensures.well_formed)
+returns-clause-short c = subst (λ text. length text ≤ plan_size c.args.plan.now) (sym (returns-clause-spelled c)) (plan_text-short c.args.plan.now c.put_head.ensures.well_formed)

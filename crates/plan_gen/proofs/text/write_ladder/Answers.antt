@@ -19,5 +19,5 @@ returns-clause-text c =
 
 pub returns-clause-short : goal.returns-clause-short
 returns-clause-short c =
-    subst (λ text. length text ≤ plan_size) (sym (returns-clause-spelled c))
+    subst (λ text. length text ≤ plan_size (ladder c.args.elements)) (sym (returns-clause-spelled c))
     (plan_text-short (ladder c.args.elements) (IsWellFormed-ladder c.args.elements c.requires.least c.requires.greatest))

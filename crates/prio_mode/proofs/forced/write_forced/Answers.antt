@@ -37,7 +37,7 @@ returns-clause-read_back c =
 pub returns-clause-short : goal.returns-clause-short
 returns-clause-short c =
     let numbers : List ℕ = map (λ line. line.0) c.args.lines.now in
-    subst (λ text. length text ≤ forced_size) (sym (returns-clause-text c))
+    subst (λ text. length text ≤ forced_size c.args.plan.now) (sym (returns-clause-text c))
     (text-short c.args.plan.now numbers c.lines-lines.ensures.well_formed
     (each-all (λ line. line < line_count c.args.plan.now) numbers c.requires.within)
     c.requires.apart)

@@ -5,11 +5,11 @@ use Rattle.protection.proofs.guarding.protect.Goals as goal
 
 pub returns-then-is_empty-clause-loop_free : goal.returns-then-is_empty-clause-loop_free
 returns-then-is_empty-clause-loop_free c =
-    let orderly = c.in_ok-found.ensures.orderly in
+    let orderly = c.in_ok-found.ensures.found.orderly in
     loop_free c.in_ok-found.found orderly.rising.0 orderly.well_formed orderly.rising.1
 
 pub returns-clause-within : goal.returns-clause-within
-returns-clause-within c = gaps-in c.args.plan.now c.in_ok-found.found c.in_ok-gaps.gaps c.in_ok-found.ensures c.in_ok-gaps.ensures.within
+returns-clause-within c = gaps-in c.args.plan.now c.in_ok-found.found c.in_ok-gaps.gaps c.in_ok-found.ensures.found c.in_ok-gaps.ensures.within
 
 pub returns-then-is_empty-clause-protected : goal.returns-then-is_empty-clause-protected
 returns-then-is_empty-clause-protected c =

@@ -10,5 +10,6 @@ returns c = λ _. record {
   apart = c.stand_apart.ensures c.if-not-stand_apart.false;
   fewest = λ counts are. subst (ComesByFewest c.args.plan.now) (sym (c.in_ok-hops.ensures.only counts are)) (c.come_by_fewest.ensures c.if-not-come_by_fewest.false);
   rising = c.in_ok-rising.ensures c.if-not-rising.false;
-  bound = c.in_ok-agreed.ensures c.if-not-agreed.false;
+  bound = c.in_ok-agreed.ensures.bound c.if-not-agreed.false;
+  failures = c.in_ok-agreed.ensures.failures c.if-not-agreed.false;
 }

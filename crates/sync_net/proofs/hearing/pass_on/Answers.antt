@@ -1,8 +1,6 @@
 use Rattle.std.proofs.Common.{arith, sym, ◌∙◌, ap}
 use Rattle.std.proofs.lemmas.Bool.{true≢false}
 use Rattle.sync_ql.specs.Messages.{is_same_level}
-use Rattle.sync_topo.specs.Lines.{line_input, receiver_of}
-use Rattle.net_rules.proofs.HistoryLaws.{line-input_of}
 use Rattle.sync_net.proofs.HearingLaws.{passed-same, passed-on, read-heard}
 use Rattle.sync_net.proofs.hearing.pass_on.Goals as goal
 

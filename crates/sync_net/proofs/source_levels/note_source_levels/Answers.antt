@@ -1,8 +1,6 @@
-use Rattle.std.proofs.Common.{◌≡◌, ℕ, suc, ◌+◌, ◌∷◌, drop, ap, sym, subst, ◌∙◌, arith}
+use Rattle.std.proofs.Common.{◌≡◌, ℕ, suc, ◌+◌, ◌∷◌, drop, ap, sym, subst, ◌∙◌}
 use Rattle.std.proofs.Math.Seq.{drop-cons}
 use Rattle.std.proofs.Math.Numerals.{suc-eq-add-one}
-use Rattle.std.specs.Prelude.{List}
-use Rattle.sync_topo.specs.declared.event.Event.{Event}
 use Rattle.sync_net.specs.private.SourceLevels.{AreSourcesSettled, all_level_words}
 use Rattle.net_words.specs.private.Tellings.{AreToldSoFar}
 use Rattle.sync_net.proofs.LevelsTold.{levels-told, levels-settled}

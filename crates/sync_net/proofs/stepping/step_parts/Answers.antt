@@ -1,7 +1,7 @@
 use Rattle.std.proofs.Common.{◌∙◌, refl}
 use Rattle.sync_net.proofs.Assembling.{can_tell}
 use Rattle.sync_net.proofs.Finishing.{outs_within, can_step, settings_stay, can_say_called}
-use Rattle.sync_net.proofs.Ending.{net_step, whole_then, evaluated_for, called_alone, called_for}
+use Rattle.sync_net.proofs.Ending.{net_step, whole_then, evaluated_for, called_alone, called_for, told_alone}
 use Rattle.sync_net.proofs.stepping.step_parts.Goals as goal
 
 pub hear-requires-clause-can_tell : goal.hear-requires-clause-can_tell
@@ -103,6 +103,23 @@ returns-clause-called g c =
 pub returns-clause-called_only : goal.returns-clause-called_only
 returns-clause-called_only g c =
     called_for c.args.plan.now c.args.now c.args.events.now c.args.parts.now c.call_due.new.parts c.take_in.new.parts c.hear.new.parts c.evaluate.new.parts c.send.new.parts _ c.requires.whole c.requires.in_time
+    c.call_due.ensures (c.in_ok-take_in.ensures) (c.in_ok-hear.ensures) c.in_ok-evaluate.ensures.evaluated (c.in_ok-send.ensures)
+    (record {
+      next = refl;
+      later_steps = c.steps_after-parts.ensures;
+      elements = refl;
+      lines = refl;
+      signals = refl;
+      sources = refl;
+      heards = refl;
+      dues = refl;
+      tellings = refl;
+      called = refl;
+    })
+
+pub returns-clause-told : goal.returns-clause-told
+returns-clause-told g c =
+    told_alone c.args.plan.now c.args.now c.args.events.now c.args.parts.now c.call_due.new.parts c.take_in.new.parts c.hear.new.parts c.evaluate.new.parts c.send.new.parts _ c.requires.whole c.requires.in_time
     c.call_due.ensures (c.in_ok-take_in.ensures) (c.in_ok-hear.ensures) c.in_ok-evaluate.ensures.evaluated (c.in_ok-send.ensures)
     (record {
       next = refl;

@@ -54,8 +54,7 @@ loop-next-preserved g c =
     let one : suc now ≡ now + 1 = omega arith in
     record {
       plan = c.step.ensures.plan ∙ c.loop-next.invariant.plan;
-      elements = c.step.ensures.elements ∙ c.loop-next.invariant.elements;
-      lines = c.step.ensures.lines ∙ c.loop-next.invariant.lines;
+      marks = c.in_ok-step.ensures.marks;
       shown = c.step.ensures.shown ∙ c.loop-next.invariant.shown;
       live = c.in_ok-step.ensures.live;
       from = omega (arith, c.loop-next.invariant.from, next.later);

@@ -1,10 +1,10 @@
-use Rattle.std.proofs.Common.{◌≡◌, ◌≤◌, ◌+◌, ◌-◌, ℕ, false, List, length}
+use Rattle.std.proofs.Common.{◌≡◌, ◌≤◌, ◌+◌, ◌-◌, ℕ, false, List}
 use Rattle.sync_topo.specs.declared.event.Event.{Event}
 use Rattle.net_rules.specs.Signals.{events_at}
 use Rattle.event_times.specs.EventTimes.{AreTold, AreWithin}
 use Rattle.sync_net.specs.NetState.{NetState}
 use Rattle.sync_net.specs.Standing.{StandsFor}
-use Rattle.sync_sweep.specs.private.Branching.{IsBranch}
+use Rattle.sync_sweep.specs.private.Branching.{IsBranch, AreMarksOf}
 use Rattle.sync_sweep.proofs.branch.run_events.Given as goal
 
 -- the network stands for all events of which those that are given stand here; what is left of them
@@ -12,8 +12,7 @@ use Rattle.sync_sweep.proofs.branch.run_events.Given as goal
 abbrev pub invariant-loop-next : goal.invariant-loop-next
 invariant-loop-next g l = record {
   plan : l.branch.net.plan ≡ l.fn.branch.net.plan;
-  elements : length l.branch.elements.flags ≡ length l.fn.branch.elements.flags;
-  lines : length l.branch.lines.flags ≡ length l.fn.branch.lines.flags;
+  marks : AreMarksOf l.branch.net.plan l.branch.touched;
   shown : l.branch.shown ≡ l.fn.branch.shown;
   live : l.branch.net.spent ≡ false;
   from : l.fn.from ≤ l.next;
@@ -23,7 +22,7 @@ invariant-loop-next g l = record {
   left : (t : ℕ) → l.next ≤ t → t ≤ l.until → events_at t l.events ≡ events_at t l.rest;
   stands : (all : List Event) → AreTold l.fn.branch.net.plan all l.fn.from l.until l.events → StandsFor l.fn.branch.net all l.fn.from
       → StandsFor l.branch.net all l.next;
-  branch : (base : NetState) → IsBranch base l.fn.branch.net l.fn.branch.elements l.fn.branch.lines → IsBranch base l.branch.net l.branch.elements l.branch.lines;
+  branch : (base : NetState) → IsBranch base l.fn.branch.net l.fn.branch.touched → IsBranch base l.branch.net l.branch.touched;
 }
 
 abbrev pub decreases-loop-next : goal.decreases-loop-next

@@ -24,7 +24,7 @@ loop-case-preserved c =
     record {
       worked = AllZip-next (λ case. IsWorked c.args.base.now.net.plan (merged c.args.common.now case.events) c.args.until c.args.timed) cases i case c.loop-case.worked c.in_ok-one.one c.push.new.self
           within c.loop-case.invariant.worked made (take_more cases i case within ∙ ap (λ one. take i cases ++ one ∷ []) (sym c.case-item.is)) c.in_ok-push.ensures.ok;
-      branch = subst (λ n. IsBranch n c.case_worked.new.branch.net c.case_worked.new.branch.elements c.case_worked.new.branch.lines) c.net-net.ensures.net c.in_ok-one.ensures.branch;
+      branch = subst (λ n. IsBranch n c.case_worked.new.branch.net c.case_worked.new.branch.touched) c.net-net.ensures.net c.in_ok-one.ensures.branch;
       same = c.in_ok-one.ensures.same ∙ c.net-net.ensures.net;
       shown = subst (λ n. AreShown n c.case_worked.new.branch.shown) c.net-net.ensures.net c.in_ok-one.ensures.shown;
       asked = c.in_ok-one.ensures.kept ∙ c.loop-case.invariant.asked;

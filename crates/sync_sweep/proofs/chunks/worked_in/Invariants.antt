@@ -9,7 +9,7 @@ use Rattle.sync_sweep.proofs.chunks.worked_in.Given as goal
 abbrev pub invariant-loop-case : goal.invariant-loop-case
 invariant-loop-case l = record {
   worked : AreWorked l.base.net.plan l.common l.until l.fn.timed (take l.case-index l.cases) l.worked;
-  branch : IsBranch l.base.net l.branch.net l.branch.elements l.branch.lines;
+  branch : IsBranch l.base.net l.branch.net l.branch.touched;
   same : l.branch.net ≡ l.base.net;
   shown : AreShown l.base.net l.branch.shown;
   asked : is_some l.timed ≡ l.fn.timed;

@@ -92,11 +92,10 @@ returns-clause-worked c =
     let same : net.plan ≡ plan = ap (λ n. n.plan) c.show.ensures.net ∙ c.run_out.ensures.plan ∙ ap (λ n. n.plan) c.requires.same in
     let next : net.next ≡ until + 1 = ap (λ n. n.next) c.show.ensures.net ∙ c.in_ok-run_out.ensures.next in
     let now : net.next - 1 ≡ until = omega (arith, next) in
-    let marked : IsBranch c.args.base.now net c.show.new.branch.elements c.show.new.branch.lines =
-    subst (λ n. IsBranch c.args.base.now n c.show.new.branch.elements c.show.new.branch.lines) (sym c.show.ensures.net)
-    (subst (λ marks. IsBranch c.args.base.now after marks c.show.new.branch.lines) (sym c.show.ensures.elements)
-    (subst (λ marks. IsBranch c.args.base.now after c.run_out.new.branch.elements marks) (sym c.show.ensures.lines)
-    (c.in_ok-run_out.ensures.branch c.args.base.now c.requires.branch))) in
+    let marked : IsBranch c.args.base.now net c.show.new.branch.touched =
+    subst (λ n. IsBranch c.args.base.now n c.show.new.branch.touched) (sym c.show.ensures.net)
+    (subst (IsBranch c.args.base.now after) (sym c.show.ensures.touched)
+    (c.in_ok-run_out.ensures.branch c.args.base.now c.requires.branch)) in
     let outcome = c.in_ok-outcome.outcome in
     let last : ℕ = c.run_last-last.result in
     let is_last = c.run_last-last.ensures plan c.requires.common own in
@@ -113,6 +112,6 @@ returns-clause-worked c =
       due = subst (λ t. IfSome outcome.bound (λ bound. bound ≤ t → outcome.settled ≡ true)) now (c.in_ok-outcome.ensures.due early earlier (none-late all until last is_last));
       asked = c.in_ok-timing.ensures.asked;
       timing = timing-by c.args.base.now net plan all until c.args.timed.now c.listed.result.now c.in_ok-timing.timing same (sym same) now stands c.requires.timed
-          (subst (λ places. AreAlikeBut places net c.args.base.now) (sym c.listed.ensures.listed) (alike-but c.args.base.now net c.show.new.branch.elements c.show.new.branch.lines marked c.listed.ensures.all))
+          (subst (λ places. AreAlikeBut places net c.args.base.now) (sym c.listed.ensures.listed) (alike-but c.args.base.now net c.show.new.branch.touched marked c.listed.ensures.all))
           c.in_ok-timing.ensures.timing;
     })

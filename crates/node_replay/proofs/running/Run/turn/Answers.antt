@@ -25,5 +25,5 @@ returns-clause-holds c = λ rows until here early stands.
     let mid = taken-run c.args.plan.now c.args.element c.args.here.now c.args.self.now c.take_rows.new.self c.requires.run c.requires.in_range c.requires.here c.in_ok-take_rows.ensures in
     let frames = c.as_slice-2.ensures ∙ c.in_ok-frames.ensures ∙ ap (filter_map (frame_of c.args.self.now.next)) c.as_slice.ensures.value in
     turn-holds c.args.plan.now c.args.element c.args.here.now rows c.args.self.now c.take_rows.new.self c.send.new.self c.requires.run c.in_ok-take_rows.ensures mid here stands
-    until early c.requires.going
+    until early c.requires.going c.most_rows-most.ensures.lines
     (subst (λ xs. IsWritten c.args.plan.now c.args.element c.args.self.now.next xs c.take_rows.new.self c.send.new.self) frames c.in_ok-send.ensures)

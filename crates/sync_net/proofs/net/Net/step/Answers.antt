@@ -23,9 +23,9 @@ returns-in-Ok-clause-ordered g c = λ all others n here is alike.
 
 pub returns-in-Ok-clause-short : goal.returns-in-Ok-clause-short
 unfolding StandsFor returns-in-Ok-clause-stands
-returns-in-Ok-clause-short g c = λ all n line back from here is facing faced still.
+returns-in-Ok-clause-short g c = λ all n line back from here is facing faced.
     seen_short c.args.self.now c.self.inside.plan.now c.self.inside.spent c.self.inside.parts c.self.view_is c.requires.live c.self.invariant
-    _ all c.args.now line back from (ap (λ s. s.plan) c.self.view_is) (returns-in-Ok-clause-stands g c all n here is) facing faced still
+    _ all c.args.now line back from (ap (λ s. s.plan) c.self.view_is) (returns-in-Ok-clause-stands g c all n here is) facing faced
 
 pub returns-in-Ok-clause-short_speaking : goal.returns-in-Ok-clause-short_speaking
 unfolding StandsFor returns-in-Ok-clause-stands

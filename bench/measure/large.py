@@ -1,0 +1,158 @@
+"""What the forms of the program cost on large plans, and how that grows with the number of elements.
+
+usage: python3 -m bench.measure.large PROGRAM [--elements N[,N..]] [--kind KIND[,KIND..]] [--form FORM[,FORM..]] [--instructions]
+
+For each kind of network (ladder, operator, random, ring: see `bench.networks`) and each number of elements (2,000, 10,000
+and 50,000 where none is given) a plan is made, with priorities by `nominate`, and each form runs on it once, with the
+word `large` before its words: `check` with the certificate of `rank`, `sim` and `inspect` with one event and with a
+thousand, `study` of a hundred cases, `sweep` of every link where the network has settled, and so on. A line says its
+processor time, its peak memory and its status, and the last column the power of the number of elements with which the
+processor time grows from the least number to the greatest. With --instructions callgrind counts instead, which is exact,
+wants valgrind, and takes fifty times as long. `protected` and `protect` are left out above 5,000 elements unless they are
+named. It needs Python 3.11 alone.
+"""
+
+import os
+import re
+import subprocess
+import sys
+import tempfile
+from collections.abc import Callable
+from typing import NamedTuple
+
+from bench import networks
+from bench.measure.times import growth, run
+from bench.program import octets, program_words, put_files
+from bench.reference.plan import Plan, plan_text, read_plan
+
+SETTLED = 400_000  # milliseconds after which every such network has settled
+SLOW = ("protected", "protect")  # which look at the whole network for each failure
+SLOW_ABOVE = 5_000
+FORMS = (
+    "check",
+    "rank",
+    "chains",
+    "agree",
+    "hops",
+    "nominate",
+    "protected",
+    "protect",
+    "sim",
+    "sim-1000",
+    "inspect",
+    "study",
+    "sweep",
+    "prio-check",
+    "prio-rank",
+    "prio-sim",
+)
+
+
+class Cost(NamedTuple):
+    """Processor time in seconds or instructions in millions, peak memory in MB, and the status."""
+
+    used: float
+    memory: float
+    status: int
+
+
+def events(plan: Plan, count: int) -> str:
+    """So many links that go down one after the other, a second apart."""
+    apart = max(1, len(plan.links) // count)
+    names = [plan.links[k].name for k in range(0, len(plan.links), apart)][:count]
+    return "at,what,target,value\n" + "".join(f"{SETTLED + n * 1000},down,{name},\n" for n, name in enumerate(names))
+
+
+def cases(plan: Plan, count: int) -> str:
+    """So many cases, in each of which a link goes down."""
+    apart = max(1, len(plan.links) // count)
+    names = [plan.links[k].name for k in range(0, len(plan.links), apart)][:count]
+    return "case,at,what,target,value\n" + "".join(f"C{n},{SETTLED},down,{name},\n" for n, name in enumerate(names))
+
+
+def words_of(form: str) -> list[str]:
+    """The words of a form, over the files of a folder."""
+    until = str(SETTLED + 1_200_000)
+    return {
+        "check": ["check", "plan", "certificate"],
+        "prio-check": ["prio-check", "plan", "certificate"],
+        "sim": ["sim", "plan", "one", until],
+        "sim-1000": ["sim", "plan", "thousand", str(SETTLED + 2_400_000)],
+        "inspect": ["inspect", "plan", "one", str(SETTLED + 1_000)],
+        "study": ["study", "plan", "cases", str(SETTLED + 60_000)],
+        "sweep": ["sweep", "plan", str(SETTLED), str(SETTLED + 60_000)],
+        "prio-sim": ["prio-sim", "plan", "one", until],
+    }.get(form, [form, "plan"])
+
+
+def make_files(program: str, folder: str, kind: str, count: int) -> None:
+    """The plan with its priorities, its certificate, events and cases."""
+    if kind == "ladder":
+        _, text = octets(program, ["large", "gen", str(count)])
+        plan = None
+    else:
+        plan = networks.network(kind, count)
+        put_files(folder, {"topology": plan_text(plan)})
+        _, text = octets(program, ["large", "nominate", "topology"], folder)
+    put_files(folder, {"plan": text})
+    named = plan or read_plan(text.decode("ascii"))
+    _, certificate = octets(program, ["large", "rank", "plan"], folder)
+    put_files(folder, {"certificate": certificate, "one": events(named, 1), "thousand": events(named, 1000)})
+    put_files(folder, {"cases": cases(named, 100)})
+
+
+def timed(program: str, folder: str, words: list[str]) -> Cost:
+    """What a run takes, by the clock of the processor."""
+    before = os.getcwd()
+    os.chdir(folder)
+    try:
+        made = run(program, words)
+    finally:
+        os.chdir(before)
+    return Cost(made.processor / 1000, made.memory, made.status)
+
+
+def counted(program: str, folder: str, words: list[str]) -> Cost:
+    """What a run takes, in millions of instructions by callgrind."""
+    tool = ["valgrind", "--tool=callgrind", "--callgrind-out-file=/dev/null", program, *words]
+    made = subprocess.run(tool, cwd=folder, stdout=subprocess.DEVNULL, stderr=subprocess.PIPE, check=False)
+    found = re.search(rb"Collected : (\d+)", made.stderr)
+    return Cost(int(found[1]) / 1e6 if found else 0.0, 0.0, made.returncode)
+
+
+def measured(
+    program: str, kind: str, counts: list[int], forms: list[str], cost: Callable[[str, str, list[str]], Cost]
+) -> None:
+    """A line for each form on a kind of network."""
+    costs: dict[str, dict[int, Cost]] = {form: {} for form in forms}
+    for count in counts:
+        with tempfile.TemporaryDirectory() as folder:
+            make_files(program, folder, kind, count)
+            for form in forms:
+                if form not in SLOW or count <= SLOW_ABOVE:
+                    costs[form][count] = cost(program, folder, ["large", *words_of(form)])
+    for form, by_count in costs.items():
+        if by_count:
+            told = "  ".join(
+                f"{count}: {one.used:.2f}, {one.memory:.0f} MB ({one.status})" for count, one in by_count.items()
+            )
+            power = growth(list(by_count), [one.used for one in by_count.values()]) if len(by_count) > 1 else 0.0
+            print(f"{kind:9} {form:10} {told}  ^{power:.2f}", flush=True)
+
+
+def main() -> int:
+    words = program_words(__doc__)
+    words.add_argument("--elements", default="2000,10000,50000")
+    words.add_argument("--kind", default="ladder,operator,random")
+    words.add_argument("--form", default=",".join(FORMS))
+    words.add_argument("--instructions", action="store_true")
+    given = words.parse_args()
+    counts = [int(count) for count in given.elements.split(",")]
+    for kind in given.kind.split(","):
+        cost = counted if given.instructions else timed
+        measured(given.program, kind, counts, given.form.split(","), cost)
+    return 0
+
+
+if __name__ == "__main__":
+    sys.exit(main())

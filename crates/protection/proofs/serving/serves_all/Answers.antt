@@ -1,0 +1,6 @@
+use Rattle.reach_rules.specs.declared.failure.Failure.TheVariants as fails
+use Rattle.reach_rules.proofs.ProtectionLaws.{closed-served}
+use Rattle.protection.proofs.serving.serves_all.Goals as goal
+
+pub returns : goal.returns
+returns c serves = closed-served c.args.plan.now fails.Nothing (c.is_closed.ensures serves)

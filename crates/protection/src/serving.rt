@@ -1,0 +1,23 @@
+// Whether a plan serves everyone who is in reach of a clock while nothing fails.
+
+ghost use Rattle.std.specs.Prelude.{IsTrue, IfOk};
+ghost use Rattle.reach_rules.specs.declared.failure.Failure.TheVariants as fails;
+ghost use Rattle.reach_rules.specs.Protection.{IsProtectedFrom};
+
+use crate::closed::is_closed;
+use crate::marks::Marks;
+use crate::ways::Ways;
+use reach_rules::Failure;
+use std::alloc::Global;
+use sync_text::NoMemory;
+use sync_topo::{Plan, all_lines_out};
+
+/// Whether with no failure the plan cuts nobody off.
+pub(crate) fn serves_all(alloc: Global, plan: &Plan) -> Result<bool, NoMemory>
+    ensures { IfOk result (λ serves. IsTrue serves → IsProtectedFrom plan.now fails.Nothing) }
+{
+    let outputs = all_lines_out(alloc, plan)?;
+    let mut served = Marks::new(alloc, plan)?;
+    served.find(plan, outputs.as_slice(), Ways::Nominated, Failure::Nothing)?;
+    Ok(is_closed(plan, Failure::Nothing, served.marked.as_slice()))
+}

@@ -1,0 +1,57 @@
+"""What another program prints, nothing, and a text that was cut off are no answers; and whose program one is."""
+
+from __future__ import annotations
+
+from pathlib import Path
+
+import pytest
+from comfort_plans import RESERVE, UNMENDED, played
+from conftest import TOP, murdjohe, started
+
+
+# 7. an answer that isn't one
+
+
+FORMS = [
+    *("rank plan.toml", "check plan.toml ranks.csv", "chains plan.toml", "protected plan.toml", "agree plan.toml"),
+    *("hops plan.toml", "nominate plan.toml", "protect plan.toml", "sim plan.toml works.csv 1h", "gen 5", "trial 5"),
+    *("inspect plan.toml works.csv 1h", "sweep plan.toml 60s 1h", "study plan.toml cases.csv 1h", "lint plan.toml"),
+    *("repair plan.toml", "rehearse plan.toml works.csv", "why plan.toml works.csv B 1h", "orders plan.toml"),
+    *("survey plan.toml", "report plan.toml works.csv -o page.html", "diff plan.toml plan.toml", "failures plan.toml"),
+]
+
+
+@pytest.mark.parametrize("words", FORMS)
+def test_nothing_and_another_programs_answer_are_none(folder: Path, words: str) -> None:
+    (folder / "plan.toml").write_text(RESERVE)
+    (folder / "works.csv").write_text(UNMENDED)
+    (folder / "cases.csv").write_text("case,at,what,target,value\nx,5,down,L1,\n")
+    (folder / "ranks.csv").write_bytes(murdjohe("rank", "plan.toml", folder=folder).out)
+    for script in ("exit 0", "echo hello", "echo no; exit 1", "printf 'line,rank'"):
+        ran = murdjohe(*words.split(), folder=folder, MURDJOHE_CORE=played(folder, script))
+        assert (ran.status, ran.out) == (70, b"") and " gave no answer to `" in ran.err, (script, ran)
+
+
+@pytest.mark.parametrize("words", FORMS[:14])
+def test_a_text_that_was_cut_off_is_none(folder: Path, core: str, words: str) -> None:
+    (folder / "plan.toml").write_text(RESERVE)
+    (folder / "works.csv").write_text(UNMENDED)
+    (folder / "cases.csv").write_text("case,at,what,target,value\nx,5,down,L1,\n")
+    (folder / "ranks.csv").write_bytes(murdjohe("rank", "plan.toml", folder=folder).out)
+    ran = murdjohe(*words.split(), folder=folder, MURDJOHE_CORE=played(folder, f'"{core}" "$@" | head -c -2'))
+    assert ran.status == 70 and " gave no answer to `" in ran.err
+    many = ("chains", "hops", "sweep", "sim", "trial", "nominate", "protect", "gen")
+    if words.split()[0] in many:
+        less = played(folder, f'"{core}" "$@" | sed \'$d\'')
+        ran = murdjohe(*words.split(), folder=folder, MURDJOHE_CORE=less)
+        assert ran.status == 70 or words.startswith(("nominate", "protect", "gen")), ran
+
+
+# 9. the origin of a program
+
+
+def test_another_programs_origin_is_unknown(folder: Path, core: str) -> None:
+    told = started(["sh", str(TOP / "packaging" / "about"), played(folder, 'exec "$REAL" "$@"')], REAL=core)
+    assert told.out == b"unknown\nunknown\n"
+    answers = played(folder, 'echo "commit 0123456789abcdef"\necho "toolchain kit 7"')
+    assert started(["sh", str(TOP / "packaging" / "about"), answers]).out == b"0123456789abcdef\nkit 7\n"

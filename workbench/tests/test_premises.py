@@ -1,0 +1,48 @@
+"""Which premises of the promise on single failures a plan breaks."""
+
+from __future__ import annotations
+
+import pytest
+
+from murdjohe import premises
+from murdjohe.documents import Document
+from murdjohe.plans import Plan
+
+PAIR = """
+element = [{{ name = 'A'{a} }}, {{ name = 'B'{b} }}]
+link = [{{ name = 'L', a = 'A', b = 'B', priority_a = 3, priority_b = 3 }}]
+source = [{{ name = 'S', at = 'A', level = 'QL-PRC', priority = 2 }}, {{ name = 'T', at = 'B', level = '{level}'{t} }}]
+"""
+
+
+def plan(a: str = "", b: str = "", level: str = "QL-PRC", t: str = "") -> Plan:
+    return Plan(Document("plan.toml", PAIR.format(a=a, b=b, level=level, t=t).encode()))
+
+
+def test_better_sources_and_no_floor_above_them_keep_all_premises() -> None:
+    assert list(premises.broken(plan())) == []
+    assert premises.told(plan(b=", floor = 'QL-PRC'")) == ""
+    assert premises.told(plan(level="QL-SEC", t=", priority = 0")) == ""
+
+
+def test_without_a_source_there_is_nothing_to_promise() -> None:
+    assert list(premises.broken(Plan(Document("plan.toml", b"element = [{ name = 'A' }]\n")))) == []
+
+
+@pytest.mark.parametrize(
+    ("given", "number", "key", "words"),
+    [
+        ({"b": ", own = 'QL-PRC'"}, 2, "own", ('"B"', "QL-PRC", '"S"')),
+        ({"level": "QL-SEC"}, 1, "own", ('"A"', "QL-SEC", '"T"')),
+        ({"a": ", floor = 'QL-PRC'", "level": "QL-SSU-A"}, 1, "floor", ('"A"', "QL-PRC", '"T"', "QL-SSU-A")),
+    ],
+)
+def test_what_breaks_a_premise_is_named(given: dict[str, str], number: int, key: str, words: tuple[str, ...]) -> None:
+    first = next(premises.broken(plan(**given)))
+    assert (first.number, first.key) == (number, key)
+    assert all(word in first.what for word in words)
+
+
+def test_the_sentence_says_how_many_more_there_are() -> None:
+    said = premises.told(plan(level="QL-SEC"))
+    assert said.startswith("the promise on single failures doesn't hold for this plan: ") and ", and 1 more;" in said
