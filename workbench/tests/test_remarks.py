@@ -95,8 +95,8 @@ PAIR = (
 
 def test_a_plan_that_agrees_is_told() -> None:
     assert said("agree", "-", stdin=PAIR) == [
-        "at rest 300.090 seconds after the last event, wherever a level reaches that is better than every internal oscillator (own clock)",
-        "after failures alone, out of a network at rest and where nothing comes up: 0.330 seconds after the last",
+        "at rest 300.090 seconds after the last event, if no element is under a switch then, wherever a level reaches that is better than every internal oscillator (own clock)",
+        "after failures alone, out of a network at rest, where nothing comes up, no ESMC goes off and no source changes its level: 0.330 seconds after the last",
         "2 elements, 2 nominated lines",
     ]
 

@@ -323,8 +323,9 @@ def on_agreed(words: Words, text: str) -> list[str]:
     """By when a network of the plan is at rest, after any events and after failures alone, and what the plan has."""
     _, _, bound, _, failures = text.split()
     reached = "wherever a level reaches that is better than every internal oscillator (own clock)"
-    at_rest = f"at rest {int(bound) / 1000:,.3f} seconds after the last event, {reached}"
-    soon = f"after failures alone, out of a network at rest and where nothing comes up: {int(failures) / 1000:,.3f} seconds after the last"
+    at_rest = f"at rest {int(bound) / 1000:,.3f} seconds after the last event, if no element is under a switch then, {reached}"
+    premises = "out of a network at rest, where nothing comes up, no ESMC goes off and no source changes its level"
+    soon = f"after failures alone, {premises}: {int(failures) / 1000:,.3f} seconds after the last"
     return [at_rest, soon, *on_plan(words, None)]
 
 
