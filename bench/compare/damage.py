@@ -7,6 +7,7 @@ import struct
 from typing import NamedTuple
 
 from bench.compare.frames import frame_line, random_frame, row_line
+from bench.compare.protected import groups_text, random_groups
 from bench.program import TOP
 from bench.reference.plan import Plan, events_text, plan_text, read_plan
 from bench.reference.random_plans import random_events, random_plan
@@ -252,6 +253,12 @@ def whole_cases(chance: random.Random) -> Whole:
     return Whole(["study", "plan", "{}", str(until)], cases.encode("ascii"), plan, text)
 
 
+def whole_groups(chance: random.Random) -> Whole:
+    """A table of groups with the plan that it is of."""
+    plan, text = whole_plan(chance)
+    return Whole(["protected", "plan", "{}"], groups_text(random_groups(chance, plan)).encode("ascii"), plan, text)
+
+
 def whole_text(chance: random.Random, form: str) -> Whole:
     """Lines of frames or rows, most of them right."""
     option, right = chance.choice(["I", "II"]), chance.random() < 0.8
@@ -292,6 +299,7 @@ READERS: dict[str, Callable[[random.Random], Whole]] = {
     "certificate": whole_certificate,
     "events": whole_events,
     "cases": whole_cases,
+    "groups": whole_groups,
     "frames": lambda chance: whole_text(chance, "decode"),
     "rows": lambda chance: whole_text(chance, "encode"),
     "capture": whole_capture,

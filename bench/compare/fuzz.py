@@ -2,15 +2,15 @@
 
 usage: python3 -m bench.compare.fuzz PROGRAM [--cases N] [--seed N] [--reader NAME ..] [--processes N] [--keep FOLDER]
 
-For each reader (plan, certificate, events, cases, frames, rows, capture, timed-rows) N files, 5000 where it isn't given,
-are made of whole ones: bits are flipped, octets put in, left out and doubled, the file is cut, lines are swapped,
-doubled and left out, words of a file stand in place of others, and numbers at and past the limits in place of
-numbers. The program has to end by itself, with at most a second of processor time, write nothing to standard error,
-and answer what bench/readings gives for the file: a damaged plan is asked for its ranks, and one in twenty accepted
-event lists is run by the reference's rules too. Where Python's TOML reader refuses a document that a newer version
-of TOML may accept, only the form of the answer is looked at, as with event lists that aren't run. The same seed
-makes the same files, with any number of processes. Files that are answered otherwise are written to a folder with
---keep. It needs Python 3.11 alone.
+For each reader (plan, certificate, events, cases, groups, frames, rows, capture, timed-rows) N files, 5000 where it
+isn't given, are made of whole ones: bits are flipped, octets put in, left out and doubled, the file is cut, lines are
+swapped, doubled and left out, words of a file stand in place of others, and numbers at and past the limits in place of
+numbers. The program has to end by itself, with at most a second of processor time, write nothing to standard error, and
+answer what bench/readings gives for the file: a damaged plan is asked for its ranks, and one in twenty accepted event
+lists is run by the reference's rules too. Where Python's TOML reader refuses a document that a newer version of TOML
+may accept, only the form of the answer is looked at, as with event lists that aren't run. The same seed makes the same
+files, with any number of processes. Files that are answered otherwise are written to a folder with --keep. It needs
+Python 3.11 alone.
 """
 
 import collections
@@ -29,6 +29,7 @@ from collections.abc import Iterator
 from bench.compare.damage import READERS, Whole, damaged
 from bench.program import program_words, put_files
 from bench.readings.captures import pcap_answer, pcap_bytes, rows_answer
+from bench.readings.groups import protected_answer
 from bench.readings.plans import rank_answer
 from bench.readings.records import check_answer, events_refusal
 from bench.readings.refused import Refused, Unsure
@@ -58,6 +59,7 @@ REPORT = rb"changes\n(\d+,%b,(auto|forced|manual),(none|%b(>%b)?),%b,(locked|hol
 REPORT += rb"(stopped,\d+\n|inputs\n(.+\n)*traces\n(.+\n)*loops\n(.+\n)*settled (yes|no)\n)"
 BAD_FRAMES = rb"bad frames (1[24] \d+|13 \d+ ([4-9]|1[01]))\n"
 # What each status may write, by form, after docs/formats.md.
+GAPS = rb"kind,failure,elements,first\n((none,|(link|bundle|source|element|group),%b),\d+,%b\n)+" % (NAME, NAME)
 STUDY = COLUMNS.encode("ascii") + rb"\n(%b,(yes|no)(,\d+){4},%b,(\d+|none),\d+,(%b)?,\d+\n)*" % (NAME, LEVEL, NAME)
 FORMS = {
     "rank": {0: rb"line,rank\n(%b,\d+\n)*" % LINE, 1: rb"cycle( %b)+\n" % LINE, 3: BAD_PLAN},
@@ -69,6 +71,7 @@ FORMS = {
     },
     "sim": {0: REPORT, 11: REPORT, 3: BAD_PLAN, 5: rb"bad events (26|33|2[7-9] \d+|3[0-2] \d+)\n"},
     "study": {0: STUDY, 3: BAD_PLAN, 5: rb"bad events (26|33|2[7-9] \d+|3[0-2] \d+|5[12] \d+)\n"},
+    "protected": {0: rb"protected\n", 1: GAPS, 3: BAD_PLAN, 5: rb"bad groups (26|33|(27|31|5[123]) \d+)\n"},
     "decode": {0: rb"(%b)*" % ROW, 6: BAD_FRAMES},
     "encode": {0: rb"([0-9a-f]{120}\n)*", 6: BAD_FRAMES},
     "pcap-decode": {0: rb"(\d+,\d+,%b)*passed,\d+\n" % ROW, 6: rb"bad capture (4[01]|42 \d+)\n"},
@@ -95,6 +98,9 @@ def expected(chance: random.Random, whole: Whole, data: bytes) -> tuple[int, byt
         return expected_run(chance, whole.plan, int(words[2]), data)
     if form == "study" and whole.plan:
         return expected_study(chance, whole.plan, int(words[2]), data)
+    if form == "protected" and whole.plan:
+        status, text = protected_answer(whole.plan, data)
+        return status, text.encode("latin-1")
     if form == "pcap-decode":
         return pcap_answer(words[0], data)
     return pcap_bytes(words[0], data) if form == "pcap-encode" else rows_answer(form, words[0], data)

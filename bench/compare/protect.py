@@ -146,7 +146,7 @@ def differences(
     counted["no room"] += not has_room(plan)
     if status == 1:
         counted["refuted"] += 1
-        counted["as the model"] += text == protected.expected(protect(plan))[1]
+        counted["as the model"] += text == protected.expected(protect(plan), [])[1]
         yield from wrong_gaps(plan, text)
     elif status:
         yield f"ends with {status}"

@@ -17,6 +17,7 @@ from bench.compare import (
     damage,
     failures,
     fuzz,
+    groups as ducts,
     line,
     network,
     node,
@@ -26,8 +27,9 @@ from bench.compare import (
 )
 from bench.levels import LEVELS
 from bench.program import TOP, answer, parts_of, put_files
+from bench.readings import groups
 from bench.reference.node import node_text
-from bench.reference.plan import Event, Plan, ladder, plan_text, read_plan
+from bench.reference.plan import Event, Link, Plan, PlanElement, Source, ladder, plan_text, read_plan
 from bench.reference.runs_by_hand import CHAIN, CHAIN_REPORT, PAIR, PAIR_FACES, TWO_SOURCES
 
 
@@ -94,7 +96,25 @@ def test_who_is_cut_off_is_told_as_by_hand() -> None:
     rows = rows_by_hand("protected")
     assert len(rows) == 11
     for plan, wanted in rows:
-        assert protected.expected(plan) == wanted
+        assert protected.expected(plan, []) == wanted
+
+
+def test_whom_groups_cut_off_is_told_as_by_hand_and_what_is_refused() -> None:
+    folder, seen = TOP / "cases" / "groups", 0
+    for row in (folder / "table").read_text().splitlines():
+        found = re.fullmatch(r"protected (\S+\.toml) (\S+\.csv) \| ([015]) \| (.+)", row)
+        if found:
+            plan, data = read_plan((folder / found[1]).read_text()), (folder / found[2]).read_bytes()
+            assert groups.protected_answer(plan, data) == (int(found[3]), found[4].replace(" / ", "\n") + "\n"), row
+            seen += 1
+    assert seen > 30
+
+
+def test_many_rows_of_groups_are_refused() -> None:
+    plan = read_plan((TOP / "cases" / "groups" / "four.toml").read_text())
+    rows = b"group,kind,part\n" + b"".join(b"G%d,link,L1\n" % number for number in range(100_001))
+    assert groups.protected_answer(plan, rows) == (5, "bad groups 33\n")
+    assert len(groups.read_groups(plan, rows[: -len(b"G100000,link,L1\n")])) == 100_000
 
 
 def test_what_agrees_is_told_as_by_hand() -> None:
@@ -241,3 +261,34 @@ def test_a_failed_part_changes_no_later_than_its_bound_by_hand() -> None:
     plan = read_plan(plan_text(networks.network("ring", 3)))
     assert [event.what for event in failures.losses(random.Random(1), plan, 1000)] == ["down"] * 2
     assert len(list(failures.single_failures(plan, 1))) == 3 + 1 + 3
+
+
+def test_networks_with_ducts_are_in_one_piece_and_have_groups_of_their_parts() -> None:
+    for seed in range(5):
+        plan, found = ducts.near_network(random.Random(seed), 30)
+        assert len(plan.links) >= 45 and 10 <= len(found) <= 20
+        assert protected.cut_off(plan, next(protected.failures_of(plan)))[0] == set(range(30))
+        ends = collections.Counter(end for link in plan.links for end in (link.a, link.b))
+        assert min(ends.values()) >= 2
+        assert groups.read_groups(plan, protected.groups_text(found).encode()) == found
+
+
+def test_the_most_groups_are_found_by_all_nominations() -> None:
+    """Clocks at A and B; of two groups either is covered, and not both."""
+    elements = [PlanElement(name, "QL-SEC", None, 300, 0) for name in "ABCD"]
+    pairs = [(0, 2), (0, 3), (1, 2), (2, 3)]
+    links = [Link(f"L{k}", a, b, 0, 0, 1, 1, None) for k, (a, b) in enumerate(pairs)]
+    plan = Plan("I", elements, links, [Source("S0", 0, "QL-PRC", 1), Source("S1", 1, "QL-PRC", 1)])
+    north = protected.Group("north", [("link", "L0"), ("link", "L2")])
+    south = protected.Group("south", [("link", "L1"), ("link", "L2")])
+    assert ducts.most_covered(plan, [north, south], 0) == 1
+    assert ducts.most_covered(plan, [north], 0) == ducts.most_covered(plan, [south], 0) == 1
+
+
+def test_parts_of_a_group_that_face_each_other_are_found() -> None:
+    plan = read_plan((TOP / "cases" / "groups" / "four.toml").read_text())
+    group = protected.Group("halls", [("element", "B"), ("element", "X")])
+    k = next(k for k, link in enumerate(plan.links) if {link.a, link.b} == {1, 3})
+    assert not ducts.is_apart(plan, group, [])
+    assert ducts.is_apart(plan, group, [Event(1, "down", ("link", k))])
+    assert ducts.is_apart(plan, protected.Group("hall", [("element", "B")]), [])

@@ -24,7 +24,7 @@ from murdjohe.streams import Output
 RING = EXAMPLES / "ring" / "plan.toml"
 INTERRUPT, KILL = signal.SIGINT, signal.SIGKILL
 EACH = ["--links", "--sources", "--elements", "--pairs"]  # (of the ring: 21 cases)
-UNTIL = "1800000"  # 20 minutes after what fails in the tenth
+UNTIL = "601000"  # the bound of the double after what fails in the tenth minute, and up to a whole second
 PATIENCE_S = 600.0  # (a busy machine may take its time)
 
 

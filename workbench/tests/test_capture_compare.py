@@ -129,6 +129,11 @@ def late() -> Said:
     )
 
 
+def late_by(more: int) -> Said:
+    """A device that tells each change by so many milliseconds later."""
+    return changed(played(), lambda at, cable, octets: is_event(octets), lambda at, octets: [(at + more, octets)])
+
+
 def test_a_late_device(folder: Path) -> None:
     said = late()
     # (the stored capture is that of this device)
@@ -215,6 +220,27 @@ def test_a_device_that_sends_too_often(folder: Path, every: int, rate: str) -> N
     assert ran.status == 1 and ran.out.startswith(b"fail: ") and rows and rows[0][1] == "south>tester"
     assert any(f" {rate} a second, where one a second is asked" in row[3] for row in rows), rows
     assert compared(folder, said, "--most", "9").status == 0
+    # (so many a second are asked for)
+    few = compared(folder, said, "--rate", f"{float(rate) + 0.5}")
+    assert [row for row in rows_of(few) if "information messages" in row[3]] == []
+    assert murdjohe("capture", "compare", "p", "e", "c", "--rate", "0.5", folder=folder).status == 2
+
+
+def test_reaction_times_have_thresholds(folder: Path) -> None:
+    ran = compared(folder, played(), "--json")
+    told = [one for one in json.loads(ran.out)["reactions"] if one["greatest"] is not None]
+    greatest, middle = max(one["greatest"] for one in told), max(one["middle"] for one in told)
+    late = compared(folder, late_by(60), "--json")
+    slow = [one for one in json.loads(late.out)["reactions"] if one["greatest"] is not None]
+    most = max(one["greatest"] for one in slow)
+    assert ran.status == late.status == 0 and most == greatest + 60
+    assert compared(folder, played(), "--reaction", str(greatest), "--median", str(middle)).status == 0
+    ran = compared(folder, late_by(60), "--reaction", "50")
+    assert ran.status == 1 and ran.out.startswith(b"fail: no differences; ")
+    assert f"told changes after {most} ms (greatest), where 50 ms are asked" in ran.out.decode().splitlines()[0]
+    ran = compared(folder, late_by(60), "--median", "50", "--json")
+    found = json.loads(ran.out)
+    assert ran.status == 1 and not found["pass"] and found["slow"] and "(middle)" in found["slow"][0]
 
 
 def test_two_lines_of_one_source_are_refused(folder: Path) -> None:

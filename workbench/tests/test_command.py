@@ -32,7 +32,7 @@ def test_a_form_tells_its_words_statuses_and_an_example(name: str, words: list[s
     ran = murdjohe(*(word.format(name) for word in words))
     text = ran.out.decode()
     assert (ran.status, ran.err) == (0, "")
-    assert text.startswith(f"Usage: murdjohe {FORMS[name].synopsis} ")
+    assert text.startswith(f"Usage: murdjohe {FORMS[name].usage} ")
     for word in FORMS[name].words:
         assert re.search(rf"^  {word.name} +\w", text, re.M)
     for status in FORMS[name].statuses:
@@ -227,7 +227,7 @@ def test_words_are_completed() -> None:
     assert completed("gen", "") == []
     assert "plain,--json" in completed("check", "--")
     assert completed("completion", "f") == ["plain,fish"]
-    assert completed("help", "pl") == ["plain,plan"]
+    assert completed("help", "pl") == ["plain,plan", "plain,place"]
     assert completed("draw", "ring/pl") == ["file,ring/pl"]
 
 

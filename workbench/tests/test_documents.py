@@ -27,6 +27,7 @@ def test_each_number_of_the_program_has_a_meaning_once() -> None:
         "certificate": set(range(34, 39)),
         "events": set(range(26, 34)),
         "cases": {26, 27, 51, 52},
+        "groups": {26, 27, 31, 33, 51, 52, 53},
         "frames": {12, 13, 14},
         "capture": {40, 41, 42, 14},
         "node": set(range(43, 51)),
@@ -53,9 +54,9 @@ def test_a_list_of_cases_has_the_numbers_of_an_event_list_and_more() -> None:
 
 def test_the_forms_are_those_of_the_formats() -> None:
     text = (TOP / "docs" / "formats.md").read_text(encoding="utf-8")
-    table = text[text.index("| words | what it does |") : text.index("PLAN, CERT, EVENTS, CASES and FILE")]
+    table = text[text.index("| words | what it does |") : text.index("PLAN, CERT, EVENTS, CASES, GROUPS and FILE")]
     written = re.findall(r"^\| `([^`]+)` \|", table, re.M)
-    assert sorted(form.synopsis for form in forms.FORMS.values()) == sorted(written)
+    assert sorted(text for form in forms.FORMS.values() for text in form.synopses) == sorted(written)
 
 
 # The page of the manual of each group of commands.

@@ -279,3 +279,58 @@ def test_what_a_table_holds_the_plan_holds(
     read = tomllib.loads(tables.made_of(paths, Settings()).plan)["element"]
     kept = [{key: value for key, value in row.items() if value} for row in rows]
     assert [{key: str(value) for key, value in row.items()} for row in read] == kept
+
+
+DUCTS = "name,a,b,duct\nL1,A,B,north\nL2,A,B,south; north\nL3,A,B,\n"
+
+
+def test_ducts_become_a_list_of_groups_beside_the_plan(folder: Path) -> None:
+    ran = imported(folder, "-o", "plan.toml", links=DUCTS)
+    assert (ran.status, ran.out) == (0, b"")
+    assert ran.err.endswith("plan.groups.csv has 2 ducts as groups, for `protected`, `protect --groups` and others\n")
+    table = "group,kind,part\nnorth,link,L1\nnorth,link,L2\nsouth,link,L2\n"
+    assert (folder / "plan.groups.csv").read_text() == table
+    plain = imported(
+        folder, links=DUCTS.replace(",duct", "").replace(",north", "").replace(",south; north", "")[:-2] + "\n"
+    )
+    assert plain.status == 0 and (folder / "plan.toml").read_bytes() == plain.out
+    assert murdjohe("protected", "plan.toml", "plan.groups.csv", folder=folder).status == 1
+
+
+def test_ducts_go_where_it_is_said_and_nothing_is_written_over(folder: Path) -> None:
+    ran = imported(folder, "--groups", "ducts.csv", "--map", "link.duct=Trench", links=DUCTS.replace("duct", "Trench"))
+    assert ran.status == 0 and (folder / "ducts.csv").read_text().startswith("group,kind,part\nnorth,link,L1\n")
+    again = imported(folder, "--groups", "ducts.csv", "-o", "plan.toml", links=DUCTS)
+    assert again.status == 22 and "ducts.csv is there already" in again.err and not (folder / "plan.toml").exists()
+    same = imported(folder, "--groups", "plan.toml", "-o", "plan.toml", links=DUCTS)
+    assert same.status == 2 and "two outputs are one file" in same.err
+    kept = imported(folder, links=DUCTS)
+    assert kept.status == 0 and "2 ducts: a plan has no place for these; -o or --groups writes them" in kept.err
+    assert sorted(path.name for path in folder.iterdir()) == ["ducts.csv", "e.csv", "l.csv", "s.csv"]
+
+
+@pytest.mark.parametrize(
+    ("words", "links", "status", "said"),
+    [
+        ([], DUCTS.replace("north", "north 7"), 24, "l.csv:2: duct is 'north 7', which no plan can have: a name is"),
+        (
+            [],
+            DUCTS.replace("south; north", "north;north"),
+            24,
+            "l.csv:3: duct is 'north;north', which has 'north' twice",
+        ),
+        (["--groups", "g.csv"], LINKS, 2, "--groups: the table of links has no column `duct`"),
+        (["--groups", "-"], DUCTS, 2, "--groups: standard output is for the plan; name a file"),
+    ],
+)
+def test_ducts_that_can_not_be_groups(folder: Path, words: list[str], links: str, status: int, said: str) -> None:
+    ran = imported(folder, *words, "-o", "plan.toml", links=links)
+    assert (ran.status, ran.out) == (status, b"") and said in ran.err
+    assert not (folder / "plan.toml").exists() and not (folder / "plan.groups.csv").exists()
+
+
+def test_ducts_get_names_that_groups_can_have(folder: Path) -> None:
+    ran = imported(folder, "--rename", "names.csv", "-o", "p.toml", links=DUCTS.replace("north", "Nord straße"))
+    assert ran.status == 0
+    assert "duct,Nord straße,Nord-stra-e\n" in (folder / "names.csv").read_text()
+    assert (folder / "p.groups.csv").read_text().startswith("group,kind,part\nNord-stra-e,link,L1\n")

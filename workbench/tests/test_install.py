@@ -63,7 +63,7 @@ echo "arguments: $*"
 sh -c 'sleep 6' --crate-name sync_ql src/lib.rt &
 wait
 case $FAKE in fail) echo "the last line"; exit 3 ;; esac
-mkdir -p out; printf '#!/bin/sh\\n' > out/sync_main; chmod 755 out/sync_main
+mkdir -p out; printf '#!/bin/sh\\nexit 2\\n' > out/sync_main; chmod 755 out/sync_main
 """
 
 
@@ -89,6 +89,49 @@ def test_the_program_is_built_where_it_is_not_there(tmp_path: Path, fake: str) -
         assert ran.status != 0 and "the last line" in ran.err and "rt ends with 3" in ran.err
     else:
         assert ran.status == 0 and text.endswith("is proved and built\n")
+
+
+def about(program: Path) -> list[str]:
+    return started(["sh", str(TOP / "packaging" / "about"), str(program)]).out.decode().splitlines()
+
+
+def git(top: Path, *words: str) -> str:
+    words = ("git", "-C", str(top), "-c", "user.name=A", "-c", "user.email=a@example.com", *words)
+    return subprocess.run(words, check=True, capture_output=True, text=True).stdout.strip()
+
+
+def test_a_program_that_was_built_here_keeps_the_commit_that_it_was_built_of(tmp_path: Path) -> None:
+    (tmp_path / "rt").write_text(FAKE_RT.replace("&& exit 0", "&& { echo kit 7; exit 0; }", 1))
+    (tmp_path / "rt").chmod(0o755)
+    top = bare_checkout(tmp_path)
+    (top / ".gitignore").write_text("out/\n/build/\n")
+    git(top, "init", "-q")
+    git(top, "add", "-A")
+    git(top, "commit", "-q", "-m", "one")
+    commit = git(top, "rev-parse", "HEAD")
+    assert started(["make", "-s", "-C", str(top), "core"], None, b"", PATH=f"{tmp_path}:/usr/bin:/bin").status == 0
+    program = top / "crates" / "sync_main" / "out" / "sync_main"
+    assert about(program) == [commit, "kit 7"]
+    git(top, "commit", "-q", "--allow-empty", "-m", "two")
+    assert about(program) == [commit, "kit 7"]
+    lines = started([str(TOP / "workbench" / "murdjohe"), "--version"], MURDJOHE_CORE=str(program)).out.decode()
+    assert f"core's commit: {commit}\ntoolchain: kit 7\n" in lines
+    # (another program that was put there is none of that commit)
+    program.write_text("#!/bin/sh\nexit 3\n")
+    assert about(program) == ["unknown", "unknown"]
+    lines = started([str(TOP / "workbench" / "murdjohe"), "--version"], MURDJOHE_CORE=str(program)).out.decode()
+    assert "core's commit: unknown\ntoolchain: unknown\n" in lines
+
+
+def test_the_commit_of_a_checkout_is_never_that_of_a_program(tmp_path: Path, core: str) -> None:
+    program = tmp_path / "other"
+    program.write_text("#!/bin/sh\nexit 2\n")
+    program.chmod(0o755)
+    assert about(program) == ["unknown", "unknown"]
+    program.write_text("#!/bin/sh\necho commit 0123abcd; echo toolchain kit 9\n")
+    assert about(program) == ["0123abcd", "kit 9"]
+    lines = started([str(TOP / "workbench" / "murdjohe"), "--version"], MURDJOHE_CORE=str(program)).out.decode()
+    assert "core's commit: 0123abcd\ntoolchain: kit 9\n" in lines
 
 
 def test_without_the_toolchain_that_is_told(tmp_path: Path) -> None:

@@ -12,6 +12,8 @@ import pytest
 from comfort_plans import RESERVE, THREE, UNMENDED, played
 from conftest import LAUNCHER, murdjohe
 
+from murdjohe import main
+
 
 # 8. nothing lost
 
@@ -79,12 +81,12 @@ def test_a_plan_that_isnt_there_isnt_written(folder: Path) -> None:
 @pytest.mark.parametrize(("number", "status"), [(signal.SIGTERM, 143), (signal.SIGHUP, 129), (signal.SIGINT, 130)])
 def test_a_survey_that_is_told_to_end_leaves_nothing(folder: Path, number: int, status: int) -> None:
     (folder / "plan.toml").write_bytes(murdjohe("gen", "40").out)
-    script = played(folder, '[ "$2" = study ] && exec sleep 60\nexec "$REAL" "$@"')
+    script = played(folder, 'if [ "$2" = study ]; then touch begun; exec sleep 60; fi\nexec "$REAL" "$@"')
     environment = {**os.environ, "REAL": os.environ["MURDJOHE_CORE"], "MURDJOHE_CORE": script}
     words = [str(LAUNCHER), "survey", "plan.toml", "-o", "rows.csv"]
     process = subprocess.Popen(words, cwd=folder, env=environment, stderr=subprocess.PIPE, stdout=subprocess.PIPE)
     for _ in range(400):
-        if list(folder.glob(".murdjohe-*")):
+        if (folder / "begun").exists() and list(folder.glob(".murdjohe-*")):
             break
         time.sleep(0.1)
     time.sleep(1)
@@ -93,18 +95,29 @@ def test_a_survey_that_is_told_to_end_leaves_nothing(folder: Path, number: int, 
     assert not list(folder.glob(".murdjohe-*")) and not (folder / "rows.csv").exists()
 
 
+def test_a_signal_that_a_library_makes_another_fault_of_keeps_its_status() -> None:
+    broken = ImportError("it could not be imported")
+    broken.__context__ = main.Told(signal.SIGHUP)
+    assert main.ended_by(broken) == 129
+    broken.__cause__ = KeyboardInterrupt()
+    assert main.ended_by(broken) == 130
+    assert main.ended_by(ValueError()) is None
+
+
 # statuses that mean one thing each
 
 
 def test_usage_files_inputs_outputs_and_space_have_statuses_of_their_own(folder: Path) -> None:
     (folder / "plan.toml").write_text(RESERVE)
     (folder / "there").write_text("")
-    (folder / "bad.csv").write_text("name\nA,B\n")
+    (folder / "bad.csv").write_text("name,links\nA,nosuch\n")
+    (folder / "groups.csv").write_text("group,kind,part\nA,link,nosuch\n")
     assert murdjohe("lint", "plan.toml", "--nosuch", folder=folder).status == 2
     assert murdjohe("rank", "plan.toml", "-o", "there", folder=folder).status == 22
     assert murdjohe("rank", "nosuch.toml", folder=folder).status == 7
     assert murdjohe("survey", "plan.toml", "--groups", "nosuch", folder=folder).status == 7
     assert murdjohe("survey", "plan.toml", "--groups", "bad.csv", folder=folder).status == 24
+    assert murdjohe("survey", "plan.toml", "--groups", "groups.csv", folder=folder).status == 5
     assert murdjohe("rank", "plan.toml", "-o", "nosuch/ranks.csv", folder=folder).status == 8
     assert murdjohe("draw", "plan.toml", "-o", "nosuch/plan.svg", folder=folder).status == 8
     assert murdjohe("failures", "plan.toml", "-o", "/dev/full", folder=folder).status == 23

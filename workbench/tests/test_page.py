@@ -117,8 +117,22 @@ def test_cases_are_the_rows_of_sweep() -> None:
         assert case["row"][1:4] == [str(row.locked), str(row.holdover), str(row.freerun)]
         events = f"at,what,target,value\n60000,down,{row.link},\n".encode()
         report = api.sim(at / "plan.toml", events, page_data.CUT_UNTIL).result
-        assert case["ended"]["fed"] == [int(trace.kind == "source") for trace in report.traces]
+        fed = [int(trace.kind == "source") for trace in report.traces]
+        assert case["ended"]["fed"] == fed and case["row"][-2] == str(fed.count(0))
         assert len(case["changes"]["at"]) == len(report.changes)
+
+
+def test_who_needs_no_source_after_a_cut_is_apart_from_whom_no_link_could_serve() -> None:
+    data = data_of("mesh", has_cuts=True)
+    rows = {case["name"]: case["row"][-2:] for case in data["cases"]}
+    assert {name: row for name, row in rows.items() if row != ["0", "0"]} == {
+        "N1": ["2", "2"],
+        "A1": ["1", "1"],
+        "A4": ["1", "1"],
+    }
+    assert pages.cuts_text(data["cases"]).startswith(
+        "3 links so leave elements without a source that another link could"
+    )
 
 
 def test_the_command_writes_a_page_and_says_what_the_program_says(folder: Path) -> None:

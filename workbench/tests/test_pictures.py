@@ -27,6 +27,8 @@ def made(stored: Path) -> list[str]:
     is_inventory = stored.parent.name == "inventory"
     if stored.name == "timeline.svg":
         return ["timeline", *(LOSS if is_inventory else USUAL), "--until", "20m"]
+    if stored.name == "ducts.svg":
+        return ["draw", "ducts-protecting.toml", "--groups", "ducts.csv"]
     if stored.name == "first.svg":
         return ["draw", "first.toml", "--answer", "first.answer"]
     if stored.parent.name == "ring" or stored.name == "plan.svg":

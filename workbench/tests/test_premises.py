@@ -3,6 +3,7 @@
 from __future__ import annotations
 
 import pytest
+from conftest import EXAMPLES, murdjohe
 
 from murdjohe import premises
 from murdjohe.documents import Document
@@ -46,3 +47,38 @@ def test_what_breaks_a_premise_is_named(given: dict[str, str], number: int, key:
 def test_the_sentence_says_how_many_more_there_are() -> None:
     said = premises.told(plan(level="QL-SEC"))
     assert said.startswith("the promise on single failures doesn't hold for this plan: ") and ", and 1 more;" in said
+
+
+@pytest.mark.parametrize(
+    ("name", "line", "said"),
+    [
+        (
+            "own",
+            9,
+            'the internal oscillator of "middle", QL-SSU-A, is no worse than source "reserve", QL-SSU-B, so that the',
+        ),
+        ("floor", 9, 'the floor of "middle", QL-SSU-A, is better than source "reserve", QL-SSU-B, so that the'),
+        ("unused", 41, 'source "reserve" has QL-DNU, so nobody takes it, and the'),
+    ],
+)
+def test_lint_says_which_premise_an_example_breaks(name: str, line: int, said: str) -> None:
+    path = EXAMPLES / "premises" / f"{name}.toml"
+    ran = murdjohe("lint", str(path))
+    (told,) = ran.out.decode().splitlines()
+    assert told.startswith(f"{path}:{line}: warning: {said} promise on single failures doesn't hold for this plan; ")
+    assert ran.status == 0 and ran.err.endswith("checked: accepted, agreed, protected\n")
+    assert murdjohe("lint", str(path), "--fail-on", "warning").status == 21
+
+
+def test_lint_says_nothing_of_an_example_that_keeps_all_premises() -> None:
+    ran = murdjohe("lint", str(EXAMPLES / "premises" / "kept.toml"), "--fail-on", "note")
+    assert (ran.status, ran.out) == (0, b"")
+    said = "everybody who can still have a clock rests on one within 0.306 s, if nothing comes up meanwhile; after a repair"
+    assert said in ran.err
+
+
+def test_lint_says_what_it_leaves_out() -> None:
+    ran = murdjohe("lint", str(EXAMPLES / "mesh" / "redundant.toml"), "--no-gaps")
+    assert "cuts off" not in ran.out.decode() and "checked: accepted, agreed\n" in ran.err
+    assert "whom single failures cut off isn't looked at" in ran.err
+    assert "cuts off" in murdjohe("lint", str(EXAMPLES / "mesh" / "redundant.toml")).out.decode()

@@ -211,14 +211,15 @@ def test_works_as_a_person_reads_them(folder: Path) -> None:
     ran = murdjohe("rehearse", str(mesh / "redundant.toml"), str(mesh / "works.csv"), "--start", "02:00:00")
     assert (ran.status, ran.err) == (0, "")
     assert ran.out.decode().splitlines()[:6] == [
-        "nobody is without a source at the end, 02:36:00.000",
+        "nobody is without a source at the end, 02:16:06.000",
         "",
         "02:00:00.003  7 changes up to here, before the first event",
         "02:01:00.000  * lockout S2>hub-south",
         "02:01:00.000  hub-south: takes H>hub-south in place of S2>hub-south",
         "02:02:00.000  * down S2",
     ]
-    assert ran.out.decode().splitlines()[-1].startswith("settled from 02:16:00.")
+    settled, end = ran.out.decode().splitlines()[-2:]
+    assert settled.startswith("settled from 02:16:00.") and end.startswith("the run ends at 02:16:06.000: 0.3")
 
 
 def test_what_is_rejected_and_what_loops_is_told(folder: Path) -> None:

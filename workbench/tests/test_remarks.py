@@ -204,10 +204,11 @@ def test_commands_that_make_a_loop_are_told() -> None:
 
 
 def test_a_sweep_names_the_cuts_and_warns_of_locked() -> None:
-    first, last, end = said("sweep", "mesh/plan.toml", "60s", "400s")
+    first, needless, last, end = said("sweep", "mesh/plan.toml", "60s", "400s")
     few = "3 of 8 cuts leave elements in holdover or free-running at the end (how many): N1 (2), A1 (1), A4 (1)"
     assert first == few and end.startswith("each link goes down at 00:01:00.000, and only the end, 00:06:40.000, is ")
-    assert last.startswith("`locked` counts whoever takes an input")
+    apart = "3 cuts leave elements without a source that a link could still serve (how many): N1 (2), A1 (1), A4 (1)"
+    assert needless == apart and last.startswith("`locked` counts whoever takes an input")
     assert said("sweep", "mesh/redundant.toml", "60s", "400s")[0] == "no cut of 8 leaves anybody in holdover at the end"
 
 

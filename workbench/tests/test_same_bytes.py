@@ -27,9 +27,10 @@ def test_every_example_is_as_stored(tmp_path: Path, is_quiet: bool) -> None:
     assert (ran.status, ran.out) == (0, b"every example is as stored\n"), ran.err
 
 
-# Cases of what the program refuses where it isn't asked for large plans. The workbench always asks for them.
+# Cases of what the program refuses where it isn't asked for large plans. The workbench always asks for them. And one in which a time
+# is left out that the workbench chooses.
 OF_STANDARD_SIZE = """
-a-plan-longer-than-a-file-may-be plan-limits:3 plan-limits:5 plan-limits:6 plan-limits:7 plan-limits:8 usage:12 usage:43
+a-plan-longer-than-a-file-may-be plan-limits:3 plan-limits:5 plan-limits:6 plan-limits:7 plan-limits:8 usage:12 usage:39 usage:43
 """.split()
 
 
@@ -59,7 +60,6 @@ def test_every_case_is_as_stored(tmp_path: Path) -> None:
         ["study", "ring/plan.toml", "ring/events.csv", "100"],
         ["study", "ring/plan.toml", "nosuch.csv", "100"],
         ["study", "ring/plan.toml", "ring/events.csv", "1e2"],
-        ["study", "ring/plan.toml", "ring/events.csv"],
         ["decode", "III", "lab/frames"],
         ["decode", "II", "lab/frames"],
         ["pcap-decode", "I", "lab/frames"],

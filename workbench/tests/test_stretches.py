@@ -204,3 +204,8 @@ def test_a_part_has_more_of_many_cases(total: int, size: int) -> None:
 @pytest.mark.parametrize(("total", "parts"), [(160_001, 16), (200_000, 16), (320_000, 16), (320_001, 24)])
 def test_processors_have_as_many_parts_as_others(total: int, parts: int) -> None:
     assert -(-total // portions.usual(total)) == parts
+
+
+def test_parts_beside_a_large_plan_are_small() -> None:
+    assert portions.usual(200_000, portions.LARGE) == portions.usual(200_000) > portions.LEAST
+    assert portions.usual(200_000, portions.LARGE + 1) == portions.usual(10, 100_000) == portions.LEAST

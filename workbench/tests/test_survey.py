@@ -56,17 +56,22 @@ def test_a_table_has_the_rows_of_its_failures(double: Double, capfd: pytest.Capt
     # (the second one found all parts of the first)
     assert len(double.calls()) == 5
     Path("works.csv").write_text("at,what,target,value\n5,lockout,L1>B,\n700000,unlock,L1>B,\n")
-    ran = surveyed(capfd, PLAN, *EACH, "--during", "works.csv", "--until", "1900s", "--size", "5", "-o", "2.csv")
+    during = ["--during", "works.csv", "--at", "10m"]
+    ran = surveyed(capfd, PLAN, *EACH, *during, "--until", "1900s", "--size", "5", "-o", "2.csv")
     assert (ran.status, rows_in("2.csv"), len(double.calls())) == (0, wanted, 5)
     assert "0 cases worked up to 1900000, 21 were worked before" in ran.err
 
 
-def test_the_end_is_twenty_minutes_after_the_last_event(double: Double, capfd: pytest.CaptureFixture[str]) -> None:
+def test_the_end_is_a_bound_after_the_last_event(double: Double, capfd: pytest.CaptureFixture[str]) -> None:
     Path("cases.csv").write_text(f"{HEAD},90000,lockout,L1>B,\na,7,down,L1,\nb,3,down,L2,\nb,61000,up,L2,\n")
-    assert surveyed(capfd, PLAN, "cases.csv").status == 0
-    Path("late.csv").write_text(f"{HEAD}a,86000000,down,L1,\n")
-    assert surveyed(capfd, PLAN, "late.csv").status == 0
-    assert double.calls() == ["a b 2 1290000", "a a 1 86400000"]
+    ran = surveyed(capfd, PLAN, "cases.csv")
+    assert ran.status == 0 and b"\nthe end is chosen: 0.005 s after the last event, `bound B` of `agree`" in ran.out
+    Path("late.csv").write_text(f"{HEAD}a,86399999,down,L1,\n")
+    ran = surveyed(capfd, PLAN, "late.csv")
+    assert (
+        ran.status == 0 and b"\nthe end is chosen: 0.005 s after the last failure, `failures F` of `agree`" in ran.out
+    )
+    assert double.calls() == ["a b 2 91000", "a a 1 86400000"]
 
 
 def test_some_cases_of_a_table_and_none(double: Double, capfd: pytest.CaptureFixture[str]) -> None:
@@ -95,9 +100,9 @@ def test_the_summary_has_the_worst_first(double: Double, capfd: pytest.CaptureFi
     assert told["first"] == {name: firsts.count(name) for name in firsts}
     lines = surveyed(capfd, PLAN, *EACH, "--worst", "4", "--size", "6").out.decode().splitlines()
     at = lines.index("who has no source at the end, whatever the cause, most elements first:")
-    assert [line.split()[:3] for line in lines[at + 2 : at + 6]] == [
-        [row.case, str(row.lost), row.first] for row in worst
-    ]
+    assert lines[at + 1].split()[:6] == ["case", "lost", "needless", "beyond", "themselves", "first"]
+    shown = [line.split() for line in lines[at + 2 : at + 6]]
+    assert [[row[0], row[1], row[5]] for row in shown] == [[row.case, str(row.lost), row.first] for row in worst]
 
 
 outcomes = st.lists(st.tuples(st.integers(0, 5), st.integers(0, 2), st.booleans(), st.integers(0, 9)), max_size=40)
@@ -138,7 +143,7 @@ def test_nothing_is_worked_twice_after_a_stop(double: Double, capfd: pytest.Capt
     double.made()
     ran = surveyed(capfd, *words)
     assert (ran.status, rows_in("rows.csv")) == (0, core_double.rows_of(table_of(), UNTIL))
-    assert "9 cases worked up to 1800000, 12 were worked before" in ran.err
+    assert f"9 cases worked up to {UNTIL}, 12 were worked before" in ran.err
     calls = double.calls()
     # (that which was stopped was begun twice, and ended once)
     assert len(calls) == 11 + 1 and len(set(calls)) == 11 and calls[6] == calls[7]
@@ -189,7 +194,7 @@ def test_a_damaged_part_is_worked_again(
     parts[1].write_bytes(parts[0].read_bytes() if damage is None else damage)
     ran = surveyed(capfd, *words, "-o", "rows.csv")
     assert (ran.status, rows_in("rows.csv")) == (0, core_double.rows_of(table_of(), UNTIL))
-    assert "7 cases worked up to 1800000, 14 were worked before" in ran.err and len(double.calls()) == 4
+    assert f"7 cases worked up to {UNTIL}, 14 were worked before" in ran.err and len(double.calls()) == 4
 
 
 @pytest.mark.parametrize(

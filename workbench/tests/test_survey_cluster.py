@@ -95,7 +95,7 @@ def test_a_worker_that_is_lost_changes_no_row(double: Double, tmp_path: Path) ->
         ran = ended(process)
         assert ran.status == 0, ran.err
         assert rows_in("rows.csv") == core_double.rows_of(table_of(), UNTIL)
-        assert "21 cases worked up to 1800000, 0 were worked before" in ran.err and ran.err.count("\n") == 2
+        assert f"21 cases worked up to {UNTIL}, 0 were worked before" in ran.err and ran.err.count("\n") == 2
         # (all but what the lost worker had is worked once)
         assert len(set(double.calls())) == 21
         before = len(double.calls())

@@ -11,7 +11,7 @@ from pathlib import Path
 import core_double
 import pytest
 from conftest import EXAMPLES, TOP, murdjohe, started
-from surveys_made import EACH, INTERRUPT, PATIENCE_S, RING, Double, ended, rows_in, surveyed, table_of
+from surveys_made import EACH, INTERRUPT, PATIENCE_S, RING, UNTIL, Double, ended, rows_in, surveyed, table_of
 
 from murdjohe import case_maps, reports, tiles
 from murdjohe.case_maps import FREERUN, HOLDOVER, CaseMap
@@ -184,13 +184,15 @@ def test_a_run_that_says_otherwise_than_study_is_told(
     # (nothing is written, and the parts are kept)
     assert sorted(os.listdir()) == ["calls", "core", "murdjohe-parts", "settings.json"]
     ran = surveyed(capfd, str(RING), *EACH, "-o", "rows.csv")
-    assert (ran.status, rows_in("rows.csv")) == (0, core_double.rows_of(table_of(), "1800000"))
-    assert "0 cases worked up to 1800000, 21 were worked before" in ran.err
+    assert (ran.status, rows_in("rows.csv")) == (0, core_double.rows_of(table_of(), UNTIL))
+    assert f"0 cases worked up to {UNTIL}, 21 were worked before" in ran.err
 
 
 def test_a_stop_while_cases_are_run_again_leaves_nothing(double: Double) -> None:
     double.made(stays=PATIENCE_S)
-    process = double.started(str(RING), *EACH, "--jobs", "2", "--map", "map.svg", "-o", "rows.csv")
+    # (with an end that is given `sim` runs for the map alone)
+    words = ["--at", "10m", "--until", UNTIL, "--jobs", "2", "--map", "map.svg", "-o", "rows.csv"]
+    process = double.started(str(RING), *EACH, *words)
     end = time.monotonic() + PATIENCE_S
     while not os.path.exists("runs"):
         assert time.monotonic() < end

@@ -36,8 +36,9 @@ pub struct Cases {
 /// Rows without one come before all others, and their events are common to all cases; the rows of a
 /// case stand together. Times don't fall among the common rows, nor among those of one case. The
 /// refusal is the first broken rule: `Header`, then for each row in order `Limit` at row 100,001, or
-/// at row 5,000,001 where the plan is large, `Fields`, `Name`, `Apart`, `Time`, `Order`, `What`, `Target` or `Value`. Rows are read one after
-/// another, so a text that is wrong at its start is refused in little memory. This project's own.
+/// at row 5,000,001 where the plan is large, `Fields`, `Name`, `Apart`, `Time`, `Order`, `What`,
+/// `Target` or `Value`. Rows are read one after another, so a text that is wrong at its start is
+/// refused in little memory. This project's own.
 pub fn read_cases(alloc: Global, plan: &Plan, bytes: &[u8]) -> Result<Cases, EventErr>
     ensures exact { Gives result (cases_of plan.now bytes.now) }
     ensures common { IfOk result (λ cases. IsEventList plan.now cases.common) }

@@ -22,8 +22,9 @@ use sync_topo::{Event, Plan};
 /// an event: its millisecond up to 86,400,000 and not before that of the row before, a word for what
 /// happens, the name of what it happens to, and for `level` a level of the plan's option. The
 /// refusal is the first broken rule: `Header`, then for each row in order `Limit` at row 100,001, or
-/// at row 5,000,001 where the plan is large, `Fields`, `Time`, `Order`, `What`, `Target` or `Value`. Rows are read one after another, so a text
-/// that is wrong at its start is refused in little memory. This project's own.
+/// at row 5,000,001 where the plan is large, `Fields`, `Time`, `Order`, `What`, `Target` or `Value`.
+/// Rows are read one after another, so a text that is wrong at its start is refused in little
+/// memory. This project's own.
 pub fn read_events(alloc: Global, plan: &Plan, bytes: &[u8]) -> Result<Rows<Event>, EventErr>
     ensures exact { Gives result (events_of plan.now bytes.now) }
     ensures fits { IfOk result (All (Fits plan.now)) }

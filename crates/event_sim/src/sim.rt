@@ -118,9 +118,10 @@ impl<'a> Sim<'a> {
     /// The events fit the plan, stand in order of time, and are later than what is reached and not
     /// later than `until`. Where changes are watched and those up to `until` are more than the plan
     /// may have, 200,000 or 10,000,000 where it is large, it answers `Stopped` with the last
-    /// millisecond up to which all fit, and its network stands one millisecond later. After the first step it makes no more than there are milliseconds that are
-    /// busy or are `until`, and each element makes no more than those in which it is active. `NoMemory`
-    /// comes only when out of memory, and then the simulator is spent. This project's own.
+    /// millisecond up to which all fit, and its network stands one millisecond later. After the first
+    /// step it makes no more than there are milliseconds that are busy or are `until`, and each element
+    /// makes no more than those in which it is active. `NoMemory` comes only when out of memory, and
+    /// then the simulator is spent. This project's own.
     pub fn advance<L: Ledger>(
         &mut self,
         events: &[Event],

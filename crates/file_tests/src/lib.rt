@@ -14,6 +14,8 @@ mod pcap_file_tests;
 #[cfg(test)]
 mod plan_file_tests;
 #[cfg(test)]
+mod plan_lines_tests;
+#[cfg(test)]
 mod rank_cert_tests;
 #[cfg(test)]
 mod sync_edge_tests;

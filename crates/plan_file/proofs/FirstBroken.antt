@@ -6,12 +6,12 @@ use Rattle.toml.specs.Data.{Data, table, Members}
 use Rattle.sync_topo.specs.declared.place.Section.{Section}
 use Rattle.sync_topo.specs.declared.place.Section.TheVariants.{Head, Elements, Links, Sources}
 use Rattle.sync_topo.specs.declared.place.Place.{Place}
-use Rattle.plan_file.specs.declared.error.PlanFileErr.{PlanFileErr}
-use Rattle.plan_file.specs.Format.{version_of}
-use Rattle.plan_file.specs.declared.version.Version.{Version}
-use Rattle.plan_file.specs.Rules.{refusal_of, entries_of, refusal_at, order_of, IsBefore, IsFirstBroken, KeepsRules}
-use Rattle.plan_file.specs.Rows.{first_from, first_in}
-use Rattle.plan_file.specs.private.Rows.{first_refusal}
+use Rattle.plan_rows.specs.declared.error.PlanFileErr.{PlanFileErr}
+use Rattle.plan_rows.specs.Format.{version_of}
+use Rattle.plan_rows.specs.declared.version.Version.{Version}
+use Rattle.plan_rows.specs.Rules.{refusal_of, entries_of, refusal_at, order_of, IsBefore, IsFirstBroken, KeepsRules}
+use Rattle.plan_rows.specs.Rows.{first_from, first_in}
+use Rattle.plan_rows.specs.private.Rows.{first_refusal}
 
 abbrev pub at : Section → ℕ → Place
 at section row = record { section = section; row = row }

@@ -1,6 +1,3 @@
-pub mod ValueFacts
-pub mod EntryFacts
-pub mod RowsSoFar
 pub mod FirstBroken
 pub mod PlanLaws
 pub mod NameText

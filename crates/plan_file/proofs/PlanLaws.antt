@@ -9,16 +9,16 @@ use Rattle.sync_topo.specs.declared.rows.PlanRows.{PlanRows}
 use Rattle.sync_topo.specs.declared.sizes.Size.{Size}
 use Rattle.sync_topo.specs.PlanRows.{plan_of_sized}
 use Rattle.sync_topo.specs.Topology.{Topology}
-use Rattle.plan_file.specs.declared.error.PlanFileErr.{PlanFileErr}
-use Rattle.plan_file.specs.declared.error.PlanFileErr.TheVariants.{Syntax, Key as WrongKey, Kind as WrongKind, Plan, NoMemory}
+use Rattle.plan_rows.specs.declared.error.PlanFileErr.{PlanFileErr}
+use Rattle.plan_rows.specs.declared.error.PlanFileErr.TheVariants.{Syntax, Key as WrongKey, Kind as WrongKind, Plan, NoMemory}
 use Rattle.sync_text.specs.Chain.{◌>>=◌, found, unless}
-use Rattle.plan_file.specs.Format.{keys_of, version_of}
-use Rattle.plan_file.specs.declared.version.Version.{Version}
-use Rattle.plan_file.specs.Rules.{has_only, has_needed, keeps_kinds, refusal_of, refusal_at, value_at, IsFirstBroken, KeepsRules}
-use Rattle.plan_file.specs.Rows.{said_rows, rows_of_document}
-use Rattle.plan_file.specs.private.Rows.{first_refusal}
+use Rattle.plan_rows.specs.Format.{keys_of, version_of}
+use Rattle.plan_rows.specs.declared.version.Version.{Version}
+use Rattle.plan_rows.specs.Rules.{has_only, has_needed, keeps_kinds, refusal_of, refusal_at, value_at, IsFirstBroken, KeepsRules}
+use Rattle.plan_rows.specs.Rows.{said_rows, rows_of_document}
+use Rattle.plan_rows.specs.private.Rows.{first_refusal}
 use Rattle.plan_file.specs.PlanText.{document_of, of_rows, rows_in_file, plan_of_size, OfDocument, GivesRows}
-use Rattle.plan_file.specs.Gives.{Gives, RefusesWhere}
+use Rattle.plan_rows.specs.Gives.{Gives, RefusesWhere}
 use Rattle.plan_file.proofs.FirstBroken.{keeps, some_at, is_first}
 
 -- the place of a refusal of a table

@@ -8,11 +8,11 @@ use Rattle.std.proofs.lemmas.Option.{none-some}
 use Rattle.std.proofs.lemmas.Slice.Eq.{bytes_eq-Decides}
 use Rattle.toml.specs.Data.{Data, string, integer, float, boolean, datetime, array, table, Members, no_members, member, get, get_member}
 use Rattle.sync_topo.specs.declared.place.Section.TheVariants.{Head, Elements, Links, Sources}
-use Rattle.plan_file.specs.declared.version.Version.TheVariants.{One, Two}
-use Rattle.plan_file.specs.Format.{keys_of}
-use Rattle.plan_file.specs.Rules.{has_only, refusal_of, entries_of}
-use Rattle.plan_file.specs.Rows.{link_row, first_from, NamesNoBundle, rows_in}
-use Rattle.plan_file.proofs.RowsSoFar.{refusal-same, first_from-same}
+use Rattle.plan_rows.specs.declared.version.Version.TheVariants.{One, Two}
+use Rattle.plan_rows.specs.Format.{keys_of}
+use Rattle.plan_rows.specs.Rules.{has_only, refusal_of, entries_of}
+use Rattle.plan_rows.specs.Rows.{link_row, first_from, NamesNoBundle, rows_in}
+use Rattle.plan_rows.proofs.RowsSoFar.{refusal-same, first_from-same}
 use Rattle.plan_file.proofs.WrittenPlan.{map-pointwise}
 
 -- a table without a member of a name has none of that name first, and none among the others

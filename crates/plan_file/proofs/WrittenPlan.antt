@@ -5,7 +5,7 @@ use Rattle.std.proofs.lemmas.Bool.{true≢false}
 use Rattle.std.specs.Str.{IsUtf8}
 use Rattle.std.proofs.lemmas.Str.{is_utf8-from_IsUtf8}
 use Rattle.std.proofs.lemmas.Simd.{map-map}
-use Rattle.plan_file.proofs.ValueFacts.{data_of_items}
+use Rattle.plan_rows.proofs.ValueFacts.{data_of_items}
 use Rattle.toml.specs.Data.{Data, string, array, table, Items, Members, member, depth, items_depth, members_depth, has_valid_dates, items_have_valid_dates, members_have_valid_dates}
 use Rattle.toml.specs.View.{items_of}
 use Rattle.toml.specs.Parse.{parse_document}
@@ -25,11 +25,11 @@ use Rattle.sync_topo.specs.declared.sizes.Size.{Size}
 use Rattle.sync_topo.specs.declared.sizes.Size.TheVariants.{Standard, Large}
 use Rattle.sync_topo.specs.Sizes.{is_within}
 use Rattle.sync_topo.proofs.SizedPlans.{sized-again, well-within}
-use Rattle.plan_file.specs.declared.version.Version.{Version}
-use Rattle.plan_file.specs.declared.version.Version.TheVariants.{One, Two}
-use Rattle.plan_file.specs.Rules.{refusal_of, data_of}
-use Rattle.plan_file.specs.Rows.{element_row, link_row, source_row, network_option, said_rows, first_from, rows_of_document}
-use Rattle.plan_file.specs.private.Rows.{first_refusal}
+use Rattle.plan_rows.specs.declared.version.Version.{Version}
+use Rattle.plan_rows.specs.declared.version.Version.TheVariants.{One, Two}
+use Rattle.plan_rows.specs.Rules.{refusal_of}
+use Rattle.plan_rows.specs.Rows.{element_row, link_row, source_row, network_option, said_rows, first_from, rows_of_document}
+use Rattle.plan_rows.specs.private.Rows.{first_refusal}
 use Rattle.plan_file.specs.PlanText.{of_rows, plan_of_size}
 use Rattle.sync_topo.specs.declared.rows.PlanRows.{PlanRows}
 use Rattle.sync_topo.specs.PlanRows.{plan_of_sized}

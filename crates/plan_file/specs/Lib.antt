@@ -1,10 +1,5 @@
-pub mod Format
-pub mod Rules
-pub mod Rows
 pub mod PlanText
 pub mod IsPlanText
-pub mod Refusal
-pub mod Gives
 pub mod Writing
 pub mod Spelling
 pub mod private

@@ -8,11 +8,11 @@ use Rattle.sync_topo.specs.declared.rows.PlanRows.{PlanRows}
 use Rattle.sync_topo.specs.declared.sizes.Size.{Size}
 use Rattle.sync_topo.specs.PlanRows.{plan_of_sized}
 use Rattle.sync_topo.specs.Topology.{Topology}
-use Rattle.plan_file.specs.declared.error.PlanFileErr.{PlanFileErr}
-use Rattle.plan_file.specs.declared.error.PlanFileErr.TheVariants.{Syntax, Plan}
+use Rattle.plan_rows.specs.declared.error.PlanFileErr.{PlanFileErr}
+use Rattle.plan_rows.specs.declared.error.PlanFileErr.TheVariants.{Syntax, Plan}
 use Rattle.sync_text.specs.Chain.{◌>>=◌, found}
-use Rattle.plan_file.specs.Rules.{KeepsRules}
-use Rattle.plan_file.specs.Rows.{said_rows, rows_of_document}
+use Rattle.plan_rows.specs.Rules.{KeepsRules}
+use Rattle.plan_rows.specs.Rows.{said_rows, rows_of_document}
 
 -- the TOML document that the bytes are. After TOML 1.1
 abbrev pub document_of : List ℕ → Option Members

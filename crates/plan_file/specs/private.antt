@@ -1,7 +1,3 @@
 -- What no public clause rests on: who reads contracts alone need not read it.
 pub mod Examples
-pub mod Gives
-pub mod Rows
-pub mod Slots
-pub mod Values
 pub mod Writing

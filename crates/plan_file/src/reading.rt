@@ -6,18 +6,18 @@ ghost use Rattle.sync_topo.specs.declared.error.PlanErr.{PlanErr};
 ghost use Rattle.sync_topo.specs.declared.error.PlanErr.TheVariants as rows;
 ghost use Rattle.sync_topo.specs.declared.place.Place.{Place};
 ghost use Rattle.sync_topo.specs.WellFormed.{IsWellFormed};
-ghost use Rattle.plan_file.specs.declared.error.PlanFileErr.TheVariants as refusal;
+ghost use Rattle.plan_rows.specs.declared.error.PlanFileErr.TheVariants as refusal;
 ghost use Rattle.toml.specs.Data.{Members};
-ghost use Rattle.plan_file.specs.declared.version.Version.TheVariants.{One, Two};
-ghost use Rattle.plan_file.specs.Rows.{NamesNoBundle, rows_in};
+ghost use Rattle.plan_rows.specs.declared.version.Version.TheVariants.{One, Two};
+ghost use Rattle.plan_rows.specs.Rows.{NamesNoBundle, rows_in};
 ghost use Rattle.sync_text.specs.Chain.{found};
-ghost use Rattle.plan_file.specs.Rules.{IsFirstBroken};
+ghost use Rattle.plan_rows.specs.Rules.{IsFirstBroken};
 ghost use Rattle.plan_file.specs.PlanText.{document_of, rows_in_file, plan_of_size, OfDocument, GivesRows};
-ghost use Rattle.plan_file.specs.Gives.{Gives, RefusesWhere};
-ghost use Rattle.plan_file.specs.private.Gives.{GivesBy};
+ghost use Rattle.plan_rows.specs.Gives.{Gives, RefusesWhere};
+ghost use Rattle.plan_rows.specs.private.Gives.{GivesBy};
 
-use crate::error::PlanFileErr;
-use crate::rows::rows_of;
+use plan_lines::{Stop, plain_rows};
+use plan_rows::{PlanFileErr, rows_of};
 use std::alloc::Global;
 use sync_topo::{Plan, PlanRows, Size};
 use toml::Table;
@@ -64,8 +64,30 @@ fn plan_in(alloc: Global, bytes: &[u8], size: Size) -> Result<Plan, PlanFileErr>
     Ok(Plan::sized(alloc, size, rows)?)
 }
 
-/// The rows that a file says. Its document is used up before a plan is made of them.
+/// The rows that a file says: those of its lines where they are plain, and else those of its document,
+/// which tells what is refused, and where.
 fn rows_in(alloc: Global, bytes: &[u8]) -> Result<PlanRows, PlanFileErr>
+    ensures { Gives result (rows_in_file bytes.now) }
+{
+    match rows_of_lines(alloc, bytes) {
+        Ok(rows) => Ok(rows),
+        Err(Stop::NoMemory) => Err(PlanFileErr::NoMemory),
+        Err(Stop::NotPlain) => rows_by_document(alloc, bytes),
+    }
+}
+
+/// The rows of plain lines.
+fn rows_of_lines(alloc: Global, bytes: &[u8]) -> Result<PlanRows, Stop>
+    ensures { IfOk result (λ rows. rows_in_file bytes.now ≡ Ok rows) }
+{
+    match std::str::from_utf8(bytes) {
+        Ok(text) => plain_rows(alloc, text),
+        Err(_) => Err(Stop::NotPlain),
+    }
+}
+
+/// The rows of a document, which is used up before a plan is made of them.
+fn rows_by_document(alloc: Global, bytes: &[u8]) -> Result<PlanRows, PlanFileErr>
     ensures { Gives result (rows_in_file bytes.now) }
 {
     let document = document_of(alloc, bytes)?;

@@ -11,11 +11,11 @@ use Rattle.sync_topo.specs.Lines.{receiver_of, IsNominated}
 use Rattle.sync_topo.specs.Bundles.{is_same_bundle, bundle_name, lowest_of_bundle, bundle_of, line_bundle}
 use Rattle.reach_rules.specs.declared.failure.Failure.{Failure}
 use Rattle.reach_rules.specs.declared.failure.Failure.TheVariants as fails
-use Rattle.reach_rules.specs.Protection.{is_first_of_bundle, IsFailureOf}
+use Rattle.reach_rules.specs.Protection.{is_first_of_bundle}
 use Rattle.nominate.specs.Nomination.{with_priorities, plan_with}
 use Rattle.nominate.proofs.PlanFacts.{with-long, with-get}
 use Rattle.protection.specs.declared.gap.Gap.{Gap}
-use Rattle.protection.specs.Gaps.{IsGapIn}
+use Rattle.protection.specs.Gaps.{IsNamed, IsGapIn}
 use Rattle.protection.specs.Orderly.{IsOfTwoBundles, IsFound}
 use Rattle.protection.specs.private.Trying.{bundle_at}
 
@@ -55,12 +55,13 @@ first-same plan f link =
     ∙ ap (λ (bundle : ℕ). is_some (bundle_name plan.links link) && nat_eq bundle link) (bundle-same plan f link)
 
 -- its failures are the plan's
-failure-same : (plan : Topology) (f : ℕ → ℕ) (failure : Failure) → IsFailureOf (plan_with plan f) failure → IsFailureOf plan failure
+failure-same : (plan : Topology) (f : ℕ → ℕ) (failure : Failure) → IsNamed (plan_with plan f) failure → IsNamed plan failure
 failure-same plan f fails.Nothing is = is
 failure-same plan f (fails.Link link) is = subst (λ n. link < n) (with-long f 0 plan.links) is
 failure-same plan f (fails.Bundle link) is = (subst (λ n. link < n) (with-long f 0 plan.links) is.0, sym (first-same plan f link) ∙ is.1)
 failure-same plan f (fails.Source source) is = is
 failure-same plan f (fails.Element element) is = is
+failure-same plan f (fails.Group group) is = is
 
 gap-in : (plan found : Topology) (gap : Gap) → IsFound plan found → IsGapIn found gap → IsGapIn plan gap
 gap-in plan found gap is within =

@@ -5,7 +5,7 @@ use reach_rules::Failure;
 /// A failure after which some element is in reach of a clock and not served.
 ///
 /// This project's own.
-#[derive(Clone, Copy, Debug, PartialEq, Eq, Drop)]
+#[derive(Debug, Drop)]
 pub struct Gap {
     /// The failure.
     pub failure: Failure,

@@ -6,6 +6,8 @@
 //! failures take away, who is in reach and who is served stands in reach_rules (`Protection`), the
 //! rows in `Gaps`.
 //!
+//! [`protected_with`] looks at groups of parts too, each after all of them fail together.
+//!
 //! For each failure one search over nominated lines finds those who are served, and one look at all
 //! lines tells whether anybody is cut off; only then a second search finds those who are in reach.
 //! Marks and lists are made once.
@@ -23,6 +25,7 @@ mod gone;
 mod guarding;
 mod marks;
 mod orderly;
+mod parts;
 mod protecting;
 mod serving;
 mod tally;
@@ -30,5 +33,5 @@ mod ways;
 
 pub use gap::Gap;
 pub use guarding::{Protected, protect};
-pub use protecting::protected;
-pub use reach_rules::Failure;
+pub use protecting::{protected, protected_with};
+pub use reach_rules::{Failure, Group};

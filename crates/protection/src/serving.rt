@@ -5,6 +5,7 @@ ghost use Rattle.reach_rules.specs.declared.failure.Failure.TheVariants as fails
 ghost use Rattle.reach_rules.specs.Protection.{IsProtectedFrom};
 
 use crate::closed::is_closed;
+use crate::gone::Gone;
 use crate::marks::Marks;
 use crate::ways::Ways;
 use reach_rules::Failure;
@@ -17,7 +18,8 @@ pub(crate) fn serves_all(alloc: Global, plan: &Plan) -> Result<bool, NoMemory>
     ensures { IfOk result (λ serves. IsTrue serves → IsProtectedFrom plan.now fails.Nothing) }
 {
     let outputs = all_lines_out(alloc, plan)?;
+    let nothing = Gone::new(alloc, plan, Failure::Nothing)?;
     let mut served = Marks::new(alloc, plan)?;
-    served.find(plan, outputs.as_slice(), Ways::Nominated, Failure::Nothing)?;
-    Ok(is_closed(plan, Failure::Nothing, served.marked.as_slice()))
+    served.find(plan, outputs.as_slice(), Ways::Nominated, &nothing)?;
+    Ok(is_closed(plan, &nothing, served.marked.as_slice()))
 }

@@ -14,7 +14,8 @@ use sync_topo::{InputId, LineId, Plan};
 /// The text of a certificate: the header `line,rank`, and a row for each nominated line, in order
 /// of line number.
 ///
-/// It is read back as the same certificate, and has at most 10 bytes and 174 for each link. This project's own.
+/// It is read back as the same certificate, and has at most 10 bytes and 174 for each link. This
+/// project's own.
 pub fn write_cert(alloc: Global, plan: &Plan, cert: &Cert) -> Result<Text, NoMemory>
     requires ranked { IsRanked plan.now cert.now }
     requires no_other { RanksNoOther plan.now cert.now }

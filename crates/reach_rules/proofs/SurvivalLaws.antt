@@ -1,6 +1,6 @@
--- A plan that is protected and agrees survives each single failure: who is in reach is timed, and the one that is gone is timed too or takes nothing.
+-- A plan that is protected and agrees survives each failure: who is in reach is timed, and who is gone is timed too or takes nothing.
 use Rattle.std.proofs.Common.{◌≡◌, ◌≤◌, ◌<◌, ◌+◌, ◌⊎◌, ℕ, suc, Bool, true, false, ◌&&◌, List, [], ◌∷◌, length, Option, None, Some, IsSome, refl, ap, sym, subst, ◌∙◌, inl, inr, arith}
-use Rattle.std.specs.Prelude.{if◌then◌else◌, IsNone}
+use Rattle.std.specs.Prelude.{if◌then◌else◌, IsNone, nat_eq}
 use Rattle.std.specs.Option.{option_map_or}
 use Rattle.std.proofs.lemmas.Bool.{true≢false, eqb-true}
 use Rattle.std.proofs.lemmas.Option.{none-some, slice_get_cases}
@@ -13,7 +13,8 @@ use Rattle.sync_topo.specs.declared.input.InputId.{InputId}
 use Rattle.sync_topo.specs.declared.input.InputId.TheVariants.{Line, Source}
 use Rattle.sync_topo.specs.Topology.{Topology}
 use Rattle.sync_topo.specs.WellFormed.{IsWellFormed}
-use Rattle.sync_topo.specs.Lines.{line_input, sender_of, receiver_of, ends_at_b, inputs_of}
+use Rattle.sync_topo.specs.Lines.{line_input, sender_of, receiver_of, ends_at_b, inputs_of, IsNominated}
+use Rattle.sync_topo.proofs.LineLaws.{IsNominated-within}
 use Rattle.net_rules.specs.Inputs.{IsInputOf}
 use Rattle.net_rules.specs.Signals.{Signals, up_at, esmc_at, planned_level, signals_by}
 use Rattle.net_rules.specs.History.{Levels, settings_of, heard, input_level, taken_at, level_at, out_at, Obeys}
@@ -32,13 +33,14 @@ use Rattle.net_rules.proofs.RunOutLaws.{RunsOut}
 use Rattle.net_rules.proofs.WaitLaws.{up-from, speaks-from, good-up}
 use Rattle.reach_rules.specs.declared.failure.Failure.{Failure}
 use Rattle.reach_rules.specs.declared.failure.Failure.TheVariants as fails
+use Rattle.reach_rules.specs.declared.group.Group.{Group}
 use Rattle.reach_rules.specs.Ways.{IsReached}
 use Rattle.reach_rules.specs.Reaching.{says_at, MayComeIn, IsNoWorse, AreOwnWorse}
-use Rattle.reach_rules.specs.Protection.{is_input_gone, is_element_gone, IsServing, IsServed, IsInReach, IsProtectedFrom, IsProtected, AreWithoutCommands}
+use Rattle.reach_rules.specs.Protection.{is_input_gone, is_element_gone, IsServing, IsServed, IsInReach, IsProtectedFrom, IsProtected, IsProtectedWith, AreWithoutCommands}
 use Rattle.reach_rules.specs.Agreement.{IsAgreedBound, AreAuto, IsTimed, IsSteadyAt}
-use Rattle.reach_rules.specs.Survival.{AreOfFailure, IsClockSource, AreClocksBetter, IsIdle, AreOthersInReach, IsSurvivedFrom, SurvivesOne, Survives}
+use Rattle.reach_rules.specs.Survival.{AreOfFailure, IsClockSource, AreClocksBetter, IsIdle, AreOthersInReach, AreGoneApart, IsSurvivedFrom, SurvivesOne, Survives, SurvivesWith}
 use Rattle.reach_rules.proofs.AgreedLaws.{Rests, agreed-rests, start, starts-in-time, no-worse, takes-some, steady-next, steady-from-bound, settled-where, best-where}
-use Rattle.reach_rules.specs.Failing.{is_planned, IsFailureBound, SurvivesSoon, SurvivesEachSoon}
+use Rattle.reach_rules.specs.Failing.{is_planned, IsFailureBound, SurvivesSoon, SurvivesEachSoon, SurvivesSoonWith}
 use Rattle.reach_rules.proofs.FailingLaws.{failed-rests, planned-told}
 use Rattle.reach_rules.proofs.FailureLaws.{kept-up, esmc-on, level-planned, no-command, no-levels}
 use Rattle.reach_rules.proofs.ProtectionLaws.{no-commands, always-off, free-without, stands-among, way-source, floor-lets}
@@ -118,14 +120,6 @@ open-or-idle plan events t element = elim (has-open plan events t element (input
   | inr none ↦ inr (each-input (λ input. says_at (signals_by plan events) input t ≡ false) plan element none)
 ]
 
--- no two elements are gone
-one-gone : (failure : Failure) (one other : ℕ) → is_element_gone failure one ≡ true → is_element_gone failure other ≡ true → one ≡ other
-one-gone (fails.Element gone) one other here there = eqb-true one gone here ∙ sym (eqb-true other gone there)
-one-gone fails.Nothing one other here there = cc
-one-gone (fails.Link link) one other here there = cc
-one-gone (fails.Bundle link) one other here there = cc
-one-gone (fails.Source source) one other here there = cc
-
 -- a line ends elsewhere than where it begins
 ends-apart : (plan : Topology) (line : ℕ) → HasLink plan line → sender_of plan line ≡ receiver_of plan line → ⊥
 ends-apart plan line has same =
@@ -137,6 +131,34 @@ ends-apart plan line has same =
     of : (b : Bool) → (if b then has.link.a else has.link.b) ≡ (if b then has.link.b else has.link.a) → ⊥
     of true joined = has.joins.apart joined
     of false joined = has.joins.apart (sym joined)
+
+-- so a line into an element that is gone begins at one that isn't: there is one alone, or the line says nothing
+apart-sender : (plan : Topology) (failure : Failure) (events : List Event) (t line : ℕ) → IsWellFormed plan → AreGoneApart plan failure (signals_by plan events) t
+    → IsNominated plan line → says_at (signals_by plan events) (line_input line) t ≡ true → is_element_gone failure (receiver_of plan line) ≡ true
+    → is_element_gone failure (sender_of plan line) ≡ false
+apart-sender plan (fails.Group group) events t line well apart nominated says gone = apart line nominated says gone
+apart-sender plan (fails.Element element) events t line well apart nominated says gone = by (nat_eq (sender_of plan line) element) refl
+  where
+    by : (b : Bool) → nat_eq (sender_of plan line) element ≡ b → nat_eq (sender_of plan line) element ≡ false
+    by false kept = kept
+    by true too =
+        absurd (ends-apart plan line (line-link plan line well (IsNominated-within plan line nominated))
+        (eqb-true (sender_of plan line) element too ∙ sym (eqb-true (receiver_of plan line) element gone)))
+apart-sender plan fails.Nothing events t line well apart nominated says gone = cc
+apart-sender plan (fails.Link link) events t line well apart nominated says gone = cc
+apart-sender plan (fails.Bundle link) events t line well apart nominated says gone = cc
+apart-sender plan (fails.Source source) events t line well apart nominated says gone = cc
+
+-- elements that are apart by the end are so after the last event
+apart-earlier : (plan : Topology) (failure : Failure) (signals : Signals) (t u : ℕ)
+    → ((line : ℕ) → says_at signals (line_input line) u ≡ says_at signals (line_input line) t) → AreGoneApart plan failure signals u
+    → AreGoneApart plan failure signals t
+apart-earlier plan (fails.Group group) signals t u same apart = λ line nominated says gone. apart line nominated (same line ∙ says) gone
+apart-earlier plan fails.Nothing signals t u same apart = tt
+apart-earlier plan (fails.Link link) signals t u same apart = tt
+apart-earlier plan (fails.Bundle link) signals t u same apart = tt
+apart-earlier plan (fails.Source source) signals t u same apart = tt
+apart-earlier plan (fails.Element element) signals t u same apart = tt
 
 -- a level that is better than every own clock is better than do-not-use, since own clocks are
 clock-above : (plan : Topology) (source element : ℕ) → IsWellFormed plan → IsInputOf plan element (Source source) → AreOwnWorse plan (planned_level plan source)
@@ -224,22 +246,13 @@ module _ (plan : Topology) (failure : Failure) (events : List Event) (worst : Le
       way-source plan (MayComeIn plan signals out (signals.source_level timed.source last) last) timed.source timed.lines element timed.reaches.way in
       subst (λ l. IsNoWorse l worst) (sym (level-is timed.source)) (better.least timed.source from.1.of.nominated)
 
-  -- where all others are in reach, the element that is gone is timed over an input that is still up, or idle
-  module _ (others : AreOthersInReach plan failure) (protected : IsProtectedFrom plan failure) where
-    kept-sender : (element line : ℕ) → is_element_gone failure element ≡ true → IsInputOf plan element (line_input line)
-        → is_element_gone failure (sender_of plan line) ≡ false
-    kept-sender element line gone of = by (is_element_gone failure (sender_of plan line)) refl
-      where
-        by : (b : Bool) → is_element_gone failure (sender_of plan line) ≡ b → is_element_gone failure (sender_of plan line) ≡ false
-        by false kept = kept
-        by true too =
-            absurd (ends-apart plan line (line-link plan line well of.has) (one-gone failure (sender_of plan line) element too gone ∙ sym of.of_element))
-
+  -- where all others are in reach, and those that are gone apart, each of these is timed over an input that still says something, or idle
+  module _ (others : AreOthersInReach plan failure) (apart : AreGoneApart plan failure (signals_by plan events) last) (protected : IsProtectedFrom plan failure) where
     gone-timed : (element : ℕ) (input : InputId) → is_element_gone failure element ≡ true → IsOpen plan events last element input
         → IsTimed plan signals out last element
     gone-timed element (Source source) gone is_open = timed-by source [] element is_open
     gone-timed element (Line line) gone is_open =
-        let kept = kept-sender element line.0 gone is_open.of in
+        let kept = apart-sender plan failure events last line.0 well apart is_open.of.nominated is_open.says (ap (is_element_gone failure) is_open.of.of_element ∙ gone) in
         let served = protected (sender_of plan line.0) (others (sender_of plan line.0) (sender-within plan well line.0 is_open.of.has) kept) in
         timed-by served.0 (line.0 ∷ served.1) element
         (is_open, ways-map plan (IsServing plan failure) (IsOpen plan events last) serving-open served.0 served.1 (sender_of plan line.0) served.2)
@@ -291,12 +304,17 @@ module _ (plan : Topology) (bound : ℕ) (well : IsWellFormed plan) (failure : F
         timed-worst plan failure events worst well of_failure better out last element here,
       )
 
-  settles : AreOthersInReach plan failure → (t : ℕ) → last + bound ≤ t → IsSettled plan told out t
-  settles others = settled-where plan told out last bound rests well obeys auto steady
+  settles : AreOthersInReach plan failure → AreGoneApart plan failure told (last + bound) → (t : ℕ) → last + bound ≤ t → IsSettled plan told out t
+  settles others apart = settled-where plan told out last bound rests well obeys auto steady
     where
+      apart_before : AreGoneApart plan failure told last
+      apart_before =
+          apart-earlier plan failure told last (last + bound)
+          (λ line. speaks-from plan told out last rests.wait rests.delay rests.by.runs_out (IsDelayed-well plan well) obeys line (last + bound) (omega arith)) apart
+
       steady : (element : ℕ) → element < length plan.elements → (t : ℕ) → start plan told out last bound rests well obeys auto ≤ t
           → IsSteadyAt plan told out t (suc t) element
-      steady element within t after = elim (timed-or-idle plan failure events worst well of_failure better out last others protected element within) [
+      steady element within t after = elim (timed-or-idle plan failure events worst well of_failure better out last others apart_before protected element within) [
         | inl here ↦ steady-next plan told out last bound rests well obeys auto element here t after
         | inr idle ↦
             idle-steady plan told out last rests.wait rests.delay rests.by.runs_out (IsDelayed-well plan well) obeys element idle t
@@ -309,7 +327,8 @@ module _ (plan : Topology) (bound : ℕ) (well : IsWellFormed plan) (failure : F
     steady = λ element t reach after. steady-from-bound plan told out last bound rests well obeys auto element (timed element reach) t after;
     no_worse = no-worse-here;
     settled = settles;
-    best = λ others element t reach after. best-where plan told out last bound rests well obeys auto t element after (settles others t after) (timed element reach);
+    best = λ others apart element t reach after.
+        best-where plan told out last bound rests well obeys auto t element after (settles others apart t after) (timed element reach);
   }
 
 pub survives-one : (plan : Topology) (bound : ℕ) (failure : Failure) → IsWellFormed plan → IsAgreedBound plan bound → IsProtectedFrom plan failure
@@ -320,6 +339,10 @@ survives-one plan bound failure well is protected worst better events fits of_fa
 
 pub survives-each : (plan : Topology) (bound : ℕ) → IsWellFormed plan → IsAgreedBound plan bound → IsProtected plan → Survives plan bound
 survives-each plan bound well is protected failure of = survives-one plan bound failure well is (protected failure of)
+
+pub survives-with : (plan : Topology) (bound : ℕ) (groups : List Group) → IsWellFormed plan → IsAgreedBound plan bound → IsProtectedWith plan groups
+    → SurvivesWith plan bound groups
+survives-with plan bound groups well is protected failure of = survives-one plan bound failure well is (protected failure of)
 
 -- by the bound an element none of whose inputs says anything takes nothing
 pub idle-from-bound : (plan : Topology) (signals : Signals) (out : Levels) (last bound element t : ℕ) → IsWellFormed plan → Obeys plan signals out
@@ -341,3 +364,7 @@ survives-soon plan bound failure well is protected worst better events fits of_f
 
 pub survives-each_soon : (plan : Topology) (bound : ℕ) → IsWellFormed plan → IsFailureBound (is_planned plan) plan bound → IsProtected plan → SurvivesEachSoon plan bound
 survives-each_soon plan bound well is protected failure of = survives-soon plan bound failure well is (protected failure of)
+
+pub survives-soon_with : (plan : Topology) (bound : ℕ) (groups : List Group) → IsWellFormed plan → IsFailureBound (is_planned plan) plan bound
+    → IsProtectedWith plan groups → SurvivesSoonWith plan bound groups
+survives-soon_with plan bound groups well is protected failure of = survives-soon plan bound failure well is (protected failure of)

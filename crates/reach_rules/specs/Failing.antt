@@ -17,7 +17,8 @@ use Rattle.net_rules.specs.History.{out_at}
 use Rattle.net_rules.specs.Settling.{IsGreatest, IsDelay}
 use Rattle.net_rules.specs.Losing.{AreLosses, IsHoldoff, IsTimeOver, IsLineTime}
 use Rattle.reach_rules.specs.declared.failure.Failure.{Failure}
-use Rattle.reach_rules.specs.Protection.{IsFailureOf}
+use Rattle.reach_rules.specs.declared.group.Group.{Group}
+use Rattle.reach_rules.specs.Protection.{IsFailureOf, IsFailureAmong}
 use Rattle.reach_rules.specs.Agreement.{IsHighCount, AreAuto, IsAtRestFrom}
 use Rattle.reach_rules.specs.Survival.{AreOfFailure, AreClocksBetter, IsSurvivedFrom}
 
@@ -106,6 +107,9 @@ SurvivesSoon plan bound failure =
     → (events : List Event) → IsEventList plan events → AreOfFailure plan failure events → (settled last : ℕ) → AreLosses plan events settled last
     → IsSurvivedFrom plan failure events worst (last + bound)
 
--- and each of its failures
+-- and each of its failures, and each of these groups
 abbrev pub SurvivesEachSoon : Topology → ℕ → Type 0
 SurvivesEachSoon plan bound = (failure : Failure) → IsFailureOf plan failure → SurvivesSoon plan bound failure
+
+abbrev pub SurvivesSoonWith : Topology → ℕ → List Group → Type 0
+SurvivesSoonWith plan bound groups = (failure : Failure) → IsFailureAmong plan groups failure → SurvivesSoon plan bound failure

@@ -1,6 +1,6 @@
--- What becomes of a network when one thing fails, and its parts go down: whoever is in reach of a clock takes an input, and by a
--- bound it has come to rest on it. This project's own.
-use Rattle.std.specs.Prelude.{◌≡◌, ◌<◌, ◌≤◌, ℕ, ◌+◌, ◌*◌, Bool, true, false, ◌&&◌, List, length, IsTrue, IsSome}
+-- What becomes of a network when one thing fails, or one group of things, and its parts go down: whoever is in reach of a clock takes
+-- an input, and by a bound it has come to rest on it. This project's own.
+use Rattle.std.specs.Prelude.{◌≡◌, ◌<◌, ◌≤◌, ℕ, ◌+◌, ◌*◌, Bool, true, false, ◌&&◌, List, length, IsTrue, IsSome, ⊤}
 use Rattle.std.specs.List.{All}
 use Rattle.sync_ql.specs.declared.levels.Level.{Level}
 use Rattle.sync_topo.specs.declared.event.Part.{Part}
@@ -12,15 +12,17 @@ use Rattle.sync_topo.specs.declared.input.InputId.{InputId}
 use Rattle.sync_topo.specs.declared.input.InputId.TheVariants.{Source}
 use Rattle.sync_topo.specs.Topology.{Topology}
 use Rattle.sync_topo.specs.Events.{IsEventList}
-use Rattle.sync_topo.specs.Lines.{is_nominated_input}
+use Rattle.sync_topo.specs.Lines.{line_input, sender_of, receiver_of, is_nominated_input, IsNominated}
 use Rattle.net_rules.specs.Inputs.{IsInputOf}
 use Rattle.net_rules.specs.Signals.{Signals, planned_level, signals_by}
 use Rattle.net_rules.specs.History.{taken_at, level_at, out_at}
 use Rattle.net_rules.specs.Settled.{IsSettled}
 use Rattle.net_rules.specs.Settling.{NoneAfter}
 use Rattle.reach_rules.specs.declared.failure.Failure.{Failure}
+use Rattle.reach_rules.specs.declared.failure.Failure.TheVariants as fails
+use Rattle.reach_rules.specs.declared.group.Group.{Group}
 use Rattle.reach_rules.specs.Reaching.{says_at, IsNotBelow, IsNoWorse, AreOwnWorse, IsBestReaching}
-use Rattle.reach_rules.specs.Protection.{is_line_gone, is_source_gone, is_element_gone, IsFailureOf, IsInReach}
+use Rattle.reach_rules.specs.Protection.{is_line_gone, is_source_gone, is_element_gone, IsFailureOf, IsFailureAmong, IsInReach}
 use Rattle.reach_rules.specs.Agreement.{IsSteadyAt}
 
 -- a failure takes a part away: a line or a source that is gone, or a link both of whose lines are
@@ -57,13 +59,21 @@ pub record AreClocksBetter (plan : Topology) (worst : Level) : Type 0 where
 abbrev pub IsIdle : Topology → Signals → ℕ → ℕ → Type 0
 IsIdle plan signals t element = (input : InputId) → IsInputOf plan element input → says_at signals input t ≡ false
 
--- each element of the plan is in reach after a failure, but the one that is gone
+-- each element of the plan is in reach after a failure, but those that are gone
 abbrev pub AreOthersInReach : Topology → Failure → Type 0
 AreOthersInReach plan failure = (element : ℕ) → element < length plan.elements → is_element_gone failure element ≡ false → IsInReach plan failure element
 
+-- no nominated line that still says something joins two elements of a group. Two that face each other so, while nothing else
+-- times them, may change for ever. Of one element nothing is asked
+abbrev pub AreGoneApart : Topology → Failure → Signals → ℕ → Type 0
+AreGoneApart plan (fails.Group group) signals t =
+    (line : ℕ) → IsNominated plan line → says_at signals (line_input line) t ≡ true
+    → is_element_gone (fails.Group group) (receiver_of plan line) ≡ true → is_element_gone (fails.Group group) (sender_of plan line) ≡ false
+AreGoneApart plan failure signals t = ⊤
+
 -- from this millisecond on each element that is in reach after the failure takes an input, the same in every millisecond, at one
--- level, which is no worse than this one. Where all others than the element that is gone are in reach, each of these
--- milliseconds is settled, and each element in reach has exactly the best of the levels that reach it
+-- level, which is no worse than this one. Where all others than those that are gone are in reach, and those are apart, each of
+-- these milliseconds is settled, and each element in reach has exactly the best of the levels that reach it
 pub record IsSurvivedFrom (plan : Topology) (failure : Failure) (events : List Event) (worst : Level) (from : ℕ) : Type 0 where
   pub takes : (element t : ℕ) → IsInReach plan failure element → from ≤ t
       → IsSome (taken_at plan (signals_by plan events) (out_at plan (signals_by plan events)) element t)
@@ -71,9 +81,9 @@ pub record IsSurvivedFrom (plan : Topology) (failure : Failure) (events : List E
       → IsSteadyAt plan (signals_by plan events) (out_at plan (signals_by plan events)) from t element
   pub no_worse : (element t : ℕ) → IsInReach plan failure element → from ≤ t
       → IsNoWorse (level_at plan (signals_by plan events) (out_at plan (signals_by plan events)) element t) worst
-  pub settled : AreOthersInReach plan failure → (t : ℕ) → from ≤ t
+  pub settled : AreOthersInReach plan failure → AreGoneApart plan failure (signals_by plan events) from → (t : ℕ) → from ≤ t
       → IsSettled plan (signals_by plan events) (out_at plan (signals_by plan events)) t
-  pub best : AreOthersInReach plan failure → (element t : ℕ) → IsInReach plan failure element → from ≤ t
+  pub best : AreOthersInReach plan failure → AreGoneApart plan failure (signals_by plan events) from → (element t : ℕ) → IsInReach plan failure element → from ≤ t
       → IsBestReaching plan (signals_by plan events) (out_at plan (signals_by plan events)) t element
       (level_at plan (signals_by plan events) (out_at plan (signals_by plan events)) element t)
 
@@ -85,6 +95,9 @@ SurvivesOne plan bound failure =
     → (events : List Event) → IsEventList plan events → AreOfFailure plan failure events → (last : ℕ) → NoneAfter events last
     → IsSurvivedFrom plan failure events worst (last + bound)
 
--- and each of its failures
+-- and each of its failures, and each of these groups
 abbrev pub Survives : Topology → ℕ → Type 0
 Survives plan bound = (failure : Failure) → IsFailureOf plan failure → SurvivesOne plan bound failure
+
+abbrev pub SurvivesWith : Topology → ℕ → List Group → Type 0
+SurvivesWith plan bound groups = (failure : Failure) → IsFailureAmong plan groups failure → SurvivesOne plan bound failure

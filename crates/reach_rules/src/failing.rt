@@ -11,10 +11,11 @@ ghost use Rattle.net_rules.specs.History.{Levels, Obeys, level_at};
 ghost use Rattle.net_rules.specs.Settled.{IsSettled};
 ghost use Rattle.net_rules.specs.Losing.{IsLosing};
 ghost use Rattle.reach_rules.specs.declared.failure.Failure.{Failure};
+ghost use Rattle.reach_rules.specs.declared.group.Group.{Group};
 ghost use Rattle.reach_rules.specs.Reaching.{IsBestReaching};
-ghost use Rattle.reach_rules.specs.Protection.{IsProtectedFrom, IsProtected};
+ghost use Rattle.reach_rules.specs.Protection.{IsProtectedFrom, IsProtected, IsProtectedWith};
 ghost use Rattle.reach_rules.specs.Agreement.{IsAgreedBound, AreAuto, IsTimed, AreTimed, IsSteadyAt};
-ghost use Rattle.reach_rules.specs.Failing.{is_planned, IsFailureBound, AreTold, RestsAfterFailures, AreLevelsKept, RestsSoon, SurvivesSoon, SurvivesEachSoon};
+ghost use Rattle.reach_rules.specs.Failing.{is_planned, IsFailureBound, AreTold, RestsAfterFailures, AreLevelsKept, RestsSoon, SurvivesSoon, SurvivesEachSoon, SurvivesSoonWith};
 
 /// The law of failures. Let a network be settled, and from then on let nothing come up and no line's
 /// ESMC go off: any parts go down, at any times. Let the levels of its sources pass a test, and let
@@ -26,8 +27,9 @@ ghost use Rattle.reach_rules.specs.Failing.{is_planned, IsFailureBound, AreTold,
 /// those of the plan's sources pass (`planned`), so that the plan rests soon (`soon`).
 ///
 /// So a plan survives each failure from which it is protected, soon after its parts went down (`one`),
-/// and a protected one every single failure (`survives`). The bound is no greater than the agreed
-/// bound (`sooner`), and a plan has one (`only`).
+/// and a protected one every single failure (`survives`) and each group of parts that fail together
+/// (`survives_with`). The bound is no greater than the agreed bound (`sooner`), and a plan has one
+/// (`only`).
 ///
 /// This project's own.
 pub fn failure_law()
@@ -61,6 +63,9 @@ pub fn failure_law()
     ensures survives { (plan : Topology) (bound : ℕ) → IsWellFormed plan →
         IsFailureBound (is_planned plan) plan bound → IsProtected plan →
         SurvivesEachSoon plan bound }
+    ensures survives_with { (plan : Topology) (bound : ℕ) (groups : List Group) →
+        IsWellFormed plan → IsFailureBound (is_planned plan) plan bound →
+        IsProtectedWith plan groups → SurvivesSoonWith plan bound groups }
     ensures sooner { (told : ℕ → Bool) (plan : Topology) (bound later : ℕ) →
         IsFailureBound told plan bound → IsAgreedBound plan later → bound ≤ later }
     ensures only { (told : ℕ → Bool) (plan : Topology) (bound other : ℕ) → IsWellFormed plan →

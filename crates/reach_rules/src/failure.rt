@@ -1,10 +1,13 @@
 // What may fail in a network.
 
+use crate::group::Group;
+
 /// What one failure takes away: nothing; a link; all links of a bundle, which goes by its first
-/// link; a source; or an element with all its links and sources.
+/// link; a source; an element with all its links and sources; or all parts of a group.
 ///
-/// Each part goes by its number in the plan. This project's own.
-#[derive(Clone, Copy, Debug, PartialEq, Eq, Drop)]
+/// Each part goes by its number in the plan. A plan has failures of every kind but groups, which are
+/// told beside it. This project's own.
+#[derive(Debug, Drop)]
 pub enum Failure {
     /// Nothing.
     Nothing,
@@ -16,4 +19,6 @@ pub enum Failure {
     Source(u32),
     /// An element, with all its links and all its sources.
     Element(u32),
+    /// All parts of a group.
+    Group(Group),
 }

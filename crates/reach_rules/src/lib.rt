@@ -14,7 +14,8 @@
 //! After a [`Failure`] an element is in reach where any way of lines that are left leads to it from
 //! a clock that remains, and served where a way of nominated ones does (`Protection`).
 //! [`protection_law`] says what those who are served have, and how one line tells that somebody is
-//! cut off who needn't be.
+//! cut off who needn't be. Beside a plan [`Group`]s of parts may be told that fail together, and each
+//! of them is a failure too.
 //!
 //! Where links are nominated at both ends a network may swing for ever. `Agreement` says when
 //! priorities agree with the ways of timing, so that it can't, and [`agree_law`] from when on it is
@@ -36,6 +37,7 @@ mod chain;
 mod chains;
 mod failing;
 mod failure;
+mod group;
 mod protecting;
 mod reaching;
 mod surviving;
@@ -45,6 +47,7 @@ pub use chain::Chain;
 pub use chains::chain_law;
 pub use failing::failure_law;
 pub use failure::Failure;
+pub use group::Group;
 pub use protecting::protection_law;
 pub use reaching::reach_law;
 pub use surviving::survival_law;

@@ -2,7 +2,7 @@
 //!
 //! The function does nothing: its contract is the law. This project's own.
 
-ghost use Rattle.std.specs.Prelude.{◌≡◌, ◌<◌, ℕ, true, length};
+ghost use Rattle.std.specs.Prelude.{◌≡◌, ◌<◌, ℕ, true, List, length};
 ghost use Rattle.sync_ql.specs.declared.levels.Level.{Level};
 ghost use Rattle.sync_topo.specs.Topology.{Topology};
 ghost use Rattle.sync_topo.specs.WellFormed.{IsWellFormed};
@@ -10,8 +10,9 @@ ghost use Rattle.net_rules.specs.Signals.{Signals};
 ghost use Rattle.net_rules.specs.History.{Levels, Obeys, level_at};
 ghost use Rattle.net_rules.specs.Settled.{IsSettled};
 ghost use Rattle.reach_rules.specs.declared.failure.Failure.{Failure};
+ghost use Rattle.reach_rules.specs.declared.group.Group.{Group};
 ghost use Rattle.reach_rules.specs.Reaching.{IsNoWorse};
-ghost use Rattle.reach_rules.specs.Protection.{is_element_gone, IsServed, IsInReach, IsProtected, IsProtectedFrom, IsGapLine, IsClosed, AreOthersWell, IsFree, IsWorst, HoldsOut};
+ghost use Rattle.reach_rules.specs.Protection.{is_element_gone, IsServed, IsInReach, IsProtected, IsProtectedFrom, IsProtectedWith, IsGapLine, IsClosed, AreOthersWell, IsFree, IsWorst, HoldsOut, HoldsOutOne, HoldsOutWith};
 
 /// The law of protection. In a settled millisecond in which just the parts of one failure are
 /// silent, and nothing is locked out or forced, each element that is served after it has a level no
@@ -21,7 +22,8 @@ ghost use Rattle.reach_rules.specs.Protection.{is_element_gone, IsServed, IsInRe
 /// that leads from one to an element that isn't served shows that it isn't (`gap`). So a protected
 /// plan holds out: whatever list of events without commands it may have, in each settled
 /// millisecond in which one failure stands no element in reach has a worse level than the worst of
-/// the sources that are left (`holds`).
+/// the sources that are left (`holds`). So it is with each failure from which the plan is protected
+/// (`holds_one`), and with groups of parts that fail together (`holds_with`).
 ///
 /// This project's own.
 pub fn protection_law()
@@ -40,4 +42,8 @@ pub fn protection_law()
     ensures gap { (plan : Topology) (failure : Failure) (line : ℕ) →
         IsGapLine plan failure line → ¬ IsProtectedFrom plan failure }
     ensures holds { (plan : Topology) → IsWellFormed plan → IsProtected plan → HoldsOut plan }
+    ensures holds_one { (plan : Topology) (failure : Failure) → IsWellFormed plan →
+        IsProtectedFrom plan failure → HoldsOutOne plan failure }
+    ensures holds_with { (plan : Topology) (groups : List Group) → IsWellFormed plan →
+        IsProtectedWith plan groups → HoldsOutWith plan groups }
 {}

@@ -11,9 +11,10 @@ ghost use Rattle.net_rules.specs.Signals.{Signals, signals_by};
 ghost use Rattle.net_rules.specs.History.{Levels, Obeys, taken_at};
 ghost use Rattle.net_rules.specs.Staying.{IsQuietAfter};
 ghost use Rattle.reach_rules.specs.declared.failure.Failure.{Failure};
-ghost use Rattle.reach_rules.specs.Protection.{IsServed, IsProtectedFrom, IsProtected, AreWithoutCommands};
+ghost use Rattle.reach_rules.specs.declared.group.Group.{Group};
+ghost use Rattle.reach_rules.specs.Protection.{IsServed, IsProtectedFrom, IsProtected, IsProtectedWith, AreWithoutCommands};
 ghost use Rattle.reach_rules.specs.Agreement.{IsAgreedBound, AreAuto, IsTimed};
-ghost use Rattle.reach_rules.specs.Survival.{AreOfFailure, AreClocksBetter, IsIdle, SurvivesOne, Survives};
+ghost use Rattle.reach_rules.specs.Survival.{AreOfFailure, AreClocksBetter, IsIdle, SurvivesOne, Survives, SurvivesWith};
 
 /// The law of survival. Where the levels of all nominated sources are better than do-not-use and
 /// than every own clock, no floor is better than the worst of them, and nothing happens but that
@@ -22,11 +23,13 @@ ghost use Rattle.reach_rules.specs.Survival.{AreOfFailure, AreClocksBetter, IsId
 /// none of whose inputs is up takes nothing from the bound on (`idle`).
 ///
 /// So a plan with an agreed bound survives each failure from which it is protected (`one`), and a
-/// protected one every single failure (`survives`): from the bound on, each element that is in
-/// reach takes an input, the same in every millisecond, at one level that is no worse than that of
-/// the worst source; and where all others than the element that is gone are in reach, each of these
-/// milliseconds is settled, and each element in reach has exactly the best of the levels that reach
-/// it. Two failures at once are no matter of it, nor is an element that is out of reach.
+/// protected one every single failure (`survives`) and each group of parts that fail together
+/// (`survives_with`): from the bound on, each element that is in reach takes an input, the same in
+/// every millisecond, at one level that is no worse than that of the worst source; and where all
+/// others than the elements that are gone are in reach, and no nominated line that still says
+/// something joins two of those, each of these milliseconds is settled, and each element in reach
+/// has exactly the best of the levels that reach it. Two failures at once are no matter of it but in
+/// a group, nor is an element that is out of reach.
 ///
 /// This project's own.
 pub fn survival_law()
@@ -45,4 +48,7 @@ pub fn survival_law()
         SurvivesOne plan bound failure }
     ensures survives { (plan : Topology) (bound : ℕ) → IsWellFormed plan →
         IsAgreedBound plan bound → IsProtected plan → Survives plan bound }
+    ensures survives_with { (plan : Topology) (bound : ℕ) (groups : List Group) →
+        IsWellFormed plan → IsAgreedBound plan bound → IsProtectedWith plan groups →
+        SurvivesWith plan bound groups }
 {}

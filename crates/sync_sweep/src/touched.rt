@@ -18,8 +18,11 @@ use sync_topo::{Event, LineId, Part, Plan, What};
 /// Which elements, lines and sources were touched: evaluated, called or switched, and named.
 #[derive(Debug, Drop)]
 pub struct Touched {
+    /// The elements that a step evaluated.
     pub elements: Marks,
+    /// The lines that a step called, and those that an event named.
     pub lines: Marks,
+    /// The sources that an event named.
     pub sources: Marks,
 }
 
@@ -97,6 +100,7 @@ fn mark_link(plan: &Plan, marks: &mut Marks, link: u32)
     marks.mark(2 * link + 1);
 }
 
+/// Marks a line.
 fn mark_line(marks: &mut Marks, line: LineId)
     requires line { line.0 < length marks.old.flags }
     ensures { AreMarkedToo (λ other. nat_eq other line.0) marks.old marks.new }

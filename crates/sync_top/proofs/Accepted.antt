@@ -7,7 +7,7 @@ use Rattle.sync_edge.specs.Contents.{Contents}
 use Rattle.sync_topo.specs.Topology.{Topology}
 use Rattle.sync_topo.specs.declared.sizes.Size.{Size}
 use Rattle.sync_topo.specs.Sizes.{size_of}
-use Rattle.plan_file.specs.declared.error.PlanFileErr.{PlanFileErr}
+use Rattle.plan_rows.specs.declared.error.PlanFileErr.{PlanFileErr}
 use Rattle.plan_file.specs.PlanText.{plan_of_size}
 use Rattle.rank_cert.specs.Ranks.{Ranks}
 use Rattle.rank_cert.specs.CertificateText.{certificate_of}

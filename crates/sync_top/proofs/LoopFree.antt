@@ -13,7 +13,7 @@ use Rattle.sync_topo.specs.PlanRows.{plan_of_sized}
 use Rattle.sync_topo.specs.WellFormed.{IsWellFormed}
 use Rattle.sync_topo.proofs.SizedPlans.{sized-accepted}
 use Rattle.net_rules.proofs.FinalLaws.{loop_free}
-use Rattle.plan_file.specs.declared.error.PlanFileErr.{PlanFileErr}
+use Rattle.plan_rows.specs.declared.error.PlanFileErr.{PlanFileErr}
 use Rattle.sync_text.specs.Chain.{◌>>=◌}
 use Rattle.plan_file.specs.PlanText.{rows_in_file, of_rows, plan_of_size}
 use Rattle.rank_cert.specs.declared.error.CertErr.{CertErr}
@@ -24,7 +24,7 @@ use Rattle.sync_top.specs.declared.status.Status.TheVariants.{Done}
 use Rattle.sync_top.specs.declared.form.PlanForm.TheVariants.{Rank, Chains, Protected, Protect, Agree, Hops, Nominate, PrioRank, Sweep}
 use Rattle.sync_top.specs.declared.form.RanksForm.TheVariants.{Check, PrioCheck}
 use Rattle.sync_top.specs.declared.form.LadderForm.TheVariants.{Gen, Trial}
-use Rattle.sync_top.specs.Form.{Form, PlanName, form_of, on_plan, on_ranks, on_events, study, on_frames, on_ladder, node}
+use Rattle.sync_top.specs.Form.{Form, PlanName, form_of, on_plan, on_ranks, on_events, study, on_groups, on_frames, on_ladder, node}
 use Rattle.sync_top.specs.Reading.{End, no_file, answered, file_limit, plan_in, Answered}
 use Rattle.sync_top.specs.Forms.Check.{ranks_in, documents, IsVerdictOver}
 use Rattle.sync_top.specs.Answer.{FormAnswer, IsAnswer, MissesFile}
@@ -43,7 +43,13 @@ use Rattle.reach_rules.specs.Failing.{is_planned}
 use Rattle.reach_rules.proofs.AgreedLaws.{comes-to-rest}
 use Rattle.reach_rules.proofs.FailingLaws.{rests-soon, sooner}
 use Rattle.sync_top.specs.Forms.Protected.{IsProtectedText}
-use Rattle.reach_rules.proofs.ProtectionLaws.{protected-holds}
+use Rattle.sync_top.specs.Forms.Groups.{groups_in, plan_and_groups, IsGroupsText}
+use Rattle.reach_rules.specs.declared.group.Group.{Group}
+use Rattle.reach_rules.specs.Protection.{IsProtectedWith}
+use Rattle.group_file.specs.declared.error.GroupErr.{GroupErr}
+use Rattle.group_file.specs.GroupText.{groups_of}
+use Rattle.reach_rules.proofs.ProtectionLaws.{protected-holds, with-holds}
+use Rattle.reach_rules.proofs.SurvivalLaws.{survives-with, survives-soon_with}
 use Rattle.sync_top.specs.Forms.Chains.{IsChained}
 use Rattle.reach_rules.proofs.ChainLaws.{rows-bound}
 use Rattle.sync_topo.specs.Hops.{hops, hops_any}
@@ -95,6 +101,22 @@ ranks_never_done plan name files known said is done = there (get files name) ref
     there None absent = cc (rw absent at is)
     there (Some bytes) found = long bytes (nat_lt (file_limit (size_of plan)) (length bytes)) refl found
 
+-- nor is what ends the reading of groups
+groups_never_done : (plan : Topology) (name : List ℕ) (files : Contents) (known : Status) (said : List ℕ) → groups_in plan name files ≡ Err (answered known said) → known ≡ Done → ⊥
+groups_never_done plan name files known said is done = there (get files name) refl
+  where
+    refused : (bytes : List ℕ) (read : Result (List Group) GroupErr) → groups_of plan bytes ≡ read → get files name ≡ Some bytes → nat_lt (file_limit (size_of plan)) (length bytes) ≡ false → ⊥
+    refused bytes (Ok groups) gives found fits = cc (rw (found, fits, gives) at is)
+    refused bytes (Err error) gives found fits = cc (rw (found, fits, gives) at is, done)
+
+    long : (bytes : List ℕ) (b : Bool) → nat_lt (file_limit (size_of plan)) (length bytes) ≡ b → get files name ≡ Some bytes → ⊥
+    long bytes true over found = cc (rw (found, over) at is, done)
+    long bytes false fits found = refused bytes (groups_of plan bytes) refl found fits
+
+    there : (o : Option (List ℕ)) → get files name ≡ o → ⊥
+    there None absent = cc (rw absent at is)
+    there (Some bytes) found = long bytes (nat_lt (file_limit (size_of plan)) (length bytes)) refl found
+
 -- what was read where the answer is done, and the answer to it
 pub done-read : {A : Type 0} (Answers : A → Status → List ℕ → Type 0) (read : Result A End) (text : List ℕ)
     → ((known : Status) (said : List ℕ) → read ≡ Err (answered known said) → known ≡ Done → ⊥)
@@ -130,6 +152,7 @@ form-loop_free (Some (on_ranks Check plan name)) files text answer =
 form-loop_free (Some (on_ranks PrioCheck plan name)) files text answer = tt
 form-loop_free (Some (on_events what plan events until)) files text answer = tt
 form-loop_free (Some (study plan cases until)) files text answer = tt
+form-loop_free (Some (on_groups plan groups)) files text answer = tt
 form-loop_free (Some (on_frames what option name)) files text answer = tt
 form-loop_free (Some (on_ladder Gen n)) files text answer = tt
 form-loop_free (Some (on_ladder Trial n)) files text answer = answer.1.accepted
@@ -144,6 +167,7 @@ form-never_loops (Some (on_ranks PrioCheck plan name)) files text answer =
     (found.0, found.1, never_loops found.0 (rank_of found.2.0) found.2.1)
 form-never_loops (Some (on_events what plan events until)) files text answer = tt
 form-never_loops (Some (study plan cases until)) files text answer = tt
+form-never_loops (Some (on_groups plan groups)) files text answer = tt
 form-never_loops (Some (on_frames what option name)) files text answer = tt
 form-never_loops (Some (on_ladder what n)) files text answer = tt
 form-never_loops (Some (node plan element name until)) files text answer = tt
@@ -169,6 +193,7 @@ form-bounds (Some (on_plan (Sweep at until) plan)) files text answer = tt
 form-bounds (Some (on_ranks what plan name)) files text answer = tt
 form-bounds (Some (on_events what plan events until)) files text answer = tt
 form-bounds (Some (study plan cases until)) files text answer = tt
+form-bounds (Some (on_groups plan groups)) files text answer = tt
 form-bounds (Some (on_frames what option name)) files text answer = tt
 form-bounds (Some (on_ladder what n)) files text answer = tt
 form-bounds (Some (node plan element name until)) files text answer = tt
@@ -179,6 +204,31 @@ protected-holds_out : (name : PlanName) (text : List ℕ) (files : Contents) →
 protected-holds_out name text files answer =
     let found = done-read IsProtectedText (plan_in name files) text (never_done name files) answer in
     (found.0, found.1, protected-holds found.0 (file-well name files found.0 found.1) found.2.0)
+
+-- and with groups, a plan and groups were read, and it withstands them
+groups-hold_out : (plan_name : PlanName) (name text : List ℕ) (files : Contents)
+    → Answered (λ (read : Topology × List Group). IsGroupsText read.0 read.1) (plan_and_groups plan_name name files) Done text
+    → IsHoldingOut (Some (on_groups plan_name name)) files
+groups-hold_out plan_name name text files answer =
+    let Protects : Topology × List Group → Status → List ℕ → Type 0 = λ read. IsGroupsText read.0 read.1 in
+    let first = done-first Protects (plan_in plan_name files) (λ plan. groups_in plan name files >>= λ groups. Ok (plan, groups)) text (never_done plan_name files) answer in
+    let second = done-first Protects (groups_in first.0 name files) (λ groups. Ok (first.0, groups)) text (groups_never_done first.0 name files) first.2 in
+    let plan = first.0 in
+    let groups = second.0 in
+    let well = file-well plan_name files plan first.1 in
+    let protected : IsProtectedWith plan groups = second.2.0 in (
+      plan,
+      first.1,
+      (
+        groups,
+        second.1,
+        record {
+          holds = with-holds plan groups well protected;
+          survives = λ bound agreed. survives-with plan bound groups well agreed protected;
+          soon = λ bound failed. survives-soon_with plan bound groups well failed protected;
+        },
+      ),
+    )
 
 form-holds_out : (form : Option Form) (files : Contents) (text : List ℕ) → FormAnswer form files Done text → IsHoldingOut form files
 form-holds_out None files text answer = tt
@@ -194,6 +244,7 @@ form-holds_out (Some (on_plan (Sweep at until) plan)) files text answer = tt
 form-holds_out (Some (on_ranks what plan name)) files text answer = tt
 form-holds_out (Some (on_events what plan events until)) files text answer = tt
 form-holds_out (Some (study plan cases until)) files text answer = tt
+form-holds_out (Some (on_groups plan groups)) files text answer = groups-hold_out plan groups text files answer
 form-holds_out (Some (on_frames what option name)) files text answer = tt
 form-holds_out (Some (on_ladder what n)) files text answer = tt
 form-holds_out (Some (node plan element name until)) files text answer = tt
@@ -232,6 +283,7 @@ form-rests (Some (on_plan (Sweep at until) plan)) files text answer = tt
 form-rests (Some (on_ranks what plan name)) files text answer = tt
 form-rests (Some (on_events what plan events until)) files text answer = tt
 form-rests (Some (study plan cases until)) files text answer = tt
+form-rests (Some (on_groups plan groups)) files text answer = tt
 form-rests (Some (on_frames what option name)) files text answer = tt
 form-rests (Some (on_ladder what n)) files text answer = tt
 form-rests (Some (node plan element name until)) files text answer = tt

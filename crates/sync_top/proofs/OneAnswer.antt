@@ -32,7 +32,7 @@ use Rattle.sync_top.specs.declared.form.FramesForm.{FramesForm}
 use Rattle.sync_top.specs.declared.form.FramesForm.TheVariants.{Decode, Encode, PcapDecode, PcapEncode}
 use Rattle.sync_top.specs.declared.form.LadderForm.{LadderForm}
 use Rattle.sync_top.specs.declared.form.LadderForm.TheVariants.{Gen, Trial}
-use Rattle.sync_top.specs.Form.{Form, PlanName, form_of, on_plan, on_ranks, on_events, study, on_frames, on_ladder, node}
+use Rattle.sync_top.specs.Form.{Form, PlanName, form_of, on_plan, on_ranks, on_events, study, on_groups, on_frames, on_ladder, node}
 use Rattle.sync_top.specs.Reading.{End, no_file, answered, Answered, IsText}
 use Rattle.sync_top.specs.Forms.Rank.{IsPlanned, cycle_text}
 use Rattle.sync_top.specs.Forms.Hops.{AreHopRows, hops_text}
@@ -55,7 +55,7 @@ use Rattle.sync_top.specs.Answer.{PlanAnswer, RanksAnswer, EventsAnswer, FramesA
 use Rattle.inspection.specs.Inspection.{inspection}
 use Rattle.sync_top.proofs.OneText.{same_text}
 use Rattle.sync_top.proofs.ChainAnswers.{one_chained}
-use Rattle.sync_top.proofs.ProtectionAnswers.{one_protected}
+use Rattle.sync_top.proofs.ProtectionAnswers.{one_protected, one_protected_with}
 use Rattle.sync_top.proofs.AgreeAnswers.{one_agreed}
 use Rattle.sync_top.proofs.PriorityAnswers.{one_priority_planned, one_priority_run}
 use Rattle.sync_top.specs.Forms.Node.{accepted_rows, AreFramesSent, IsNodeReply}
@@ -235,6 +235,7 @@ module _ (one_whole : (plan : Topology) (events : List Event) (until : ℕ) (tex
     one_meaning (on_ranks what plan cert) has read = one_ranks what read.0 read.1
     one_meaning (on_events what plan events until) has read = one_events what read.0 read.1 until
     one_meaning (study plan cases until) has read = one_study read.0 read.1 until
+    one_meaning (on_groups plan groups) has read = one_protected_with read.0 read.1
     one_meaning (on_frames what option name) has read = one_frames what option read
     one_meaning (on_ladder what n) has read = one_ladder what n
     one_meaning (node plan element name until) has read = one_node read.0 read.1 read.2 until

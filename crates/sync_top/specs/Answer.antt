@@ -24,12 +24,13 @@ use Rattle.sync_top.specs.declared.form.FramesForm.TheVariants.{Decode, Encode, 
 use Rattle.sync_top.specs.declared.form.LadderForm.{LadderForm}
 use Rattle.sync_top.specs.declared.form.LadderForm.TheVariants.{Gen, Trial}
 use Rattle.sync_topo.specs.declared.sizes.Size.TheVariants.{Standard}
-use Rattle.sync_top.specs.Form.{Form, on_plan, on_ranks, on_events, study, on_frames, on_ladder, node, form_of}
+use Rattle.sync_top.specs.Form.{Form, on_plan, on_ranks, on_events, study, on_groups, on_frames, on_ladder, node, form_of}
 use Rattle.sync_top.specs.Reading.{Reading, one_file, two_files, no_files, Answered, text_line, no_file, file, plan_in}
 use Rattle.sync_top.specs.Forms.Check.{documents, IsVerdict}
 use Rattle.sync_top.specs.Forms.Rank.{IsPlanned}
 use Rattle.sync_top.specs.Forms.Chains.{IsChained}
 use Rattle.sync_top.specs.Forms.Protected.{IsProtectedText}
+use Rattle.sync_top.specs.Forms.Groups.{plan_and_groups, IsGroupsText}
 use Rattle.sync_top.specs.Forms.Protect.{IsProtectingText}
 use Rattle.sync_top.specs.Forms.Agree.{IsAgreedText}
 use Rattle.sync_top.specs.Forms.Hops.{AreHopRows}
@@ -97,6 +98,10 @@ meaning (on_events what plan events until) = record {
 meaning (study plan cases until) = record {
   reading = two_files (plan_in plan) (plan_and_cases plan cases);
   Answers = λ read. IsStudyTable read.0 read.1 until;
+}
+meaning (on_groups plan groups) = record {
+  reading = two_files (plan_in plan) (plan_and_groups plan groups);
+  Answers = λ read. IsGroupsText read.0 read.1;
 }
 meaning (on_frames what option name) = record { reading = one_file (file Standard name); Answers = FramesAnswer what option }
 meaning (on_ladder what n) = record { reading = no_files; Answers = λ _. LadderAnswer what n }

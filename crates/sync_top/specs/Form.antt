@@ -35,6 +35,8 @@ pub data Form : Type 0 where
   on_events : EventsForm → PlanName → List ℕ → ℕ → Form
   -- of the runs of a plan in many cases, up to a millisecond
   study : PlanName → List ℕ → ℕ → Form
+  -- of a plan and groups of parts that fail together: whether it is protected with them
+  on_groups : PlanName → List ℕ → Form
   -- of captured frames, or of rows
   on_frames : FramesForm → NetOption → List ℕ → Form
   -- of the ladder of so many elements
@@ -132,6 +134,10 @@ form_of_three size None (Some what) second third =
     if is_file_word third then option_map (λ option. on_frames what option third) (option_of second) else None
 form_of_three size None None second third = None
 
+-- the form `protected` with groups, if both words may name files
+abbrev pub groups_form : Size → List ℕ → List ℕ → Option Form
+groups_form size plan groups = if is_file_word plan && is_file_word groups then Some (on_groups (record { size = size; name = plan }) groups) else None
+
 -- the form `sweep`, if the word may name a file and is followed by two milliseconds up to the last one, the first of
 -- them not the later
 abbrev pub sweep_form : Size → List ℕ → List ℕ → List ℕ → Option Form
@@ -164,7 +170,9 @@ node_form size plan element name word = run_form size (λ plan name. node plan e
 -- the form of the words where plans may be of a size, if they have one
 abbrev pub form_in : Size → List (List ℕ) → Option Form
 form_in size (word ∷ second ∷ []) = form_of_two size (plan_word word) (ladder_word word) second
-form_in size (word ∷ second ∷ third ∷ []) = form_of_three size (ranks_word word) (frames_word_in size word) second third
+form_in size (word ∷ second ∷ third ∷ []) =
+    if bytes_eq word (codes "protected") then groups_form size second third
+    else form_of_three size (ranks_word word) (frames_word_in size word) second third
 form_in size (word ∷ second ∷ third ∷ fourth ∷ []) =
     form_of_four size (events_word word) word second third fourth
 form_in size (word ∷ second ∷ third ∷ fourth ∷ fifth ∷ []) =

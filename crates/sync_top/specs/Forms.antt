@@ -7,6 +7,7 @@ pub mod Trial
 pub mod Sim
 pub mod Chains
 pub mod Protected
+pub mod Groups
 pub mod Protect
 pub mod Agree
 pub mod Hops

@@ -7,8 +7,8 @@ use Rattle.sync_topo.specs.declared.place.Place.{Place}
 use Rattle.sync_topo.specs.declared.place.Section.{Section}
 use Rattle.sync_topo.specs.declared.place.Section.TheVariants.{Head, Elements, Links, Sources}
 use Rattle.sync_topo.specs.Refusal.{refusal_number, refused_place}
-use Rattle.plan_file.specs.declared.error.PlanFileErr.{PlanFileErr}
-use Rattle.plan_file.specs.declared.error.PlanFileErr.TheVariants as plan
+use Rattle.plan_rows.specs.declared.error.PlanFileErr.{PlanFileErr}
+use Rattle.plan_rows.specs.declared.error.PlanFileErr.TheVariants as plan
 use Rattle.sync_text.specs.Chain.{◌>>=◌}
 use Rattle.plan_file.specs.PlanText.{plan_of_size}
 use Rattle.sync_topo.specs.declared.sizes.Size.{Size}
@@ -18,7 +18,7 @@ use Rattle.sync_top.specs.Form.{PlanName}
 use Rattle.sync_top.specs.declared.status.Status.{Status}
 use Rattle.sync_top.specs.declared.status.Status.TheVariants.{Done, BadPlan, TooLong}
 use Rattle.std.specs.Fmt.{decimal}
-use Rattle.plan_file.specs.Refusal.{number_of as file_number}
+use Rattle.plan_rows.specs.Refusal.{number_of as file_number}
 use Rattle.sync_topo.specs.declared.error.PlanErr.{PlanErr}
 
 -- a text of one line

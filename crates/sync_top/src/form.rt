@@ -1,7 +1,7 @@
 ghost use Rattle.std.specs.Prelude.{◌≡◌, ◌≤◌, false, IsTrue, length, map, codes, Some, None, IfSome, if◌then◌else◌};
 ghost use Rattle.std.specs.Option.{option_map};
 ghost use Rattle.std.specs.String.{string_bytes};
-ghost use Rattle.sync_top.specs.Form.{form_of, form_in, are_large, form_of_two, form_of_three, form_of_four, run_form, sweep_form, node_form, on_events, study, ladder_size, millisecond_of, option_of, is_file_word, plan_word, ranks_word, events_word, frames_word, frames_word_in, ladder_word};
+ghost use Rattle.sync_top.specs.Form.{form_of, form_in, are_large, form_of_two, form_of_three, form_of_four, run_form, groups_form, sweep_form, node_form, on_events, study, ladder_size, millisecond_of, option_of, is_file_word, plan_word, ranks_word, events_word, frames_word, frames_word_in, ladder_word};
 ghost use Rattle.sync_topo.specs.Sizes.{most_elements};
 ghost use Rattle.sync_top.specs.private.FormSeen.{seen, IsSized};
 
@@ -118,6 +118,8 @@ pub(crate) enum Form<'a> {
         /// The last millisecond, at most 86,400,000.
         until: u64,
     },
+    /// Of a plan and groups of parts that fail together, by the names of their files.
+    OnGroups(PlanName<'a>, &'a str),
     /// Of captured frames or rows, by the option of their levels and the name of their file.
     OnFrames(FramesForm, NetOption, &'a str),
     /// Of the ladder of so many elements, 2 to 2,000, or to 100,000 where plans may be large.
@@ -166,6 +168,9 @@ fn form_in(size: Size, words: &[String]) -> Option<Form<'_>>
 {
     match words {
         [word, second] => form_of_two(size, word.as_str(), second.as_str()),
+        [word, second, third] if word.as_str() == "protected" => {
+            groups_form(size, second.as_str(), third.as_str())
+        }
         [word, second, third] => {
             form_of_three(size, word.as_str(), second.as_str(), third.as_str())
         }
@@ -338,6 +343,17 @@ fn events_form<'a>(
         events,
         until,
     })
+}
+
+/// The form `protected` with groups, if both words may name files.
+fn groups_form<'a>(size: Size, plan: &'a str, groups: &'a str) -> Option<Form<'a>>
+    ensures form { option_map seen result ≡ groups_form size plan.now groups.now }
+    ensures sized { IfSome result IsSized }
+{
+    if plan.is_empty() || groups.is_empty() {
+        return None;
+    }
+    Some(Form::OnGroups(PlanName { size, name: plan }, groups))
 }
 
 /// The form `study`, if its words may name files and are followed by such a millisecond.

@@ -4,8 +4,8 @@
 //! `IsAnswer` says which status and text the words have over which files; `Delivers` that it was
 //! written, and `IsCut` what a write fault leaves. Which words are a form is `form_of`. That there
 //! is one answer, to all words but `protect`, is [`one_answer_law`], and that what `rank` writes is
-//! accepted [`planned_is_accepted_law`]. No clause says that memory is found; docs/promises.md tells what
-//! shows it.
+//! accepted [`planned_is_accepted_law`]. That `protected` with no group answers as without is
+//! [`no_groups_law`]. No clause says that memory is found; docs/promises.md tells what shows it.
 #![tactic(auto)]
 
 mod agreeing;
@@ -15,6 +15,7 @@ mod chains;
 mod check;
 mod form;
 mod found;
+mod grouping;
 mod hops;
 mod input;
 mod ladder;
@@ -36,6 +37,6 @@ mod trial;
 mod works;
 mod written;
 
-pub use laws::{one_answer_law, planned_is_accepted_law};
+pub use laws::{no_groups_law, one_answer_law, planned_is_accepted_law};
 pub use program::run;
 pub use status::Status;

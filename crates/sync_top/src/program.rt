@@ -18,7 +18,9 @@ ghost use Rattle.sync_top.specs.private.Work.{EndsIn, Works};
 use crate::form::{Form, form_of};
 use crate::reply::{Reply, Stop};
 use crate::status::Status;
-use crate::works::{no_form, node, on_events, on_frames, on_ladder, on_plan, on_ranks, study};
+use crate::works::{
+    no_form, node, on_events, on_frames, on_groups, on_ladder, on_plan, on_ranks, study,
+};
 use std::alloc::Global;
 use std::thread::Threads;
 use sync_edge::{Folder, Sink, write_all};
@@ -52,6 +54,7 @@ fn work<R: Threads + Sync, F: Folder, G: Gate + Sync>(
         Some(Form::Study { plan, cases, until }) => {
             study(rt, alloc, folder, plan, cases, until, gate)
         }
+        Some(Form::OnGroups(plan, groups)) => on_groups(alloc, folder, plan, groups),
         Some(Form::OnFrames(what, option, name)) => on_frames(alloc, folder, what, option, name),
         Some(
             Form::Node {
@@ -97,10 +100,11 @@ fn reply_to<R: Threads + Sync, F: Folder, G: Gate + Sync>(
 /// The words are those after the program's name. `check PLAN CERT` tests the ranks of a certificate
 /// on a plan, and `rank PLAN` gives the least ranks as a certificate, or the first cycle. `chains
 /// PLAN` gives the longest chains of timing into each element, or the first cycle. `protected PLAN`
-/// tells whom each single failure cuts off that needn't be, and `protect PLAN` gives the plan with
-/// priorities by which none does, or whom failures cut off in the plan that it found. `agree PLAN` tells whether priorities
-/// agree with the ways of timing, and for how long after the last event a network may then change,
-/// or the first circle of lines that clash. `hops PLAN` gives the hop counts, and `nominate PLAN`
+/// tells whom each single failure cuts off that needn't be, and `protected PLAN GROUPS` whom groups of
+/// parts that fail together cut off as well. `protect PLAN` gives the plan with priorities by which
+/// none does, or whom failures cut off in the plan that it found. `agree PLAN` tells whether
+/// priorities agree with the ways of timing, and for how long after the last event a network may then
+/// change, or the first circle of lines that clash. `hops PLAN` gives the hop counts, and `nominate PLAN`
 /// the plan with priorities by fewest hops. `decode OPTION FILE` gives the rows of captured frames,
 /// and `encode OPTION FILE` the frames of rows. `pcap-decode OPTION FILE` and `pcap-encode OPTION
 /// FILE` do the same for a classic pcap capture and rows with times. `sim PLAN EVENTS UNTIL` runs
@@ -122,7 +126,7 @@ fn reply_to<R: Threads + Sync, F: Folder, G: Gate + Sync>(
 /// be, goes by the plan that was read: a plan of standard size, in a file of at most 8 MiB, is
 /// answered alike with the word and without it.
 ///
-/// PLAN, CERT, EVENTS, CASES and FILE are nonempty names of files, and OPTION is `I` or `II`.
+/// PLAN, CERT, EVENTS, CASES, GROUPS and FILE are nonempty names of files, and OPTION is `I` or `II`.
 ///
 /// The whole text is made before its first byte is written, and it is written by one `write_all`.
 /// So a report takes memory for all of its text: at 10,000,000 rows, the most of a large plan, some
@@ -162,7 +166,10 @@ pub fn run<R: Threads + Sync, F: Folder, K: Sink, G: Gate + Sync>(
 
     // Where `protected` is done, a plan was read, and it holds out: under every list of events
     // without commands, in each settled millisecond in which just one failure stands, no element
-    // that is in reach of a clock has a worse level than the worst of the sources that are left.
+    // that is in reach of a clock has a worse level than the worst of the sources that are left. With
+    // groups these were read too, and it is so with each of them in place of a failure; where the plan
+    // has an agreed bound, it survives each of them by it, and by its bound after failures where out of a
+    // settled network their parts only go down.
     ensures protected_holds_out { result ≡ Status.Done → IfSome (F.contents folder.old)
         (IsHoldingOut (form_of (map string_bytes words.now))) }
 

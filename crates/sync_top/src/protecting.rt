@@ -1,7 +1,7 @@
 ghost use Rattle.std.specs.Prelude.{◌≡◌, ◌++◌, ◌<◌, [], length, unwrap_or, IfOk, OnOk};
 ghost use Rattle.std.specs.List.{All};
-ghost use Rattle.reach_rules.specs.Protection.{IsFailureOf};
-ghost use Rattle.protection.specs.Gaps.{IsGapIn};
+ghost use Rattle.protection.specs.Gaps.{IsNamed, IsGapIn};
+ghost use Rattle.sync_top.specs.Forms.Groups.{IsGroupsText};
 ghost use Rattle.sync_top.specs.Forms.Protect.{IsProtectingText};
 ghost use Rattle.sync_top.specs.Forms.Protected.{failure_word, failure_name, cut_text, gap_row, gaps_text, IsProtectedText};
 ghost use Rattle.sync_top.specs.private.Work.{ends_in};
@@ -9,14 +9,14 @@ ghost use Rattle.sync_top.specs.private.Work.{ends_in};
 use crate::found::{Found, done, refuted};
 use crate::reply::line_text;
 use crate::written::plan_text;
-use protection::{Failure, Gap, Protected, protect, protected};
+use protection::{Failure, Gap, Group, Protected, protect, protected, protected_with};
 use std::alloc::Global;
-use sync_text::{NoMemory, Text};
+use sync_text::{NoMemory, Rows, Text};
 use sync_topo::Plan;
 
 /// The word for what fails.
-fn failure_word(failure: Failure) -> &'static [u8]
-    ensures { result.now ≡ failure_word failure }
+fn failure_word(failure: &Failure) -> &'static [u8]
+    ensures { result.now ≡ failure_word failure.now }
 {
     match failure {
         Failure::Nothing => b"none",
@@ -24,6 +24,7 @@ fn failure_word(failure: Failure) -> &'static [u8]
         Failure::Bundle(_) => b"bundle",
         Failure::Source(_) => b"source",
         Failure::Element(_) => b"element",
+        Failure::Group(_) => b"group",
     }
 }
 
@@ -38,23 +39,24 @@ fn put_bundle(text: &mut Text, bundle: &Option<Text>) -> Result<(), NoMemory>
 }
 
 /// Puts the name of what fails.
-fn put_failure(text: &mut Text, plan: &Plan, failure: Failure) -> Result<(), NoMemory>
-    requires { IsFailureOf plan.now failure }
-    ensures { OnOk result (text.new ≡ text.old ++ failure_name plan.now failure) }
+fn put_failure(text: &mut Text, plan: &Plan, failure: &Failure) -> Result<(), NoMemory>
+    requires { IsNamed plan.now failure.now }
+    ensures { OnOk result (text.new ≡ text.old ++ failure_name plan.now failure.now) }
 {
     match failure {
         Failure::Nothing => text.put(b""),
-        Failure::Link(link) => text.put(plan.link(link).name.bytes()),
-        Failure::Bundle(link) => put_bundle(text, &plan.link(link).bundle),
-        Failure::Source(source) => text.put(plan.source(source).name.bytes()),
-        Failure::Element(element) => text.put(plan.element(element).name.bytes()),
+        Failure::Link(link) => text.put(plan.link(*link).name.bytes()),
+        Failure::Bundle(link) => put_bundle(text, &plan.link(*link).bundle),
+        Failure::Source(source) => text.put(plan.source(*source).name.bytes()),
+        Failure::Element(element) => text.put(plan.element(*element).name.bytes()),
+        Failure::Group(group) => text.put(group.name.bytes()),
     }
 }
 
 /// Puts whom a failure cuts off.
-fn put_cut(text: &mut Text, plan: &Plan, gap: Gap) -> Result<(), NoMemory>
-    requires { gap.first < length plan.now.elements }
-    ensures { OnOk result (text.new ≡ text.old ++ cut_text plan.now gap) }
+fn put_cut(text: &mut Text, plan: &Plan, gap: &Gap) -> Result<(), NoMemory>
+    requires { gap.now.first < length plan.now.elements }
+    ensures { OnOk result (text.new ≡ text.old ++ cut_text plan.now gap.now) }
 {
     text.put(b",")?;
     text.put_number(u64::from(gap.elements))?;
@@ -64,13 +66,13 @@ fn put_cut(text: &mut Text, plan: &Plan, gap: Gap) -> Result<(), NoMemory>
 }
 
 /// Puts the row of a failure.
-fn put_gap(text: &mut Text, plan: &Plan, gap: Gap) -> Result<(), NoMemory>
-    requires { IsGapIn plan.now gap }
-    ensures { OnOk result (text.new ≡ text.old ++ gap_row plan.now gap) }
+fn put_gap(text: &mut Text, plan: &Plan, gap: &Gap) -> Result<(), NoMemory>
+    requires { IsGapIn plan.now gap.now }
+    ensures { OnOk result (text.new ≡ text.old ++ gap_row plan.now gap.now) }
 {
-    text.put(failure_word(gap.failure))?;
+    text.put(failure_word(&gap.failure))?;
     text.put(b",")?;
-    put_failure(text, plan, gap.failure)?;
+    put_failure(text, plan, &gap.failure)?;
     put_cut(text, plan, gap)
 }
 
@@ -82,7 +84,7 @@ fn gaps_text(alloc: Global, plan: &Plan, gaps: &[Gap]) -> Result<Text, NoMemory>
     let mut text = Text::new(alloc);
     text.put(b"kind,failure,elements,first\n")?;
     for gap in gaps {
-        put_gap(&mut text, plan, *gap)?;
+        put_gap(&mut text, plan, gap)?;
     }
     Ok(text)
 }
@@ -92,6 +94,22 @@ pub(crate) fn gaps_found(alloc: Global, plan: &Plan) -> Result<Found, NoMemory>
     ensures { IfOk result (λ found. IsProtectedText plan.now (ends_in found.finding) found.text) }
 {
     let gaps = protected(alloc, plan)?;
+    if gaps.as_slice().is_empty() {
+        return Ok(done(line_text(alloc, b"protected")?));
+    }
+    Ok(refuted(gaps_text(alloc, plan, gaps.as_slice())?))
+}
+
+/// What is found of a plan and groups of parts that fail together: that it is protected with them, or
+/// whom each failure and each group cuts off that needn't be.
+pub(crate) fn gaps_found_with(
+    alloc: Global,
+    plan: &Plan,
+    groups: Rows<Group>,
+) -> Result<Found, NoMemory>
+    ensures { IfOk result (λ found. IsGroupsText plan.now groups (ends_in found.finding) found.text) }
+{
+    let gaps = protected_with(alloc, plan, groups)?;
     if gaps.as_slice().is_empty() {
         return Ok(done(line_text(alloc, b"protected")?));
     }

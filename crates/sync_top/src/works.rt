@@ -2,7 +2,7 @@
 
 ghost use Rattle.std.specs.Prelude.{◌≡◌, ◌≤◌, ℕ, Some, None};
 ghost use Rattle.sync_edge.specs.Contents.{KeepsFolder};
-ghost use Rattle.sync_top.specs.Form.{on_plan, on_ranks, on_events, study, on_frames, on_ladder, node};
+ghost use Rattle.sync_top.specs.Form.{on_plan, on_ranks, on_events, study, on_groups, on_frames, on_ladder, node};
 ghost use Rattle.sync_top.specs.private.FormSeen.{named, IsTimed};
 ghost use Rattle.sync_top.specs.Answer.{outside_of, Outside};
 ghost use Rattle.sync_top.specs.private.Work.{Works};
@@ -11,9 +11,11 @@ use crate::answers::{events_found, frames_found, ladder_found, plan_found, ranks
 use crate::check::documents;
 use crate::form::{EventsForm, FramesForm, LadderForm, PlanForm, PlanName, RanksForm};
 use crate::found::replied;
+use crate::grouping::plan_and_groups;
 use crate::input::file;
 use crate::node::{node_bytes, replayed};
 use crate::plan_input::plan_in;
+use crate::protecting::gaps_found_with;
 use crate::reply::{Reply, Stop, line_text};
 use crate::sim::plan_and_events;
 use crate::status::Status;
@@ -103,6 +105,23 @@ pub(crate) fn study<R: Threads + Sync, F: Folder, G: Gate + Sync>(
 {
     match plan_and_cases(alloc, folder, plan, cases) {
         Ok((plan, cases)) => replied(studied(rt, alloc, &plan, &cases, until, gate)),
+        Err(stop) => Err(stop),
+    }
+}
+
+/// The work of `protected` with groups.
+pub(crate) fn on_groups<F: Folder>(
+    alloc: Global,
+    folder: &mut F,
+    plan: PlanName<'_>,
+    groups: &str,
+) -> Result<Reply, Stop>
+    ensures works { Works (Some (on_groups (named plan.entry) groups.now))
+        (outside_of F.contents F.steady F.faults folder.old folder.new) (F.tries folder.old) (F.tries folder.new) result }
+    ensures keeps { KeepsFolder F.contents F.steady F.faults folder.old folder.new }
+{
+    match plan_and_groups(alloc, folder, plan, groups) {
+        Ok((plan, groups)) => replied(gaps_found_with(alloc, &plan, groups)),
         Err(stop) => Err(stop),
     }
 }

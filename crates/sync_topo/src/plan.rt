@@ -74,11 +74,11 @@ impl Plan {
     /// The plan that rows give, of whatever size.
     ///
     /// A refusal tells the first rule that is broken, with its place. First come the numbers of rows:
-    /// `Limit` at the first element, link or source past 100,000, 200,000 or 100,000. Then each element row
-    /// in order: `Name`, `Twice`, `Range` for its times, `LevelName`. Then each link row: `Name`,
+    /// `Limit` at the first element, link or source past 100,000, 200,000 or 100,000. Then each element
+    /// row in order: `Name`, `Twice`, `Range` for its times, `LevelName`. Then each link row: `Name`,
     /// `Twice`, `NoElement`, `SelfLink`, `Range`, `Bundle`, and `Limit` where an end has a 65th
-    /// nominated input by this row. Then each source row: `Name`, `Twice`, `NoElement`, `Range`, `LevelName`, and
-    /// `Limit` as for links. This project's own.
+    /// nominated input by this row. Then each source row: `Name`, `Twice`, `NoElement`, `Range`,
+    /// `LevelName`, and `Limit` as for links. This project's own.
     pub fn new(alloc: Global, rows: PlanRows) -> Result<Plan, PlanErr>
         ensures exact { Gives result (plan_of_rows rows) }
         ensures well_formed { IfOk result (λ plan. IsWellFormed plan) }

@@ -110,9 +110,9 @@ def chains(plan: Source) -> Answered[reports.Chains]:
     return answered("chains", reports.chains, plan)
 
 
-def protected(plan: Source) -> Answered[reports.Gaps]:
-    """Whom each single failure cuts off that needn't be."""
-    return answered("protected", reports.gaps, plan)
+def protected(plan: Source, groups: Source | None = None) -> Answered[reports.Gaps]:
+    """Whom each single failure cuts off that needn't be, and whom each group of a list that fails as a whole."""
+    return answered("protected", reports.gaps, plan, *([] if groups is None else [groups]))
 
 
 def agree(plan: Source) -> Answered[reports.Agreement]:

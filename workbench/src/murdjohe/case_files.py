@@ -21,8 +21,10 @@ from typing import IO, cast
 from murdjohe import event_times, failures, inputs
 from murdjohe.case_lists import CaseList, CommonRows, Row, total_of
 from murdjohe.core import BAD_EVENTS, LONGEST_BESIDE
+from murdjohe.ends import Told
 from murdjohe.failures import COLUMNS, NAME
 from murdjohe.inputs import STDIN
+from murdjohe.moments import Event
 from murdjohe.sentences.records import MOST_ROWS
 from murdjohe.times import is_digits
 from murdjohe.wrong import Wrong, reason, unusable
@@ -85,6 +87,13 @@ def bunches(cases: Iterator[list[Row]]) -> Iterator[FileBunch]:
             held, count = [], 0
     if held:
         yield FileBunch(held)
+
+
+def told_of(common: list[Row], kinds: set[tuple[str, str]]) -> Told:
+    """What the runs of a table are told: its common rows, and of the rows of cases the times and words."""
+    events = (Event(int(at), *rest) for _, at, *rest in (row.fields for row in common) if is_digits(at))
+    times = [int(at) for at, _ in kinds if is_digits(at)]
+    return Told(tuple(events), frozenset(word for _, word in kinds), min(times, default=0), max(times, default=0))
 
 
 class CaseFile:
@@ -163,23 +172,22 @@ class CaseFile:
 
     def listed(self, span: tuple[int, int | None]) -> CaseList:
         """The cases from one number to another, once the whole table has been looked through. Raises Wrong."""
-        hashes, common, before, at, last = array("q"), list[Row](), "", "", 0
+        hashes, common, before, kinds = array("q"), list[Row](), "", set[tuple[str, str]]()
         for row in self.rows():
             name = row.fields[0]
             if name != before or len(row.fields) != len(COLUMNS):
                 self.has_case(row, before)
-            if not name and len(common) <= MOST_ROWS:
+            if name:
+                kinds.add((row.fields[1], row.fields[2]))
+            elif len(common) <= MOST_ROWS:
                 common.append(row)
             if name != before:
                 hashes.append(hash(name))
-            if row.fields[1] != at and is_digits(row.fields[1]):
-                at = row.fields[1]
-                last = max(last, int(at))
             before = name
         self.told_apart(hashes)
         rows = CommonRows(failures.lines_of(row.fields for row in common).encode(), len(common))
-        total = total_of(len(hashes), *span)
-        return CaseList(self.name, rows, total, last, lambda: bunches(failures.chosen(self.cases(), *span)), self.rows)
+        told, total = told_of(common, kinds), total_of(len(hashes), *span)
+        return CaseList(self.name, rows, total, told, lambda: bunches(failures.chosen(self.cases(), *span)), self.rows)
 
     def cases(self) -> Iterator[list[Row]]:
         """The rows of each case."""

@@ -7,6 +7,7 @@ from dataclasses import dataclass
 from typing import Any, NamedTuple, Protocol
 
 from murdjohe import failures, stretches
+from murdjohe.ends import Told
 from murdjohe.failures import Failure
 from murdjohe.moments import Event
 from murdjohe.stretch_rows import StretchRows
@@ -46,13 +47,13 @@ class Row(NamedTuple):
 
 @dataclass(frozen=True)
 class CaseList:
-    """The cases of a survey: how sentences call them, the rows that are common to all, how many cases there are, when the last
-    event is, and a way through all of them, which may be gone more than once; of a file also its rows."""
+    """The cases of a survey: how sentences call them, the rows that are common to all, how many cases there are, what their runs are
+    told, and a way through all of them, which may be gone more than once; of a file also its rows."""
 
     name: str
     common: CommonRows
     total: int
-    last: int
+    told: Told
     each: Callable[[], Iterator[Bunch]]
     rows: Callable[[], Iterator[Row]] | None = None
 
@@ -100,4 +101,5 @@ def of_failures(
             yield MadeBunch(named, rows)
 
     total = total_of(failures.count_of(found, has_pairs), *span)
-    return CaseList("the failures", common_rows(common), total, max([at, *(event.at for event in common)]), each)
+    told = Told(common, frozenset(("down",)), at, at)
+    return CaseList("the failures", common_rows(common), total, told, each)

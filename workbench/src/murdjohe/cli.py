@@ -23,6 +23,7 @@ OWN = {
     "import": ("import_tables", FILES, "makes a plan of tables of elements, links and sources"),
     "lint": ("lint", forms.PLANNING, "says what to look at in a plan, with lines and remedies"),
     "repair": ("repair", forms.PLANNING, "finds what to change so that nothing loops or oscillates"),
+    "place": ("place", forms.PLANNING, "finds the cheapest sites for clocks and filters"),
     "diff": ("diff", forms.PLANNING, "says what differs between two plans"),
     "orders": ("orders", forms.PLANNING, "prints what to set at each element"),
     "rehearse": ("rehearse", forms.RUNNING, "shows works as they will go: events, changes, what is rejected"),
@@ -38,6 +39,7 @@ OWN = {
     "help": ("help", ABOUT, "says more of a command, or of plan, tables, events, levels .."),
     "completion": ("completion", ABOUT, "prints the completion for bash, zsh or fish"),
 }
+GROUPED = "protect"  # the form that takes a list of groups as an option
 GROUPS = (forms.PLANNING, forms.RUNNING, forms.PRIORITY, forms.LAB, forms.TRYING, FILES, ABOUT)
 FIRST = f"""\
 A planner for frequency synchronization networks: is a timing loop possible in a plan, and may elements oscillate?
@@ -130,7 +132,8 @@ def form_options(form: Form) -> list[click.Option]:
     output = click.Option(["-o", "--output"], type=click.Path(), help="writes to this file, whole or not at all")
     force = click.Option(["--force"], is_flag=True, help="writes over a file that is there already")
     start = click.Option(["--start"], metavar="TIME", help="the time of day at which the run begins")
-    return [output, force, *([start] if has_times(form) else [])]
+    its = click.Option(["--groups"], type=click.Path(), help="also no group of this list cuts anybody off")
+    return [output, force, *([start] if has_times(form) else []), *([its] if form.name == GROUPED else [])]
 
 
 def time_of_day(word: str | None) -> int | None:
@@ -166,20 +169,25 @@ class FormCommand(click.Command):
         output: str | None,
         force: bool,
         start: str | None = None,
+        groups: str | None = None,
     ) -> int:
         from murdjohe import files
 
         context = click.get_current_context()
         asked = context.find_root().params
         given = [text for word, text in zip(self.form.words, words) if word.is_file]
-        files.free([output] if output else [], force, given)
+        files.free([output] if output else [], force, [*given, groups])
         path = None if output == inputs.STDIN else output
         settings = Settings(quiet or asked["quiet"], json or asked["json"], path, time_of_day(start))
+        if groups is not None and len(words) == len(self.form.words):
+            from murdjohe.commands import protect_groups
+
+            return protect_groups.run(words[0], groups, settings, context.obj)
         return run_form.run(self.form, list(words), settings, context.obj)
 
     def collect_usage_pieces(self, ctx: click.Context) -> list[str]:
-        start = " [--start TIME]" if has_times(self.form) else ""
-        return [word.name for word in self.form.words] + [f"[--quiet] [--json] [-o FILE [--force]]{start}"]
+        more = " [--start TIME]" if has_times(self.form) else " [--groups FILE]" if self.form.name == GROUPED else ""
+        return self.form.usage.split()[1:] + [f"[--quiet] [--json] [-o FILE [--force]]{more}"]
 
     def format_options(self, ctx: click.Context, formatter: click.HelpFormatter) -> None:
         formatter.write_paragraph()

@@ -17,10 +17,7 @@ from murdjohe.lab_lines import Message
 SECOND = 1_000
 MISSING, LATE, WRONG, UNEXPECTED = "missing", "late", "wrong level", "unexpected"
 TOO_MANY = "too many"
-SPARE, RATE = (
-    2.0,
-    1.1,
-)  # information messages beyond one a second that a shift of phase makes, and how many a second may come
+SPARE = 2.0  # information messages beyond those of the rate that a shift of phase makes
 CROWD = 10  # messages of a slow protocol within a second at most
 NOT_USED = ("QL-DNU", "QL-DUS")  # what says do-not-use
 
@@ -36,11 +33,12 @@ class Finding(NamedTuple):
 
 @dataclass(frozen=True)
 class Limits:
-    """The tolerance, and the first and last millisecond that are compared."""
+    """The tolerance, the first and last millisecond that are compared, and how many information messages a second may come."""
 
     tolerance: int
     begin: int
     end: int
+    rate: float = 1.1
 
 
 @dataclass
@@ -228,7 +226,7 @@ class Line:
         times = [message.at for message in self.said if message.kind == "info"]
         spare = SPARE
         for at, before in zip(times, [*times[:1], *times]):
-            spare = min(SPARE, spare + RATE * (at - before) / SECOND) - 1.0
+            spare = min(SPARE, spare + self.limits.rate * (at - before) / SECOND) - 1.0
             if spare < 0 and at >= self.limits.begin:
                 spare = 0.0
                 run.append(at)

@@ -2,13 +2,17 @@
 
 from __future__ import annotations
 
+from collections.abc import Iterable
 from dataclasses import dataclass
 from typing import Any
 
 from murdjohe import orders, reports
+from murdjohe.groups import Group
 from murdjohe.orders import NONE
+from murdjohe.remarks import plural
+from murdjohe.reports import Gap
 
-PARTS = ("topology", "priorities", "floors", "times", "levels", "sweep")
+PARTS = ("topology", "priorities", "floors", "times", "levels", "groups", "sweep")
 COLUMNS = ("part", "subject", "what", "old", "new")
 DELAY_MS = 1  # where a plan says nothing else
 # What a row of `sweep` says, as it is told.
@@ -82,6 +86,19 @@ def facts_of_cuts(sweep: reports.Sweep) -> Facts:
                 {True: "yes", False: "no"}[value] if isinstance(value, bool) else NONE if value is None else str(value)
             )
             found["sweep", f"cut of {row.link}", what.removeprefix("is_")] = said
+    return found
+
+
+def facts_of_groups(groups: Iterable[Group], gaps: Iterable[Gap], parted: dict[str, list[str]]) -> Facts:
+    """Whom each group cuts off who needn't be, and whom it leaves without any way to a clock."""
+    by_name = {
+        gap.failure: f"{plural(gap.elements, 'element')}, {gap.first} first" for gap in gaps if gap.kind == "group"
+    }
+    found: Facts = {}
+    for group in groups:
+        subject = f"group {group.name}"
+        found["groups", subject, "cuts off though other links lead there"] = by_name.get(group.name, NONE)
+        found["groups", subject, "leaves without any way to a clock"] = " ".join(parted.get(group.name, [])) or NONE
     return found
 
 

@@ -30,6 +30,7 @@ BEGINNINGS = (
     (b"line,rank", "a certificate"),
     (b"at,what,target,value", "an event list"),
     (b"case,at,what,target,value", "a list of cases"),
+    (b"group,kind,part", "a list of groups"),
     (b"element,hops,from", "a table of `hops`"),
     (b"element,links,since,clocks", "a table of `chains`"),
     (b"kind,failure,elements,first", "a table of `protected`"),

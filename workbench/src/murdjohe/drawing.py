@@ -8,7 +8,8 @@ from collections.abc import Iterable, Iterator
 from dataclasses import dataclass, field
 from typing import Any
 
-from murdjohe import files, toml_reader
+from murdjohe import files, group_bands, toml_reader
+from murdjohe.group_bands import Painted
 from murdjohe.wrong import Wrong, unusable
 
 # Colours of Okabe and Ito: told apart by people who don't tell red from green.
@@ -23,11 +24,13 @@ Plan = dict[str, Any]
 
 @dataclass(frozen=True)
 class Shown:
-    """What is drawn beside the plan: ranks by line, the last (mode, input, level, state) by element, and lines in red."""
+    """What is drawn beside the plan: ranks by line, the last (mode, input, level, state) by element, lines in red, and groups of parts
+    that fail together."""
 
     ranks: dict[str, str] = field(default_factory=dict)
     last: dict[str, list[str]] = field(default_factory=dict)
     marks: frozenset[str] = frozenset()
+    groups: tuple[Painted, ...] = ()
 
     def taken(self, element: str) -> str | None:
         """The input that an element takes at the end of the report."""
@@ -177,6 +180,13 @@ def edges_of(link: dict[str, Any], shown: Shown) -> Iterator[str]:
         yield f'  {quoted("e " + link["a"])} -> {quoted("e " + link["b"])} [{style}];'
 
 
+def bands_of(link: dict[str, Any], shown: Shown) -> Iterator[str]:
+    """A broad line without arrows for each group that has a link."""
+    for one in group_bands.along(shown.groups, [link["name"]]):
+        style = f'dir=none, color="{one.colour}", penwidth=8, label={quoted(one.name)}'
+        yield f'  {quoted("e " + link["a"])} -> {quoted("e " + link["b"])} [{style}];'
+
+
 def source_of(source: dict[str, Any], shown: Shown) -> Iterator[str]:
     """A source and the arrow to its element."""
     name = quoted("s " + source["name"])
@@ -196,5 +206,5 @@ def picture_of(plan: Plan, shown: Shown) -> str:
     for source in plan.get("source", []):
         lines += source_of(source, shown)
     for link in plan.get("link", []):
-        lines += edges_of(link, shown)
+        lines += [*bands_of(link, shown), *edges_of(link, shown)]
     return "\n".join([*lines, "}"]) + "\n"

@@ -13,6 +13,7 @@ from murdjohe.wrong import Wrong
 
 MARK = b"\xef\xbb\xbf"
 NUMBER = re.compile(r"[+-]?[0-9A-Za-z_]+")
+BLANKS = re.compile(r"[ \t]*")
 # After which keys a new one is written: after the first of these that stands there.
 ANCHORS = {
     "priority_a": ("b", "a", "name"),
@@ -55,7 +56,7 @@ def added(plan: Plan, section: str, number: int, key: str, value: int) -> Edit:
         if plan.text[region[0]] == "{":
             return Edit(span[1], span[1], f", {key} = {value}")
         start = plan.text.rfind("\n", 0, span[0]) + 1
-        indent = re.match(r"[ \t]*", plan.text[start:])
+        indent = BLANKS.match(plan.text, start)
         blanks = indent[0] if indent else ""
         end = plan.text.find("\n", span[1])
         if end < 0:

@@ -12,15 +12,12 @@ from itertools import combinations, islice
 from math import comb
 from typing import Any, TypeVar
 
-from murdjohe import documents, table_reader
-from murdjohe.mistakes import Mistakes
+from murdjohe.groups import Group, down_of
 from murdjohe.moments import Event
-from murdjohe.table_reader import Columns
 
 LINKS, BUNDLES, SOURCES, ELEMENTS = "links", "bundles", "sources", "elements"
 KINDS = (LINKS, BUNDLES, SOURCES, ELEMENTS)
 COLUMNS = ("case", "at", "what", "target", "value")
-GROUPS = Columns(("name", "links"), ())
 NAME = re.compile(r"[A-Za-z0-9_-]{1,32}", re.ASCII)
 BETWEEN = "--"  # what stands between the names of a pair
 CaseT = TypeVar("CaseT")
@@ -80,26 +77,10 @@ def failures_of(tables: dict[str, Any], kinds: Collection[str]) -> list[Failure]
     return found
 
 
-def groups_of(path: str, text: str, tables: dict[str, Any]) -> list[Failure]:
-    """The groups of links that fail together, of a table of names and links. Raises Wrong with all that is wrong in it."""
-    mistakes = Mistakes()
-    table = table_reader.read(path, text, GROUPS, {}, mistakes)
-    order = {link["name"]: number for number, link in enumerate(tables.get("link", []))}
-    groups: dict[str, set[str]] = {}
-    for row in table.rows:
-        name, links = row.fields.get("name", ""), row.fields.get("links", "").split()
-        if not NAME.fullmatch(name):
-            what = f"{name!r} is no name of a group" if name else "the group has no name"
-            mistakes.add(path, row.line, f"{what}; a name is 1 to 32 of A-Z a-z 0-9 _ -")
-        if not links:
-            mistakes.add(path, row.line, f"the group {name!r} has no links; write their names with blanks between them")
-        for link in links:
-            if link not in order:
-                what = f"links: {link!r} names no link of the plan{documents.hint(link, order)}"
-                mistakes.add(path, row.line, f"{what}; correct the name, or take it out")
-        groups.setdefault(name, set()).update(links)
-    mistakes.end()
-    return [Failure("group", name, tuple(sorted(links, key=order.__getitem__))) for name, links in groups.items()]
+def of_groups(groups: Iterable[Group], tables: dict[str, Any]) -> list[Failure]:
+    """The failures of groups of parts that fail together; those by which nothing goes down are none."""
+    found = [Failure("group", group.name, down_of(group, tables)) for group in groups]
+    return [one for one in found if one.down]
 
 
 def in_order(tables: dict[str, Any]) -> dict[str, int]:

@@ -7,13 +7,14 @@ from __future__ import annotations
 
 import re
 from collections.abc import Collection, Iterator
-from dataclasses import dataclass
+from dataclasses import dataclass, field
 
 from murdjohe import levels, network, nominated, premises
+from murdjohe.groups import KINDS as KINDS_OF_PARTS, Group
 from murdjohe.nominated import Line
 from murdjohe.orders import NONE, Order, orders_of
 from murdjohe.plans import Plan
-from murdjohe.remarks import LONGEST, plural
+from murdjohe.remarks import LONGEST, listed, plural
 from murdjohe.reports import Chain, Gap
 
 ERROR, WARNING, NOTE = "error", "warning", "note"
@@ -35,16 +36,20 @@ class Finding:
 
 @dataclass(frozen=True)
 class Said:
-    """What the program says of a plan: the ring or else the clash that it found, if one, whom failures cut off, and the chains."""
+    """What the program says of a plan: the ring or else the clash that it found, if one, whom failures cut off, and the chains; and of
+    groups of parts that fail together which these are, and whom each leaves without any way to a clock."""
 
     ring: tuple[str, ...] | None = None
     clash: tuple[str, ...] | None = None
     gaps: tuple[Gap, ...] = ()
     chains: tuple[Chain, ...] = ()
+    groups: tuple[Group, ...] = ()
+    parted: dict[str, list[str]] = field(default_factory=dict)
 
 
 class Looked:
-    """A plan with what the findings rest on: orders by element, nominated lines, and the rows of elements by name."""
+    """A plan with what the findings rest on: orders by element, nominated lines, the rows of elements by name, and where what may fail
+    stands first, by its kind and name."""
 
     def __init__(self, plan: Plan) -> None:
         self.plan = plan
@@ -52,6 +57,10 @@ class Looked:
         self.lines = nominated.lines_of(plan.tables)
         self.by_name = {line.name: line for line in self.lines}
         self.rows = {name: number for number, name in enumerate(plan.names("element"), start=1)}
+        self.places: dict[tuple[str, str], int] = {}
+        for kind, key in (("bundle", "bundle"), ("link", "name"), ("source", "name"), ("element", "name")):
+            for number, row in enumerate(plan.rows("link" if kind == "bundle" else kind), start=1):
+                self.places.setdefault((kind, row.get(key, "")), number)
 
     def line(self, section: str, number: int, *keys: str) -> int:
         """The line of a row, or of the first of these keys in it."""
@@ -60,6 +69,9 @@ class Looked:
     def line_of(self, line: Line) -> int:
         """Where a line is nominated."""
         return self.line("link", line.number, line.key)
+
+
+NOT_PROMISED = "the promise on single failures doesn't hold for this plan"
 
 
 def on_sources(looked: Looked) -> Iterator[Finding]:
@@ -75,7 +87,9 @@ def on_sources(looked: Looked) -> Iterator[Finding]:
             yield Finding(line, WARNING, f"{title} isn't nominated", "give it a priority, or take it out")
         if row["level"] == worst:
             line = looked.line("source", number, "level")
-            yield Finding(line, WARNING, f"{title} has {worst}, so nobody takes it", "give it the level that it has")
+            promise = f", and {NOT_PROMISED}" if row.get("priority", 1) else ""
+            what = f"{title} has {worst}, so nobody takes it{promise}"
+            yield Finding(line, WARNING, what, "give it the level that it has, or take it out")
 
 
 def on_ways(looked: Looked) -> Iterator[Finding]:
@@ -221,20 +235,47 @@ def on_clash(looked: Looked, clash: tuple[str, ...] | None) -> Iterator[Finding]
 
 def place_of(looked: Looked, gap: Gap) -> int:
     """Where what fails stands: of a bundle its first link."""
-    if gap.kind == "bundle":
-        bundles = [row.get("bundle") for row in looked.plan.rows("link")]
-        return looked.line("link", 1 + bundles.index(gap.failure), "bundle")
-    return looked.line(gap.kind, 1 + looked.plan.names(gap.kind).index(gap.failure or ""))
+    number = looked.places[gap.kind, gap.failure or ""]
+    return looked.line("link", number, "bundle") if gap.kind == "bundle" else looked.line(gap.kind, number)
 
 
 def on_gaps(looked: Looked, gaps: tuple[Gap, ...]) -> Iterator[Finding]:
     """Failures that cut off elements which needn't be; of those that are cut off without one `on_ways` tells, so just more count."""
     without = sum(gap.elements for gap in gaps if gap.kind == "none")
     for gap in gaps:
-        if gap.elements > without:
+        if gap.kind != "group" and gap.elements > without:
             few = f"{gap.first}" if gap.elements == 1 else f"{plural(gap.elements, 'element')}, {gap.first} first,"
             what = f'a failure of {gap.kind} "{gap.failure}" cuts off {few} though other links lead there'
             yield Finding(place_of(looked, gap), WARNING, what, "nominate such a link as a reserve")
+
+
+def rows_of_parts(plan: Plan) -> dict[tuple[str, str], int]:
+    """The number of each row that may be a part of a group, from 1 on."""
+    return {(kind, name): row for kind in KINDS_OF_PARTS for row, name in enumerate(plan.names(kind), start=1)}
+
+
+def part_place(looked: Looked, group: Group, rows: dict[tuple[str, str], int]) -> int:
+    """Where the first part of a group stands in the plan: its first link, or else its first source, or its first element."""
+    kind, name = min(group.parts, key=lambda part: (KINDS_OF_PARTS.index(part[0]), rows[part]))
+    return looked.line(kind, rows[kind, name])
+
+
+def on_groups(looked: Looked, said: Said) -> Iterator[Finding]:
+    """Groups that cut off elements which needn't be, and those that leave elements without any way to a clock."""
+    gaps = {gap.failure: gap for gap in said.gaps if gap.kind == "group"}
+    without = sum(gap.elements for gap in said.gaps if gap.kind == "none")
+    rows = rows_of_parts(looked.plan) if said.groups else {}
+    for group in said.groups:
+        gap, lost = gaps.get(group.name), said.parted.get(group.name, [])
+        if gap and gap.elements > without:
+            few = f"{gap.first}" if gap.elements == 1 else f"{plural(gap.elements, 'element')}, {gap.first} first,"
+            what = f'group "{group.name}", whose parts fail together, cuts off {few} though other links lead there'
+            remedy = "`murdjohe protect --groups` seeks priorities under which it doesn't"
+            yield Finding(part_place(looked, group, rows), WARNING, what, remedy)
+        if lost:
+            its = f"{plural(len(lost), 'element')} without any way to a clock, whatever is nominated: {listed(lost)}"
+            remedy = "lead a link there another way, or put a clock there"
+            yield Finding(part_place(looked, group, rows), WARNING, f'group "{group.name}" leaves {its}', remedy)
 
 
 def on_chains(looked: Looked, chains: tuple[Chain, ...]) -> Iterator[Finding]:
@@ -258,7 +299,7 @@ def on_premises(looked: Looked) -> Iterator[Finding]:
         return
     for broken in premises.broken(looked.plan):
         line = looked.line("element", broken.number, broken.key)
-        what = f"{broken.what}, so that the promise on single failures doesn't hold for this plan"
+        what = f"{broken.what}, so that {NOT_PROMISED}"
         yield Finding(line, WARNING, what, broken.remedy)
 
 
@@ -268,7 +309,7 @@ def findings_of(plan: Plan, said: Said) -> list[Finding]:
     if not looked.rows:
         return [Finding(1, ERROR, "there is no element in the plan", "is it the file that was meant?")]
     found = [*on_rings(looked, said.ring), *on_clash(looked, said.clash)]
-    found += [*on_gaps(looked, said.gaps), *on_chains(looked, said.chains)]
+    found += [*on_gaps(looked, said.gaps), *on_groups(looked, said), *on_chains(looked, said.chains)]
     for look in (on_sources, on_ways, on_pairs, on_places, on_levels, on_premises):
         found += look(looked)
     return sorted(found, key=lambda finding: (finding.line, KINDS.index(finding.kind)))

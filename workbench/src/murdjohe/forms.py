@@ -10,6 +10,7 @@ PLAN = "plan"
 CERTIFICATE = "certificate"
 EVENTS = "events"
 CASES = "cases"
+GROUPS = "groups"
 FRAMES = "frames"
 ROWS = "rows"
 CAPTURE = "capture"
@@ -30,6 +31,7 @@ MEANINGS = {
     CERTIFICATE: "a certificate, a rank for each nominated line, as `rank` writes it",
     EVENTS: "an event list, a row each: at,what,target,value (murdjohe help events)",
     CASES: "a list of cases, events with the name of a case: case,at,what,target,value (murdjohe help cases)",
+    GROUPS: "a list of groups, parts that fail together: group,kind,part (murdjohe help groups)",
     FRAMES: "captured ESMC frames, one a line as hexadecimal digits",
     ROWS: "rows of frames, as `decode` writes them: SOURCE,KIND,LEVEL",
     CAPTURE: "a classic pcap capture of one Ethernet interface",
@@ -43,13 +45,14 @@ MEANINGS = {
 
 
 class Word:
-    """A word of a form: its name in help, and its kind."""
+    """A word of a form: its name in help, its kind, and whether it may be left out, as the last words may."""
 
-    __slots__ = ("name", "kind")
+    __slots__ = ("name", "kind", "is_optional")
 
-    def __init__(self, name: str, kind: str) -> None:
+    def __init__(self, name: str, kind: str, is_optional: bool = False) -> None:
         self.name = name
         self.kind = kind
+        self.is_optional = is_optional
 
     @property
     def is_file(self) -> bool:
@@ -58,9 +61,10 @@ class Word:
 
 class Form:
     """A form of the program: its name, words, group, what it does in a line, the statuses that it may end with, and an
-    example that runs in an empty folder."""
+    example that runs in an empty folder; and how many of its last words, times, the workbench chooses where they are left out.
+    """
 
-    __slots__ = ("name", "words", "group", "does", "statuses", "example")
+    __slots__ = ("name", "words", "group", "does", "statuses", "example", "optional")
 
     def __init__(
         self,
@@ -70,7 +74,9 @@ class Form:
         does: str,
         statuses: tuple[int, ...],
         example: tuple[str, ...],
+        optional: int = 0,
     ) -> None:
+        self.optional = optional
         self.name = name
         self.words = words
         self.group = group
@@ -79,14 +85,38 @@ class Form:
         self.example = example
 
     @property
+    def fewest(self) -> int:
+        """How many words there have to be at least."""
+        return sum(not word.is_optional for word in self.words)
+
+    @property
+    def names(self) -> list[str]:
+        """The words as help has them, those that the program does without in brackets."""
+        return [f"[{word.name}]" if word.is_optional else word.name for word in self.words]
+
+    @property
     def synopsis(self) -> str:
-        return " ".join((self.name, *(word.name for word in self.words)))
+        return " ".join((self.name, *self.names))
+
+    @property
+    def usage(self) -> str:
+        """The same, with the times that the workbench chooses in brackets too."""
+        must = len(self.words) - self.optional
+        chosen = [f"[{name}" for name in self.names[must:]]
+        return " ".join((self.name, *self.names[:must], *chosen)) + "]" * self.optional
+
+    @property
+    def synopses(self) -> list[str]:
+        """The form with as many words as there have to be, with one more, and so on."""
+        names = [word.name for word in self.words]
+        return [" ".join((self.name, *names[:count])) for count in range(self.fewest, len(names) + 1)]
 
 
 _PLAN = Word("PLAN", PLAN)
 _CERT = Word("CERT", CERTIFICATE)
 _EVENTS = Word("EVENTS", EVENTS)
 _CASES = Word("CASES", CASES)
+_GROUPS = Word("GROUPS", GROUPS, is_optional=True)
 _AT = Word("AT", TIME)
 _UNTIL = Word("UNTIL", TIME)
 _OPTION = Word("OPTION", OPTION)
@@ -134,10 +164,10 @@ _ALL = (
     ),
     Form(
         "protected",
-        (_PLAN,),
+        (_PLAN, _GROUPS),
         PLANNING,
         "says who loses sync by one failure though another path exists",
-        (0, 1, 3, 7, 9),
+        (0, 1, 3, 5, 7, 9),
         (_MAKE, "murdjohe nominate plan.toml > nominated.toml", "murdjohe protected nominated.toml || echo has gaps"),
     ),
     Form(
@@ -195,6 +225,7 @@ _ALL = (
         "lets each link fail alone at AT, and looks at UNTIL",
         (0, 3, 7, 9),
         (_MAKE, "murdjohe sweep plan.toml 60s 10m"),
+        2,
     ),
     Form(
         "study",
@@ -203,6 +234,7 @@ _ALL = (
         "runs each of many cases by itself, and looks at UNTIL",
         (0, 3, 5, 7, 9),
         (_MAKE, _FAIL, "murdjohe study plan.toml cases.csv 10m"),
+        1,
     ),
     Form(
         "prio-check",

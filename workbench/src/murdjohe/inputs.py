@@ -35,16 +35,17 @@ class File:
 
 
 class Words:
-    """The words that the program is given, and the files among them in order; and the time of day at which the run begins, where
-    that is said."""
+    """The words that the program is given, and the files among them in order; the time of day at which the run begins, where that
+    is said; and what is said of times that were chosen."""
 
-    __slots__ = ("form", "given", "passed", "files", "start")
+    __slots__ = ("form", "given", "passed", "files", "start", "chosen")
 
     def __init__(
         self, form: forms.Form, given: list[str], passed: list[str], files: list[File], start: int | None = None
     ) -> None:
         self.form = form
         self.start = start
+        self.chosen: list[str] = []
         self.given = given
         self.passed = passed
         self.files = files
@@ -140,12 +141,20 @@ def time_of(name: str, text: str, start: int | None) -> int | None:
         raise Wrong(f"{name}: {early}") from None
 
 
+def are_left_out(form: forms.Form, given: list[str]) -> bool:
+    """Whether times at the end of the words are left out that may be, beside files that can be read twice."""
+    missing = len(form.words) - len(given)
+    if not 0 < missing <= form.optional:
+        return False
+    return not any(word.is_file and (text == STDIN or is_pipe(text)) for word, text in zip(form.words, given))
+
+
 def taken(form: forms.Form, given: list[str], start: int | None = None) -> Words | None:
     """The words for the program, in a run that begins at a time of day, where that is said; None where there are too few or too
     many, or standard input is named twice. Raises Wrong where a time is before the start."""
     pairs = list(zip(form.words, given))
     are_stdin = [word.is_file and text == STDIN for word, text in pairs]
-    if len(given) != len(form.words) or sum(are_stdin) > 1:
+    if not form.fewest <= len(given) <= len(form.words) or sum(are_stdin) > 1:
         return None
     passed, files = [form.name], []
     for word, text in pairs:

@@ -23,7 +23,9 @@ SOURCES = 8  # sources that a sentence names
 
 @dataclass(frozen=True)
 class Asked:
-    """What is to be compared: the element of a plan with the frames of a capture, by lines; times are milliseconds."""
+    """What is to be compared: the element of a plan with the frames of a capture, by lines; times are milliseconds. How many
+    differences may be, how long a change may take to be told, at most and in the middle, and how many information messages a second
+    may come."""
 
     plan: str
     element: str
@@ -35,22 +37,37 @@ class Asked:
     begin: int
     until: int | None
     most: int = 0
+    reaction: int | None = None
+    median: int | None = None
+    rate: float = 1.1
 
 
 @dataclass(frozen=True)
 class Compared:
-    """What came of it, in order of time; how many messages were looked at, and up to which millisecond."""
+    """What came of it, in order of time; how many messages were looked at, and up to which millisecond; and which reaction times are
+    longer than asked."""
 
     findings: list[Finding]
     messages: int
     limits: Limits
     reactions: list[Reaction]
     most: int = 0
+    slow: tuple[str, ...] = ()
 
     @property
     def is_passed(self) -> bool:
-        """Whether no more differs than may."""
-        return len(self.findings) <= self.most
+        """Whether no more differs than may, and no reaction is slower."""
+        return len(self.findings) <= self.most and not self.slow
+
+
+def slow_of(reactions: list[Reaction], asked: Asked) -> tuple[str, ...]:
+    """Which reaction times of lines are longer than asked, in words."""
+    said = []
+    for one in reactions:
+        for what, time, most in (("greatest", one.greatest, asked.reaction), ("middle", one.middle, asked.median)):
+            if time is not None and most is not None and time > most:
+                said.append(f"{one.line} told changes after {time} ms ({what}), where {most} ms are asked")
+    return tuple(said)
 
 
 def events_of(path: str | None) -> list[tuple[int, str]]:
@@ -120,10 +137,10 @@ def compared(asked: Asked, bench: Bench, plan: Plan, data: bytes, last: int | No
     wanted, end = asked_of(asked, data, text.encode(), end)
     if asked.begin >= end:
         raise Wrong(f"nothing can be compared: {asked.file} is at its end at {end} ms, and --from is {asked.begin} ms")
-    limits = Limits(asked.tolerance, asked.begin, end)
+    limits = Limits(asked.tolerance, asked.begin, end, asked.rate)
     sent = [message for message in messages if message.line in out and message.at >= asked.begin]
     findings, reactions = device.looked_at(wanted, messages, out, limits)
-    return Compared(findings, len(sent), limits, reactions, asked.most)
+    return Compared(findings, len(sent), limits, reactions, asked.most, slow_of(reactions, asked))
 
 
 def remarks(bench: Bench, plan: Plan, asked: Asked, found: Compared, clock: Clock) -> Iterator[str]:
@@ -146,7 +163,8 @@ def verdict(found: Compared) -> str:
     """Whether the device passes."""
     number = said(len(found.findings), "difference") if found.findings else "no differences"
     most = f", {found.most} may be" if found.most else ""
-    return f"{'pass' if found.is_passed else 'fail'}: {number}{most}\n"
+    slow = "".join(f"; {one}" for one in found.slow)
+    return f"{'pass' if found.is_passed else 'fail'}: {number}{most}{slow}\n"
 
 
 def reactions_text(found: Compared) -> str:
@@ -184,7 +202,7 @@ def as_json(bench: Bench, found: Compared, said_of: list[str]) -> str:
     """The same as JSON."""
     rows = [finding._asdict() for finding in found.findings]
     reactions = [asdict(one) for one in found.reactions]
-    passed: dict[str, object] = {"pass": found.is_passed, "reactions": reactions}
+    passed: dict[str, object] = {"pass": found.is_passed, "slow": found.slow, "reactions": reactions}
     whole: dict[str, object] = {
         "zero": bench.zero,
         "messages": found.messages,

@@ -2,7 +2,7 @@
 
 from __future__ import annotations
 
-from murdjohe import times
+from murdjohe import core, times
 from murdjohe.inputs import Words
 from murdjohe.remarks import LONGEST, listed, on_oscillation, plural
 
@@ -37,8 +37,46 @@ def on_cuts(words: Words, text: str) -> list[str]:
     left = [(row[NAME], int(row[HOLDOVER]) + int(row[FREERUN])) for row in rows]
     names = [f"{name} ({number})" for name, number in left if number]
     few = f"{len(names):,} of {plural(len(rows), 'cut')} leave elements in holdover or free-running at the end (how many): "
-    said = ([few + listed(names)] if names else []) + on_ends(rows, "after", "cut", words)
+    said = ([few + listed(names)] if names else []) + on_needless(words, rows) + on_ends(rows, "after", "cut", words)
     return [*(said or [f"no cut of {len(rows):,} leaves anybody in holdover at the end"]), CAUTION, on_end(words)]
+
+
+def lost_by_cuts(words: Words, cuts: list[str]) -> list[tuple[str, int, int]]:
+    """Of some cuts how many elements each leaves without a source, by `study`, and how many of these no link could serve or are taken
+    away themselves; nothing where the program doesn't say it."""
+    from murdjohe import api, reaching, remarks, wiring
+
+    tables, (_, plan, at, until) = remarks.tables_of(words), words.passed
+    if tables is None or not cuts:
+        return []
+    rows = "".join(f"{number},{at},down,{cut},\n" for number, cut in enumerate(cuts))
+    try:
+        studied = api.study(plan, f"case,at,what,target,value\n{rows}".encode(), int(until)).result.rows
+    except (api.Refused, core.NoAnswer, core.Ended):
+        return []
+    wired = wiring.wiring_of(tables)
+    lost = reaching.Reach(wired).lost([frozenset(wired.lines_of(cut)) for cut in cuts])
+    return [(cut, row.lost, apart.themselves + apart.beyond) for cut, row, apart in zip(cuts, studied, lost)]
+
+
+def on_needless(words: Words, rows: list[list[str]]) -> list[str]:
+    """Of the cuts after which somebody has no source, how many leave elements without one that a link could still serve."""
+    doubtful = [row[NAME] for row in rows if row[HOLDOVER] != "0" or row[FREERUN] != "0" or row[LOOPS] != "0"]
+    found = [(cut, lost, max(0, lost - apart)) for cut, lost, apart in lost_by_cuts(words, doubtful) if lost]
+    needless = sorted(((cut, left) for cut, _, left in found if left), key=lambda pair: -pair[1])
+    others = [f"{cut} ({lost})" for cut, lost, left in found if not left]
+    said = []
+    if needless:
+        verb = "leaves" if len(needless) == 1 else "leave"
+        names = listed([f"{cut} ({left})" for cut, left in needless])
+        said.append(
+            f"{plural(len(needless), 'cut')} {verb} elements without a source that a link could still serve (how many): {names}"
+        )
+    if others:
+        verb = "leaves" if len(others) == 1 else "leave"
+        whom = "without a source that no link could serve, or that are taken away themselves"
+        said.append(f"{plural(len(others), 'cut')} {verb} only elements {whom} (how many): {listed(others)}")
+    return said
 
 
 def on_end(words: Words) -> str:

@@ -61,10 +61,23 @@ def guarded(words: list[str], output: Output) -> int:
         streams.tell("out of memory; free some, and run again")
         return core.NO_MEMORY
     except Exception as mistake:
+        if (status := ended_by(mistake)) is not None:
+            return status
         from murdjohe import failure
 
         streams.tell(failure.told(mistake))
         return core.MISTAKE
+
+
+def ended_by(fault: BaseException | None) -> int | None:
+    """The status of the signal behind a fault, where a library made another fault of it, as an import does; None where none is."""
+    while fault is not None:
+        if isinstance(fault, Told):
+            return 128 + fault.number
+        if isinstance(fault, KeyboardInterrupt):
+            return INTERRUPTED
+        fault = fault.__cause__ or fault.__context__
+    return None
 
 
 class Told(KeyboardInterrupt):

@@ -57,9 +57,9 @@ def cut_at(wiring: Wiring, events: Iterable[Event], at: int) -> Cut:
             break
         names = wiring.lines_of(event.target) or (event.target,)
         if event.what in ("down", "up"):
-            down = down | set(names) if event.what == "down" else down - set(names)
+            (down.update if event.what == "down" else down.difference_update)(names)
         elif event.what in ("esmc-off", "esmc-on"):
-            silent = silent | set(names) if event.what == "esmc-off" else silent - set(names)
+            (silent.update if event.what == "esmc-off" else silent.difference_update)(names)
     return Cut(frozenset(down), frozenset(silent))
 
 

@@ -32,7 +32,7 @@ class Losses:
         self.reach = Reach(wired)
         self.cases = self.more = 0
         self.themselves = self.beyond = 0
-        self.worst = Worst(most)
+        self.worst, self.widest = Worst(most), Worst(most)
         self.kept: dict[str, Loss] = {}
 
     def rows_of(self, part: Part, names: set[str]) -> dict[str, list[list[str]]]:
@@ -66,11 +66,19 @@ class Losses:
         self.themselves += loss.themselves > 0 and not loss.needless
         self.beyond += loss.beyond > 0 and not loss.themselves and not loss.needless
         self.cases += loss.needless > 0
-        measure = loss.needless, loss.case.lost
-        if self.worst.has_place(measure):
-            self.kept[loss.case.case] = loss
-            self.worst.add(measure, number, loss.case)
+        measures = (
+            (self.worst, (loss.needless, loss.case.lost)),
+            (self.widest, (loss.case.lost, loss.case.freerun)),
+        )
+        for worst, measure in measures:
+            if worst.has_place(measure):
+                self.kept[loss.case.case] = loss
+                worst.add(measure, number, loss.case)
 
     def outcomes(self) -> list[Loss]:
         """The worst cases that needn't have lost anybody."""
         return [self.kept[case.case] for case in self.worst.outcomes()]
+
+    def all_outcomes(self) -> list[Loss]:
+        """The cases that leave most elements without a source, whatever the cause."""
+        return [self.kept[case.case] for case in self.widest.outcomes()]

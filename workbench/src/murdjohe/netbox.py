@@ -10,7 +10,7 @@ from murdjohe.mistakes import Mistakes
 from murdjohe.table_reader import Columns, Row, Table
 
 # The columns that are taken, and the headers under which NetBox has them.
-COLUMNS = {"element": Columns(("name",), ()), "link": Columns(("a", "b"), ("label", "id"))}
+COLUMNS = {"element": Columns(("name",), ()), "link": Columns(("a", "b"), ("label", "id", "duct"))}
 HEADERS = {
     "element": {"name": "name"},
     "link": {

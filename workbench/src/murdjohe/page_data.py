@@ -12,6 +12,7 @@ from murdjohe.levels import LEVELS
 from murdjohe.moments import Event
 from murdjohe.places import ELEMENT, SOURCE, Layout
 from murdjohe.plan_file import PlanFile
+from murdjohe.reaching import Reach
 from murdjohe.rehearsals import Rehearsal, event_text, reasons
 from murdjohe.reports import Change, Cut
 from murdjohe.runs import EventFile
@@ -30,7 +31,7 @@ SIGNS = {
     "pale": colours.PALE,
 }
 MOST_CELLS = 200_000  # elements of all cases together
-HEADS = ("link", "settled", "locked", "holdover", "free-running", "loops", "worst")
+HEADS = ("link", "settled", "locked", "holdover", "free-running", "loops", "worst", "no source", "another way left")
 
 
 @dataclass(frozen=True)
@@ -134,20 +135,29 @@ def ended(wired: Wiring, numbers: Numbers, changes: tuple[Change, ...]) -> dict[
     return {"level": levels, "fed": [int(traces[name].kind == moments.SOURCE) for name in wired.elements]}
 
 
-def case_of(plan: PlanFile, wired: Wiring, cut: Cut) -> dict[str, Any]:
-    """The run in which one link goes down alone, with its row of `sweep`."""
+def lost_of(wired: Wiring, reach: Reach, cut: Cut, fed: list[int]) -> tuple[int, int]:
+    """How many elements have no source at the end of a cut, and how many of these a link could still serve."""
+    lost = {name for name, is_fed in zip(wired.elements, fed) if not is_fed}
+    left = reach.apart(frozenset(wired.lines_of(cut.link)))[1] if lost else frozenset()
+    return len(lost), len(lost - left)
+
+
+def case_of(plan: PlanFile, wired: Wiring, reach: Reach, cut: Cut) -> dict[str, Any]:
+    """The run in which one link goes down alone, with its row of `sweep`, who has no source, and who needn't be without."""
     numbers = numbers_of(wired, plan.plan.option)
     events = (Event(CUT_AT, "down", cut.link, ""),)
     file = EventFile(cut.link, runs.NO_EVENTS + f"{CUT_AT},down,{cut.link},\n".encode())
     report = runs.report_of(plan, file, CUT_UNTIL)
+    its_end = ended(wired, numbers, report.changes)
     row = ["yes" if cut.is_settled else "no", cut.locked, cut.holdover, cut.freerun, cut.loops, cut.worst]
+    row += lost_of(wired, reach, cut, its_end["fed"])
     return {
         "name": cut.link,
         "row": [str(field) for field in row],
         "until": CUT_UNTIL,
         "events": events_of(wired, numbers, events, {}),
         "changes": columns_of(numbers, report.changes),
-        "ended": ended(wired, numbers, report.changes),
+        "ended": its_end,
     }
 
 
@@ -159,8 +169,15 @@ def cases_of(plan: PlanFile, wired: Wiring) -> list[dict[str, Any]]:
             f"--cuts: {links:,} links and {len(wired.elements):,} elements are too many for a page; see `sweep`"
         )
     sweep: reports.Sweep = api.sweep(plan.data, CUT_AT, CUT_UNTIL).result
+    reach = Reach(wired)
     with ThreadPoolExecutor(os.cpu_count() or 1) as workers:
-        return list(workers.map(lambda cut: case_of(plan, wired, cut), sweep.rows))
+        return list(workers.map(lambda cut: case_of(plan, wired, reach, cut), sweep.rows))
+
+
+def losing_cases(cases: list[dict[str, Any]]) -> tuple[int, int]:
+    """How many cases leave somebody without a source whom a link could still serve, and how many only others."""
+    lost = [(int(case["row"][-2]), int(case["row"][-1])) for case in cases]
+    return sum(needless > 0 for _, needless in lost), sum(all_lost > 0 and not needless for all_lost, needless in lost)
 
 
 def losses_of(losses: list[Loss]) -> list[dict[str, Any]]:

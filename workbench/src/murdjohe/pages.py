@@ -65,16 +65,20 @@ def agreement_text(judgement: Judgement) -> str:
     )
 
 
-def cuts_text() -> str:
-    """What the cases of a page are."""
+def cuts_text(cases: list[dict[str, Any]]) -> str:
+    """What the cases of a page are, and how many leave somebody without a source."""
     down, end = clock(page_data.CUT_AT), clock(page_data.CUT_UNTIL)
+    needless, others = page_data.losing_cases(cases)
+    lost = f"{plural(needless, 'link')} so {'leaves' if needless == 1 else 'leave'} elements without a source that another link could still serve"
     return (
-        f"each link down alone at {down} after the start, without the events of this run; the table and the map show the end, "
+        f"{lost}, {others:,} only elements that none could; each link down alone at {down} after the start, without the events of this run; the table and the map show the end, "
         f"{end}: what is lost and back by then isn't counted"
     )
 
 
-def facts(plan: PlanFile, events: EventFile, found: Rehearsal, has_cuts: bool = False) -> list[tuple[str, str]]:
+def facts(
+    plan: PlanFile, events: EventFile, found: Rehearsal, cases: list[dict[str, Any]] | None = None
+) -> list[tuple[str, str]]:
     """The verdicts with what they promise, the versions, and the checksums."""
     with open(core.find(), "rb") as file:
         program = hashlib.file_digest(file, "sha256").hexdigest()
@@ -93,7 +97,7 @@ def facts(plan: PlanFile, events: EventFile, found: Rehearsal, has_cuts: bool = 
         ("commands", f"{rejected} rejected, by the table of commands"),
         ("between", "traces and walks before the end follow from what each element takes, by the rule of the report"),
         ("at the end", dark_text(found, 0)),
-        *([("cuts", cuts_text())] if has_cuts else []),
+        *([("cuts", cuts_text(cases))] if cases else []),
         ("plan", f"{plan.name}, sha256 {digest(plan.data)}"),
         ("events", f"{events.name}, sha256 {digest(events.data)}"),
         ("program", f"{core.NAME}, sha256 {program}"),

@@ -15,6 +15,7 @@ LAYERED, MAP = "layered", "map"
 BOX = (1.0, 0.42)  # inches, the room of an element before the picture is brought to its page
 MOST, GAP = 1.5, 1.25  # the largest boxes, and how far apart their middles are at least, in boxes
 MANY = 400  # elements from which on a map is made by `sfdp`, in seconds, and not by `neato`, in minutes
+LARGEST = 5_000  # elements that a picture or a page may have: with more it takes minutes, and nobody can read it
 ELEMENT, SOURCE = "element", "source"
 Key = tuple[str, str]  # the kind of a thing and its name
 Spots = dict[Key, tuple[float, float]]
@@ -135,6 +136,12 @@ def placed(tables: dict[str, Any], path: str) -> Layout:
         spots[SOURCE, row["name"]] = (x, y + 1.5 * BOX[1])
     width = max(x for x, _ in spots.values()) + BOX[0]
     return Layout(spots, width, max(y for _, y in spots.values()) + BOX[1])
+
+
+def small_enough(elements: int, way_out: str) -> None:
+    """Raises Wrong where a picture would have more elements than can be read, with what to do then."""
+    if elements > LARGEST:
+        raise Wrong(f"{elements:,} elements are too many for a picture, which has {LARGEST:,} at most: {way_out}")
 
 
 def layout_of(tables: dict[str, Any], layout: str | None, places: str | None) -> Layout:

@@ -49,13 +49,18 @@ class PlanFile:
         answer = api.check(self.data, self.certificate)
         return answer.text.decode().strip()
 
-    def gaps(self) -> tuple[reports.Gap, ...]:
-        """The failures that cut somebody off who needn't be, as the program says."""
-        return api.protected(self.data).result.rows
+    def gaps(self, groups: bytes | None = None) -> tuple[reports.Gap, ...]:
+        """The failures, and the groups of a table, that cut somebody off who needn't be, as the program says."""
+        return api.protected(self.data, groups).result.rows
+
+    @cached_property
+    def agreement(self) -> reports.Agreement:
+        """Whether priorities agree, and the bounds by which the network is at rest, as the program says."""
+        return api.agree(self.data).result
 
     def clash(self) -> tuple[str, ...] | None:
         """The lines that bear on one another in a circle, as the program says; none where timing may go round anyway."""
-        return api.agree(self.data).result.clash if self.ranking.ring is None else None
+        return self.agreement.clash if self.ranking.ring is None else None
 
     def chains(self) -> tuple[reports.Chain, ...]:
         """How long chains into each element may become, as the program says; none where timing may go round."""
@@ -65,12 +70,13 @@ class PlanFile:
 @dataclass(frozen=True)
 class Judgement:
     """What the program says of a plan: `accepted` or the ring, the lines whose priorities may oscillate, if any, and what ends
-    that; and where it was asked, the failures that cut somebody off who needn't be."""
+    that; and where it was asked, the failures, and groups if there are some, that cut somebody off who needn't be."""
 
     verdict: str
     clash: reports.Loop | None
     remedy: str | None
     gaps: tuple[reports.Gap, ...] | None
+    has_groups: bool = False
 
     @property
     def is_good(self) -> bool:
@@ -84,7 +90,8 @@ class Judgement:
         if self.verdict == ACCEPTED:
             said.append(AGREED if self.clash is None else OSCILLATES)
         if self.gaps is not None:
-            said.append(plural(len(self.gaps), "gap") if self.gaps else PROTECTED)
+            number = plural(len(self.gaps), "gap") if self.gaps else PROTECTED
+            said.append(f"{number} with these groups" if self.has_groups else number)
         return ", ".join(said)
 
     @property
@@ -93,8 +100,9 @@ class Judgement:
         return [self.remedy] if self.remedy else []
 
 
-def judged(plan: PlanFile, has_gaps: bool = False) -> Judgement:
-    """What the program says of a plan: of its ranks, of its priorities, and whether it is protected where that is asked."""
+def judged(plan: PlanFile, has_gaps: bool = False, groups: bytes | None = None) -> Judgement:
+    """What the program says of a plan: of its ranks, of its priorities, and whether it is protected where that is asked, also against
+    the groups of a table."""
     verdict = plan.verdict()
     clash = plan.clash() if verdict == ACCEPTED else None
     remedy = None
@@ -102,7 +110,7 @@ def judged(plan: PlanFile, has_gaps: bool = False) -> Judgement:
         from murdjohe import oscillation
 
         remedy = oscillation.told(plan.plan, clash)
-    return Judgement(verdict, clash, remedy, plan.gaps() if has_gaps else None)
+    return Judgement(verdict, clash, remedy, plan.gaps(groups) if has_gaps else None, groups is not None)
 
 
 def others_of(document: documents.Document, refused: api.Refused) -> list[str]:

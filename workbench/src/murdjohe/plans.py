@@ -4,6 +4,7 @@ from __future__ import annotations
 
 import re
 import tomllib
+from bisect import bisect_left
 from functools import cached_property
 
 from murdjohe import toml_reader
@@ -88,8 +89,14 @@ class Plan:
                 if depth == 0:
                     yield begin, place + 1
 
+    @cached_property
+    def feeds(self) -> list[int]:
+        """Where each line of the text ends."""
+        return [found.start() for found in re.finditer("\n", self.text)]
+
     def line_at(self, place: int) -> int:
-        return self.text.count("\n", 0, place) + 1
+        """The line on which a place of the text is, from 1 on."""
+        return bisect_left(self.feeds, place) + 1
 
     def row(self, section: str, number: int) -> dict[str, Any]:
         """The row as a table, an empty one where there is no such table; the head for `head`."""

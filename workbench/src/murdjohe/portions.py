@@ -15,11 +15,15 @@ from murdjohe.sentences.records import MOST_ROWS
 from murdjohe.wrong import Wrong
 
 LEAST, MOST = 2_000, 20_000  # cases of a part, where nothing else is asked
+LARGE = 10_000  # elements of a plan in which each case takes long
 SHARES = 8  # so many parts there are, or so many times 2, 3, 4 .., of which each processor has as many as the others
 
 
-def usual(total: int) -> int:
-    """How many of so many cases a part has: more of many, since the program reads the plan anew for each part."""
+def usual(total: int, elements: int = 0) -> int:
+    """How many of so many cases a part has: more of many, since the program reads the plan anew for each part; few beside a large plan,
+    in which each case takes long, so that a stop loses minutes and not hours."""
+    if elements > LARGE:
+        return LEAST
     parts = SHARES * max(1, -(-total // (SHARES * MOST)))
     return max(LEAST, -(-total // parts))
 

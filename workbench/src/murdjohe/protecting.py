@@ -6,6 +6,17 @@ from murdjohe import api, findings, nominated, premises
 from murdjohe.documents import Document
 from murdjohe.plans import Plan
 from murdjohe.remarks import listed, plural
+from murdjohe.reports import Agreement
+
+
+def on_times(agreed: Agreement, who: str) -> list[str]:
+    """How soon after any single failure, out of a network at rest, somebody rests on a clock; nothing of a plan without bounds."""
+    if agreed.failures is None or agreed.bound is None:
+        return []
+    return [
+        f"at rest, and then one thing fails: everybody {who} rests on one within {agreed.failures / 1000:,.3f} s, "
+        f"if nothing comes up meanwhile; after a repair within {agreed.bound / 1000:,.3f} s"
+    ]
 
 
 def on_survival(plan: Plan, data: bytes) -> list[str]:
@@ -13,13 +24,14 @@ def on_survival(plan: Plan, data: bytes) -> list[str]:
     broken = premises.told(plan)
     if broken or premises.worst_source(plan) is None:
         return [broken] if broken else []
-    agreed = api.agree(data).result
-    if agreed.failures is None or agreed.bound is None:
+    return on_times(api.agree(data).result, "who can still have a clock")
+
+
+def beside_findings(plan: Plan, agreed: Agreement, has_gaps: bool) -> list[str]:
+    """The same beside what is to be looked at in a plan, where no premise is broken: that is told there."""
+    if premises.told(plan) or premises.worst_source(plan) is None:
         return []
-    return [
-        f"at rest, and then one thing fails: everybody who can still have a clock rests on one within {agreed.failures / 1000:,.3f} s, "
-        f"if nothing comes up meanwhile; after a repair within {agreed.bound / 1000:,.3f} s"
-    ]
+    return on_times(agreed, "whom nominated lines still lead to a clock" if has_gaps else "who can still have a clock")
 
 
 def on_found(text: str) -> list[str]:

@@ -16,9 +16,12 @@ FILE = "refusals.toml"
 TABLES = {
     core.BAD_PLAN: ("plan", b"bad plan "),
     core.BAD_CERTIFICATE: ("certificate", b"bad certificate "),
-    core.BAD_EVENTS: ("events", b"bad events "),
 }
-FRAME_TABLES = {b"bad frames ": "frames", b"bad capture ": "capture", b"bad node ": "node"}
+# The statuses that refuse files of several kinds: how each refusal begins, and its table.
+SEVERAL = {
+    core.BAD_EVENTS: {b"bad events ": "events", b"bad groups ": "groups"},
+    core.BAD_FRAMES: {b"bad frames ": "frames", b"bad capture ": "capture", b"bad node ": "node"},
+}
 # The table whose numbers another has too, where it has none of its own.
 ALSO = {"cases": "events"}
 PLAN_ROWS = 25  # the number before those of a plan's rows
@@ -55,9 +58,9 @@ def taken_apart(table: str, words: list[str]) -> Refusal:
 def of(status: int, text: bytes) -> Refusal | None:
     """The refusal in an answer of this status; None where the answer is no refusal with a number."""
     table, beginning = TABLES.get(status, ("", b""))
-    if status == core.BAD_FRAMES:
-        beginning = next((begin for begin in FRAME_TABLES if text.startswith(begin)), b"")
-        table = FRAME_TABLES.get(beginning, "")
+    if status in SEVERAL:
+        beginning = next((begin for begin in SEVERAL[status] if text.startswith(begin)), b"")
+        table = SEVERAL[status].get(beginning, "")
     if not beginning or not text.startswith(beginning):
         return None
     try:

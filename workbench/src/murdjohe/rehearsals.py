@@ -3,11 +3,12 @@ each element goes without."""
 
 from __future__ import annotations
 
-from dataclasses import asdict, dataclass, field
+from dataclasses import asdict, dataclass, field, replace
 from functools import cached_property
 from typing import Any
 
-from murdjohe import idling, moments, plan_file, runs, spans, switching, wiring
+from murdjohe import ends, idling, left_behind, moments, plan_file, runs, spans, switching, wiring
+from murdjohe.ends import seconds
 from murdjohe.moments import Event
 from murdjohe.plan_file import PlanFile
 from murdjohe.remarks import listed, plural
@@ -27,7 +28,7 @@ class Rehearsal:
     """A run that was rehearsed up to `until`; `settled_at` is None where the network isn't settled then.
 
     `oscillation` says what ends it where the plan's priorities may oscillate, and `idle` why commands that were taken have no
-    effect, by their millisecond, word and input.
+    effect, by their millisecond, word and input; `why` by what the end was chosen, where nobody gave it.
     """
 
     until: int
@@ -41,6 +42,7 @@ class Rehearsal:
     settled_at: int | None
     oscillation: str | None = None
     idle: dict[tuple[int, str, str], str] = field(default_factory=dict)
+    why: str | None = None
 
     @cached_property
     def beyond(self) -> frozenset[str]:
@@ -49,6 +51,11 @@ class Rehearsal:
 
         rows = [(str(event.at), event.what, event.target) for event in self.events]
         return reaching.beyond(self.wired, rows, self.until)
+
+    @cached_property
+    def left(self) -> list[str]:
+        """What the works leave behind at the end: what is still down, silent, locked out or under a switch."""
+        return left_behind.left(self.wired, self.events, self.commands, self.until)
 
     @property
     def dark(self) -> dict[str, int | None]:
@@ -96,9 +103,11 @@ def rehearsed(plan: PlanFile, file: EventFile, until: int) -> Rehearsal:
     )
 
 
-def seconds(length: int) -> str:
-    """A length of time in seconds."""
-    return f"{length / 1000:,.3f} s"
+def to_rest(plan: PlanFile, file: EventFile) -> Rehearsal:
+    """The same up to the first end by which the network is at rest, of those that the bounds of `agree` give. Raises Wrong."""
+    endings = ends.of_run(plan, file.events)
+    chosen = next((one for one in endings[:-1] if runs.is_settled(plan, file, one.until)), endings[-1])
+    return replace(rehearsed(plan, file, chosen.until), why=chosen.why)
 
 
 def differs(before: Change, after: Change) -> str:
@@ -250,6 +259,10 @@ def ending_text(found: Rehearsal, start: int) -> list[str]:
         said.append(f"not settled at {clock(found.until, start)}: {remedy}")
     else:
         said.append(f"settled from {clock(found.settled_at, start)} on")
+    if found.why:
+        said.append(f"the run ends at {clock(found.until, start)}: {found.why}")
+    if found.left:
+        said.append(f"left behind at the end, so that the next failure may hurt more: {listed(found.left)}")
     if found.oscillation:
         said.append(found.oscillation)
     if found.late:
@@ -279,12 +292,14 @@ def as_data(found: Rehearsal, start: int) -> dict[str, Any]:
     """The rehearsal as JSON has it."""
     return {
         "until": found.until,
+        "end_by": found.why,
         "settled_from": found.settled_at,
         "stopped_at": found.report.stopped_at,
         "without_source_at_end": [
             {"element": name, "since": since, "no_link_left": name in found.beyond}
             for name, since in found.dark.items()
         ],
+        "left_behind": found.left,
         "oscillation": found.oscillation,
         "late_events": found.late,
         "list": [dict(zip(COLUMNS, row)) | {"at": int(row[0])} for row in table_of(found, start)],

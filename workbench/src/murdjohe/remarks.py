@@ -153,14 +153,27 @@ def on_fall(words: Words, before: str, line: str) -> str:
     )
 
 
-def on_gaps(text: str) -> list[str]:
-    """How many failures cut off elements that needn't be, and what to do."""
+def on_gaps(words: Words, text: str) -> list[str]:
+    """How many failures, and which groups, cut off elements that needn't be, and what to do."""
     rows = text.splitlines()[1:]
+    grouped = sum(row.startswith("group,") for row in rows)
+    counts = [plural(len(rows) - grouped, "failure")] if len(rows) > grouped else []
+    counts += [plural(grouped, "group")] if grouped else []
     verb = "leaves" if len(rows) == 1 else "leave"
-    return [
-        f"{plural(len(rows), 'failure')} {verb} elements without a clock that they could have: nominate lines that lead there "
+    said = [
+        f"{' and '.join(counts)} {verb} elements without a clock that they could have: nominate lines that lead there "
         "from elements that have one"
     ]
+    return said + on_groups(words, text)
+
+
+def on_groups(words: Words, text: str) -> list[str]:
+    """What is said of groups beside an answer of `protected`, where there are some."""
+    if words.file(forms.GROUPS) is None:
+        return []
+    from murdjohe import reports, said_of_groups
+
+    return said_of_groups.beside(words, reports.gaps(Answer(core.REFUTED, text.encode())).rows)
 
 
 def on_clash(words: Words, lines: list[str]) -> list[str]:
@@ -179,7 +192,7 @@ def on_clash(words: Words, lines: list[str]) -> list[str]:
 def on_refuted(words: Words, text: str) -> list[str]:
     """Why ranks fall, or no ranks rise, or a plan isn't protected or doesn't agree."""
     if words.form.name == "protected":
-        return on_gaps(text)
+        return on_gaps(words, text)
     if words.form.name == "protect":
         from murdjohe import protecting
 
@@ -354,7 +367,7 @@ def on_done(words: Words, text: str) -> list[str]:
         return on_chains(text)
     if name == "protected":
         first, *rest = on_plan(words, None) or ["no element loses sync by a single failure while another path exists"]
-        return [f"protected: {first}", *rest]
+        return [f"protected: {first}", *rest, *on_groups(words, text)]
     if name == "agree":
         return on_agreed(words, text)
     if name == "hops":
@@ -377,7 +390,7 @@ def remarks(words: Words, answer: Answer) -> list[str]:
             return on_done(words, text)
         from murdjohe import said_of_times
 
-        return on_done(words, text) + said_of_times.on_seconds(words)
+        return on_done(words, text) + words.chosen + said_of_times.on_seconds(words)
     if answer.status == core.REFUTED:
         return on_refuted(words, text)
     return on_stopped(words, text) if answer.status == core.STOPPED else []

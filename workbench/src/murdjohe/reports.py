@@ -69,7 +69,7 @@ class Gap:
 
 @dataclass(frozen=True)
 class Gaps:
-    """What `protected` says: a row for each failure that cuts somebody off; none where the plan is protected."""
+    """What `protected` says: a row for each failure, or group, that cuts somebody off; none where the plan is protected."""
 
     rows: tuple[Gap, ...]
 

@@ -59,9 +59,15 @@ def said_of(words: Words, answer: Answer) -> list[str]:
 
 def answered(form: Form, given: list[str], start: int | None = None) -> tuple[Words, Answer]:
     """The words as the program is given them, and what it answers. Wrong words are answered by it too: `usage`."""
+    said: list[str] = []
+    if inputs.are_left_out(form, given):
+        from murdjohe import chosen_times
+
+        given, said = chosen_times.filled(form, given, start)
     words = inputs.taken(form, given, start)
     if words is None:
         return Words(form, given, [form.name, *given], []), core.run([])
+    words.chosen = said
     return words, core.run(words.passed, working(form.name))
 
 

@@ -38,7 +38,7 @@ REFUSED = {
     core.USAGE: (b"usage\n",),
     core.BAD_PLAN: (b"bad plan ",),
     core.BAD_CERTIFICATE: (b"bad certificate ",),
-    core.BAD_EVENTS: (b"bad events ",),
+    core.BAD_EVENTS: (b"bad events ", b"bad groups "),
     core.BAD_FRAMES: (b"bad frames ", b"bad capture ", b"bad node "),
     core.READ_FAULT: (b"read fault\n",),
     core.TOO_LONG: (b"too long\n",),

@@ -4,7 +4,7 @@ from __future__ import annotations
 
 from typing import Any
 
-from murdjohe import colours, figures, places
+from murdjohe import colours, figures, group_bands, places
 from murdjohe.places import BOX, ELEMENT, SOURCE, Layout
 from murdjohe.views import View
 from murdjohe.wiring import Line
@@ -16,6 +16,7 @@ MARGIN, HEAD, FOOT = 0.35, 0.5, 0.75  # inches round the picture, above it for t
 FONT = 9.0  # points, where boxes have their whole size
 STROKE = 0.8  # points of a hatch
 APART = 0.09  # inches between links that join the same elements
+BAND = 6.0  # points that the band of a group is wide
 DASHED, WAITING = (0, (4, 3)), (0, (6, 2, 1, 2))
 
 
@@ -127,6 +128,33 @@ def drawn_lines(page: Page, view: View, lines: list[Line], start: Point, end: Po
         page.write(before(page, start, end), words, **text)
 
 
+def drawn_bands(page: Page, view: View, links: list[str], start: Point, end: Point) -> list[str]:
+    """The bands of the groups that have a link, side by side below its cable; their signs."""
+    found = group_bands.along(view.groups, links)
+    across, up = end[0] - start[0], end[1] - start[1]
+    length = max((across**2 + up**2) ** 0.5, 1e-9)
+    for number, one in enumerate(found):
+        aside = (number - (len(found) - 1) / 2) * BAND * page.scale / 72
+        move = -up / length * aside, across / length * aside
+        ends = [(x + move[0], y + move[1]) for x, y in (start, end)]
+        band = {"color": one.colour, "linewidth": BAND * page.scale, "zorder": 1.5, "solid_capstyle": "butt"}
+        page.axes.plot(*zip(*ends), **band)
+    return [one.sign for one in found]
+
+
+def drawn_ground(page: Page, view: View, key: places.Key) -> None:
+    """The colours of the groups that have an element or a source, round its box."""
+    from matplotlib.patches import FancyBboxPatch
+
+    x, y = page.spots[key]
+    found = group_bands.around(view.groups, *key)
+    for number, one in reversed(list(enumerate(found, start=1))):
+        wide = [side + 2 * number * BAND * page.scale / 72 for side in page.box]
+        shape = f"round,pad=0,rounding_size={wide[1] * 0.2}"
+        how: dict[str, Any] = {"facecolor": one.colour, "edgecolor": "none", "zorder": 1.5}
+        page.axes.add_patch(FancyBboxPatch((x - wide[0] / 2, y - wide[1] / 2), *wide, boxstyle=shape, **how))
+
+
 def drawn_cable(page: Page, view: View, lines: list[Line], aside: float) -> None:
     """A link or a bundle: the cable, its arrows, its name, and a cross where it has failed."""
     first = lines[0]
@@ -136,6 +164,7 @@ def drawn_cable(page: Page, view: View, lines: list[Line], aside: float) -> None
     if first.bundle[0] == "bundle" and len(links) > 1:
         band = {"color": colours.PALE, "linewidth": 9 * page.scale, "zorder": 1, "solid_capstyle": "butt"}
         page.axes.plot(*zip(start, end), **band)
+    grouped = drawn_bands(page, view, list(links), start, end)
     page.axes.plot(*zip(start, end), **cable_style(view, lines))
     for receiver, way in ((first.receiver, (start, end)), (first.sender, (end, start))):
         own = [line for line in lines if line.priority and line.receiver == receiver]
@@ -143,6 +172,7 @@ def drawn_cable(page: Page, view: View, lines: list[Line], aside: float) -> None
             drawn_lines(page, view, own, *way)
     is_cut = any(line.name in view.down for line in lines)
     name = f"{first.bundle[1]}: {len(links)} links" if len(links) > 1 else first.link
+    name += f" {''.join(grouped)}" if grouped else ""
     if view.has_words or is_cut:
         text = {
             "fontsize": page.font * 0.72,
@@ -251,6 +281,7 @@ def drawn_legend(page: Page, view: View) -> None:
         keys.append(stroke("up again, waiting", color=colours.GREY, linewidth=1.2, linestyle=WAITING))
     if any(line.bundle[0] == "bundle" for line in view.wired.lines.values()):
         keys.append(stroke("bundle", color=colours.PALE, linewidth=7))
+    keys += [Patch(facecolor=colour, edgecolor="none", label=text) for text, colour in group_bands.legend(view.groups)]
     for word in dict.fromkeys(view.red.values()):
         keys.append(
             stroke(
@@ -270,6 +301,8 @@ def picture(view: View, layout: Layout, ending: str) -> bytes:
     page = Page(layout, len(view.wired.elements))
     for lines, place, count in cables_of(view):
         drawn_cable(page, view, lines, (place - (count - 1) / 2) * APART)
+    for key in page.spots if view.groups else ():
+        drawn_ground(page, view, key)
     for source in view.tables.get("source", []):
         drawn_source(page, view, source)
     for element in view.tables.get("element", []):

@@ -7,8 +7,9 @@ from typing import Any
 
 from murdjohe import times
 from murdjohe.columns import table
+from murdjohe.lost_names import Names
 from murdjohe.needless import Loss, Losses
-from murdjohe.remarks import listed, plural
+from murdjohe.remarks import NAMED, listed, plural
 from murdjohe.studies import Case
 from murdjohe.tallies import Tally
 
@@ -40,12 +41,15 @@ def section(head: str, outcomes: list[Case]) -> list[str]:
 @dataclasses.dataclass(frozen=True)
 class Ends:
     """The end of each run, the time of day at which runs begin, if one is said, who has no source at the end of the common events
-    alone, if there are any, and the losses by why they came."""
+    alone, if there are any, the losses by why they came, by what the end was chosen, where nobody gave it, and who has no source in
+    cases whose names are asked for."""
 
     until: int
     start: int | None
     alone: list[str] | None
     losses: Losses
+    why: str | None = None
+    names: list[Names] = dataclasses.field(default_factory=list)
 
     @property
     def time(self) -> str:
@@ -71,38 +75,81 @@ def alone_text(ends: Ends) -> list[str]:
         return []
     alone = f"{plural(len(ends.alone), 'element')} without a source at the end ({listed(ends.alone)})"
     more = f"{of_cases(ends.losses.more, 'leaves', 'leave')} more elements without one than they do"
-    look = "what they do before the end isn't looked at: --until a time within them shows that"
+    look = f"what they do before {times.clock(ends.until, ends.start or 0)} isn't looked at: --at and --until say another time"
     return [
         f"the common events alone leave {alone if ends.alone else 'nobody without a source at the end'}; {more}; {look}"
     ]
 
 
-def needless_rows(losses: list[Loss]) -> list[str]:
-    """The columns of cases in which elements needn't have lost their source."""
-    heads = ["case", "needless", "lost", "themselves", "beyond", "first", "worst", "settled"]
+def loss_rows(losses: list[Loss]) -> list[str]:
+    """The columns of cases in which elements lose their source, with how many needn't have, how many no link could serve, and how many
+    are taken away themselves."""
+    heads = [
+        "case",
+        "lost",
+        "needless",
+        "beyond",
+        "themselves",
+        "first",
+        "holdover",
+        "freerun",
+        "loops",
+        "worst",
+        "settled",
+    ]
     rows = [
-        [one.case.case, str(one.needless), str(one.case.lost), str(one.themselves), str(one.beyond)]
-        + [one.case.first or "-", one.case.worst, "yes" if one.case.is_settled else "no"]
+        [
+            one.case.case,
+            str(one.case.lost),
+            str(one.needless),
+            str(one.beyond),
+            str(one.themselves),
+            one.case.first or "-",
+        ]
+        + [str(one.case.holdover), str(one.case.freerun), str(one.case.loops), one.case.worst]
+        + ["yes" if one.case.is_settled else "no"]
         for one in losses
     ]
     return [f"  {line}" for line in table(heads, rows)]
 
 
+def names_text(names: list[Names]) -> list[str]:
+    """Who has no source in each of some cases, all of them, by why."""
+    said = []
+    for one in names:
+        whom = "; ".join(f"{why}: {', '.join(who)}" for why, who in one.each)
+        said.append(f"  {one.case}  {whom if one.is_known else 'not known, since `sim` stops this run'}")
+    return ["", "who has no source at the end, by name and why:", *said] if said else []
+
+
+def end_text(tally: Tally, ends: Ends) -> list[str]:
+    """That the end alone is looked at, when it is, and by what it was chosen."""
+    looked = f"{plural(tally.cases, 'case')}, each looked at in its last millisecond alone, {ends.time}"
+    chosen = [f"the end is chosen: {ends.why}"] if ends.why else []
+    return [f"{looked}; what is lost and back by then isn't counted", *chosen]
+
+
+def unsettled_text(tally: Tally) -> str:
+    """How many cases are unsettled at the end, with the names of the first, and how many have loops."""
+    names = [case.case for case in tally.restless.outcomes() if not case.is_settled][:NAMED]
+    more = tally.unsettled - len(names)
+    told = f" ({', '.join(names)}{f' and {more:,} more' if more else ''})" if names else ""
+    unsettled = f"{of_cases(tally.unsettled, 'is', 'are')} unsettled at the end, still changing then{told}"
+    return f"{unsettled}, and {of_cases(tally.looping, 'has', 'have')} loops"
+
+
 def text_of(tally: Tally, most: int, ends: Ends) -> list[str]:
     """The summary as a person reads it."""
-    said = [
-        f"{plural(tally.cases, 'case')}, each looked at in its last millisecond alone, {ends.time}; what is lost and back by then isn't counted",
-        *losing_text(tally, ends.losses),
-        *alone_text(ends),
-        f"{of_cases(tally.unsettled, 'is', 'are')} unsettled at the end, and {of_cases(tally.looping, 'has', 'have')} loops",
-    ]
+    said = [*end_text(tally, ends), *losing_text(tally, ends.losses), unsettled_text(tally), *alone_text(ends)]
     if needless := ends.losses.outcomes():
         said += [
             "",
             "who loses the clock though a link could still serve them, most elements first:",
-            *needless_rows(needless),
+            *loss_rows(needless),
         ]
-    said += section("who has no source at the end, whatever the cause, most elements first:", tally.lost.outcomes())
+    if lost := ends.losses.all_outcomes():
+        said += ["", "who has no source at the end, whatever the cause, most elements first:", *loss_rows(lost)]
+    said += names_text(ends.names)
     said += section("unsettled, most loops first:", tally.restless.outcomes())
     said += section("longest chains, in lines:", tally.chains.outcomes())
     firsts = tally.first.most_common(most)
@@ -124,6 +171,7 @@ def as_data(tally: Tally, ends: Ends) -> dict[str, Any]:
     losses = ends.losses
     return {
         "until": ends.until,
+        "end_by": ends.why,
         "cases": tally.cases,
         "losing": tally.losing,
         "needless": losses.cases,
@@ -138,4 +186,10 @@ def as_data(tally: Tally, ends: Ends) -> dict[str, Any]:
         "restless": [dataclasses.asdict(one) for one in tally.restless.outcomes()],
         "chains": [dataclasses.asdict(one) for one in tally.chains.outcomes()],
         "first": dict(tally.first.most_common()),
+        "names": {
+            one.case: {"needless": one.needless, "beyond": one.beyond, "themselves": one.themselves}
+            if one.is_known
+            else None
+            for one in ends.names
+        },
     }

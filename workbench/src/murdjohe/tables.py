@@ -19,12 +19,13 @@ from murdjohe.wrong import Wrong
 # For each table the columns that it must have, and those that may be missing.
 TABLES = {
     "element": Columns(("name",), ("own", "holdoff", "wtr", "floor")),
-    "link": Columns(("name", "a", "b"), ("priority_a", "priority_b", "delay_a", "delay_b", "bundle")),
+    "link": Columns(("name", "a", "b"), ("priority_a", "priority_b", "delay_a", "delay_b", "bundle", "duct")),
     "source": Columns(("name", "at", "level"), ("priority",)),
 }
 NUMBERS = frozenset(plans.LIMITS)
 LEVELS = ("own", "floor", "level")
 NAMED = {"element": ("name",), "link": ("name", "bundle"), "source": ("name",)}
+DUCT, BETWEEN = "duct", ";"  # the column of a link's ducts, and what stands between several
 NAME = re.compile(r"[A-Za-z0-9_-]{1,32}")
 LONGEST_NAME = 32
 RULE = "a name is 1 to 32 of A-Z a-z 0-9 _ -"
@@ -46,11 +47,13 @@ class Settings:
 
 @dataclass
 class Made:
-    """What became of the tables: the plan, the names that were changed (kind, old, new), and the headers left out."""
+    """What became of the tables: the plan, the names that were changed (kind, old, new), the headers left out, and the links of each
+    duct, None where no column says any."""
 
     plan: str
     renamed: list[tuple[str, str, str]]
     ignored: list[str]
+    ducts: dict[str, list[str]] | None = None
 
 
 def mapping_of(pairs: list[str]) -> dict[str, dict[str, str]]:
@@ -119,6 +122,22 @@ def wrong_level(column: str, value: str, option: str) -> str | None:
     return f"which {what}{hint}; the levels are {', '.join(right)}"
 
 
+def ducts_of(row: Row) -> list[str]:
+    """The ducts in which a link lies."""
+    return [name.strip() for name in row.fields.get(DUCT, "").split(BETWEEN) if name.strip()]
+
+
+def wrong_ducts(row: Row, hint: str) -> str | None:
+    """What is wrong with the ducts of a link."""
+    names = ducts_of(row)
+    for name in names:
+        if wrong := wrong_name(name):
+            return f"{wrong} for {name!r}{hint}; several stand with semicolons between them"
+        if names.count(name) > 1:
+            return f"which has {name!r} twice; leave one of them out"
+    return None
+
+
 class Reading:
     """Tables on their way to a plan, with the mistakes so far."""
 
@@ -174,6 +193,15 @@ class Reading:
             for fields, column in cells:
                 fields[column] = new.get(fields[column], fields[column])
             self.renamed += [(what, old, name) for old, name in new.items()]
+        self.rename_ducts()
+
+    def rename_ducts(self) -> None:
+        """Gives ducts names that groups can have."""
+        rows = [row for row in self.tables.get("link", Table("")).rows if DUCT in row.fields]
+        new = new_names([name for row in rows for name in ducts_of(row)])
+        for row in rows:
+            row.fields[DUCT] = BETWEEN.join(new.get(name, name) for name in ducts_of(row))
+        self.renamed += [(DUCT, old, name) for old, name in new.items()]
 
     def check_fields(self) -> None:
         """Finds what is wrong in a field by itself."""
@@ -186,6 +214,8 @@ class Reading:
                     what = None
                     if column in NAMED[kind] and (wrong := wrong_name(value)):
                         what = wrong + self.rename_hint
+                    elif column == DUCT:
+                        what = wrong_ducts(row, self.rename_hint)
                     elif column in NUMBERS:
                         what = wrong_number(column, value)
                     elif column in LEVELS:
@@ -266,6 +296,17 @@ def value_of(column: str, value: str) -> str:
     return str(int(value)) if column in NUMBERS else json.dumps(value, ensure_ascii=False)
 
 
+def links_of_ducts(table: Table) -> dict[str, list[str]] | None:
+    """The links of each duct, in order; None where the table has no such column."""
+    if DUCT not in table.headers:
+        return None
+    found: dict[str, list[str]] = {}
+    for row in table.rows:
+        for name in ducts_of(row):
+            found.setdefault(name, []).append(row.fields["name"])
+    return found
+
+
 def plan_text(rows: dict[str, list[dict[str, str]]], option: str) -> str:
     """The plan of these rows; it is of version 2 where a link has a bundle."""
     has_bundle = any("bundle" in row for row in rows.get("link", []))
@@ -283,6 +324,9 @@ def made_of(paths: dict[str, str], settings: Settings) -> Made:
         reading.take(kind, path)
     reading.unmapped()
     reading.checked()
+    ducts = links_of_ducts(reading.tables["link"])
+    for row in reading.tables["link"].rows:
+        row.fields.pop(DUCT, None)
     rows = {kind: [row.fields for row in table.rows] for kind, table in reading.tables.items()}
     ignored = [f"{table.path}: {', '.join(table.extra)}" for table in reading.tables.values() if table.extra]
-    return Made(plan_text(rows, settings.option), reading.renamed, ignored)
+    return Made(plan_text(rows, settings.option), reading.renamed, ignored, ducts)

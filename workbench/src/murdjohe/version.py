@@ -13,30 +13,33 @@ ABOUT = ".about"  # the ending of the file beside an installed program that says
 UNKNOWN = "unknown"
 
 
-def first_line(words: list[str], folder: str) -> str | None:
-    """The first line that a command prints, or None where it isn't there or fails."""
+def told_by(program: str) -> list[str]:
+    """What a program answers to the word `about`, where it is a commit and a toolchain."""
     try:
         run = subprocess.run(
-            words, cwd=folder, capture_output=True, text=True, timeout=5, check=True, stdin=subprocess.DEVNULL
+            [program, "about"], capture_output=True, text=True, timeout=5, check=True, stdin=subprocess.DEVNULL
         )
     except (OSError, subprocess.SubprocessError, UnicodeDecodeError):
-        return None
-    return run.stdout.partition("\n")[0].strip() or None
+        return []
+    words = [line.partition(" ") for line in run.stdout.splitlines()]
+    return [told for _, _, told in words] if [word for word, _, _ in words] == ["commit", "toolchain"] else []
 
 
-def built_of(program: str) -> tuple[str, str]:
-    """The commit and the toolchain of a program, as the file beside it says, or as a checkout gives them for its own."""
+def beside(program: str, digest: str) -> list[str]:
+    """The commit and the toolchain that stand in a file beside a program, unless that is of one with another checksum."""
     try:
         with open(os.path.realpath(program) + ABOUT, encoding="utf-8") as file:
-            lines = [*file.read().splitlines(), UNKNOWN, UNKNOWN]
-            return lines[0], lines[1]
+            lines = file.read().splitlines()
     except (OSError, UnicodeDecodeError):
-        pass
-    if os.path.realpath(program) != os.path.realpath(os.path.join(core.CHECKOUT, core.BUILT)):
-        return UNKNOWN, UNKNOWN
-    commit = first_line(["git", "rev-parse", "HEAD"], core.CHECKOUT)
-    toolchain = first_line(["rt", "version"], core.CHECKOUT)
-    return f"{commit}, of the checkout" if commit else UNKNOWN, toolchain or UNKNOWN
+        return []
+    return [] if len(lines) > 2 and lines[2] != f"sha256 {digest}" else lines[:2]
+
+
+def built_of(program: str, digest: str) -> tuple[str, str]:
+    """The commit and the toolchain of a program, as it says itself, or else as the file beside it does. A checkout around it is not
+    asked, since a program may have been built of another commit."""
+    commit, toolchain, *_ = [*(told_by(program) or beside(program, digest)), UNKNOWN, UNKNOWN]
+    return commit, toolchain
 
 
 def text() -> str:
@@ -44,7 +47,7 @@ def text() -> str:
     program = core.find()
     with open(program, "rb") as file:
         digest = hashlib.file_digest(file, "sha256").hexdigest()
-    commit, toolchain = built_of(program)
+    commit, toolchain = built_of(program, digest)
     return (
         f"murdjohe {murdjohe.__version__}\n"
         f"core {program}, sha256 {digest[:16]}\n"

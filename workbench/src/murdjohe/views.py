@@ -6,6 +6,7 @@ from dataclasses import dataclass, field
 from typing import Any
 
 from murdjohe import core, files, moments, network, rehearsals, reports, times, wiring
+from murdjohe.group_bands import Painted
 from murdjohe.moments import Event
 from murdjohe.reports import Change, Loop, Report
 from murdjohe.wiring import Wiring
@@ -20,7 +21,7 @@ class View:
     """What is drawn.
 
     `shown` is empty without a report. `unfed` are elements that follow no source, or have no way to one without a report;
-    `red` has the word of each line of a closed walk, and of the ring in an answer.
+    `red` has the word of each line of a closed walk, and of the ring in an answer; `groups` are parts that fail together.
     """
 
     tables: dict[str, Any]
@@ -32,6 +33,7 @@ class View:
     waiting: frozenset[str] = frozenset()
     red: dict[str, str] = field(default_factory=dict)
     ranks: dict[str, str] = field(default_factory=dict)
+    groups: tuple[Painted, ...] = ()
 
     @property
     def has_report(self) -> bool:

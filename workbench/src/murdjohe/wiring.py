@@ -3,6 +3,7 @@
 from __future__ import annotations
 
 from dataclasses import dataclass
+from functools import cached_property
 from typing import Any
 
 from murdjohe.orders import OWN
@@ -33,15 +34,21 @@ class Wiring:
     lines: dict[str, Line]
     sources: dict[str, str]
 
+    @cached_property
+    def by_link(self) -> dict[str, tuple[str, ...]]:
+        """The lines of each link."""
+        found: dict[str, tuple[str, ...]] = {}
+        for line in self.lines.values():
+            found[line.link] = (*found.get(line.link, ()), line.name)
+        return found
+
     def element_of(self, name: str) -> str | None:
         """The element that an input, a line or a source, belongs to."""
         return self.lines[name].receiver if name in self.lines else self.sources.get(name)
 
     def lines_of(self, target: str) -> tuple[str, ...]:
         """The lines of a link, or the line of this name."""
-        if target in self.lines:
-            return (target,)
-        return tuple(line.name for line in self.lines.values() if line.link == target)
+        return (target,) if target in self.lines else self.by_link.get(target, ())
 
 
 def lines_of(tables: dict[str, Any]) -> dict[str, Line]:

@@ -11,11 +11,11 @@ use Rattle.sync_topo.specs.declared.error.PlanErr.TheVariants.{NoElement}
 use Rattle.sync_topo.specs.declared.element.Element.{Element}
 use Rattle.sync_topo.specs.RowValues.{default_own}
 use Rattle.sync_topo.specs.PlanRows.{plan_of_rows}
-use Rattle.plan_file.specs.declared.error.PlanFileErr.{PlanFileErr}
-use Rattle.plan_file.specs.declared.error.PlanFileErr.TheVariants.{Syntax, Key, Kind, Plan}
-use Rattle.plan_file.specs.Rules.{refusal_of}
-use Rattle.plan_file.specs.Rows.{element_row, link_row, source_row, said_rows, rows_of_document}
-use Rattle.plan_file.specs.private.Rows.{first_refusal}
+use Rattle.plan_rows.specs.declared.error.PlanFileErr.{PlanFileErr}
+use Rattle.plan_rows.specs.declared.error.PlanFileErr.TheVariants.{Syntax, Key, Kind, Plan}
+use Rattle.plan_rows.specs.Rules.{refusal_of}
+use Rattle.plan_rows.specs.Rows.{element_row, link_row, source_row, said_rows, rows_of_document}
+use Rattle.plan_rows.specs.private.Rows.{first_refusal}
 use Rattle.sync_topo.specs.declared.sizes.Size.TheVariants.{Standard}
 use Rattle.plan_file.specs.PlanText.{document_of, plan_of_size}
 use Rattle.plan_file.specs.Spelling.{plan_text}

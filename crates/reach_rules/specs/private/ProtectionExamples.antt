@@ -12,7 +12,8 @@ use Rattle.sync_topo.specs.Lines.{is_nominated}
 use Rattle.sync_topo.specs.private.Examples.{element}
 use Rattle.reach_rules.specs.declared.failure.Failure.{Failure}
 use Rattle.reach_rules.specs.declared.failure.Failure.TheVariants as fails
-use Rattle.reach_rules.specs.Protection.{is_first_of_bundle, is_line_gone, is_source_gone, IsServed, IsInReach}
+use Rattle.reach_rules.specs.declared.group.Group.{Group}
+use Rattle.reach_rules.specs.Protection.{is_first_of_bundle, is_line_gone, is_source_gone, is_element_gone, IsServed, IsInReach}
 
 -- a link with these priorities at its two ends, in this bundle
 abbrev link : List ℕ → ℕ → ℕ → ℕ → ℕ → Option (List ℕ) → Link
@@ -79,3 +80,32 @@ links_go_with_a_bundle = refl
 a_link_goes_alone : left_after bundled (fails.Link 1) ≡ 0 ∷ 4 ∷ 5 ∷ []
 unfolding lowest_of_bundle dec_lt
 a_link_goes_alone = refl
+
+-- a group with these links, sources and elements
+abbrev pub group_of : List ℕ → List ℕ → List ℕ → Group
+group_of links sources elements = record { name = codes "D"; links = links; sources = sources; elements = elements }
+
+-- of a duct with L1 and L3 all lines go, so that none is left into or out of A
+a_group_goes_whole : left_after (ring 2) (fails.Group (group_of (0 ∷ 2 ∷ []) [] [])) ≡ 2 ∷ 3 ∷ []
+unfolding lowest_of_bundle dec_lt
+a_group_goes_whole = refl
+
+-- with an element of a group its links go, beside those of the group
+links_go_with_an_element_of_a_group : left_after (ring 2) (fails.Group (group_of (1 ∷ []) [] (0 ∷ []))) ≡ []
+unfolding lowest_of_bundle dec_lt
+links_go_with_an_element_of_a_group = refl
+
+-- a source goes with a group alone, or with its element, and not with one of its links
+sources_go_with_a_group : map (λ group. is_source_gone (ring 2) (fails.Group group) 0)
+    (group_of [] (0 ∷ []) [] ∷ group_of [] [] (1 ∷ 0 ∷ []) ∷ group_of (0 ∷ 1 ∷ []) [] (1 ∷ []) ∷ []) ≡ true ∷ true ∷ false ∷ []
+unfolding dec_lt
+sources_go_with_a_group = refl
+
+-- its elements are gone themselves, and no end of its links is
+elements_of_a_group_are_gone : map (is_element_gone (fails.Group (group_of (0 ∷ []) [] (2 ∷ [])))) (0 ∷ 1 ∷ 2 ∷ []) ≡ false ∷ false ∷ true ∷ []
+elements_of_a_group_are_gone = refl
+
+-- where a group takes L1 and L2 away, C is served by A over L3
+c_is_served_without_both : IsServed (ring 2) (fails.Group (group_of (0 ∷ 1 ∷ []) [] [])) 2
+unfolding lowest_of_bundle dec_lt
+c_is_served_without_both = (0, 5 ∷ [], (record { of = record { has = lit< tt; nominated = refl; of_element = refl }; kept = refl }, record { of = record { has = lit< tt; nominated = refl; of_element = refl }; kept = refl }))

@@ -23,6 +23,7 @@ failure_word (fails.Link link) = codes "link"
 failure_word (fails.Bundle link) = codes "bundle"
 failure_word (fails.Source source) = codes "source"
 failure_word (fails.Element element) = codes "element"
+failure_word (fails.Group group) = codes "group"
 
 abbrev pub failure_name : Topology → Failure → List ℕ
 failure_name plan fails.Nothing = []
@@ -30,6 +31,7 @@ failure_name plan (fails.Link link) = option_map_or (λ (l : Link). l.name) (sli
 failure_name plan (fails.Bundle link) = unwrap_or (bundle_name plan.links link) []
 failure_name plan (fails.Source source) = source_name plan source
 failure_name plan (fails.Element element) = element_name plan element
+failure_name plan (fails.Group group) = group.name
 
 -- how many elements it cuts off, and the first of them
 abbrev pub cut_text : Topology → Gap → List ℕ

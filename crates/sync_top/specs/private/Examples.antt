@@ -8,10 +8,13 @@ use Rattle.plan_gen.specs.Ladder.{ladder}
 use Rattle.sync_top.specs.declared.form.RanksForm.TheVariants.{Check}
 use Rattle.sync_top.specs.declared.form.LadderForm.TheVariants.{Gen, Trial}
 use Rattle.sync_topo.specs.declared.sizes.Size.TheVariants.{Standard, Large}
-use Rattle.sync_top.specs.Form.{on_ranks, on_ladder, form_of}
+use Rattle.sync_top.specs.Form.{on_ranks, on_groups, on_ladder, form_of}
 
 pub check_has_two_files : form_of (codes "check" ∷ codes "p" ∷ codes "c" ∷ []) ≡ Some (on_ranks Check (record { size = Standard; name = codes "p" }) (codes "c"))
 check_has_two_files = refl
+
+pub protected_may_have_groups : form_of (codes "protected" ∷ codes "p" ∷ codes "g" ∷ []) ≡ Some (on_groups (record { size = Standard; name = codes "p" }) (codes "g"))
+protected_may_have_groups = refl
 
 pub empty_word_names_no_file : form_of (codes "check" ∷ [] ∷ codes "c" ∷ []) ≡ None
 empty_word_names_no_file = refl

@@ -7,7 +7,7 @@ use Rattle.sync_top.specs.declared.form.PlanForm.TheVariants.{Sweep}
 use Rattle.sync_top.specs.declared.form.Form as declared
 use Rattle.sync_top.specs.declared.form.PlanName as declared_plan
 use Rattle.sync_top.specs.declared.form.Form.TheVariants as word
-use Rattle.sync_top.specs.Form.{Form, PlanName, on_plan, on_ranks, on_events, study, on_frames, on_ladder, node}
+use Rattle.sync_top.specs.Form.{Form, PlanName, on_plan, on_ranks, on_events, study, on_groups, on_frames, on_ladder, node}
 
 -- the file of a plan, and the size that it may have
 abbrev pub named : declared_plan.PlanName → PlanName
@@ -18,6 +18,7 @@ seen (word.OnPlan what plan) = on_plan what (named plan)
 seen (word.OnRanks what plan certificate) = on_ranks what (named plan) certificate.now
 seen (word.OnEvents what plan events until) = on_events what (named plan) events.now until
 seen (word.Study plan cases until) = study (named plan) cases.now until
+seen (word.OnGroups plan groups) = on_groups (named plan) groups.now
 seen (word.OnFrames what option name) = on_frames what option name.now
 seen (word.OnLadder what n) = on_ladder what n
 seen (word.Node plan element name until) = node (named plan) element.now name.now until

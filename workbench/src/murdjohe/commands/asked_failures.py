@@ -9,10 +9,12 @@ from typing import Any, TypeVar
 
 import click
 
-from murdjohe import bands, failures, files, forms, runs, times
+from murdjohe import bands, ends, failures, files, forms, groups, placing, runs, times
 from murdjohe.commands.common import START, Milliseconds, from_start
+from murdjohe.ends import Ending
 from murdjohe.failures import KINDS, Failure
 from murdjohe.moments import Event
+from murdjohe.placing import Moment
 from murdjohe.plan_file import PlanFile
 from murdjohe.remarks import listed, plural
 from murdjohe.wrong import Wrong
@@ -24,10 +26,14 @@ OPTIONS = (
     click.option("--sources", is_flag=True, help="each source"),
     click.option("--elements", is_flag=True, help="each element: its links and sources"),
     click.option(
-        "--groups", type=click.Path(), help="links that fail together: a table `name,links`, blanks between links"
+        "--groups", type=click.Path(), help="each group of a list of parts that fail together: group,kind,part"
     ),
     click.option("--pairs", is_flag=True, help="also each two of these together"),
-    click.option("--at", type=Milliseconds(), default="10m", show_default=True, help="when what fails goes down"),
+    click.option(
+        "--at",
+        type=Milliseconds(),
+        help="when what fails goes down; 10m, or while the works of --during stand, without it",
+    ),
     click.option("--during", type=click.Path(), help="an event list whose events are common to all cases"),
     START,
     click.option("--cases", "span", metavar="FROM-TO", help="only these cases, by their numbers from 1 on"),
@@ -56,6 +62,18 @@ def with_start(asked: dict[str, Any], until: int | None = None) -> int | None:
     return end
 
 
+def placed(taken: PlanFile, common: tuple[Event, ...], asked: dict[str, Any], until: int | None) -> Ending:
+    """Chooses when what fails goes down, where that isn't said, and gives the end of the runs. Raises Wrong where that is before."""
+    bounds = ends.bounds_of(taken) if asked["at"] is None or until is None else ends.Bounds(None, None)
+    chosen = placing.moment(taken, common, bounds) if asked["at"] is None else Moment(asked["at"])
+    asked["at"], asked["why_then"] = chosen.at, chosen.why
+    if until is not None and until < chosen.at:
+        raise Wrong(
+            f"--until: {clock(asked, until)} is before what fails goes down, at {clock(asked, chosen.at)}; say --at too"
+        )
+    return placing.of_failures(taken, common, chosen.at, bounds) if until is None else Ending(until, None)
+
+
 def clock(asked: dict[str, Any], at: int) -> str:
     """A millisecond as it is told: as a time of day where the run begins at one, and in milliseconds."""
     return f"{times.clock(at, asked['start'] or 0)} ({at:,} ms)"
@@ -75,7 +93,8 @@ def parts_of(target: str) -> set[str]:
 def remarks(found: list[Failure], common: tuple[Event, ...], asked: dict[str, Any]) -> list[str]:
     """When what fails goes down, and which works mend it again."""
     at = asked["at"]
-    said = [f"what fails goes down at {clock(asked, at)}"]
+    why = f", {asked['why_then']}" if asked["why_then"] else ""
+    said = [f"what fails goes down at {clock(asked, at)}{why}"]
     again = mended(found, common, at)
     if again:
         names = [f"{event.target} at {times.clock(event.at, asked['start'] or 0)}" for event in again]
@@ -85,6 +104,11 @@ def remarks(found: list[Failure], common: tuple[Event, ...], asked: dict[str, An
             "these cases are as without the failure"
         )
     return said + times.likely_seconds(at, "--at")
+
+
+def on_end(asked: dict[str, Any], end: Ending) -> str:
+    """Up to when `study` looks at cases, and by what that is chosen."""
+    return f"look at them at {clock(asked, end.until)}: {end.why}"
 
 
 def span_of(words: str | None) -> tuple[int, int | None]:
@@ -106,17 +130,17 @@ def kinds_of(asked: dict[str, Any]) -> list[str]:
 
 def asked_of(taken: PlanFile, asked: dict[str, Any]) -> list[Failure]:
     """The failures that are asked for. Raises Wrong where a table of groups has mistakes."""
-    groups = asked["groups"]
     found = failures.failures_of(taken.tables, kinds_of(asked))
-    return found + (failures.groups_of(groups, files.text(groups), taken.tables) if groups else [])
+    table = groups.read(asked["groups"], taken).groups if asked["groups"] else ()
+    return found + failures.of_groups(table, taken.tables)
 
 
 def words_of(asked: dict[str, Any]) -> str:
     """What is asked for, in some words."""
-    groups = [os.path.basename(asked["groups"])] if asked["groups"] else []
+    table = [os.path.basename(asked["groups"])] if asked["groups"] else []
     pairs = " alone and in pairs" if asked["pairs"] else ""
     during = f", during {os.path.basename(asked['during'])}" if asked["during"] else ""
-    return f"{', '.join([*kinds_of(asked), *groups])}{pairs} down at {bands.minutes(asked['at'])}{during}"
+    return f"{', '.join([*kinds_of(asked), *table])}{pairs} down at {bands.minutes(asked['at'])}{during}"
 
 
 def common_of(taken: PlanFile, asked: dict[str, Any]) -> tuple[Event, ...]:

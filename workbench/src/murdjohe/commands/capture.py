@@ -226,6 +226,17 @@ def node(
 )
 @click.option("--until", type=Milliseconds(), help="nothing after is compared; without it to the capture's end")
 @click.option("--most", type=click.IntRange(0), default=0, show_default=True, help="how many differences still pass")
+@click.option(
+    "--reaction", type=Milliseconds(), help="the longest time after which a change may be told; any without it"
+)
+@click.option("--median", type=Milliseconds(), help="the same for the middle one of a line's times")
+@click.option(
+    "--rate",
+    type=click.FloatRange(1, 100),
+    default=1.1,
+    show_default=True,
+    help="how many information messages a second aren't too many",
+)
 @click.option("--json", "is_json", is_flag=True, help="the findings as JSON")
 @click.option("-q", "--quiet", is_flag=True, help="without sentences on standard error")
 @output_options
@@ -235,9 +246,10 @@ def compare(context: click.Context, plan: str, element: str, file: str, line: tu
 
     What it received are the frames of the capture FILE on lines into ELEMENT, which `murdjohe node` is given; what it sent
     are those on lines out of it. The first line is `pass` or `fail`. What differs is a row: missing, late by more than the
-    tolerance, wrong level, unexpected, or too many. Below stands how soon the changes of each line were told. Information messages may come in any part of a second. Millisecond 0 is that of the first packet; what the
-    device had heard before isn't known, so the first five seconds aren't compared. The status is 0 where it passes, else 1; 3
-    and 6 for a plan and a capture that are refused.
+    tolerance, wrong level, unexpected, or too many, by --rate. Below stands how soon the changes of each line were told; where that
+    is longer than --reaction or --median say, the device fails too. Information messages may come in any part of a second.
+    Millisecond 0 is that of the first packet; what the device had heard before isn't known, so the first five seconds aren't
+    compared. The status is 0 where it passes, else 1; 3 and 6 for a plan and a capture that are refused.
 
     \b
       $ murdjohe gen 2 > plan.toml

@@ -46,6 +46,17 @@ class Start(click.ParamType):
 START = click.option("--start", type=Start(), help="the time of day at which the run begins, as 02:00 or 23:00:00")
 
 
+GROUPS = click.option(
+    "--groups", "groups_path", type=click.Path(), help="a list of groups, parts that fail together: group,kind,part"
+)
+
+
+def one_input(*paths: str | None) -> None:
+    """Raises Wrong where standard input is named for two files."""
+    if sum(path == STDIN for path in paths) > 1:
+        raise Wrong("`-`, standard input, can be read for one word alone; name the other file")
+
+
 def from_start(time: int | None, start: int | None, word: str) -> int | None:
     """A time of a run that begins at a time of day. Raises Wrong where it is a time of day before that."""
     if not isinstance(time, TimeOfDay):

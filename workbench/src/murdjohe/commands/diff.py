@@ -8,9 +8,10 @@ import io
 
 import click
 
-from murdjohe import api, core, differences, plain_json, plan_file, progress, streams, times
-from murdjohe.commands.common import START, free, output_options, put
-from murdjohe.plan_file import PlanFile
+from murdjohe import api, core, differences, groups, plain_json, plan_file, progress, said_of_groups, streams, times
+from murdjohe.commands.common import GROUPS, START, free, one_input, output_options, put
+from murdjohe.groups import GroupFile
+from murdjohe.plan_file import Judgement, PlanFile
 from murdjohe.wrong import Wrong
 
 
@@ -26,6 +27,25 @@ def swept(taken: PlanFile, words: tuple[str, str], start: int | None) -> differe
         raise Wrong(f"--sweep: {refused.sentence}", status=refused.status) from None
     except times.Early as early:
         raise Wrong(f"--sweep: {early}") from None
+
+
+def grouped(taken: PlanFile, path: str | None) -> GroupFile | None:
+    """The groups of a table, where one is named, for one of the plans. Raises Wrong where they aren't its parts."""
+    return groups.read(path, taken) if path else None
+
+
+def facts_of_plan(taken: PlanFile, table: GroupFile | None, judgement: Judgement) -> differences.Facts:
+    """What a plan says, and whom groups cut off in it."""
+    facts = differences.facts_of(taken.tables, taken.plan.option)
+    if table is None:
+        return facts
+    lost = said_of_groups.parted(taken.tables, table.groups)
+    return facts | differences.facts_of_groups(table.groups, judgement.gaps or (), lost)
+
+
+def verdicts(pair: list[PlanFile], judgements: list[Judgement]) -> str:
+    """What the program says of both plans."""
+    return "; ".join(f"{taken.name} checked: {one.text}" for taken, one in zip(pair, judgements))
 
 
 def shown(found: list[differences.Difference], form: str) -> bytes:
@@ -49,6 +69,7 @@ def shown(found: list[differences.Difference], form: str) -> bytes:
 @click.option("--csv", "form", flag_value="csv", help="as a table with commas: part, subject, what, old, new")
 @click.option("--json", "form", flag_value="json", help="as JSON: the rows of that table")
 @START
+@GROUPS
 @output_options
 @click.pass_context
 def diff(
@@ -58,13 +79,15 @@ def diff(
     sweep: tuple[str, str] | None,
     form: str | None,
     start: int | None,
+    groups_path: str | None,
     output: str | None,
     force: bool,
 ) -> int:
     """Says what differs in plan B from plan A, whatever their order and spelling.
 
     Topology, priorities, floors, times and levels, where keys that are left out count as their defaults; with --sweep also
-    what the program says of each link's failure. What the program says of both plans stands beside it. The status is 0 where
+    what the program says of each link's failure, with --groups whom each group of parts that fail together cuts off, and whom it leaves
+    without any way to a clock. What the program says of both plans stands beside it. The status is 0 where
     nothing differs, and 1 where something does.
 
     \b
@@ -72,19 +95,22 @@ def diff(
       $ sed 's/QL-PRC/QL-ePRC/' plan.toml > other.toml
       $ murdjohe diff plan.toml other.toml --sweep 60s 20m || true
     """
-    free(output, force, old, new)
+    one_input(old, new, groups_path)
+    free(output, force, old, new, groups_path)
     pair = [plan_file.read(old), plan_file.read(new)]
-    facts = [differences.facts_of(taken.tables, taken.plan.option) for taken in pair]
+    tables = [grouped(taken, groups_path) for taken in pair]
+    judgements = [
+        plan_file.judged(taken, table is not None, table.data if table else None) for taken, table in zip(pair, tables)
+    ]
+    facts = [facts_of_plan(*each) for each in zip(pair, tables, judgements)]
     if sweep:
         facts = [said | swept(taken, sweep, start) for taken, said in zip(pair, facts)]
     found = differences.between(*facts)
     put(context, output, shown(found, form or ("json" if context.find_root().params["json"] else "")))
     if not context.find_root().params["quiet"]:
-        judgements = [plan_file.judged(taken) for taken in pair]
-        verdicts = "; ".join(f"{taken.name} checked: {one.text}" for taken, one in zip(pair, judgements))
         number = f"{len(found):,} difference{'' if len(found) == 1 else 's'}"
-        lines = [line for one in judgements for line in one.lines]
-        streams.tell(f"{number}; {verdicts}", *lines, colour="yellow" if found else "green")
+        lines = [line for one in judgements for line in one.lines] + ([said_of_groups.ALONE] if groups_path else [])
+        streams.tell(f"{number}; {verdicts(pair, judgements)}", *lines, colour="yellow" if found else "green")
     return core.REFUTED if found else core.DONE
 
 

@@ -7,8 +7,8 @@ from typing import Any
 
 import click
 
-from murdjohe import core, drawing, figures, places, progress, runs, views, wiring
-from murdjohe.commands.common import START, Milliseconds, free, from_start, put
+from murdjohe import core, drawing, figures, group_bands, groups, places, plan_file, progress, runs, views, wiring
+from murdjohe.commands.common import GROUPS, START, Milliseconds, free, from_start, put
 from murdjohe.drawing import Plan
 from murdjohe.inputs import STDIN
 from murdjohe.places import Layout
@@ -16,6 +16,7 @@ from murdjohe.views import View
 from murdjohe.wrong import Wrong
 
 ENDINGS = (*figures.ENDINGS, "dot")
+WAY_OUT = "draw a part by --near ELEMENT, or write a file that ends in .dot, which Graphviz draws"
 
 
 def view_of(plan: str, tables: Plan, report: str | None, events: str | None, at: int | None, start: int | None) -> View:
@@ -32,7 +33,7 @@ def view_of(plan: str, tables: Plan, report: str | None, events: str | None, at:
 def as_dot(tables: Plan, view: View, marks: frozenset[str]) -> bytes:
     """The picture as Graphviz reads it."""
     last = {name: [one.mode, one.input or "none", one.level or "", one.state] for name, one in view.shown.items()}
-    return drawing.picture_of(tables, drawing.Shown(view.ranks, last, marks)).encode()
+    return drawing.picture_of(tables, drawing.Shown(view.ranks, last, marks, view.groups)).encode()
 
 
 def rendered(tables: Plan, view: View, marks: frozenset[str], ending: str, layout: Layout) -> bytes:
@@ -61,6 +62,7 @@ def rendered(tables: Plan, view: View, marks: frozenset[str], ending: str, layou
 @click.option(
     "--places", "table", type=click.Path(), help="a table with the columns name, x and y: where elements stand"
 )
+@GROUPS
 @START
 @click.option("--force", is_flag=True, help="writes over a file that is there already")
 @click.option("-o", "--output", type=click.Path(), required=True, help="a file that ends in .svg, .png, .pdf or .dot")
@@ -69,8 +71,10 @@ def draw(context: click.Context, plan: str, report: str | None, force: bool, out
     """Draws a plan: elements, sources, links, and the lines that may be taken, as arrows with their priorities.
 
     With a report elements have the colours of their levels; what is taken is thick, what is down dashed, a closed walk red with
-    the word LOOP, and who follows no source hatched. Up to 30 elements go on a page of A4, up to 320 on one of A3. A report of
-    another plan is refused. A file that is there is written over by --force alone.
+    the word LOOP, and who follows no source hatched. Up to 30 elements go on a page of A4, up to 320 on one of A3, and 5,000 are the
+    most; of a larger plan --near draws a part. A report of another plan is refused. With --groups each group of parts that fail
+    together has a colour, as a band along its links and round its elements and sources. A file that is there is written over by
+    --force alone.
 
     \b
       $ murdjohe gen 5 > plan.toml
@@ -80,12 +84,18 @@ def draw(context: click.Context, plan: str, report: str | None, force: bool, out
     ending = "svg" if output == STDIN else output.rpartition(".")[2]
     if ending not in ENDINGS:
         raise Wrong(f"a picture ends in .svg, .png, .pdf or .dot, not in .{ending}")
-    free(output, force, plan, asked["certificate"], report, events, answer, asked["table"])
+    its = asked["groups_path"]
+    if its and plan == STDIN:
+        raise Wrong("draw --groups: the plan can't come on standard input; name its file")
+    free(output, force, plan, asked["certificate"], report, events, answer, asked["table"], its)
+    table = groups.read(its, plan_file.read(plan)).groups if its else ()
     tables = drawing.read_plan(plan)
     cut = drawing.nearby(tables, asked["near"], asked["links"])
+    if ending != "dot":
+        places.small_enough(len(cut.get("element", [])), WAY_OUT)
     marks = drawing.read_marks(answer)
     view = view_of(plan, tables, report, events, at, asked["start"])
-    view = replace(view, ranks=drawing.read_ranks(asked["certificate"]))
+    view = replace(view, ranks=drawing.read_ranks(asked["certificate"]), groups=group_bands.painted(table))
     with progress.watched("draw"):
         if ending == "dot":
             picture = as_dot(cut, view, marks)

@@ -17,6 +17,7 @@ BEGINNINGS = (
     (b"bad plan", core.BAD_PLAN),
     (b"bad certificate", core.BAD_CERTIFICATE),
     (b"bad events", core.BAD_EVENTS),
+    (b"bad groups", core.BAD_EVENTS),
     (b"bad frames", core.BAD_FRAMES),
     (b"bad capture", core.BAD_FRAMES),
     (b"bad node", core.BAD_FRAMES),

@@ -42,14 +42,15 @@ def write_failures(
     \b
       $ murdjohe gen 5 > plan.toml
       $ murdjohe failures plan.toml --links --sources --pairs -o cases.csv
-      $ murdjohe study plan.toml cases.csv 20m
+      $ murdjohe study plan.toml cases.csv
     """
     first, last = asked_failures.span_of(span)
     asked_failures.with_start(asked)
     free(output, force, plan, asked["groups"], asked["during"])
     taken = plan_file.read(plan)
     found = asked_failures.asked_of(taken, asked)
-    common, at = asked_failures.common_of(taken, asked), asked["at"]
+    common = asked_failures.common_of(taken, asked)
+    end, at = asked_failures.placed(taken, common, asked, None), asked["at"]
     every = failures.cases_of(found, asked["pairs"], failures.in_order(taken.tables))
     cases = list(failures.chosen(every, first, last))
     data = failures.table_of(common, cases, at)
@@ -59,7 +60,7 @@ def write_failures(
         data = plain_json.text(failures.as_data(common, cases, at))
     put(context, output, data)
     if not context.find_root().params["quiet"]:
-        said = asked_failures.remarks(found, common, asked)
+        said = [*asked_failures.remarks(found, common, asked), asked_failures.on_end(asked, end)]
         streams.tell(f"{plural(len(cases), 'case')}, {plural(rows, 'row')}", *said, colour="green")
     return core.DONE
 

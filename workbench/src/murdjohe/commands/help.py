@@ -19,7 +19,7 @@ def begun(context: click.Context, parameter: click.Parameter, incomplete: str) -
 @click.argument("topic", required=False, shell_complete=begun)
 @click.pass_context
 def help_command(context: click.Context, topic: str | None) -> int:
-    """Says more of a command, or of a topic: plan, tables, events, cases, certificate, levels, statuses, core."""
+    """Says more of a command, or of a topic: plan, tables, events, cases, groups, certificate, levels, statuses, core."""
     from murdjohe import cli
 
     root = context.find_root()

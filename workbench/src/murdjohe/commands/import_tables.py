@@ -4,13 +4,16 @@ from __future__ import annotations
 
 import csv
 import io
+import os
 
 import click
 
-from murdjohe import core, files, plan_file, streams, tables, topics
+from murdjohe import core, files, groups, plan_file, streams, tables, topics
 from murdjohe.commands.common import output_options
+from murdjohe.groups import Group
 from murdjohe.inputs import STDIN
 from murdjohe.plan_file import PlanFile
+from murdjohe.remarks import plural
 from murdjohe.tables import Made, Settings
 from murdjohe.wrong import Wrong
 
@@ -34,6 +37,30 @@ def notes(made: Made, sources: str | None, rename: str | None) -> list[str]:
     return said
 
 
+def groups_path_of(asked: str | None, output: str | None) -> str | None:
+    """Where the groups of the links' ducts are written: where that is asked, or beside the plan. Raises Wrong."""
+    if asked == STDIN:
+        raise Wrong("--groups: standard output is for the plan; name a file")
+    if asked is not None or output is None or output == STDIN:
+        return asked
+    return os.path.splitext(output)[0] + groups.ENDING
+
+
+def grouped(taken: PlanFile, made: Made, asked: str | None, output: str | None) -> tuple[dict[str, bytes], list[str]]:
+    """The table of groups of a column of ducts, by its path, and what is said of it. Raises Wrong."""
+    path = groups_path_of(asked, output)
+    if made.ducts is None:
+        if asked is not None:
+            raise Wrong("--groups: the table of links has no column `duct`; --map link.duct=HEADER names another")
+        return {}, []
+    number = plural(len(made.ducts), "duct")
+    if path is None:
+        return {}, [f"{number}: a plan has no place for these; -o or --groups writes them as a list of groups"]
+    data = groups.text_of(Group(name, tuple(links)) for name, links in made.ducts.items()).encode()
+    groups.taken(path, data, taken)
+    return {path: data}, [f"{path} has {number} as groups, for `protected`, `protect --groups` and others"]
+
+
 def on_priorities(taken: PlanFile) -> list[str]:
     """What the program says of the priorities of the plan, where a loop is possible or elements may oscillate."""
     judgement = plan_file.judged(taken)
@@ -52,6 +79,9 @@ def on_priorities(taken: PlanFile) -> list[str]:
 @click.option(
     "--rename", type=click.Path(), help="changes names that a plan can't have, and writes the old and new ones"
 )
+@click.option(
+    "--groups", "asked_groups", type=click.Path(), help="writes the links' ducts as a list of groups to this file"
+)
 @click.option("--netbox", is_flag=True, help="the tables are NetBox's exports of devices and cables")
 @output_options
 @click.argument("elements", type=click.Path())
@@ -64,6 +94,7 @@ def import_tables(
     pairs: tuple[str, ...],
     ignore_extra: bool,
     rename: str | None,
+    asked_groups: str | None,
     netbox: bool,
     output: str | None,
     force: bool,
@@ -74,7 +105,8 @@ def import_tables(
     """Makes a plan of tables of elements, links and sources, as inventories give them.
 
     Without priorities it is a plan for `murdjohe nominate`. All mistakes of the tables are told at once, each with its file,
-    line, column and value, and nothing is written then. The plan is verified by the program: beside it stands whether a loop is
+    line, column and value, and nothing is written then. A column `duct` of the links becomes a list of groups, beside the plan of -o
+    with the ending .groups.csv, or where --groups says. The plan is verified by the program: beside it stands whether a loop is
     possible in it, and whether elements may oscillate after a failure.
     """
     paths = {"element": elements, "link": links} | ({"source": sources} if sources else {})
@@ -82,16 +114,16 @@ def import_tables(
     made = tables.made_of(paths, Settings(option, headers, ignore_extra, rename is not None, netbox))
     data = made.plan.encode()
     taken = plan_file.taken(output or "the plan of these tables", data)
-    is_filed = output is not None and output != STDIN
-    contents = ({output: data} if output and is_filed else {}) | ({rename: renamed_table(made)} if rename else {})
-    files.free(list(contents), force, paths.values())
-    if rename and rename == output:
-        raise Wrong(f"-o and --rename are one file, {rename}: name two")
-    files.all_written(contents)
-    if not is_filed:
+    tabled, said = grouped(taken, made, asked_groups, output)
+    filed = None if output == STDIN else output
+    files.free([path for path in (filed, rename, *tabled) if path], force, paths.values())
+    files.all_written(
+        {**({filed: data} if filed else {}), **({rename: renamed_table(made)} if rename else {}), **tabled}
+    )
+    if filed is None:
         context.obj.put(data)
-    if not context.find_root().params["quiet"] and (said := notes(made, sources, rename) + on_priorities(taken)):
-        streams.tell(*said, colour="yellow")
+    if not context.find_root().params["quiet"] and (told := notes(made, sources, rename) + said + on_priorities(taken)):
+        streams.tell(*told, colour="yellow")
     return core.DONE
 
 

@@ -3,13 +3,56 @@
 from __future__ import annotations
 
 import dataclasses
+from typing import Any
 
 import click
 
-from murdjohe import core, findings, plain_json, plan_file, streams
-from murdjohe.commands.common import free, output_options, put
-from murdjohe.findings import ERROR, KINDS, NOTE, WARNING, Said
+from murdjohe import core, findings, groups, plain_json, plan_file, protecting, said_of_groups, streams
+from murdjohe.commands.common import GROUPS, free, one_input, output_options, put
+from murdjohe.findings import ERROR, KINDS, NOTE, WARNING, Finding, Said
+from murdjohe.plan_file import Judgement, PlanFile
 from murdjohe.remarks import plural
+from murdjohe.wrong import Wrong
+
+LARGE = 10_000  # elements from which on single failures take long
+LONG = "whom single failures cut off may take minutes to find in a plan of this size; --no-gaps leaves it out"
+LEFT_OUT = "whom single failures cut off isn't looked at: `murdjohe protected` says it, or `lint` without --no-gaps"
+
+
+def judged(taken: PlanFile, path: str | None, has_gaps: bool) -> tuple[Judgement, Said]:
+    """What the program says of a plan, and of the groups of a table, where one is named. Raises Wrong."""
+    if path and not has_gaps:
+        raise Wrong("--no-gaps and --groups: whom groups cut off is found with whom single failures do")
+    table = groups.read(path, taken) if path else None
+    judgement = plan_file.judged(taken, has_gaps=has_gaps, groups=table.data if table else None)
+    known = table.groups if table else ()
+    lost = said_of_groups.parted(taken.tables, known) if known else {}
+    return judgement, Said(taken.ranking.ring, judgement.clash, judgement.gaps or (), taken.chains(), known, lost)
+
+
+def shown(taken: PlanFile, found: list[Finding], is_json: bool) -> bytes:
+    """The findings as JSON, or each in a line."""
+    if is_json:
+        return plain_json.text([dataclasses.asdict(finding) for finding in found])
+    return "".join(f"{finding.told(taken.name)}\n" for finding in found).encode("utf-8", "surrogateescape")
+
+
+def told(taken: PlanFile, judgement: Judgement, found: list[Finding]) -> list[str]:
+    """How much was found, what the program says of the plan, and what isn't looked at."""
+    counts = [plural(sum(one.kind == kind for one in found), kind) for kind in KINDS]
+    has_gaps = judgement.gaps is None or bool(judgement.gaps)
+    times = protecting.beside_findings(taken.plan, taken.agreement, has_gaps) if judgement.is_good else []
+    more = [LEFT_OUT] * (judgement.gaps is None) + [said_of_groups.ALONE] * judgement.has_groups
+    return [f"{', '.join(counts)}; checked: {judgement.text}", *times, *more]
+
+
+def status_of(found: list[Finding], fail_on: str | None) -> int:
+    """What the command ends with."""
+    kinds = {finding.kind for finding in found}
+    if ERROR in kinds:
+        return core.REFUTED
+    failing = KINDS[: KINDS.index(fail_on) + 1] if fail_on else ()
+    return core.DONE if kinds.isdisjoint(failing) else core.FOUND
 
 
 @click.command("lint")
@@ -18,40 +61,39 @@ from murdjohe.remarks import plural
 @click.option(
     "--fail-on", type=click.Choice([WARNING, NOTE]), help="also warnings, or notes, or what is worse, have a status: 21"
 )
+@click.option(
+    "--no-gaps", is_flag=True, help="leaves out whom single failures cut off: on large plans that takes longest"
+)
+@GROUPS
 @output_options
 @click.pass_context
-def lint(context: click.Context, plan: str, as_json: bool, fail_on: str | None, output: str | None, force: bool) -> int:
+def lint(context: click.Context, plan: str, as_json: bool, fail_on: str | None, no_gaps: bool, **asked: Any) -> int:
     """Says what a planner should look at, each with its line and a remedy.
 
     Errors: no element, no source, elements with no way to a clock, a possible loop that the program finds, priorities by which
     elements may oscillate after a failure (`agree`). Warnings: sources that aren't nominated or that nobody takes, elements with
     one way in, single failures that cut somebody off to whom other links lead (`protected`), chains longer than G.803's 60 lines, 20 since a filter and 10 filters
-    (`chains`), links and bundles that are nominated at both ends without floors, inputs of one priority. Notes: sources whose
-    name says another level. The status is 1 where there is an error, and 21 where there is none, but what --fail-on names.
+    (`chains`), links and bundles that are nominated at both ends without floors, inputs of one priority; with --groups also groups
+    that cut somebody off to whom other links lead, or leave somebody without any way to a clock. Notes: sources whose name says
+    another level. The status is 1 where there is an error, and 21 where there is none, but what --fail-on names.
 
     \b
       $ murdjohe gen 5 > plan.toml
       $ murdjohe lint plan.toml
     """
-    free(output, force, plan)
-    taken = plan_file.read(plan)
-    judgement = plan_file.judged(taken, has_gaps=True)
-    said = Said(taken.ranking.ring, judgement.clash, judgement.gaps or (), taken.chains())
+    path = asked["groups_path"]
+    one_input(plan, path)
+    free(asked["output"], asked["force"], plan, path)
+    taken, root = plan_file.read(plan), context.find_root().params
+    if not (root["quiet"] or no_gaps) and len(taken.tables.get("element", [])) > LARGE:
+        streams.tell(LONG, colour="yellow")
+    judgement, said = judged(taken, path, not no_gaps)
     found = findings.findings_of(taken.plan, said)
-    if as_json or context.find_root().params["json"]:
-        data = plain_json.text([dataclasses.asdict(finding) for finding in found])
-    else:
-        text = "".join(f"{finding.told(taken.name)}\n" for finding in found)
-        data = text.encode("utf-8", "surrogateescape")
-    put(context, output, data)
-    counts = [plural(sum(one.kind == kind for one in found), kind) for kind in KINDS]
-    has_errors = any(finding.kind == ERROR for finding in found)
-    if not context.find_root().params["quiet"]:
-        streams.tell(f"{', '.join(counts)}; checked: {judgement.text}", colour="yellow" if has_errors else "green")
-    if has_errors:
-        return core.REFUTED
-    failing = KINDS[: KINDS.index(fail_on) + 1] if fail_on else ()
-    return core.FOUND if any(finding.kind in failing for finding in found) else core.DONE
+    put(context, asked["output"], shown(taken, found, as_json or root["json"]))
+    if not root["quiet"]:
+        has_errors = any(finding.kind == ERROR for finding in found)
+        streams.tell(*told(taken, judgement, found), colour="yellow" if has_errors else "green")
+    return status_of(found, fail_on)
 
 
 COMMAND = lint

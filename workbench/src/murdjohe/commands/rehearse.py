@@ -38,7 +38,7 @@ def status_of(found: Rehearsal, limit: int | None = None) -> int:
 @click.command("rehearse")
 @click.argument("plan", type=click.Path())
 @click.argument("events", type=click.Path())
-@click.option("--until", type=Milliseconds(), help="the end of the run; 20 minutes after the last event without it")
+@click.option("--until", type=Milliseconds(), help="the end of the run; without it that by which `agree` says it rests")
 @START
 @click.option(
     "--limit",
@@ -80,7 +80,7 @@ def rehearse(context: click.Context, plan: str, events: str, form: str | None, *
     taken, file = plan_file.read(plan), runs.read_events(events, start)
     runs.report_of(taken, file, 0)  # (events that can't be read are told before their end is looked for)
     with progress.watched("rehearse"):
-        found = rehearsals.rehearsed(taken, file, runs.usual_end(file) if until is None else until)
+        found = rehearsals.to_rest(taken, file) if until is None else rehearsals.rehearsed(taken, file, until)
     form = form or ("json" if root["json"] else "")
     put(context, asked["output"], shown(found, start or 0, form, asked["has_all"]))
     if not root["quiet"]:

@@ -69,6 +69,7 @@ def made(
 ) -> tuple[bytes, int, list[str]]:
     """The page, the status, and what is said beside it. Raises Wrong."""
     taken, file = plan_file.read(plan), runs.read_events(events, start)
+    places.small_enough(len(taken.tables.get("element", [])), "`rehearse` tells the same run without a picture")
     runs.report_of(taken, file, 0)  # (events that can't be read are told before their end is looked for)
     found = rehearsals.rehearsed(taken, file, runs.usual_end(file) if until is None else until)
     title = f"{os.path.basename(taken.name)}, {os.path.basename(file.name)}"
@@ -77,8 +78,9 @@ def made(
     status = core.DONE if found.report.stopped_at is None else core.STOPPED
     said = [rehearsals.dark_text(found, start or 0)] if found.dark else []
     said += [found.oscillation] if found.oscillation else []
+    said += [pages.cuts_text(data["cases"])] if data["cases"] else []
     return (
-        pages.page(title, data, pages.facts(taken, file, found, cuts)),
+        pages.page(title, data, pages.facts(taken, file, found, data["cases"])),
         status,
         said + runs.likely_seconds(file, until),
     )

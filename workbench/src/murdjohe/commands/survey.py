@@ -15,9 +15,10 @@ from murdjohe import (
     case_lists,
     case_refusals,
     core,
+    ends,
     failures,
-    forms,
     inputs,
+    lost_names,
     moments,
     plain_json,
     plan_file,
@@ -26,9 +27,11 @@ from murdjohe import portions, progress, runs, streams, study_runs, survey_repor
 from murdjohe.case_lists import CaseList
 from murdjohe.commands import asked_failures, asked_map
 from murdjohe.commands.common import Milliseconds, free
+from murdjohe.ends import Ending
 from murdjohe.failures import KINDS
 from murdjohe.files import Growing
 from murdjohe.finished import Finished
+from murdjohe.lost_names import Names
 from murdjohe.moments import Event
 from murdjohe.needless import Losses
 from murdjohe.plan_file import PlanFile
@@ -44,20 +47,25 @@ PARTS = "murdjohe-parts"
 OF_FAILURES = (*KINDS, "groups", "pairs", "at", "during")
 
 
-def cases_of(context: click.Context, taken: PlanFile, table: str | None, asked: dict[str, Any]) -> CaseList:
-    """The cases of a table, or else those of the failures that are asked for. Raises Wrong."""
+def cases_of(
+    context: click.Context, taken: PlanFile, table: str | None, until: int | None, asked: dict[str, Any]
+) -> tuple[CaseList, Ending]:
+    """The cases of a table, or else those of the failures that are asked for, and when their runs end. Raises Wrong."""
     span = asked_failures.span_of(asked["span"])
     if table is not None:
         given = [name for name in OF_FAILURES if context.get_parameter_source(name) == ParameterSource.COMMANDLINE]
         if given:
             raise Wrong(f"--{given[0]} makes cases, and {table} has them: leave out one or the other")
         asked["remarks"], asked["common"] = [], ()
-        return case_files.CaseFile(table, asked["start"]).listed(span)
+        cases = case_files.CaseFile(table, asked["start"]).listed(span)
+        end = ends.ending(taken, cases.told, ends.bounds_of(taken)) if until is None else Ending(until, None)
+        return cases, end
     found = asked_failures.asked_of(taken, asked)
     common = asked_failures.common_of(taken, asked)
+    end = asked_failures.placed(taken, common, asked, until)
     asked["remarks"] = asked_failures.remarks(found, common, asked)
     asked["common"] = common
-    return case_lists.of_failures(taken.tables, found, asked["pairs"], asked["at"], common, span)
+    return case_lists.of_failures(taken.tables, found, asked["pairs"], asked["at"], common, span), end
 
 
 def crew_of(scheduler: str | None, jobs: int | None, plan: bytes, until: int) -> Crew:
@@ -125,9 +133,17 @@ def worked(
     with progress.counted("survey", cases.total) as tell:
         survey = Survey(crew, finished, refused, tell)
         with kept(survey, cases, settings["parts"]):
-            size = settings["size"] or portions.usual(cases.total)
+            size = settings["size"] or portions.usual(cases.total, len(wired.elements))
             tally = gone_through(cases, survey, size, settings["worst"], file, losses)
     return tally, survey
+
+
+def named(taken: PlanFile, cases: CaseList, tally: Tally, until: int, asked: dict[str, Any]) -> list[Names]:
+    """Who has no source at the end of each case that is told, first of those that needn't be. Raises Wrong."""
+    told = [loss.case for loss in asked["losses"].outcomes()] + tally.lost.outcomes()
+    worst = {case.case: case for case in told}
+    jobs = asked["jobs"] or surveying.processors()
+    return lost_names.of_cases(taken, wiring.wiring_of(taken.tables), cases, list(worst.values()), until, jobs)
 
 
 class Standard:
@@ -151,40 +167,48 @@ def written(
     with ExitStack() as stack:
         file, picture = growing(stack, output), growing(stack, asked["map"])
         tally, survey = worked(taken, cases, until, asked, file)
+        if asked["names"]:
+            with kept(survey, cases, asked["parts"]), progress.watched("names"):
+                asked["named"] = named(taken, cases, tally, until, asked)
         if picture:
             with kept(survey, cases, asked["parts"]), progress.watched("map"):
                 picture.write(asked_map.drawn(taken, cases, tally, until, asked))
     return tally, survey
 
 
-def told(context: click.Context, tally: Tally, done: Survey, until: int, asked: dict[str, Any]) -> None:
+def told(context: click.Context, tally: Tally, done: Survey, end: Ending, asked: dict[str, Any]) -> None:
     """Prints the summary, beside the rows where these are on standard output, and says how much was worked for it."""
     root = context.find_root().params
-    ends = survey_report.Ends(until, asked["start"], asked["alone"], asked["losses"])
+    found = survey_report.Ends(
+        end.until, asked["start"], asked["alone"], asked["losses"], end.why, asked.get("named", [])
+    )
     if asked["is_filled"]:
-        streams.tell(*survey_report.text_of(tally, asked["worst"], ends), colour="green")
+        streams.tell(*survey_report.text_of(tally, asked["worst"], found), colour="green")
     elif asked["as_json"] or root["json"]:
-        context.obj.put(plain_json.text(survey_report.as_data(tally, ends)))
+        context.obj.put(plain_json.text(survey_report.as_data(tally, found)))
     else:
-        context.obj.put("".join(f"{line}\n" for line in survey_report.text_of(tally, asked["worst"], ends)).encode())
+        context.obj.put("".join(f"{line}\n" for line in survey_report.text_of(tally, asked["worst"], found)).encode())
     if not root["quiet"]:
         streams.tell(
             *asked["remarks"], *asked["clash"], *times.likely_seconds(asked["last"], "the last event"), colour="yellow"
         )
         before = f"{done.found:,} were worked before; parts are in {asked['parts']}"
-        streams.tell(f"{plural(done.worked, 'case')} worked up to {until}, {before}", colour="green")
+        streams.tell(f"{plural(done.worked, 'case')} worked up to {end.until}, {before}", colour="green")
 
 
 @click.command("survey")
 @click.argument("plan", type=click.Path())
 @click.argument("table", metavar="[CASES]", type=click.Path(), required=False)
 @asked_failures.options
-@click.option("--until", type=Milliseconds(), help="the end of each run; 20 minutes after the last event without it")
+@click.option(
+    "--until", type=Milliseconds(), help="the end of each run; without it that by which `agree` says it rests"
+)
 @click.option("--worst", type=click.IntRange(0, 100_000), default=10, show_default=True, help="how many cases are told")
 @click.option(
     "--size",
     type=click.IntRange(1, MOST_ROWS),
-    help=f"cases that the program is given at once; an eighth of all, {portions.LEAST:,} to {portions.MOST:,}, without it",
+    help=f"cases that the program is given at once; an eighth of all, {portions.LEAST:,} to {portions.MOST:,}, without it; of a plan of "
+    f"more than {portions.LARGE:,} elements {portions.LEAST:,}",
 )
 @click.option("--jobs", type=click.IntRange(1, 1_000), help="programs that run at once; one a processor without it")
 @click.option(
@@ -200,6 +224,11 @@ def told(context: click.Context, tally: Tally, done: Survey, until: int, asked: 
     "(needless), is unsettled there, or has loops",
 )
 @click.option("--json", "as_json", is_flag=True, help="JSON: the summary")
+@click.option(
+    "--names",
+    is_flag=True,
+    help="names all who have no source in the cases that are told, each of which is run once more",
+)
 @click.option("--map", type=click.Path(), help="draws who has no source in the worst cases: .svg, .png or .pdf")
 @click.option("-o", "--output", type=click.Path(), help="all rows go to this file, packed where it ends in .gz")
 @click.option("--force", is_flag=True, help="writes over a file that is there already")
@@ -236,10 +265,9 @@ def survey(
     asked_map.can_be_drawn(asked["map"], output, asked["worst"])
     free(output, force, plan, table, asked["groups"], asked["during"], more=[asked["map"]])
     taken = plan_file.read(plan)
-    cases = cases_of(context, taken, table, asked)
-    end = min(cases.last + runs.AFTER, forms.DAY_MS) if until is None else until
-    asked["last"] = cases.last if until is None else until
-    tally, done = written(taken, cases, end, asked, output)
+    cases, end = cases_of(context, taken, table, until, asked)
+    asked["last"] = cases.told.end if until is None else until
+    tally, done = written(taken, cases, end.until, asked, output)
     clash = plan_file.judged(taken).lines if tally.unsettled else []
     told(context, tally, done, end, asked | {"clash": clash, "is_filled": output == inputs.STDIN})
     return core.FOUND if survey_report.has(tally, asked["losses"], asked["fail_on"]) else core.DONE

@@ -6,7 +6,7 @@ from typing import Any
 
 import click
 
-from murdjohe import bands, core, drawing, figures, progress, runs, spans, strips, times, views, wiring
+from murdjohe import bands, core, drawing, figures, places, progress, runs, spans, strips, times, views, wiring
 from murdjohe.commands.common import START, Milliseconds, free, from_start, put
 from murdjohe.inputs import STDIN
 from murdjohe.reports import Loop, Report
@@ -74,6 +74,7 @@ def timeline_of(report: str, asked: dict[str, Any]) -> Timeline:
     start, plan, events, fold = asked["start"], asked["plan"], asked["events"], asked["fold"]
     first, until = from_start(asked["first"], start, "--from"), from_start(asked["until"], start, "--until")
     rows, order = bands.changes_of(report)
+    places.small_enough(len({row.element for row in rows}), "`rehearse --csv` writes the changes as a table")
     last = rows[-1].at
     if first is not None:
         rows = bands.rows_from(rows, first)

@@ -10,10 +10,15 @@ from murdjohe.core import Answer
 from murdjohe.documents import Document
 from murdjohe.inputs import STDIN, File, Words
 from murdjohe.plans import Plan
-from murdjohe.sentences import frames, plan as plan_sentences, records
+from murdjohe.sentences import frames, groups, plan as plan_sentences, records
 
 # The files that stand beside a plan, as they are told where the two are swapped.
-BESIDE = {forms.CERTIFICATE: "a certificate", forms.EVENTS: "an event list", forms.CASES: "a list of cases"}
+BESIDE = {
+    forms.CERTIFICATE: "a certificate",
+    forms.EVENTS: "an event list",
+    forms.CASES: "a list of cases",
+    forms.GROUPS: "a list of groups",
+}
 NO_MEMORY = "out of memory, and nothing is written; free some, and run again"
 
 
@@ -41,15 +46,17 @@ def word_fault(word: forms.Word, text: str) -> str | None:
 
 def on_words(form: forms.Form, given: list[str]) -> str:
     """Which word of a form is wrong, and what its words are."""
-    told = f"the form is `murdjohe {form.synopsis}`; see `murdjohe {form.name} --help`"
+    told = f"the form is `murdjohe {form.usage}`; see `murdjohe {form.name} --help`"
     option = next((text for text in given if text.startswith("-") and text != STDIN and not text[1].isdigit()), None)
     if option:
         return f'{form.name}: "{option}" is no option; the options are --quiet, --json and --help; {told}'
-    if len(given) < len(form.words):
+    if len(given) < form.fewest:
         missing = form.words[len(given)]
         return f"{form.name}: {missing.name} is missing, {forms.MEANINGS[missing.kind]}; {told}"
     if len(given) > len(form.words):
-        return f'{form.name}: "{given[len(form.words)]}" is an unexpected argument; {told}'
+        more = given[len(form.words)]
+        its = f", and a list of groups is --groups {more}" if form.name == "protect" else ""
+        return f'{form.name}: "{more}" is an unexpected argument{its}; {told}'
     if sum(word.is_file and text == STDIN for word, text in zip(form.words, given)) > 1:
         return f"{form.name}: `-`, standard input, can be read for one word alone; {told}"
     for word, text in zip(form.words, given):
@@ -136,6 +143,8 @@ def on_refusal(words: Words, refusal: refusals.Refusal) -> str:
         return both or plan_sentences.sentence(document_of(words, forms.PLAN), refusal)
     if refusal.table == "certificate":
         return records.of_certificate(document_of(words, forms.CERTIFICATE), refusal, plan_of(words))
+    if refusal.table == "groups":
+        return groups.of_groups(document_of(words, forms.GROUPS), refusal, plan_of(words))
     if refusal.table in ("events", "cases"):
         return records.of_events(document_of(words, forms.EVENTS, forms.CASES), refusal, plan_of(words))
     if refusal.table == "node":

@@ -12,9 +12,14 @@ from murdjohe.plans import Plan
 from murdjohe.refusals import Refusal
 from murdjohe.sentences.plan import name_fault
 
-HEADERS = {"certificate": "line,rank", "events": "at,what,target,value", "cases": "case,at,what,target,value"}
-NAMES = {"certificate": "certificate", "events": "event list", "cases": "list of cases"}
-FIELDS = {"events": "four", "cases": "five"}  # how many a row of events has
+HEADERS = {
+    "certificate": "line,rank",
+    "events": "at,what,target,value",
+    "cases": "case,at,what,target,value",
+    "groups": "group,kind,part",
+}
+NAMES = {"certificate": "certificate", "events": "event list", "cases": "list of cases", "groups": "list of groups"}
+FIELDS = {"events": "four", "cases": "five", "groups": "three"}  # how many a row has
 HEADER_NUMBERS = (34, 26)
 MOST_ROWS = 100_000  # of an event list, and of a list of cases
 # What would be right where one kind of list of events stands for the other.
@@ -74,7 +79,7 @@ def on_header(document: Document, table: str) -> str:
     if not document.data.strip():
         return f"{document.name}: it is empty; begin with `{wanted}`"
     kind = documents.kind_of(document)
-    if kind:
+    if kind and not kind.endswith(f" {NAMES[table]}"):
         right = INSTEAD.get((table, kind), "are two words of the command swapped?")
         return f"{document.place(1)}it is {kind}, and no {NAMES[table]}; {right}"
     if sign := documents.separator_of(first, wanted):
@@ -191,7 +196,7 @@ def on_fields(row: Row, table: str) -> tuple[str, str]:
     """What is wrong with a row that hasn't as many fields as the header, and what would be right."""
     text = row.fields[0] if row.fields else ""
     if text.lstrip().startswith("#"):
-        return "it is a remark, and lists of events have none", "take it out"
+        return f"it is a remark, and lists of {'groups' if table == 'groups' else 'events'} have none", "take it out"
     if len(row.fields) == 1 and text.count(";") == HEADERS[table].count(","):
         return "its fields have semicolons between them", "write commas"
     said = f"it has {len(row.fields)} field{'s' * (len(row.fields) != 1)} in place of {FIELDS[table]}"

@@ -1,6 +1,6 @@
-use Rattle.plan_file.specs.declared.error.PlanFileErr.TheVariants as refusal
+use Rattle.plan_rows.specs.declared.error.PlanFileErr.TheVariants as refusal
 use Rattle.std.proofs.Common.{◌≡◌, None, Err, refl}
-use Rattle.plan_file.specs.Rules.{IsFirstBroken}
+use Rattle.plan_rows.specs.Rules.{IsFirstBroken}
 use Rattle.plan_file.specs.PlanText.{document_of, plan_of_size, OfDocument, GivesRows}
 use Rattle.plan_file.proofs.PlanLaws.{table_law, syntax_law, refused_rows_law, refuses_where, gives_plan}
 use Rattle.plan_file.proofs.Versions.{both_versions}

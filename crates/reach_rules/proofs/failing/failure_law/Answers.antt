@@ -1,6 +1,6 @@
 use Rattle.reach_rules.proofs.AgreedLaws.{steady-from-bound, settled-from-bound, best-from-bound}
 use Rattle.reach_rules.proofs.FailingLaws.{failed-rests, rests-after_failures, planned-told, rests-soon, sooner, only-one}
-use Rattle.reach_rules.proofs.SurvivalLaws.{survives-soon, survives-each_soon}
+use Rattle.reach_rules.proofs.SurvivalLaws.{survives-soon, survives-each_soon, survives-soon_with}
 use Rattle.reach_rules.proofs.failing.failure_law.Goals as goal
 
 pub returns-clause-steady : goal.returns-clause-steady
@@ -29,6 +29,9 @@ returns-clause-one c = survives-soon
 
 pub returns-clause-survives : goal.returns-clause-survives
 returns-clause-survives c = survives-each_soon
+
+pub returns-clause-survives_with : goal.returns-clause-survives_with
+returns-clause-survives_with c = survives-soon_with
 
 pub returns-clause-sooner : goal.returns-clause-sooner
 returns-clause-sooner c = sooner

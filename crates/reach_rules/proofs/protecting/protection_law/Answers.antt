@@ -1,4 +1,4 @@
-use Rattle.reach_rules.proofs.ProtectionLaws.{served-level, served-reached, not-reached, closed-served, gap-shows, protected-holds}
+use Rattle.reach_rules.proofs.ProtectionLaws.{served-level, served-reached, not-reached, closed-served, gap-shows, protected-holds, one-holds, with-holds}
 use Rattle.reach_rules.proofs.protecting.protection_law.Goals as goal
 
 pub returns-clause-served : goal.returns-clause-served
@@ -18,3 +18,9 @@ returns-clause-gap c = gap-shows
 
 pub returns-clause-holds : goal.returns-clause-holds
 returns-clause-holds c = protected-holds
+
+pub returns-clause-holds_one : goal.returns-clause-holds_one
+returns-clause-holds_one c = one-holds
+
+pub returns-clause-holds_with : goal.returns-clause-holds_with
+returns-clause-holds_with c = with-holds

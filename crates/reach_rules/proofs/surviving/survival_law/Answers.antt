@@ -1,4 +1,4 @@
-use Rattle.reach_rules.proofs.SurvivalLaws.{served-timed, auto-without, idle-from-bound, survives-one, survives-each}
+use Rattle.reach_rules.proofs.SurvivalLaws.{served-timed, auto-without, idle-from-bound, survives-one, survives-each, survives-with}
 use Rattle.reach_rules.proofs.surviving.survival_law.Goals as goal
 
 pub returns-clause-timed : goal.returns-clause-timed
@@ -15,3 +15,6 @@ returns-clause-one c = survives-one
 
 pub returns-clause-survives : goal.returns-clause-survives
 returns-clause-survives c = survives-each
+
+pub returns-clause-survives_with : goal.returns-clause-survives_with
+returns-clause-survives_with c = survives-with

@@ -1,0 +1,4 @@
+mod FieldFacts
+mod PartFacts
+mod RowLaws
+mod Taking

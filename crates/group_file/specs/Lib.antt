@@ -1,0 +1,5 @@
+pub mod Kinds
+pub mod Rows
+pub mod GroupText
+pub mod Refusal
+pub mod private

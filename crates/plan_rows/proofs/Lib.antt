@@ -1,0 +1,3 @@
+pub mod ValueFacts
+pub mod EntryFacts
+pub mod RowsSoFar

@@ -1,0 +1,130 @@
+"""Is tonight safe, and how long is who dark? Asked as a new user would, with a plan, the works and nothing else; each network has a
+trap, and so had the two nights of a planner's own network."""
+
+from __future__ import annotations
+
+import json
+from pathlib import Path
+
+import night_plans
+import pytest
+from conftest import Ran, murdjohe
+from night_plans import Night
+
+OWN = Path(__file__).resolve().parent / "nights"
+START = ["--start", "23:00"]
+
+
+def put(folder: Path, night: Night) -> None:
+    (folder / "plan.toml").write_text(night.plan)
+    (folder / "works.csv").write_text(night.works)
+
+
+def rehearsed(folder: Path, *words: str) -> Ran:
+    return murdjohe("rehearse", "plan.toml", "works.csv", *words, *START, folder=folder)
+
+
+def surveyed(folder: Path, *words: str) -> Ran:
+    return murdjohe("survey", "plan.toml", "--during", "works.csv", *words, *START, folder=folder)
+
+
+def accepted(folder: Path) -> str:
+    """What `check` says beside `accepted`."""
+    (folder / "ranks.csv").write_bytes(murdjohe("rank", "plan.toml", folder=folder).out)
+    ran = murdjohe("check", "plan.toml", "ranks.csv", folder=folder)
+    assert ran.out == b"accepted\n"
+    return ran.err
+
+
+# the first trap: all is well at the end
+
+
+def test_a_night_that_ends_well_says_how_long_who_was_dark(folder: Path) -> None:
+    put(folder, night_plans.LONG)
+    accepted(folder)
+    ran = rehearsed(folder, "--limit", "1m")
+    said = ran.out.decode()
+    assert ran.status == 20 and said.startswith("nobody is without a source at the end, 23:40:01.000\n")
+    for name in ("hub", "site-1", "site-2", "site-3"):
+        (line,) = [line for line in said.splitlines() if f"  {name}: " in line and " below " in line]
+        assert "1,499." in line and "without a source" in line
+    assert "left behind" not in said
+
+
+def test_the_survey_of_that_night_looks_while_it_is_dark(folder: Path) -> None:
+    put(folder, night_plans.LONG)
+    ran = surveyed(folder, "--links")
+    lines = ran.out.decode().splitlines()
+    assert "while the works stand, after `down fibre` and before `up fibre`" in ran.err
+    assert any(
+        line.startswith("the common events alone leave 4 elements without a source at the end (hub,") for line in lines
+    )
+    assert surveyed(folder, "--links", "--fail-on", "needless", "--json").status == 21
+
+
+# the second: accepted, and it oscillates
+
+
+def test_a_plan_that_would_oscillate_tonight_is_told_so_by_each_command(folder: Path) -> None:
+    put(folder, night_plans.SWINGING)
+    number = "give trunk>"
+    assert "may oscillate" in accepted(folder) and number in accepted(folder)
+    assert murdjohe("lint", "plan.toml", folder=folder).status == 1
+    ran = rehearsed(folder)
+    assert ran.status == 1 and "not settled at 23:1" in ran.out.decode() and number in ran.out.decode()
+    lines = murdjohe("survey", "plan.toml", "--elements", folder=folder).out.decode().splitlines()[:5]
+    assert (
+        "priorities may oscillate" in lines[1]
+        and "1 case is unsettled at the end, still changing then (core)" in lines[4]
+    )
+
+
+# the third: a lockout is left behind
+
+
+def test_what_the_works_leave_behind_is_told(folder: Path) -> None:
+    put(folder, night_plans.LEFT)
+    assert murdjohe("protected", "plan.toml", folder=folder).out == b"protected\n"
+    ran = rehearsed(folder)
+    said = ran.out.decode()
+    assert ran.status == 0 and "nobody who has a source loses it" in said
+    assert "\nleft behind at the end, so that the next failure may hurt more: lockout south>middle\n" in said
+    told = json.loads(rehearsed(folder, "--json").out)
+    assert told["left_behind"] == ["lockout south>middle"]
+
+
+def test_a_failure_while_the_works_stand_is_seen(folder: Path) -> None:
+    put(folder, night_plans.LEFT)
+    ran = surveyed(folder, "--links", "--names", "--fail-on", "needless")
+    said = ran.out.decode()
+    assert ran.status == 21 and "\n  north  a link could still serve: middle\n" in said
+    assert "1 case leaves elements without a source at the end that a link could still serve" in said
+    assert murdjohe("survey", "plan.toml", "--links", "--fail-on", "lost", folder=folder).status == 0
+
+
+# a planner's own two nights
+
+
+@pytest.fixture
+def own(folder: Path) -> Path:
+    (folder / "plan.toml").write_bytes((OWN / "plan.toml").read_bytes())
+    return folder
+
+
+def test_a_site_that_is_dark_for_good_stands_in_the_first_line(own: Path) -> None:
+    (own / "works.csv").write_bytes((OWN / "unmended.csv").read_bytes())
+    ran = murdjohe("rehearse", "plan.toml", "works.csv", folder=own)
+    first = ran.out.decode().splitlines()[0]
+    assert ran.status == 20 and first.startswith("still without a source at the end, ") and "NODE-7 (since " in first
+    long = murdjohe("rehearse", "plan.toml", "works.csv", "--until", "3h", folder=own).out.decode().splitlines()[0]
+    assert first.partition(": ")[2].partition(", ")[0] == long.partition(": ")[2].partition(", ")[0]
+
+
+def test_a_night_in_which_each_case_is_dark_for_minutes_is_not_told_as_clean(own: Path) -> None:
+    (own / "works.csv").write_bytes((OWN / "mended.csv").read_bytes())
+    ran = murdjohe("survey", "plan.toml", "--during", "works.csv", "--json", folder=own)
+    told = json.loads(ran.out)
+    assert 7_500_000 < told["until"] < 9_000_000
+    assert told["losing"] == told["cases"] > 0 and "NODE-7" in told["common_alone"]
+    rehearsed = murdjohe("rehearse", "plan.toml", "works.csv", "--limit", "1m", folder=own)
+    assert rehearsed.status == 20 and "NODE-7: " in rehearsed.out.decode()
