@@ -6,6 +6,7 @@ import os
 import signal
 import subprocess
 import time
+from functools import partial
 from pathlib import Path
 
 import pytest
@@ -84,7 +85,11 @@ def test_a_survey_that_is_told_to_end_leaves_nothing(folder: Path, number: int, 
     script = played(folder, 'if [ "$2" = study ]; then touch begun; exec sleep 60; fi\nexec "$REAL" "$@"')
     environment = {**os.environ, "REAL": os.environ["MURDJOHE_CORE"], "MURDJOHE_CORE": script}
     words = [str(LAUNCHER), "survey", "plan.toml", "-o", "rows.csv"]
-    process = subprocess.Popen(words, cwd=folder, env=environment, stderr=subprocess.PIPE, stdout=subprocess.PIPE)
+    # (where the tests run under nohup or in the background, such a signal is ignored, and so it would be by the command)
+    heeded = partial(signal.signal, number, signal.SIG_DFL)
+    process = subprocess.Popen(
+        words, cwd=folder, env=environment, preexec_fn=heeded, stderr=subprocess.PIPE, stdout=subprocess.PIPE
+    )
     for _ in range(400):
         if (folder / "begun").exists() and list(folder.glob(".murdjohe-*")):
             break
