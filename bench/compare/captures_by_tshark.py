@@ -2,7 +2,7 @@
 
 usage: python3 -m bench.compare.captures_by_tshark PROGRAM
 
-The captures are those of workbench/tests/captures_made.py, those that editcap, text2pcap and mergecap make of the
+The captures are those of bench/captures.py, those that editcap, text2pcap and mergecap make of the
 plain one among them, and those that scapy writes, with the tags and cooked headers that it puts on. Time (to the
 nanosecond), source, event flag, both codes, clock and counts of each frame have to be the same. The codes of a
 level are those of the table below, and not the program's. Ends with status 1 where anything differs.
@@ -21,8 +21,8 @@ from typing import Any
 from scapy.layers.l2 import CookedLinux, Dot1AD, Dot1Q, Ether
 from scapy.utils import EDecimal, PcapNgWriter, PcapWriter
 
+from bench import captures as made
 from bench.program import WORKBENCH, program_words
-from bench.workbench import captures_made as made
 
 # The nanosecond, the source, event or info, both codes, the clock and the counts.
 Row = tuple[int | str | None, ...]

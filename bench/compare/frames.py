@@ -3,7 +3,7 @@
 usage: python3 -m bench.compare.frames PROGRAM [--cases N] [--seed N]
        python3 -m bench.compare.frames --write FOLDER [--cases N] [--seed N]
 
-What is expected is made from the tables of docs/formats.md alone (bench/readings/frames.py). A case is a file of up to
+What is expected is made from the tables of docs/use/formats.md alone (bench/readings/frames.py). A case is a file of up to
 eight lines, of which most are right and some have one thing wrong: a part of a frame, its length, a digit, a field, a
 number, a level. A few files have thousands of lines. Status and text have to be as expected. With --write the files are
 written to a folder, each with its words and the text that is expected, for `rt try --cases FOLDER`, which compares no

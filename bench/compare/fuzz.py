@@ -58,9 +58,14 @@ REPORT = rb"changes\n(\d+,%b,(auto|forced|manual),(none|%b(>%b)?),%b,(locked|hol
 )
 REPORT += rb"(stopped,\d+\n|inputs\n(.+\n)*traces\n(.+\n)*loops\n(.+\n)*settled (yes|no)\n)"
 BAD_FRAMES = rb"bad frames (1[24] \d+|13 \d+ ([4-9]|1[01]))\n"
-# What each status may write, by form, after docs/formats.md.
+# What each status may write, by form, after docs/use/formats.md.
 GAPS = rb"kind,failure,elements,first\n((none,|(link|bundle|source|element|group),%b),\d+,%b\n)+" % (NAME, NAME)
-STUDY = COLUMNS.encode("ascii") + rb"\n(%b,(yes|no)(,\d+){4},%b,(\d+|none),\d+,(%b)?,\d+\n)*" % (NAME, LEVEL, NAME)
+STUDY = COLUMNS.encode("ascii") + rb"\n(%b,(yes|no)(,\d+){4},%b,(\d+|none),\d+,(%b)?,\d+,\d+,\d+,(%b)?,\d+\n)*" % (
+    NAME,
+    LEVEL,
+    NAME,
+    NAME,
+)
 FORMS = {
     "rank": {0: rb"line,rank\n(%b,\d+\n)*" % LINE, 1: rb"cycle( %b)+\n" % LINE, 3: BAD_PLAN},
     "check": {

@@ -1,7 +1,6 @@
 """Compares `node` on random plans and files with the rules for one element alone in bench/reference/node.py.
 
 usage: python3 -m bench.compare.node PROGRAM [--network] [--count N] [--seed N] [--keep FOLDER]
-       python3 -m bench.compare.node --pieces [--count N] [--seed N] [--keep FOLDER]
        python3 -m bench.compare.node --network [--count N] [--seed N]
 
 It compares a program that has the form `node`. Each of N cases (300 where it isn't given) is a plan of
@@ -17,12 +16,6 @@ within a millisecond. The program has to write just the frames that the element'
 nominated or not. Without PROGRAM the rules are compared with themselves: alone with the file the element has to
 send these frames too, and to take the same inputs in every millisecond, with the same levels, modes and states.
 
-With --pieces a small program over the crate node_replay (bench/programs/node_pieces.rt.txt), which is made in a
-temporary repository beside copies of the crates, feeds each of N random files (60 where it isn't given) to a `Node`
-three times: a byte at a time or a few, in pieces of 1 to 5,000 bytes, and whole. `rt try --cases` runs it, and
-compares the text each time, or the refusal and after how many bytes it came, with the rules. Texts of more than
-300,000 octets are left out. It wants the toolchain.
-
 It needs Python 3.11.
 """
 
@@ -35,9 +28,7 @@ import sys
 import tempfile
 from collections.abc import Iterator, Sequence
 
-from bench import repository
-from bench.compare import node_pieces
-from bench.compare.node_files import Case, element_of, file_of, random_case, some_case
+from bench.compare.node_files import Case, element_of, file_of, random_case
 from bench.program import octets, parser, path, put_files
 from bench.reference.network import REPEAT, Network, last_said
 from bench.reference.node import Node, frame_text, node_text, read_file
@@ -203,19 +194,8 @@ def compare_rules(given: argparse.Namespace) -> int:
     return differ
 
 
-# ---- the comparison with the crate
-
-
-def compare_pieces(given: argparse.Namespace) -> int:
-    """Compares the crate on random files in pieces; 0 where nothing differs."""
-    with repository.folder_for(given.keep, "nodes-") as folder:
-        return node_pieces.compare(random.Random(given.seed), some_case, given.count, folder)
-
-
 def differences(given: argparse.Namespace) -> int:
     """What was asked for: how many differ."""
-    if given.pieces:
-        return compare_pieces(given)
     if given.program is None:
         return compare_rules(given)
     chance = random.Random(given.seed)
@@ -227,17 +207,14 @@ def main() -> int:
     words = parser(__doc__)
     words.add_argument("program", nargs="?", type=path)
     words.add_argument("--network", action="store_true")
-    words.add_argument("--pieces", action="store_true")
     words.add_argument("--count", type=int)
     words.add_argument("--seed", type=int, default=1)
     words.add_argument("--keep", help="work in this folder, and stop at the first difference with its files in it")
     given = words.parse_args()
-    if given.pieces and (given.program is not None or given.network):
-        words.error("--pieces takes neither PROGRAM nor --network")
-    if given.program is None and not given.network and not given.pieces:
-        words.error("PROGRAM, --network or --pieces has to be given")
+    if given.program is None and not given.network:
+        words.error("PROGRAM or --network has to be given")
     if given.count is None:
-        given.count = 60 if given.pieces else 20 if given.network else 300
+        given.count = 20 if given.network else 300
     try:
         return 1 if differences(given) else 0
     except OSError as problem:

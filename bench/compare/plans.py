@@ -5,7 +5,7 @@ usage: python3 -m bench.compare.plans PROGRAM [--plans N] [--seed N]
 
 A plan is made as tables of keys and values, some of them wrong: a key that is unknown or missing, a value of
 another kind, a version, a name, an end, a range, a level, a bundle, too many inputs. What is expected is made of
-these tables by the order of rules in docs/formats.md, and the ranks of a plan without fault are those of
+these tables by the order of rules in docs/use/formats.md, and the ranks of a plan without fault are those of
 compare/ranks.py. The tables are written in random spellings of TOML: sections as headers in any order or inline, keys
 in any order, quotes, escapes, bases of integers, comments and both line ends. With --write the plans are written to
 a folder for `rt try --cases FOLDER`. It needs networkx.

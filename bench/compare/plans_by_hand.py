@@ -5,7 +5,7 @@ usage: python3 -m bench.compare.plans_by_hand PROGRAM
 
 Each case has the bytes of a plan and what has to be answered: by `rank`, and where it has a certificate, by `check`.
 With --write those of `rank` are written to a folder, for `rt try --cases FOLDER`. The answers follow the rules of
-docs/formats.md and of TOML 1.1; they are no outputs of the program.
+docs/use/formats.md and of TOML 1.1; they are no outputs of the program.
 """
 
 import sys

@@ -1,13 +1,18 @@
 """Lists the definitions of specs/ on which a word of a clause rests, file by file, with their lengths.
 
 usage: python3 -m bench.measure.headline CRATE.FILE.NAME [CRATE.FILE.NAME ..]
+       python3 -m bench.measure.headline --document [--write]
 
 As `sync_top.LoopFree.IsCheckedLoopFree`: a definition counts with the lines of its signature and body, without
-comments, and each once. Words of the toolchain's library aren't counted. It needs Python 3.11.
+comments, and each once. Words of the toolchain's library aren't counted. With --document the numbers in
+docs/verify/headline.md are compared, or written: a section says by `<!-- rests on: NAME .. -->` of which words it is, and each
+row which files it counts; each definition counts in the first section that rests on it. The status is 1 where a number differs
+or a file has no row. It needs Python 3.11.
 """
 
 from __future__ import annotations
 
+import re
 import sys
 from collections.abc import Iterator
 
@@ -61,10 +66,63 @@ def length(specs: Specs, key: Key) -> int:
     return sum(1 for line in code.split("\n") if line.strip())
 
 
+def files_of(cell: str) -> list[tuple[str, str]]:
+    """The files of specs/ that the first cell of a row names: each with its crate."""
+    found, crate = [], ""
+    for word, file in re.findall(r"([a-z]\w+)|`([\w.]+)`", cell):
+        crate = word or crate
+        if file:
+            found.append((crate, file))
+    return found
+
+
+def counted_row(row: str, counts: dict[tuple[str, str], int]) -> str:
+    """A row of a table with its number of lines; what it counts is taken out of the counts."""
+    cells = row.split("|")
+    lines = sum(counts.pop(file, 0) for file in files_of(cells[1]))
+    return "|".join([*cells[:2], f" {lines} ", *cells[3:]])
+
+
+def counted_section(specs: Specs, text: str, seen: set[Key]) -> tuple[str, list[str]]:
+    """A section with its numbers, and the files that have no row; `seen` is what earlier sections counted."""
+    rests = re.search(r"<!-- rests on: ([\w. ]+) -->", text)
+    if rests is None:
+        return text, []
+    counts: dict[tuple[str, str], int] = {}
+    for key in closure(specs, [key_of(name) for name in rests[1].split()]):
+        if key not in seen:
+            seen.add(key)
+            counts[key.crate, key.module] = counts.get((key.crate, key.module), 0) + length(specs, key)
+    whole = sum(counts.values())
+    rows = [counted_row(line, counts) if re.match(r"\| [a-z]\w+ `", line) else line for line in text.split("\n")]
+    made = re.sub(r"\d+ lines", f"{whole} lines", "\n".join(rows), count=1)
+    return made, [f"{crate} `{file}` has no row" for crate, file in counts]
+
+
+def document(is_written: bool) -> int:
+    """Compares the numbers of docs/verify/headline.md with what stands in specs/, or writes them."""
+    path, specs, seen = TOP / "docs" / "verify" / "headline.md", read_specs(TOP / "crates"), set[Key]()
+    text = path.read_text(encoding="utf-8")
+    made = [counted_section(specs, part, seen) for part in re.split(r"(?m)^(?=## )", text)]
+    lost, whole = [line for _, lines in made for line in lines], "".join(part for part, _ in made)
+    if is_written:
+        path.write_text(whole, encoding="utf-8")
+    elif whole != text:
+        lost.append("docs/verify/headline.md has other numbers: python3 -m bench.measure.headline --document --write")
+    print(*lost, f"{sum(length(specs, key) for key in seen)} lines", sep="\n")
+    return 1 if lost else 0
+
+
 def main() -> int:
     words = parser(__doc__)
-    words.add_argument("names", nargs="+", metavar="CRATE.FILE.NAME")
+    words.add_argument("names", nargs="*", metavar="CRATE.FILE.NAME")
+    words.add_argument("--document", action="store_true")
+    words.add_argument("--write", action="store_true")
     given = words.parse_args()
+    if given.document:
+        return document(given.write)
+    if not given.names:
+        words.error("name a word, or ask for --document")
     specs = read_specs(TOP / "crates")
     files: dict[tuple[str, str], list[Key]] = {}
     for key in closure(specs, [key_of(name) for name in given.names]):

@@ -8,8 +8,9 @@ word `large` before its words: `check` with the certificate of `rank`, `sim` and
 thousand, `study` of a hundred cases, `sweep` of every link where the network has settled, and so on. A line says its
 processor time, its peak memory and its status, and the last column the power of the number of elements with which the
 processor time grows from the least number to the greatest. With --instructions callgrind counts instead, which is exact,
-wants valgrind, and takes fifty times as long. `protected` and `protect` are left out above 5,000 elements unless they are
-named. It needs Python 3.11 alone.
+wants valgrind, and takes fifty times as long. `protected` is left out above 5,000 elements: in a plan by `nominate` many
+failures cut somebody off, and it looks at the network anew for each of them. `protecting` is `protected` of the plan that
+`protect` writes, in which none does. It needs Python 3.11 alone.
 """
 
 import os
@@ -26,7 +27,7 @@ from bench.program import octets, program_words, put_files
 from bench.reference.plan import Plan, plan_text, read_plan
 
 SETTLED = 400_000  # milliseconds after which every such network has settled
-SLOW = ("protected", "protect")  # which look at the whole network for each failure
+SLOW = ("protected",)  # which looks at the whole network for each failure that cuts somebody off
 SLOW_ABOVE = 5_000
 FORMS = (
     "check",
@@ -37,6 +38,7 @@ FORMS = (
     "nominate",
     "protected",
     "protect",
+    "protecting",
     "sim",
     "sim-1000",
     "inspect",
@@ -82,6 +84,7 @@ def words_of(form: str) -> list[str]:
         "study": ["study", "plan", "cases", str(SETTLED + 60_000)],
         "sweep": ["sweep", "plan", str(SETTLED), str(SETTLED + 60_000)],
         "prio-sim": ["prio-sim", "plan", "one", until],
+        "protecting": ["protected", "protecting"],
     }.get(form, [form, "plan"])
 
 
@@ -95,6 +98,8 @@ def make_files(program: str, folder: str, kind: str, count: int) -> None:
         put_files(folder, {"topology": plan_text(plan)})
         _, text = octets(program, ["large", "nominate", "topology"], folder)
     put_files(folder, {"plan": text})
+    _, protecting = octets(program, ["large", "protect", "plan"], folder)
+    put_files(folder, {"protecting": protecting})
     named = plan or read_plan(text.decode("ascii"))
     _, certificate = octets(program, ["large", "rank", "plan"], folder)
     put_files(folder, {"certificate": certificate, "one": events(named, 1), "thousand": events(named, 1000)})

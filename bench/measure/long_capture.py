@@ -16,8 +16,8 @@ import sys
 import tempfile
 import time
 
+from bench import captures as made
 from bench.program import WORKBENCH, program_words
-from bench.workbench import captures_made as made
 
 PORTS = 10
 BEGIN = 1_764_288_000_000_000  # microseconds

@@ -6,7 +6,7 @@ usage: python3 -m bench.measure.proof_times CRATE [--most N]
 them; the time between two files is that of the later one. So the list is of the check that wrote them: after a change
 it mixes those of two checks, unless `out/` was taken away before. Of each function it says for how many seconds it was
 translated, and for how many its goals were searched for. The first grows with the steps on all ways out of a function,
-the second with the facts that are known at a goal ([docs/proving.md](../../docs/proving.md) says what helps).
+the second with the facts that are known at a goal ([docs/build/proving.md](../../docs/build/proving.md) says what helps).
 
 It wants Python 3.11 alone, and no time.
 """

@@ -26,7 +26,7 @@ from bench.program import TOP, WORKBENCH, answer, program_words, put_files
 
 sys.path.insert(0, str(TOP / "workbench" / "src"))
 
-from murdjohe import portions
+from murdjohe.survey import portions
 
 UNTIL = 1_800_000  # as a survey has it by itself: links fail at 600000
 FAILURES = ["--links", "--pairs"]

@@ -1,7 +1,4 @@
-"""Programs that scripts build and run, each in a file of its own: in Rattle, C and shell. `plain.rs` is built by hand.
-
-The Rattle programs end in `.rt.txt`, since only the source folders of listed crates have files that end in `.rt`.
-"""
+"""Programs that scripts build and run, each in a file of its own: in C and shell. `plain.rs` is built by hand."""
 
 import pathlib
 

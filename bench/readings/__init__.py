@@ -1,1 +1,1 @@
-"""What the program is to answer to a file, and what it answered, read by what docs/formats.md says alone."""
+"""What the program is to answer to a file, and what it answered, read by what docs/use/formats.md says alone."""

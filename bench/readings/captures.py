@@ -1,4 +1,4 @@
-"""The answers of `decode`, `encode`, `pcap-decode` and `pcap-encode`, by docs/formats.md."""
+"""The answers of `decode`, `encode`, `pcap-decode` and `pcap-encode`, by docs/use/formats.md."""
 
 import struct
 

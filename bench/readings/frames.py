@@ -1,4 +1,4 @@
-"""Frames and rows read and written as docs/formats.md says, from its tables alone."""
+"""Frames and rows read and written as docs/use/formats.md says, from its tables alone."""
 
 from collections.abc import Iterator
 

@@ -1,4 +1,4 @@
-"""Groups of parts that fail together, whole or damaged, read as docs/formats.md says, against an accepted plan."""
+"""Groups of parts that fail together, whole or damaged, read as docs/use/formats.md says, against an accepted plan."""
 
 import re
 

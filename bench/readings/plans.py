@@ -1,4 +1,4 @@
-"""Plan files, whole or damaged, read as docs/formats.md says, and the answer of `rank`; ranks are those of the
+"""Plan files, whole or damaged, read as docs/use/formats.md says, and the answer of `rank`; ranks are those of the
 reference."""
 
 import collections

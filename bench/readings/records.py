@@ -1,4 +1,4 @@
-"""Certificates and event files, whole or damaged, read as docs/formats.md says, against an accepted plan."""
+"""Certificates and event files, whole or damaged, read as docs/use/formats.md says, against an accepted plan."""
 
 import csv
 import io

@@ -14,7 +14,7 @@ from bench.reference.network import Network, closed_walks, trace_of
 from bench.reference.plan import Event, Plan, events_text, read_events
 
 HEADER = ["case", "at", "what", "target", "value"]
-COLUMNS = "case,settled,locked,holdover,freerun,loops,worst,bound,lost,first,longest"
+COLUMNS = "case,settled,locked,holdover,freerun,loops,worst,bound,lost,first,longest,hurt,dark,darkest,still"
 MOST_ROWS = 100_000
 NAME = re.compile("[A-Za-z0-9_-]{1,32}", re.ASCII)
 
@@ -75,8 +75,25 @@ def merged(plan: Plan, cases: Cases, case: Case) -> list[Event]:
     return read_events(plan, text)
 
 
-def case_row(plan: Plan, name: str, events: list[Event], until: int) -> str:
-    """The row of a case: what its run has come to at a millisecond."""
+def before_own(case: Case, until: int) -> int:
+    """The millisecond before the first event of a case, 0 where that is at 0; the last one where none comes up to it."""
+    first = min((int(row[0]) for row in case.rows), default=until + 1)
+    return until if first > until else max(first - 1, 0)
+
+
+def way_fields(plan: Plan, network: Network, before: int, until: int) -> list[str]:
+    """What a run costs on the way: how many elements are worse than they were, for how long at most, which, and how many yet."""
+    places = [[LEVELS[plan.option].index(level) for level in levels] for levels in network.level]
+    worse = [[place > of[before] for place in of[before + 1 : until + 1]] for of in places]
+    times = [sum(element) for element in worse]
+    dark = max(times)
+    darkest = plan.elements[times.index(dark)].name if dark else ""
+    still = sum(of[until] > of[before] for of in places)
+    return [str(sum(time > 0 for time in times)), str(dark), darkest, str(still)]
+
+
+def case_row(plan: Plan, case: Case, events: list[Event], until: int) -> str:
+    """The row of a case: what its run has come to at a millisecond, and what it costs on the way there."""
     network = Network(plan, events).go_to(until)
     taken, elements = network.taken_at(until), range(len(plan.elements))
     states = [state[until] for state in network.state]
@@ -86,9 +103,10 @@ def case_row(plan: Plan, name: str, events: list[Event], until: int) -> str:
     traces = [trace_of(plan, taken, e) for e in elements]
     lost = [plan.elements[e].name for e in elements if traces[e][1][0] != "source"]
     longest = max((len(lines) for lines, (kind, _) in traces if kind != "loop"), default=0)
-    fields = [name, "yes" if network.is_settled(until) else "no", *counts]
+    fields = [case.name, "yes" if network.is_settled(until) else "no", *counts]
     fields += [str(len(closed_walks(plan, taken))), worst, "none" if bound is None else str(bound)]
-    return ",".join([*fields, str(len(lost)), lost[0] if lost else "", str(longest)]) + "\n"
+    fields += [str(len(lost)), lost[0] if lost else "", str(longest)]
+    return ",".join([*fields, *way_fields(plan, network, before_own(case, until), until)]) + "\n"
 
 
 def study_answer(plan: Plan, data: bytes, until: int) -> tuple[int, str]:
@@ -97,7 +115,7 @@ def study_answer(plan: Plan, data: bytes, until: int) -> tuple[int, str]:
         cases = read_cases(plan, data)
     except Refused as refused:
         return 5, str(refused.args[0])
-    rows = [case_row(plan, case.name, merged(plan, cases, case), until) for case in cases.cases]
+    rows = [case_row(plan, case, merged(plan, cases, case), until) for case in cases.cases]
     return 0, COLUMNS + "\n" + "".join(rows)
 
 

@@ -18,10 +18,7 @@ from bench.compare import (
     failures,
     fuzz,
     groups as ducts,
-    line,
-    network,
     node,
-    node_pieces,
     nominate,
     protected,
 )
@@ -48,9 +45,9 @@ def test_an_answer_has_the_status_and_each_octet(tmp_path: Path) -> None:
 
 
 def test_the_usage_of_a_script_stands_in_its_head() -> None:
-    usage, head = parts_of(line.__doc__ or "")
-    assert usage == "python3 -m bench.compare.line [--histories N] [--dues N] [--seed N] [--keep FOLDER]"
-    assert "usage" not in head and head.startswith("Random histories of one line") and "It wants the" in head
+    usage, head = parts_of(nominate.__doc__ or "")
+    assert usage == "python3 -m bench.compare.nominate PROGRAM [--plans N] [--seed N] [--keep FOLDER]"
+    assert "usage" not in head and head.startswith("Compares `hops` and `nominate`") and "networkx" in head
 
 
 def test_cases_that_are_answered_otherwise_are_told(tmp_path: Path) -> None:
@@ -202,48 +199,12 @@ def test_the_form_of_an_answer_is_looked_at() -> None:
     assert list(fuzz.faults_of(["rank"], None, (0, b"", b"panic", 0.0))) == ["complaint"]
 
 
-def test_a_line_that_begins_to_speak_has_no_level() -> None:
-    quiet = (True, False, "3")
-    assert line.state_after(quiet, line.UNTOLD, 1, line.NO_LEVEL) == (True, True, None)
-    assert line.state_after(quiet, line.UNTOLD, 1, "4") == (True, True, "4")
-    assert line.state_after((True, True, "3"), 0, line.UNTOLD, line.NO_LEVEL) == (False, True, "3")
-
-
-def test_one_line_is_heard_a_delay_later_and_lost_after_five_seconds() -> None:
-    one = line.OneLine(10)
-    for t in range(5020):
-        one.pass_quietly(True, t == 0, "3")
-    heard = [t for t, level in enumerate(one.hears) if level == "3"]
-    assert (heard[0], heard[-1], len(heard)) == (10, 5009, 5000)
-
-
-def test_a_line_prints_as_the_rules_say() -> None:
-    counts = collections.Counter[str]()
-    history = (2, [(0, line.UNTOLD, line.UNTOLD, "3")], 4)
-    rows = [row.split() for row in ("0 came 9", "0 3", "0 due 2", "2 came 3", "2 due none", "2 heard 3")]
-    assert not list(line.differences(history, rows, True, counts)) and counts["heard"] == 4
-    assert list(line.differences(history, rows[:-1], False, counts))
-
-
-def test_a_network_is_written_down_step_by_step() -> None:
-    text, expected, counts = network.texts_of((read_plan(CHAIN.replace("[[", "wtr = 0\n[[", 0)), [], 30, 0))
-    assert text.endswith("%at,what,target,value\n%30 0")
-    assert expected.startswith("0 first\n0 0 3 0 1 0 0 0\n") and expected.endswith("end 2 20 false\n")
-    assert counts["steps, first"] == 1
-
-
 def test_an_element_alone_gives_what_it_gave_in_its_network() -> None:
     chance = random.Random(4)
     for _ in range(1):
         run, e, case = node.random_run(chance, [0, 500])
         wanted = node.frames_of_run(run, e)
         assert node_text(case.plan, case.element, case.data, case.until) == (0, wanted)
-
-
-@pytest.mark.parametrize("sizes, after", [([1], 7), ([3], 9), ([100], 10)])
-def test_a_refusal_comes_with_the_piece_that_ends_its_line(sizes: list[int], after: int) -> None:
-    assert node_pieces.came_after(b"abc\nde\nxyz", 2, sizes) == after
-    assert node_pieces.came_after(b"abc\nde", 2, sizes) is None
 
 
 @pytest.mark.parametrize("kind", ["operator", "random", "ring"])

@@ -142,7 +142,6 @@ def test_the_time_between_two_files_is_that_of_the_later_ones_function() -> None
 def test_a_crate_brings_those_on_which_it_stands() -> None:
     crates = repository.dependencies("a: b c\nb: d toml\nc:\nd:\n# e: a\n")
     assert crates == {"a": ["b", "c"], "b": ["d", "toml"], "c": [], "d": []}
-    assert sorted(repository.below(crates, "b")) == ["b", "d"]
 
 
 def test_files_at_the_limit_have_just_its_length() -> None:
@@ -156,8 +155,7 @@ def test_works_name_their_files() -> None:
 
 
 def test_each_program_is_there() -> None:
-    names = ["element_histories", "line_histories", "network_steps", "node_pieces"]
-    assert all("fn " in programs.text(f"{name}.rt.txt") for name in names)
+    assert all(programs.text(name) for name in ("failing_allocations.c", "failing_calls.c", "telling.h", "timed.sh"))
 
 
 PROFILE = """fn=(1) main

@@ -31,40 +31,76 @@ def test_two_sources_and_what_they_do_alone() -> None:
     # A holds off for 300 ms and restores at once; w is 5000, since there is no line, so the bound is the last event's time and 5001.
     cases = b"first,1000,down,S1,\nboth,1000,down,S1,\nboth,2000,down,S2,\nworse,1000,level,S1,QL-SSU-A\n"
     assert rows(TWO, cases, 10_000) == [
-        "first,yes,1,0,0,0,QL-PRC,6001,0,,0",
+        "first,yes,1,0,0,0,QL-PRC,6001,0,,0,0,0,,0",
         # (holdover keeps the level of A's own clock)
-        "both,yes,0,1,0,0,QL-SEC,7001,1,A,0",
-        "worse,yes,1,0,0,0,QL-PRC,6001,0,,0",
+        "both,yes,0,1,0,0,QL-SEC,7001,1,A,0,1,7701,A,1",
+        "worse,yes,1,0,0,0,QL-PRC,6001,0,,0,0,0,,0",
     ]
     # In hold-off the source that is down is taken still, and nothing is settled; the clock free-runs where it never had one.
-    assert rows(TWO, b"x,1000,down,S1,\n", 1200) == ["x,no,1,0,0,0,QL-PRC,6001,0,,0"]
-    assert rows(TWO, b"x,0,lockout,S1,\nx,0,lockout,S2,\n", 1200) == ["x,yes,0,0,1,0,QL-SEC,5001,1,A,0"]
+    assert rows(TWO, b"x,1000,down,S1,\n", 1200) == ["x,no,1,0,0,0,QL-PRC,6001,0,,0,0,0,,0"]
+    assert rows(TWO, b"x,0,lockout,S1,\nx,0,lockout,S2,\n", 1200) == ["x,yes,0,0,1,0,QL-SEC,5001,1,A,0,0,0,,0"]
 
 
 def test_a_chain_loses_what_is_behind_a_cut() -> None:
     # w is 300,000, R is 1 and the delay 10, so the bound is the last event's time and 300,021.
     cases = b"cut,1000,down,L1,\nnone,90000,down,L1,\nlast,1000,down,L2,\nall,1000,down,S,\n"
     assert rows(CHAIN, cases, 10_000) == [
-        "cut,yes,2,1,0,0,QL-SEC,301021,2,B,1",
-        "none,yes,3,0,0,0,QL-PRC,300021,0,,2",
-        "last,yes,2,1,0,0,QL-SEC,301021,1,C,1",
-        "all,yes,2,1,0,0,QL-SEC,301021,3,A,2",
+        "cut,yes,2,1,0,0,QL-SEC,301021,2,B,1,2,8701,B,2",
+        "none,yes,3,0,0,0,QL-PRC,300021,0,,2,0,0,,0",
+        "last,yes,2,1,0,0,QL-SEC,301021,1,C,1,1,8701,C,1",
+        "all,yes,2,1,0,0,QL-SEC,301021,3,A,2,3,8701,A,3",
     ]
 
 
+def way(row: str) -> str:
+    return ",".join(row.split(",")[11:])
+
+
+def test_what_a_case_costs_on_the_way_is_counted_after_the_millisecond_before_it() -> None:
+    # S1 is locked out, so A is worse 300 ms after S2 goes down, and well again when it comes up: from 1300 to 1999, and from 3300 to 3999.
+    locked = b",0,lockout,S1,\n"
+    twice = b"x,1000,down,S2,\nx,2000,up,S2,\nx,3000,down,S2,\nx,4000,up,S2,\n"
+    assert rows(TWO, locked + twice, 5000) == ["x,yes,1,0,0,0,QL-PRC,9001,0,,0,1,1400,A,0"]
+    # Both times together count, up to the end and no further.
+    assert [way(row) for row in rows(TWO, locked + twice, 3301)] == ["1,702,A,1"]
+    # What is worse already when the case begins isn't worse than before; what comes up and goes down again is.
+    down = locked + b",500,down,S2,\n"
+    assert [way(row) for row in rows(TWO, down + b"x,1000,down,S1,\n", 5000)] == ["0,0,,0"]
+    assert [way(row) for row in rows(TWO, down + b"x,1000,up,S2,\nx,2000,down,S2,\n", 5000)] == ["0,0,,0"]
+    # Common events after the case begins count as its own do.
+    late = locked + b",2000,down,S2,\n"
+    assert [way(row) for row in rows(TWO, late + b"x,1000,down,S1,\n", 5000)] == ["1,2701,A,1"]
+
+
+def test_where_a_case_begins_at_its_edges() -> None:
+    # In millisecond 0 B and C have their own clocks: no worse than that. A lockout there counts in what is before.
+    assert [way(row) for row in rows(CHAIN, b"x,0,down,L1,\nx,5000,down,S,\n", 6000)] == ["1,701,A,1"]
+    assert [way(row) for row in rows(TWO, b"x,0,lockout,S1,\nx,0,lockout,S2,\n", 1200)] == ["0,0,,0"]
+    # The last millisecond counts; nothing does where the case comes after it.
+    lost = b"x,1000,lockout,S1,\nx,1000,lockout,S2,\n"
+    assert [way(rows(TWO, lost, until)[0]) for until in (998, 999, 1000, 1001)] == [
+        "0,0,,0",
+        "0,0,,0",
+        "1,1,A,1",
+        "1,2,A,1",
+    ]
+    # Of two that are worse for as long the first in the order of the plan is told.
+    assert [way(row) for row in rows(CHAIN, b"x,1000,down,L1,\nx,1000,down,S,\n", 2000)] == ["3,701,A,3"]
+
+
 def test_a_pair_has_a_loop_or_none_and_no_bound() -> None:
-    assert rows(PAIR, b"x,5,lockout,L1>A,\n", 15) == ["x,no,1,0,1,0,QL-SEC,none,2,A,1"]
-    assert rows(PAIR, b"x,16,lockout,L1>A,\n", 15) == ["x,no,2,0,0,1,QL-SEC,none,2,A,0"]
+    assert rows(PAIR, b"x,5,lockout,L1>A,\n", 15) == ["x,no,1,0,1,0,QL-SEC,none,2,A,1,0,0,,0"]
+    assert rows(PAIR, b"x,16,lockout,L1>A,\n", 15) == ["x,no,2,0,0,1,QL-SEC,none,2,A,0,0,0,,0"]
 
 
 def test_common_events_come_first_in_a_millisecond() -> None:
     # The lockout comes first, so the switch is rejected, and taken where the switch is the common one.
     worse = b",0,level,S1,QL-SSU-A\n"
     assert rows(TWO, worse + b",500,lockout,S1,\nx,500,unlock,S1,\nx,600,down,S2,\n", 2000) == [
-        "x,yes,1,0,0,0,QL-SSU-A,5601,0,,0"
+        "x,yes,1,0,0,0,QL-SSU-A,5601,0,,0,1,1101,A,1"
     ]
     assert rows(TWO, worse + b",500,unlock,S1,\nx,500,lockout,S1,\nx,600,down,S2,\n", 2000) == [
-        "x,yes,0,1,0,0,QL-SEC,5601,1,A,0"
+        "x,yes,0,1,0,0,QL-SEC,5601,1,A,0,1,1101,A,1"
     ]
     # Two cases share what is common, and neither sees the other's.
     shared = b",500,lockout,S1,\na,500,down,S2,\nb,500,unlock,S1,\nb,500,down,S2,\nc,9000,down,S1,\n"
@@ -130,7 +166,7 @@ def test_a_case_is_worked_by_itself() -> None:
         alone = [row for lines in own for row in rows(plan, "".join([*common, *lines]).encode(), 3000)]
         assert whole == alone
         for row in whole:
-            _, _, locked, holdover, freerun, *_, lost, first, longest = row.split(",")
+            _, _, locked, holdover, freerun, *_, lost, first, longest, _, _, _, _ = row.split(",")
             assert int(locked) + int(holdover) + int(freerun) == len(plan.elements)
             assert int(lost) >= int(holdover) + int(freerun) and (first == "") == (lost == "0")
             assert int(longest) < len(plan.elements)

@@ -6,10 +6,12 @@ from pathlib import Path
 
 from conftest import EXAMPLES, TOP
 
-from murdjohe import core, inspections, reports, whys
-from murdjohe.plan_file import PlanFile
-from murdjohe.runs import EventFile
-from murdjohe.whys import Why
+from murdjohe.answers import inspections, reports
+from murdjohe.core import program
+from murdjohe.network.plan_file import PlanFile
+from murdjohe.runs.simulation import EventFile
+from murdjohe.why import choices
+from murdjohe.why.choices import Why
 
 CASES = TOP / "cases"
 REST = "inputs\ntraces\nloops\nsettled yes\n"  # of a report, where only its changes are asked for
@@ -22,12 +24,13 @@ def plan_of(path: Path) -> PlanFile:
 
 def why(plan: Path, events: str, inspected: str, changes: str, element: str, at: int, most: int | None = None) -> Why:
     """What `why` finds by an inspection and the changes of a report, both as text."""
-    its = whys.network_of(plan_of(plan))
+    its = choices.network_of(plan_of(plan))
     file = EventFile("events.csv", events.encode())
-    stored = inspections.inspection(core.Answer(0, inspected.encode()))
-    report = reports.report(core.Answer(0, (changes if "\nloops\n" in changes else f"{changes}{REST}").encode()))
+    stored = inspections.inspection(program.Answer(0, inspected.encode()))
+    is_whole = "\nloops\n" in changes or "\nstopped," in changes
+    report = reports.report(program.Answer(0, (changes if is_whole else f"{changes}{REST}").encode()))
     told = tuple(event for event in file.events if event.at <= at)
-    return whys.why_of(its, told, stored, report, whys.Asked(element, at, most))
+    return choices.why_of(its, told, stored, report, choices.Asked(element, at, most))
 
 
 def rows(text: str) -> str:

@@ -17,7 +17,7 @@ import sys
 import time
 from typing import Any
 
-HEADER = "case,settled,locked,holdover,freerun,loops,worst,bound,lost,first,longest"
+HEADER = "case,settled,locked,holdover,freerun,loops,worst,bound,lost,first,longest,hurt,dark,darkest,still"
 ANSWERS = {"rank": "line,rank", "check": "accepted", "agree": "agreed\nbound 5\nfailures 5"}
 RUN = "changes\ninputs\ntraces\nloops\nsettled yes\n"
 
@@ -30,7 +30,9 @@ def row_of(common: list[str], own: list[str], until: str) -> str:
     first = f"E{digits[2] % 7}" if lost else ""
     settled = "no" if loops or digits[3] % 11 == 0 else "yes"
     bound = "none" if digits[4] % 5 == 0 else str(digits[4])
-    return f"{name},{settled},{9 - lost},{lost},0,{loops},QL-PRC,{bound},{lost},{first},{digits[5] % 30}"
+    hurt, still = lost + digits[6] % 3, lost
+    way = f"{hurt},{digits[7] * 1000 + 1},E{digits[8] % 7},{still}" if hurt else "0,0,,0"
+    return f"{name},{settled},{9 - lost},{lost},0,{loops},QL-PRC,{bound},{lost},{first},{digits[5] % 30},{way}"
 
 
 def cases_of(table: str) -> tuple[list[str], dict[str, list[str]]]:

@@ -6,9 +6,9 @@ import random
 from collections.abc import Collection
 from typing import Any
 
-from murdjohe.documents import Document
-from murdjohe.groups import Group, text_of
-from murdjohe.plans import Plan
+from murdjohe.core.documents import Document
+from murdjohe.network.groups import Group, text_of
+from murdjohe.plan.plan_lines import PlanLines
 
 
 def plan_of(elements: str, links: list[str], sources: list[str]) -> str:
@@ -36,7 +36,7 @@ BOTH = (Group("north", ("L0", "L2")), Group("south", ("L1", "L2")))
 
 def tables_of(text: str) -> dict[str, Any]:
     """The tables of a plan."""
-    return Plan(Document("plan.toml", text.encode())).tables
+    return PlanLines(Document("plan.toml", text.encode())).tables
 
 
 def met(clocks: Collection[str], ways: list[tuple[str, str]]) -> set[str]:

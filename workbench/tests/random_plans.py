@@ -6,7 +6,7 @@ import random
 from dataclasses import dataclass, field
 from typing import Any
 
-from murdjohe.levels import LEVELS
+from murdjohe.core.levels import LEVELS
 
 Row = dict[str, Any]
 # Values that are no text, and values that are no whole number, as TOML spells them.

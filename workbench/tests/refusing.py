@@ -4,8 +4,8 @@ from __future__ import annotations
 
 import re
 
-from murdjohe import run_form
-from murdjohe.forms import FORMS
+from murdjohe.commands import form_run
+from murdjohe.core.forms import FORMS
 
 # What is broken: the number of the refusal, the line on which it is (None where the file has none), and words of the sentence.
 Broken = tuple[int, int | None, str]
@@ -13,9 +13,9 @@ Broken = tuple[int, int | None, str]
 
 def told(form: str, given: list[str]) -> tuple[str, str]:
     """What the program writes, and the sentence on it."""
-    words, answer = run_form.answered(FORMS[form], given)
+    words, answer = form_run.answered(FORMS[form], given)
     try:
-        return answer.said.rstrip("\n"), "\n".join(run_form.said_of(words, answer))
+        return answer.said.rstrip("\n"), "\n".join(form_run.said_of(words, answer))
     finally:
         words.close()
 

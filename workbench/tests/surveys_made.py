@@ -16,10 +16,11 @@ import core_double
 import pytest
 from conftest import EXAMPLES, LAUNCHER, Ran
 
-from murdjohe import failures, main
-from murdjohe.documents import Document
-from murdjohe.plans import Plan
-from murdjohe.streams import Output
+from murdjohe import main
+from murdjohe.core.documents import Document
+from murdjohe.core.streams import Output
+from murdjohe.plan.plan_lines import PlanLines
+from murdjohe.runs import failures
 
 RING = EXAMPLES / "ring" / "plan.toml"
 INTERRUPT, KILL = signal.SIGINT, signal.SIGKILL
@@ -84,9 +85,9 @@ def surveyed(capfd: pytest.CaptureFixture[str], *words: str) -> Ran:
 
 def table_of(*kinds: str, common: Sequence[str] = (), at: int = 600_000, plan: Path = RING) -> str:
     """The table of cases that `failures` writes of a plan, with rows that are common to all."""
-    tables = Plan(Document("plan.toml", plan.read_bytes())).tables
-    found = failures.failures_of(tables, kinds or (failures.LINKS, failures.SOURCES, failures.ELEMENTS))
-    cases = failures.cases_of(found, True, failures.in_order(tables))
+    network = PlanLines(Document("plan.toml", plan.read_bytes())).network
+    found = failures.failures_of(network, kinds or (failures.LINKS, failures.SOURCES, failures.ELEMENTS))
+    cases = failures.cases_of(found, True, failures.in_order(network))
     head, _, rows = failures.table_of([], cases, at).decode().partition("\n")
     return "\n".join([head, *common, rows])
 

@@ -10,8 +10,10 @@ from conftest import CASES, EXAMPLES
 from hypothesis import HealthCheck, given, settings
 from hypothesis import strategies as st
 
-from murdjohe import cli, main, streams
-from murdjohe.forms import FORMS
+from murdjohe import main
+from murdjohe.commands import cli
+from murdjohe.core import streams
+from murdjohe.core.forms import FORMS
 
 FILES = [
     "plan",

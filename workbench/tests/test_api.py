@@ -9,7 +9,7 @@ import pytest
 from conftest import EXAMPLES
 
 import murdjohe
-from murdjohe import inspections, reports
+from murdjohe.answers import inspections, reports
 
 MESH = EXAMPLES / "mesh"
 PLAN = b'[[element]]\nname = "A"\n[[element]]\nname = "B"\n[[link]]\nname = "L1"\na = "A"\nb = "B"\npriority_b = 1\n'

@@ -15,9 +15,12 @@ from typing import Any
 import pytest
 from conftest import EXAMPLES, murdjohe, started
 
-from murdjohe import api, moments, page_data, pages, places, plan_file, rehearsals, spans, wiring
-from murdjohe.moments import Event
-from murdjohe.reports import Change, Report
+from murdjohe.answers import api
+from murdjohe.answers.reports import Change, Report
+from murdjohe.network import plan_file, wiring
+from murdjohe.picture import page_data, pages, places
+from murdjohe.runs import moments, rehearsals, spans
+from murdjohe.runs.moments import Event
 
 webdriver = pytest.importorskip("selenium.webdriver", reason="there is no selenium (Debian: python3-selenium)")
 service = pytest.importorskip("selenium.webdriver.chrome.service")
@@ -85,7 +88,7 @@ def test_it_opens_without_an_error_or_a_request(browser: Any, works: str) -> Non
 def test_the_slider_goes_to_each_change_of_the_report(browser: Any, works: str) -> None:
     browser.get(works)
     report = api.sim(MESH / "redundant.toml", MESH / "works.csv", "36m").result
-    wired = wiring.wiring_of(plan_file.read(str(MESH / "redundant.toml")).tables)
+    wired = wiring.wiring_of(plan_file.read(str(MESH / "redundant.toml")).network)
     slider = "const slider = document.getElementById('slider'); slider.value = arguments[0]; slider.dispatchEvent(new Event('input'))"
     times: list[int] = browser.execute_script("return page.run.moments")
     assert {change.at for change in report.changes} <= set(times)
@@ -126,7 +129,7 @@ def test_the_map_of_cases_shows_a_case(browser: Any, works: str) -> None:
     assert "hub-south" in said(browser, "chosen")  # (the middle one of seven elements)
     report = api.sim(MESH / "redundant.toml", b"at,what,target,value\n60000,down,N1,\n", 400_000).result
     own = moments.shown_at(
-        wiring.wiring_of(plan_file.read(str(MESH / "redundant.toml")).tables), report.changes, 400_000
+        wiring.wiring_of(plan_file.read(str(MESH / "redundant.toml")).network), report.changes, 400_000
     )
     assert [row[2] for row in shown(browser)] == [one.input or "none" for one in own.values()]
     browser.find_element("id", "back").click()
@@ -193,7 +196,7 @@ def test_it_prints_on_a4(browser: Any, works: str, folder: Path) -> None:
 def large_page(folder: Path) -> str:
     """The page of 2,000 elements with 20,000 changes, which no program made."""
     plan = plan_file.taken("ladder", api.gen(2000).result.text.encode())
-    wired = wiring.wiring_of(plan.tables)
+    wired = wiring.wiring_of(plan.network)
     inputs: dict[str, list[str]] = {name: [] for name in wired.elements}
     for line in wired.lines.values():
         inputs[line.receiver] += [line.name] if line.priority else []
@@ -209,7 +212,7 @@ def large_page(folder: Path) -> str:
     losses = [spans.Loss(name, "QL-PRC", 5, "QL-SEC", 7, 3) for name in wired.elements]
     events = tuple(Event(at, "down", "S1", "") for at in range(1000, time, 5000))
     found = rehearsals.Rehearsal(time + 1000, wired, events, 0, report, [], [], losses, time)
-    layout = places.layout_of(plan.tables, None, None)
+    layout = places.layout_of(plan.network, None, None)
     data = page_data.data_of(plan, found, layout, 0, "large", False)
     (folder / "page.html").write_bytes(pages.page("large", data, []))
     return (folder / "page.html").as_uri()

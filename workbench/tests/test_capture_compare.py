@@ -6,14 +6,14 @@ import json
 from collections.abc import Callable
 from pathlib import Path
 
-import captures_made as made
 import pytest
 from conftest import CASES, EXAMPLES, Ran, murdjohe
 from hypothesis import given, settings
 from hypothesis import strategies as st
 
-from murdjohe import device
-from murdjohe.lab_lines import Message
+from bench import captures as made
+from murdjohe.capture import device
+from murdjohe.capture.lab_lines import Message
 
 BENCH = EXAMPLES / "node"
 ROWS = [line.split(",") for line in (BENCH / "received").read_text().splitlines()]

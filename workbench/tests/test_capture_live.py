@@ -5,11 +5,11 @@ from __future__ import annotations
 import shutil
 from pathlib import Path
 
-import captures_made as made
 import pytest
 from conftest import EXAMPLES, murdjohe, started
 
-from murdjohe import unwrapping
+from bench import captures as made
+from murdjohe.capture import encapsulation
 
 TOOLS = ("tcpdump", "tcpreplay", "ip", "unshare")
 # usage: sh -c SCRIPT sh INTERFACE COUNT FILTER [WORDS of tcpdump]: writes the file `caught` of so many packets
@@ -82,4 +82,4 @@ def test_a_live_capture_on_any(folder: Path) -> None:
         its = [row.partition(",")[2] for row in rows if row.startswith(f"{port},")]
         assert its == [row.split(",", 2)[2] for row in made.ROWS]
     ran = murdjohe("capture", "read", "caught", folder=folder)
-    assert f"murdjohe: 16 frames {unwrapping.COOKED_HEAD}\n" in ran.err
+    assert f"murdjohe: 16 frames {encapsulation.COOKED_HEAD}\n" in ran.err

@@ -7,14 +7,14 @@ import json
 import struct
 from pathlib import Path
 
-import captures_made as made
 import pytest
 from conftest import CASES, EXAMPLES, murdjohe
 from hypothesis import HealthCheck, given, settings
 from hypothesis import strategies as st
 
-from murdjohe import capture_files, unwrapping
-from murdjohe.wrong import Wrong
+from bench import captures as made
+from murdjohe.capture import capture_files, encapsulation
+from murdjohe.core.faults import Wrong
 
 ANY = [HealthCheck.function_scoped_fixture]
 # What is said to have been done to the frames of a kind.
@@ -23,11 +23,11 @@ DONE = {
     "old tag": ["8 frames carried a VLAN tag: taken off"],
     "tagged, least length": ["8 frames carried a VLAN tag: taken off"],
     "two tags": ["8 frames carried several VLAN tags (QinQ): taken off"],
-    "cooked": [f"8 frames {unwrapping.COOKED_HEAD}"],
-    "cooked 2": [f"8 frames {unwrapping.COOKED_HEAD}"],
+    "cooked": [f"8 frames {encapsulation.COOKED_HEAD}"],
+    "cooked 2": [f"8 frames {encapsulation.COOKED_HEAD}"],
     "cooked 2, tagged": [
         "8 frames carried a VLAN tag: taken off",
-        f"8 frames {unwrapping.COOKED_HEAD}",
+        f"8 frames {encapsulation.COOKED_HEAD}",
     ],
     "before padding": ["8 frames had fewer than 60 bytes, as before padding: padded with zeros"],
     "cut behind the TLVs": ["8 frames had been cut by the capture behind the TLVs: padded with zeros"],
@@ -228,7 +228,7 @@ def packets_of(path: Path) -> tuple[list[capture_files.Packet], bool]:
     found: list[capture_files.Packet] = []
     try:
         for packet in capture_files.packets(str(path)):
-            unwrapping.unwrapped(packet)
+            encapsulation.unwrapped(packet)
             found.append(packet)
     except capture_files.Damaged as damaged:
         assert str(damaged)

@@ -5,11 +5,11 @@ from __future__ import annotations
 import re
 from pathlib import Path
 
-import captures_made as made
 import pytest
 from conftest import EXAMPLES, LAUNCHER, murdjohe, started
 
-from murdjohe import rows_written
+from bench import captures as made
+from murdjohe.capture import frame_writer
 
 LAB = EXAMPLES / "lab"
 
@@ -38,12 +38,12 @@ def test_rows_without_times_get_some(folder: Path) -> None:
 
 
 def test_a_long_file_is_written_in_pieces(folder: Path, monkeypatch: pytest.MonkeyPatch) -> None:
-    monkeypatch.setattr(rows_written, "PIECE", 3)
+    monkeypatch.setattr(frame_writer, "PIECE", 3)
     data = (LAB / "capture.rows").read_bytes()
-    assert b"".join(rows_written.capture_of("rows", data, "I", 0)) == made.KINDS["pcap"]
-    assert b"".join(rows_written.capture_of("rows", b"", "I", 0)) == made.classic([])
-    with pytest.raises(rows_written.Refused) as refused:
-        list(rows_written.capture_of("rows", data.replace(b"QL-SEC", b"QL-SEX"), "I", 0))
+    assert b"".join(frame_writer.capture_of("rows", data, "I", 0)) == made.KINDS["pcap"]
+    assert b"".join(frame_writer.capture_of("rows", b"", "I", 0)) == made.classic([])
+    with pytest.raises(frame_writer.Refused) as refused:
+        list(frame_writer.capture_of("rows", data.replace(b"QL-SEC", b"QL-SEX"), "I", 0))
     assert str(refused.value).startswith("rows:6: ") and '(nearest: "QL-SEC")' in str(refused.value)
 
 

@@ -9,16 +9,20 @@ import pytest
 from conftest import EXAMPLES
 from surveys_made import RING, table_of
 
-from murdjohe import case_files, case_lists, case_maps, case_runs, colours, failures, tiles, wiring
-from murdjohe.case_lists import CaseList
-from murdjohe.case_maps import FINE, FREERUN, HOLDOVER, WORSE, CaseMap, Disagreement, Row
-from murdjohe.documents import Document
-from murdjohe.plans import Plan
-from murdjohe.reports import Change, Report, Trace
-from murdjohe.studies import Case
-from murdjohe.tallies import Tally
-from murdjohe.views import LOOP, PAIR
-from murdjohe.wrong import Wrong
+from murdjohe.answers.reports import Change, Report, Trace
+from murdjohe.answers.studies import Case
+from murdjohe.core.documents import Document
+from murdjohe.core.faults import Wrong
+from murdjohe.network import wiring
+from murdjohe.picture import case_maps, colours, tiles
+from murdjohe.picture.case_maps import FINE, FREERUN, HOLDOVER, WORSE, CaseMap, Disagreement, Row
+from murdjohe.picture.views import LOOP, PAIR
+from murdjohe.plan.model import plan_of
+from murdjohe.plan.plan_lines import PlanLines
+from murdjohe.runs import failures
+from murdjohe.survey import case_files, case_lists, case_runs
+from murdjohe.survey.case_lists import CaseList
+from murdjohe.survey.tallies import Tally
 
 ALL = (1, None)
 NAMES = "ABCDEFGH"
@@ -28,12 +32,12 @@ TABLES = {
     "link": [{"name": name, "a": a, "b": b} for name, a, b in [*LINES, ("L7", "E", "G")]],
     "source": [{"name": "S", "at": "A", "level": "QL-PRC"}],
 }
-WIRED = wiring.wiring_of(TABLES)
+WIRED = wiring.wiring_of(plan_of(TABLES))
 
 
 def outcome(name: str, lost: int = 0, first: str | None = None, freerun: int = 0) -> Case:
     """A row of `study`."""
-    return Case(name, True, 0, lost - freerun, freerun, 0, "QL-SEC", None, lost, first, 0)
+    return Case(name, True, 0, lost - freerun, freerun, 0, "QL-SEC", None, lost, first, 0, 0, 0, None, 0)
 
 
 def taken(at: int, element: str, line: str | None, level: str, state: str) -> Change:
@@ -186,9 +190,9 @@ def rows_by_case(table: str) -> dict[str, bytes]:
 
 def made(plan: Path, span: tuple[int, int | None] = ALL) -> CaseList:
     """The cases of all failures of a plan, and of pairs of them."""
-    tables = Plan(Document("plan.toml", plan.read_bytes())).tables
-    found = failures.failures_of(tables, failures.KINDS)
-    return case_lists.of_failures(tables, found, True, 600_000, (), span)
+    network = PlanLines(Document("plan.toml", plan.read_bytes())).network
+    found = failures.failures_of(network, failures.KINDS)
+    return case_lists.of_failures(network, found, True, 600_000, (), span)
 
 
 @pytest.mark.parametrize("plan", [RING, EXAMPLES / "mesh" / "plan.toml"], ids=["ring", "mesh"])

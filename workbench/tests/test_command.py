@@ -10,20 +10,32 @@ from pathlib import Path
 import pytest
 from conftest import EXAMPLES, LAUNCHER, murdjohe, started
 
-from murdjohe import cli, topics
-from murdjohe.forms import FORMS
+from murdjohe.commands import cli, topics
+from murdjohe.core.forms import FORMS
 
 WORDS = [*FORMS, *cli.OWN]
 
 
 @pytest.mark.parametrize("words", [[], ["--help"], ["-h"], ["help"]])
-def test_the_commands_are_listed_a_line_each(words: list[str]) -> None:
+def test_the_help_fits_a_terminal_and_names_each_command_once(words: list[str]) -> None:
     ran = murdjohe(*words)
     assert (ran.status, ran.err) == (0, "")
     lines = ran.out.decode().splitlines()
-    for name in WORDS:
-        (line,) = [line for line in lines if re.match(rf"  {name} +\w", line)]
-        assert len(line) <= 80
+    assert len(lines) <= 24 and max(map(len, lines)) <= 80
+    groups = [line[12:].split() for line in lines if re.match(r"  (\w+ +|  +)[a-z]", line) and line[2] != "-"]
+    assert sorted(name for names in groups for name in names if name in WORDS) == sorted(WORDS)
+
+
+@pytest.mark.parametrize("group", [*cli.GROUPS, cli.EVERYTHING])
+def test_the_commands_of_a_group_are_listed_a_line_each(group: str) -> None:
+    ran = murdjohe("help", group)
+    assert (ran.status, ran.err) == (0, "")
+    lines = ran.out.decode().splitlines()
+    wanted = [
+        name for word, its in cli.GROUPS.items() if group in (word, cli.EVERYTHING) for name, _ in cli.in_group(its)
+    ]
+    assert [re.match(r"  ([a-z-]+) +\w", line)[1] for line in lines if line.startswith("  ")] == wanted  # type: ignore[index]
+    assert max(map(len, lines)) <= 80
 
 
 @pytest.mark.parametrize("name", list(FORMS))
@@ -227,7 +239,7 @@ def test_words_are_completed() -> None:
     assert completed("gen", "") == []
     assert "plain,--json" in completed("check", "--")
     assert completed("completion", "f") == ["plain,fish"]
-    assert completed("help", "pl") == ["plain,plan", "plain,place"]
+    assert completed("help", "pl") == ["plain,plan", "plain,plans", "plain,place"]
     assert completed("draw", "ring/pl") == ["file,ring/pl"]
 
 

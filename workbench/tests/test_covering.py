@@ -8,26 +8,27 @@ from itertools import product
 
 import pytest
 from conftest import CASES
-from groups_made import BOTH, NARROW, random_groups, random_network, tables_of
+from groups_made import BOTH, NARROW, random_groups, random_network
 from hypothesis import given, settings
 from hypothesis import strategies as st
 
 import murdjohe as forms
-from murdjohe import covering, group_plans, groups
-from murdjohe.covering import Cover, State
-from murdjohe.covering_exact import Exact, Late
-from murdjohe.documents import Document
-from murdjohe.group_plans import Network
-from murdjohe.groups import Group
-from murdjohe.plans import Plan
-from murdjohe.ways import Ways
+from murdjohe.core.documents import Document
+from murdjohe.network import groups
+from murdjohe.network.groups import Group
+from murdjohe.network.ways import Ways
+from murdjohe.plan.plan_lines import PlanLines
+from murdjohe.protection import covering, group_plans
+from murdjohe.protection.covering import Cover, State
+from murdjohe.protection.exact_covering import Exact, Late
+from murdjohe.protection.group_plans import Network
 
 TRIED = settings(max_examples=max(25, CASES))
 
 
-def protecting(text: str) -> Plan:
+def protecting(text: str) -> PlanLines:
     """What `protect` makes of a plan."""
-    return Plan(Document("plan.toml", (forms.protect(text.encode()).result.text or "").encode()))
+    return PlanLines(Document("plan.toml", (forms.protect(text.encode()).result.text or "").encode()))
 
 
 def is_round(ways: Ways, kept: frozenset[int], last: dict[int, tuple[str, str]]) -> bool:

@@ -15,10 +15,13 @@ from typing import Any
 import pytest
 from conftest import CASES, EXAMPLES, TOP
 
-from murdjohe import bands, cli, drawing, run_form, tables
-from murdjohe.forms import FORMS
-from murdjohe.streams import Output
-from murdjohe.wrong import Wrong
+from murdjohe.commands import cli, form_run
+from murdjohe.core.faults import Wrong
+from murdjohe.core.forms import FORMS
+from murdjohe.core.streams import Output
+from murdjohe.picture import bands, plan_graph
+from murdjohe.plan import tables
+from murdjohe.runs import report_file
 
 sys.path.append(str(TOP))
 damage: Any = pytest.importorskip("bench.compare.damage")
@@ -37,8 +40,8 @@ def test_each_refusal_has_one_sentence_with_the_files_name(folder: Path, reader:
         if whole.text:
             (folder / "plan").write_bytes(whole.text)
         form, *given = [{"{}": "file"}.get(word, word) for word in whole.words]
-        words, answer = run_form.answered(FORMS[form], given)
-        said = run_form.said_of(words, answer)
+        words, answer = form_run.answered(FORMS[form], given)
+        said = form_run.said_of(words, answer)
         if answer.text.startswith(b"bad "):
             assert len(said) == 1 and ("file:" in said[0] or said[0].startswith("plan")), (said, answer.text)
         assert all("\n" not in line for line in said)
@@ -85,8 +88,8 @@ def test_damaged_plans_are_drawn_or_refused(folder: Path) -> None:
     for chance in chances("draw"):
         (folder / "damaged").write_bytes(damage.damaged(chance, "plan", damage.whole_plan(chance)[1]))
         try:
-            plan = drawing.read_plan("damaged")
-            assert drawing.picture_of(plan, drawing.Shown()).startswith("digraph plan {")
+            plan = plan_graph.read_plan("damaged")
+            assert plan_graph.picture_of(plan, plan_graph.Shown()).startswith("digraph plan {")
         except Wrong as wrong:
             assert str(wrong).startswith("damaged:")
 
@@ -96,19 +99,22 @@ def test_damaged_reports_have_bands_or_are_refused(folder: Path) -> None:
         at = EXAMPLES / chance.choice(["ring", "option-two", "bundle"])
         (folder / "damaged").write_bytes(damage.damaged(chance, "rows", (at / "report").read_bytes()))
         try:
-            rows, order = bands.changes_of("damaged")
+            report = report_file.read("damaged")
         except Wrong as wrong:
             assert str(wrong).startswith("damaged:")
             continue
+        rows = list(report.changes)
+        if not rows:
+            continue
         moments = sorted({row.at for row in rows})
         assert set(bands.places_of(moments, 1000)[0]) == set(moments)
-        assert sum(map(len, bands.bands_of(rows, order, moments[-1] + 1).values())) == len(rows)
+        assert sum(map(len, bands.bands_of(rows, bands.order_of(report), moments[-1] + 1).values())) == len(rows)
 
 
 def test_damaged_answers_are_explained_or_passed_on(folder: Path) -> None:
     from murdjohe.commands import explain
-    from murdjohe.core import Answer
-    from murdjohe.inputs import Words
+    from murdjohe.core.inputs import Words
+    from murdjohe.core.program import Answer
 
     for chance in chances("answers"):
         reader = chance.choice(list(damage.READERS))
@@ -116,7 +122,7 @@ def test_damaged_answers_are_explained_or_passed_on(folder: Path) -> None:
         (folder / "file").write_bytes(damage.damaged(chance, reader, whole.data))
         (folder / "plan").write_bytes(whole.text or b"")
         form, *given = [{"{}": "file"}.get(word, word) for word in whole.words]
-        words, answer = run_form.answered(FORMS[form], given)
+        words, answer = form_run.answered(FORMS[form], given)
         text = damage.damaged(chance, "rows", answer.text[:200])
         assert isinstance(words, Words)
         try:

@@ -13,9 +13,9 @@ from hypothesis import strategies as st
 from random_plans import RandomPlan, random_plan
 from test_lint import GOOD
 
-from murdjohe import differences
-from murdjohe.documents import Document
-from murdjohe.plans import Plan
+from murdjohe.core.documents import Document
+from murdjohe.network import differences
+from murdjohe.plan.plan_lines import PlanLines
 
 PAIRS = (("a", "b"), ("priority_a", "priority_b"), ("delay_a", "delay_b"))
 TURNED = {one: other for pair in PAIRS for one, other in (pair, pair[::-1])}
@@ -98,8 +98,8 @@ def test_wrong_times_and_plans_are_told(folder: Path) -> None:
 
 def facts(plan: RandomPlan) -> differences.Facts:
     """What a spelling of a plan says."""
-    read = Plan(Document("plan.toml", plan.text()[0].encode()))
-    return differences.facts_of(read.tables, read.option)
+    read = PlanLines(Document("plan.toml", plan.text()[0].encode()))
+    return differences.facts_of(read.network, read.option)
 
 
 @settings(max_examples=max(20, CASES))

@@ -9,7 +9,8 @@ from pathlib import Path
 
 from conftest import EXAMPLES, TOP, WORKBENCH, started
 
-from murdjohe import cli, forms, refusals
+from murdjohe.commands import cli
+from murdjohe.core import forms, refusals
 
 SOURCES = sorted((WORKBENCH / "src" / "murdjohe").rglob("*.py"))
 LONGEST_FUNCTION, LONGEST_MODULE = 40, 400
@@ -53,7 +54,7 @@ def test_a_list_of_cases_has_the_numbers_of_an_event_list_and_more() -> None:
 
 
 def test_the_forms_are_those_of_the_formats() -> None:
-    text = (TOP / "docs" / "formats.md").read_text(encoding="utf-8")
+    text = (TOP / "docs" / "use" / "formats.md").read_text(encoding="utf-8")
     table = text[text.index("| words | what it does |") : text.index("PLAN, CERT, EVENTS, CASES, GROUPS and FILE")]
     written = re.findall(r"^\| `([^`]+)` \|", table, re.M)
     assert sorted(text for form in forms.FORMS.values() for text in form.synopses) == sorted(written)
@@ -83,7 +84,7 @@ def described(page: str) -> set[str]:
 
 def test_the_page_of_each_group_has_its_commands_and_no_others() -> None:
     groups = {name: form.group for name, form in forms.FORMS.items()} | {name: own[1] for name, own in cli.OWN.items()}
-    assert set(PAGES) == set(cli.GROUPS) == set(groups.values())
+    assert set(PAGES) == set(cli.GROUPS.values()) == set(groups.values())
     for group, title in PAGES.items():
         its = {name for name, own in groups.items() if own == group}
         page = page_of(title)
@@ -114,7 +115,7 @@ def test_only_declared_packages_are_imported() -> None:
     needed = {f"python3-{package}" for path in SOURCES for package in imported(path)}
     assert needed <= declared
     tests = {f"python3-{package}" for path in (WORKBENCH / "tests").glob("*.py") for package in imported(path)}
-    ours = {f"python3-{path.stem}" for path in (WORKBENCH / "tests").glob("*.py")} | {"python3-fuzz"}
+    ours = {f"python3-{path.stem}" for path in (WORKBENCH / "tests").glob("*.py")} | {"python3-bench"}
     assert tests - ours <= declared
 
 
@@ -127,7 +128,7 @@ def test_one_place_starts_the_program() -> None:
     starters = [
         path.name for path in SOURCES if re.search(r"posix_spawn|os\.exec|Popen", path.read_text(encoding="utf-8"))
     ]
-    assert starters == ["core.py"]
+    assert starters == ["program.py"]
 
 
 def test_functions_and_modules_are_short() -> None:
@@ -141,14 +142,19 @@ def test_functions_and_modules_are_short() -> None:
 
 def test_the_readme_of_the_workbench_runs(folder: Path) -> None:
     text = (WORKBENCH / "README.md").read_text(encoding="utf-8")
-    (script,) = re.findall(r"^```python\n(.*?)^```", text, re.M | re.S)
+    scripts = re.findall(r"^```python\n(.*?)^```", text, re.M | re.S)
     (folder / "plan.toml").write_bytes((EXAMPLES / "ladder" / "plan.toml").read_bytes().replace(b'"S1"', b'"L1"'))
     (folder / "other.toml").write_text('[[element]]\nname = "M.1"\n')
-    (folder / "script.py").write_text(script)
-    ran = started(["/usr/bin/python3", "script.py"], folder, b"", PYTHONPATH=str(WORKBENCH / "src"))
-    assert ran.status == 0, ran.err
-    elements, refused = ran.out.decode().splitlines()
+    (folder / "works.csv").write_text("at,what,target,value\n02:00,down,R3,\n")
+    said = []
+    for script in scripts:
+        (folder / "script.py").write_text(script)
+        ran = started(["/usr/bin/python3", "script.py"], folder, b"", PYTHONPATH=str(WORKBENCH / "src"))
+        assert ran.status == 0, ran.err
+        said += ran.out.decode().splitlines()
+    elements, refused, night = said
     assert elements == "[]" and refused.startswith('16 element 1 other.toml:2: `name = "M.1"`: ')
+    assert night.startswith("True [")
 
 
 def test_what_documents_name_is_there() -> None:
@@ -161,7 +167,7 @@ def test_what_documents_name_and_is_nowhere_is_told(tmp_path: Path) -> None:
     files = ["src/no_file.rt", "docs/no_file.md", "crates/*/no_folder"]
     wrong = ["nowhere.md", "#nowhere", *files, "no_" + "such_name", "Plan::no_" + "such_line"]
     links = f"[a file]({wrong[0]}), [a heading]({wrong[1]}), [this one](#of-sync_topo)"
-    names = ", ".join(f"`{name}`" for name in (*wrong[2:], "src/wiring.rt", "docs/guide.md", "lines_out", "code-N"))
+    names = ", ".join(f"`{name}`" for name in (*wrong[2:], "src/wiring.rt", "docs/use/guide.md", "lines_out", "code-N"))
     document.write_text(f"# Of sync_topo\n{links}, {names}\n```sh\n`{wrong[-1]}`\n```\n", encoding="utf-8")
     ran = started([str(TOP / "docs" / "check_names"), str(document)])
     told = [line.rpartition(":2: ")[2].removesuffix(" isn't there") for line in ran.out.decode().splitlines()]

@@ -18,8 +18,8 @@ def test_a_survey_says_that_the_end_alone_is_looked_at_and_what_the_works_mend(f
     words = ["plan.toml", "--links", "--during", "works.csv", "--at", "10m"]
     ran = murdjohe("survey", *words, "--until", "1h", folder=folder)
     first, *said = ran.out.decode().splitlines()
-    assert first.startswith("3 cases, each looked at in its last millisecond alone, 01:00:00.000 (3,600,000 ms)")
-    assert "what is lost and back by then isn't counted" in first
+    assert first.startswith("3 cases, each looked at in its last millisecond, 01:00:00.000 (3,600,000 ms)")
+    assert "a source lost and back by then isn't counted, a level worse on the way is" in first
     assert any("the common events alone leave nobody without a source at the end" in line for line in said)
     assert "bring up again what 1 failure took down: `up` of L1 at 00:40:00.000" in ran.err
     assert "what fails goes down at 00:10:00.000 (600,000 ms)" in ran.err
@@ -28,7 +28,7 @@ def test_a_survey_says_that_the_end_alone_is_looked_at_and_what_the_works_mend(f
     # (without times it looks while the works stand)
     ran = murdjohe("survey", *words[:-2], folder=folder)
     first, *said = ran.out.decode().splitlines()
-    assert first.startswith("3 cases, each looked at in its last millisecond alone, 00:30:02.000 (1,802,000 ms)")
+    assert first.startswith("3 cases, each looked at in its last millisecond, 00:30:02.000 (1,802,000 ms)")
     assert any("the common events alone leave 1 element without a source at the end (B)" in line for line in said)
 
 

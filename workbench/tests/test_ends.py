@@ -10,10 +10,11 @@ from comfort_plans import RESERVE
 from conftest import EXAMPLES, Ran, murdjohe
 from night_plans import SWINGING
 
-from murdjohe import api, ends
-from murdjohe.ends import Told
-from murdjohe.moments import Event
-from murdjohe.plan_file import taken
+from murdjohe.answers import api
+from murdjohe.network.plan_file import taken
+from murdjohe.runs import ends
+from murdjohe.runs.ends import Told
+from murdjohe.runs.moments import Event
 
 MESH = EXAMPLES / "mesh"
 HEAD = "case,at,what,target,value\n"

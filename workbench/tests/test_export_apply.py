@@ -14,10 +14,12 @@ from hypothesis import HealthCheck, given, settings
 from hypothesis import strategies as st
 from random_plans import RandomPlan, random_plan
 
-from murdjohe import edits, export, priorities, tables, toml_reader
-from murdjohe.documents import Document
-from murdjohe.plans import Plan
-from murdjohe.tables import TABLES, Settings
+from murdjohe.core import toml_reader
+from murdjohe.core.documents import Document
+from murdjohe.plan import edits, export, priorities, tables
+from murdjohe.plan.model import plan_of
+from murdjohe.plan.plan_lines import PlanLines
+from murdjohe.plan.tables import TABLES, Settings
 
 PLANS = sorted(EXAMPLES.glob("*/*.toml"))
 TRIED = settings(suppress_health_check=[HealthCheck.function_scoped_fixture], max_examples=max(20, CASES))
@@ -52,7 +54,7 @@ def test_export_then_import_is_the_same_plan(tmp_path: Path, seed: int) -> None:
     plan = random_plan(random.Random(seed))
     read = tomllib.loads(plan.text()[0])
     for kind in TABLES:
-        (tmp_path / kind).write_bytes(export.table_of(read, kind))
+        (tmp_path / kind).write_bytes(export.table_of(read, kind, {}))
     made = tables.made_of({kind: str(tmp_path / kind) for kind in TABLES}, Settings(plan.option))
     assert without_head(made.plan.encode()) == without_head(plan.text()[0].encode())
 
@@ -89,13 +91,13 @@ def test_apply_changes_no_octet_but_priorities(seed: int) -> None:
     chance = random.Random(seed)
     plan = random_plan(chance)
     text = spelled(chance, plan)
-    read = Plan(Document("plan.toml", text.encode()))
-    new = {name: chance.choice([0, 1, 2, 255]) for name in priorities.priorities_of(read.tables)}
+    read = PlanLines(Document("plan.toml", text.encode()))
+    new = {name: chance.choice([0, 1, 2, 255]) for name in priorities.priorities_of(read.network)}
     wanted = priorities.wanted(read, new)
     data = edits.changed(read, wanted)
-    assert priorities.priorities_of(without_head(data)) == new
+    assert priorities.priorities_of(plan_of(without_head(data))) == new
     assert without_priorities(data.decode()) == without_priorities(text)
-    stays = Plan(Document("plan.toml", data))
+    stays = PlanLines(Document("plan.toml", data))
     assert priorities.wanted(stays, new) == {} and edits.changed(stays, {}) == data
     for (kind, number, key), value in wanted.items():
         assert read.row(kind, number).get(key, DEFAULTS[key]) != value and stays.row(kind, number)[key] == value

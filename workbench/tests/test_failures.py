@@ -16,9 +16,10 @@ from hypothesis import strategies as st
 from random_plans import random_plan
 
 import murdjohe as forms
-from murdjohe import failures
-from murdjohe.documents import Document
-from murdjohe.plans import Plan
+from murdjohe.core.documents import Document
+from murdjohe.plan.model import plan_of
+from murdjohe.plan.plan_lines import PlanLines
+from murdjohe.runs import failures
 
 PLAN = """version = 2
 [[element]]
@@ -153,15 +154,15 @@ def test_of_millions_of_pairs_few_names_are_kept() -> None:
 @given(st.integers(0, 2**32))
 def test_random_plans_have_a_case_for_each_failure(seed: int) -> None:
     text, _ = random_plan(random.Random(seed)).text()
-    tables = Plan(Document("plan.toml", text.encode())).tables
-    found = failures.failures_of(tables, failures.KINDS)
+    tables = PlanLines(Document("plan.toml", text.encode())).tables
+    found = failures.failures_of(plan_of(tables), failures.KINDS)
     parts = {row["name"] for row in (*tables["link"], *tables.get("source", []))}
     assert {one.down for one in found if one.kind in ("link", "source")} == {(name,) for name in parts}
     for one in found:
         if one.kind == "element":
             ends = {row["name"] for row in tables["link"] if one.name in (row["a"], row["b"])}
             assert set(one.down) == ends | {row["name"] for row in tables["source"] if row["at"] == one.name}
-    cases = list(failures.cases_of(found, True, failures.in_order(tables)))
+    cases = list(failures.cases_of(found, True, failures.in_order(plan_of(tables))))
     assert len({case.name for case in cases}) == len(cases)
     apart = [(one, other) for one, other in combinations(found, 2) if not set(one.down) <= set(other.down)]
     assert len(cases) == len(found) + sum(not set(other.down) <= set(one.down) for one, other in apart)

@@ -11,8 +11,9 @@ from hypothesis import given, settings
 from hypothesis import strategies as st
 from test_repair import METRO, all_sets, in_knots, planned, random_network
 
-from murdjohe import bettered, first_sets, knots, least_sets, nominated, protecting, repairs, rings
-from murdjohe.knots import Inputs
+from murdjohe.protection import promise
+from murdjohe.repair import first_sets, improvement, knots, least_sets, repairs, rings
+from murdjohe.repair.knots import Inputs
 
 TRIED = settings(max_examples=max(40, CASES))
 
@@ -25,9 +26,9 @@ def is_minimal(graph: nx.DiGraph, removed: frozenset[str]) -> bool:
 @TRIED
 @given(st.integers(0, 2**32))
 def test_lines_forward_in_an_order_have_no_ring(seed: int) -> None:
-    tables, _, _ = in_knots(random_network(seed))
-    lines = nominated.lines_of(tables)
-    order = [row["name"] for row in tables["element"]]
+    network, _, _ = in_knots(random_network(seed))
+    lines = network.nominated_lines()
+    order = list(network.names())
     random.Random(seed).shuffle(order)
     kept = first_sets.forward(lines, order)
     assert nx.is_directed_acyclic_graph(knots.graph_of(lines).subgraph(kept))
@@ -36,19 +37,19 @@ def test_lines_forward_in_an_order_have_no_ring(seed: int) -> None:
 
 
 def test_elements_by_hops() -> None:
-    tables, _, _ = in_knots(planned(["L1 A 0 B 1", "L2 B 1 C 1", "L3 D 1 C 0", "L4 E 0 F 1"], ["S C"]))
-    assert first_sets.by_hops(tables) == ["C", "B", "D", "A", "E", "F"]
-    tables["source"][0]["priority"] = 0
-    assert first_sets.by_hops(tables) == list("ABCDEF")
+    network, _, _ = in_knots(planned(["L1 A 0 B 1", "L2 B 1 C 1", "L3 D 1 C 0", "L4 E 0 F 1"], ["S C"]))
+    assert first_sets.by_hops(network) == ["C", "B", "D", "A", "E", "F"]
+    network = network._replace(sources=tuple(source._replace(priority=0) for source in network.sources))
+    assert first_sets.by_hops(network) == list("ABCDEF")
 
 
 @TRIED
 @given(st.integers(0, 2**32))
 def test_what_is_put_back_leaves_nothing_needless(seed: int) -> None:
-    tables, inputs, graph = in_knots(random_network(seed))
-    order = [row["name"] for row in tables["element"]]
+    network, inputs, graph = in_knots(random_network(seed))
+    order = list(network.names())
     random.Random(seed).shuffle(order)
-    kept = first_sets.forward(nominated.lines_of(tables), order).intersection(graph)
+    kept = first_sets.forward(network.nominated_lines(), order).intersection(graph)
     removed = first_sets.put_back(graph, inputs, kept)
     assert removed.isdisjoint(kept) and is_minimal(graph, removed)
 
@@ -56,9 +57,9 @@ def test_what_is_put_back_leaves_nothing_needless(seed: int) -> None:
 @TRIED
 @given(st.integers(0, 2**32))
 def test_the_first_set_is_the_cheapest_of_its_seeds(seed: int) -> None:
-    tables, inputs, graph = in_knots(random_network(seed))
-    order = [row["name"] for row in tables["element"]]
-    seeds = [first_sets.forward(nominated.lines_of(tables), one) for one in (order, order[::-1])]
+    network, inputs, graph = in_knots(random_network(seed))
+    order = list(network.names())
+    seeds = [first_sets.forward(network.nominated_lines(), one) for one in (order, order[::-1])]
     # (a seed over which rings go is none)
     removed, cost = first_sets.first_set(graph, inputs, [*seeds, list(graph)])
     assert is_minimal(graph, removed) and cost == inputs.cost(removed)
@@ -68,7 +69,7 @@ def test_the_first_set_is_the_cheapest_of_its_seeds(seed: int) -> None:
 
 def test_the_lines_of_protect_leave_no_gap() -> None:
     _, inputs, graph = in_knots(METRO)
-    kept = protecting.lines_kept(METRO.encode())
+    kept = promise.lines_kept(METRO.encode())
     assert nx.is_directed_acyclic_graph(graph.subgraph(kept))
     assert first_sets.first_set(graph, inputs, [kept])[1][:2] == (0, 0)
 
@@ -76,13 +77,13 @@ def test_the_lines_of_protect_leave_no_gap() -> None:
 def test_where_protect_finds_no_plan_no_line_is_kept() -> None:
     text = planned(["L1 A 1 B 1", "L2 B 2 C 1", "L3 C 2 A 2"], ["S A", "T B"])
     last = text.replace('level = "QL-PRTC"', 'level = "QL-PRTC"\npriority = 255')
-    assert protecting.lines_kept(text.encode()) and protecting.lines_kept(last.encode()) == frozenset()
-    assert protecting.lines_kept(b"no plan") == frozenset()
+    assert promise.lines_kept(text.encode()) and promise.lines_kept(last.encode()) == frozenset()
+    assert promise.lines_kept(b"no plan") == frozenset()
 
 
 def searched(graph: nx.DiGraph, inputs: Inputs, first: frozenset[str]) -> frozenset[str]:
     """The first set, bettered."""
-    return bettered.bettered(least_sets.Search(graph, inputs, 20.0), first, 10.0)
+    return improvement.bettered(least_sets.Search(graph, inputs, 20.0), first, 10.0)
 
 
 @TRIED
@@ -98,7 +99,7 @@ def test_a_part_that_is_the_whole_knot_is_least(seed: int) -> None:
 
 
 def test_parts_of_a_knot_are_bettered(monkeypatch: pytest.MonkeyPatch) -> None:
-    monkeypatch.setattr(bettered, "SIZE", 8)
+    monkeypatch.setattr(improvement, "SIZE", 8)
     _, inputs, graph = in_knots(METRO)
     first = first_sets.put_back(graph, inputs, first_sets.forward(inputs.lines.values(), sorted(inputs.of)))
     removed = searched(graph, inputs, first)
@@ -106,8 +107,8 @@ def test_parts_of_a_knot_are_bettered(monkeypatch: pytest.MonkeyPatch) -> None:
 
 
 def test_a_set_that_is_known_changes_no_least_set() -> None:
-    tables, _, _ = in_knots(METRO)
-    kept = protecting.lines_kept(METRO.encode())
-    plain, led = repairs.repair_of(tables), repairs.repair_of(tables, kept=kept)
+    network, _, _ = in_knots(METRO)
+    kept = promise.lines_kept(METRO.encode())
+    plain, led = repairs.repair_of(network), repairs.repair_of(network, kept=kept)
     assert plain.is_least and led.is_least
     assert [found.cost for found in plain.sets] == [found.cost for found in led.sets]

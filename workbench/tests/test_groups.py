@@ -13,10 +13,11 @@ from hypothesis import given, settings
 from hypothesis import strategies as st
 
 import murdjohe as forms
-from murdjohe import groups, said_of_groups
-from murdjohe.groups import Group
-from murdjohe.reports import Gap
-from murdjohe.ways import Ways, falls_of, singles_of
+from murdjohe.answers.reports import Gap
+from murdjohe.network import group_remarks, groups
+from murdjohe.network.groups import Group
+from murdjohe.network.ways import Ways, falls_of, singles_of
+from murdjohe.plan.model import plan_of
 
 TRIED = settings(max_examples=max(30, CASES))
 
@@ -40,14 +41,14 @@ def test_a_group_that_cuts_somebody_off_is_said_in_a_sentence(four: Path) -> Non
     first, sentence, remedy, alone = said(ran.err)
     assert first.startswith("1 group leaves elements without a clock that they could have: nominate lines")
     assert sentence == "if D is cut, 2 elements lose every clock though a clock could still reach them; the first is B"
-    assert (remedy, alone) == (said_of_groups.REMEDY, said_of_groups.ALONE)
+    assert (remedy, alone) == (group_remarks.REMEDY, group_remarks.ALONE)
     assert "two of them at once aren't looked at" in alone
 
 
 def test_a_plan_that_no_group_hurts_is_protected_and_what_is_left_out_is_said(four: Path) -> None:
     ran = murdjohe("protected", "four.toml", "ducts.csv", folder=four)
     assert (ran.status, ran.out) == (0, b"protected\n")
-    assert said(ran.err) == ["protected: 4 elements, 6 nominated lines", said_of_groups.ALONE]
+    assert said(ran.err) == ["protected: 4 elements, 6 nominated lines", group_remarks.ALONE]
 
 
 def test_who_has_no_way_to_a_clock_left_is_told_beside_protected(four: Path) -> None:
@@ -162,7 +163,7 @@ def test_swapped_files_are_told(four: Path) -> None:
 
 def test_both_forms_of_the_table_are_the_same_groups() -> None:
     tables = tables_of(FOUR)
-    old = groups.old_groups("old.csv", "Name;Links\nD;L5 L1\nE;L2\nD;L1\n", tables)
+    old = groups.old_groups("old.csv", "Name;Links\nD;L5 L1\nE;L2\nD;L1\n", plan_of(tables))
     assert old == (Group("D", ("L1", "L5")), Group("E", ("L2",)))
     assert groups.groups_of(groups.text_of(old).encode()) == old
     assert groups.is_old("Name;Links\n") and groups.is_old('"links","name"\n') and not groups.is_old(DUCTS)
@@ -170,8 +171,8 @@ def test_both_forms_of_the_table_are_the_same_groups() -> None:
 
 def test_what_goes_down_with_a_group() -> None:
     tables = tables_of(FOUR)
-    assert groups.down_of(Group("H", (), (), ("A",)), tables) == ("L1", "L3", "S")
-    assert groups.down_of(Group("R", ("L5",), ("S",), ("B",)), tables) == ("L1", "L2", "L4", "L5", "S")
+    assert groups.down_of(Group("H", (), (), ("A",)), plan_of(tables)) == ("L1", "L3", "S")
+    assert groups.down_of(Group("R", ("L5",), ("S",), ("B",)), plan_of(tables)) == ("L1", "L2", "L4", "L5", "S")
 
 
 @pytest.mark.parametrize("name", ["four.toml", "each-other.toml", "ring.toml", "ring-both-ways.toml", "roof.toml"])
@@ -204,7 +205,7 @@ def test_ways_say_what_the_program_says(seed: int) -> None:
             lines[number] = f"{line.partition('=')[0]}= {chance.randint(0, 2)}\n"
     tables = tables_of("".join(lines))
     known = random_groups(chance, tables, chance.randint(0, 4))
-    ways = Ways(tables, singles_of(tables) + falls_of(known))
+    ways = Ways(plan_of(tables), singles_of(plan_of(tables)) + falls_of(known))
     kept = {way.number for way in ways.ways for line in way.lines if is_nominated(tables, line)}
     missing = ways.missing(kept)
     wanted = []
@@ -262,9 +263,9 @@ def test_what_is_taken_without_the_program_it_takes_too(seed: int) -> None:
     text = random_network(chance, chance.randint(2, 6), chance.randint(2, 8))
     tables = tables_of(text)
     whole = groups.text_of(random_groups(chance, tables, chance.randint(0, 4))).encode()
-    assert groups.plain_groups(whole, tables) == groups.groups_of(whole)
+    assert groups.plain_groups(whole, plan_of(tables)) == groups.groups_of(whole)
     for data in [damaged(chance, whole) for _ in range(4)]:
-        found = groups.plain_groups(data, tables)
+        found = groups.plain_groups(data, plan_of(tables))
         if found is not None:
             assert forms.protected(text.encode(), data).status in (0, 1) and found == groups.groups_of(data)
 
@@ -273,4 +274,4 @@ def test_a_table_that_is_spelled_otherwise_is_asked_of_the_program(four: Path) -
     (four / "ducts.csv").write_bytes(b'\xef\xbb\xbfgroup,kind,part\r\n\r\n"D",link,"L1"\r\nD,"link",L5\r\n')
     ran = murdjohe("failures", "four.toml", "--groups", "ducts.csv", folder=four)
     assert ran.status == 0 and ran.out.decode().splitlines()[1:] == ["D,600000,down,L1,", "D,600000,down,L5,"]
-    assert groups.plain_groups((four / "ducts.csv").read_bytes(), tables_of(FOUR)) is None
+    assert groups.plain_groups((four / "ducts.csv").read_bytes(), plan_of(tables_of(FOUR))) is None

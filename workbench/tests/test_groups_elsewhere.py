@@ -9,8 +9,9 @@ import pytest
 from conftest import murdjohe
 from groups_made import DUCTS, EACH_OTHER, FOUR
 
-from murdjohe import group_bands, groups, said_of_groups
-from murdjohe.groups import Group
+from murdjohe.network import group_remarks, groups
+from murdjohe.network.groups import Group
+from murdjohe.picture import group_bands
 
 # D leaves B and X with each other alone in the second plan, and E parts the network.
 TABLE = DUCTS + "E,link,L1\nE,link,L3\n"
@@ -40,7 +41,7 @@ def test_lint_tells_what_groups_cut_off_and_whom_they_leave_without_a_way(four: 
         "lead a link there another way, or put a clock there",
     ]
     assert [line for line in ran.out.decode().splitlines() if "group" in line] == wanted
-    assert "checked: accepted, agreed, 1 gap with these groups" in ran.err and said_of_groups.ALONE in ran.err
+    assert "checked: accepted, agreed, 1 gap with these groups" in ran.err and group_remarks.ALONE in ran.err
     plain = murdjohe("lint", "each-other.toml", folder=four)
     assert "group" not in plain.out.decode() + plain.err
     found = json.loads(murdjohe("lint", "four.toml", "--groups", "ducts.csv", "--json", folder=four).out)

@@ -12,13 +12,15 @@ from hypothesis import strategies as st
 from random_plans import random_plan
 from test_rehearse import as_csv, random_events
 
-from murdjohe import causes, plan_file, runs, signals, why_text, whys
-from murdjohe.history import History, Message
-from murdjohe.inspections import Inspection
-from murdjohe.moments import Event
-from murdjohe.reports import Change, Report
-from murdjohe.runs import EventFile
-from murdjohe.signals import Signals, Turn
+from murdjohe.answers.inspections import Inspection
+from murdjohe.answers.reports import Change, Report
+from murdjohe.network import plan_file
+from murdjohe.runs import simulation
+from murdjohe.runs.moments import Event
+from murdjohe.runs.simulation import EventFile
+from murdjohe.why import causes, choice_text, choices, signals
+from murdjohe.why.history import History, Message
+from murdjohe.why.signals import Signals, Turn
 
 UNTIL = 9_000  # of random runs: long enough for a level that was heard to be lost
 
@@ -47,7 +49,7 @@ def test_the_last_word_of_a_millisecond_counts(words: list[str], expected: list[
         assert signals.holds_from_to(flips, at, 11) == all(signals.holds_at(flips, one) for one in range(at, 12))
 
 
-# With a hold-off time of 2 and a wait-to-restore time of 3 milliseconds, as docs/definitions.md counts them.
+# With a hold-off time of 2 and a wait-to-restore time of 3 milliseconds, as docs/verify/definitions.md counts them.
 @pytest.mark.parametrize(
     ("words", "expected"),
     [
@@ -122,10 +124,15 @@ def random_run(number: int) -> tuple[History, Inspection, Report, int]:
     ]
     at = chance.choice([0, 1, 300, 1_000, chance.randrange(UNTIL), chance.randrange(UNTIL)])
     plan, file = plan_file.taken("random", its.text()[0].encode()), EventFile("events", as_csv(happened))
-    network = whys.network_of(plan)
-    inspection, report = runs.inspection_of(plan, file, at), runs.report_of(plan, file, at)
+    network = choices.network_of(plan)
+    inspection, report = simulation.inspection_of(plan, file, at), simulation.report_of(plan, file, at)
     told = tuple(event for event in file.events if event.at <= at)
-    return History(network, told, whys.commands_of(network, told, inspection), report.changes), inspection, report, at
+    return (
+        History(network, told, choices.commands_of(network, told, inspection), report.changes),
+        inspection,
+        report,
+        at,
+    )
 
 
 def condition_of(history: History, name: str, at: int) -> tuple[str, int]:
@@ -177,8 +184,8 @@ def test_whatever_is_asked_is_told(number: int) -> None:
     history, inspection, report, at = random_run(number)
     traces = {trace.element: trace for trace in report.traces}
     for row in inspection.elements:
-        found = whys.why_of(history.network, history.events, inspection, report, whys.Asked(row.element, at, 40))
-        assert why_text.text_of(found, None) and why_text.as_data(found, 0)["element"] == row.element
+        found = choices.why_of(history.network, history.events, inspection, report, choices.Asked(row.element, at, 40))
+        assert choice_text.text_of(found, None) and choice_text.as_data(found, 0)["element"] == row.element
         if report.stopped_at is None:
             trace = traces[row.element]
             assert (len(found.way.lines), found.way.kind, found.way.name) == (trace.hops, trace.kind, trace.name)

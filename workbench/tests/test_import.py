@@ -12,9 +12,9 @@ from conftest import EXAMPLES, Ran, murdjohe
 from hypothesis import HealthCheck, given, settings
 from hypothesis import strategies as st
 
-from murdjohe import tables
-from murdjohe.mistakes import SHOWN
-from murdjohe.tables import NAME, Settings
+from murdjohe.plan import tables
+from murdjohe.plan.mistakes import SHOWN
+from murdjohe.plan.tables import NAME, Settings
 
 INVENTORY = EXAMPLES / "inventory"
 ELEMENTS, LINKS, SOURCES = "name\nA\nB\n", "name,a,b\nL1,A,B\n", "name,at,level\nS,A,QL-PRC\n"
@@ -334,3 +334,53 @@ def test_ducts_get_names_that_groups_can_have(folder: Path) -> None:
     assert ran.status == 0
     assert "duct,Nord straße,Nord-stra-e\n" in (folder / "names.csv").read_text()
     assert (folder / "p.groups.csv").read_text().startswith("group,kind,part\nNord-stra-e,link,L1\n")
+
+
+def three_tables(folder: Path) -> list[str]:
+    (folder / "e.csv").write_text("name\nA\nB\n")
+    (folder / "l.csv").write_text("name,a,b\nL1,A,B\n")
+    (folder / "s.csv").write_text("name,at,level\nS,A,QL-PRC\n")
+    return [str(folder / name) for name in ("e.csv", "l.csv", "s.csv")]
+
+
+def test_tables_that_are_swapped_are_told_in_a_line_each(tmp_path: Path) -> None:
+    elements, links, sources = three_tables(tmp_path)
+    ran = murdjohe("import", elements, sources, links)
+    assert ran.status == 24 and ran.err.splitlines() == [
+        f"murdjohe: {sources}: it has the columns of a table of sources, and is named where one of links is read",
+        f"murdjohe: {links}: it has the columns of a table of links, and is named where one of sources is read",
+        "murdjohe: are the tables swapped? Their order is ELEMENTS LINKS SOURCES",
+    ]
+    assert "are the tables swapped?" in murdjohe("import", links, elements, sources).err
+
+
+def test_a_table_with_another_ones_columns_alone_is_no_swap(tmp_path: Path) -> None:
+    elements, links, sources = three_tables(tmp_path)
+    (tmp_path / "s.csv").write_text("name,at\nS,A\n")
+    ran = murdjohe("import", elements, links, sources)
+    assert ran.status == 24 and all(line.startswith(f"murdjohe: {sources}:") for line in ran.err.splitlines()), ran.err
+
+
+def test_a_mapping_may_stand_in_a_file(tmp_path: Path) -> None:
+    elements, links, sources = three_tables(tmp_path)
+    (tmp_path / "l.csv").write_text("name,Von,Nach\nL1,A,B\n")
+    (tmp_path / "map").write_text("# ours\nlink.a=Von\n\nlink.b=Nach\n")
+    ran = murdjohe("import", elements, links, sources, "--map-file", str(tmp_path / "map"))
+    assert ran.status == 0 and b'a = "A"' in ran.out
+
+
+def test_an_encoding_is_taken_where_it_is_named(tmp_path: Path) -> None:
+    _, links, sources = three_tables(tmp_path)
+    (tmp_path / "e.csv").write_bytes("name,own\nA,\nB,\nM\xfc,\n".encode("windows-1252"))
+    words = [str(tmp_path / "e.csv"), links, sources]
+    refused = murdjohe("import", *words)
+    assert refused.status == 24 and "or name its encoding: --encoding windows-1252" in refused.err
+    taken = murdjohe("import", *words, "--encoding", "windows-1252", "--rename", str(tmp_path / "names"))
+    assert taken.status == 0 and (tmp_path / "names").read_text() == "what,old,new\nelement,M\u00fc,Mu\n"
+
+
+def test_a_name_that_looks_the_same_is_the_nearest(tmp_path: Path) -> None:
+    (tmp_path / "p.toml").write_text(
+        'element = [{name = "C074"}, {name = "C0I4"}, {name = "A"}]\nlink = [{name = "L", a = "A", b = "C0l4"}]\n'
+    )
+    assert '(nearest: "C0I4")' in murdjohe("rank", str(tmp_path / "p.toml")).err

@@ -8,9 +8,10 @@ from pathlib import Path
 import pytest
 from conftest import murdjohe
 
-from murdjohe import edits, places
-from murdjohe.documents import Document
-from murdjohe.plans import Plan
+from murdjohe.core.documents import Document
+from murdjohe.picture import places
+from murdjohe.plan import edits
+from murdjohe.plan.plan_lines import PlanLines
 
 COUNT = places.LARGEST + 1
 
@@ -57,7 +58,7 @@ def test_a_timeline_that_is_too_large_says_where_the_changes_stand(folder: Path)
 
 
 def test_lines_of_rows_and_edits_take_time_as_the_file_grows() -> None:
-    plan = Plan(Document("plan.toml", chain(20_000).encode()))
+    plan = PlanLines(Document("plan.toml", chain(20_000).encode()))
     start = time.process_time()
     assert plan.line("link", 19_999, "priority_b") == 20_000 * 2 + 19_999 * 5
     lines = [plan.line("link", number, "name") for number in range(1, 20_000)]

@@ -44,10 +44,11 @@ def test_a_night_that_ends_well_says_how_long_who_was_dark(folder: Path) -> None
     accepted(folder)
     ran = rehearsed(folder, "--limit", "1m")
     said = ran.out.decode()
-    assert ran.status == 20 and said.startswith("nobody is without a source at the end, 23:40:01.000\n")
+    on_way = "on the way 4 elements were, for 1499.701 s at most: site-1, site-2, site-3, hub"
+    assert ran.status == 20 and said.startswith(f"nobody is without a source at the end, 23:40:01.000; {on_way}\n")
     for name in ("hub", "site-1", "site-2", "site-3"):
         (line,) = [line for line in said.splitlines() if f"  {name}: " in line and " below " in line]
-        assert "1,499." in line and "without a source" in line
+        assert "1499." in line and "without a source" in line
     assert "left behind" not in said
 
 

@@ -47,6 +47,30 @@ def test_a_text_that_was_cut_off_is_none(folder: Path, core: str, words: str) ->
         assert ran.status == 70 or words.startswith(("nominate", "protect", "gen")), ran
 
 
+@pytest.mark.parametrize(
+    ("words", "change", "said"),
+    [
+        (
+            "sim plan.toml works.csv 1h",
+            "s/,source,/,orbit,/",
+            "kind is `orbit`, where traces have one of source, own, loop",
+        ),
+        (
+            "sim plan.toml works.csv 1h --json",
+            "s/,locked$/,asleep/",
+            "state is `asleep`, where changes have one of locked,",
+        ),
+        ("sweep plan.toml 60s 1h", "s/^L1,yes/L1,nearly/", "settled is `nearly`, where cuts have one of yes, no"),
+        ("rehearse plan.toml works.csv", "s/,locked$/,asleep/", "state is `asleep`, where changes have one of locked,"),
+    ],
+)
+def test_a_word_that_is_not_known_is_told(folder: Path, core: str, words: str, change: str, said: str) -> None:
+    (folder / "plan.toml").write_text(RESERVE)
+    (folder / "works.csv").write_text(UNMENDED)
+    ran = murdjohe(*words.split(), folder=folder, MURDJOHE_CORE=played(folder, f'"{core}" "$@" | sed \'{change}\''))
+    assert ran.status == 70 and " gave an answer that isn't known here: " in ran.err and said in ran.err, ran.err
+
+
 # 9. the origin of a program
 
 

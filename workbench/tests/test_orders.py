@@ -13,9 +13,9 @@ from hypothesis import given, settings
 from hypothesis import strategies as st
 from random_plans import random_plan
 
-from murdjohe import orders
-from murdjohe.documents import Document
-from murdjohe.plans import Plan
+from murdjohe.core.documents import Document
+from murdjohe.network import orders
+from murdjohe.plan.plan_lines import PlanLines
 
 PLAN = """version = 2
 [[element]]
@@ -120,8 +120,8 @@ def test_a_refused_plan_is_told(folder: Path, words: list[str]) -> None:
 @given(st.integers(0, 2**32))
 def test_each_nominated_input_stands_in_one_order(seed: int) -> None:
     plan = random_plan(random.Random(seed))
-    read = Plan(Document("plan.toml", plan.text()[0].encode()))
-    found = orders.orders_of(read.tables, read.option)
+    read = PlanLines(Document("plan.toml", plan.text()[0].encode()))
+    found = orders.orders_of(read.network)
     assert [order.element for order in found] == read.names("element")
     names = sorted(one.name for order in found for one in order.inputs)
     links = [f"{row['name']}>{row[end]}" for row in plan.rows["link"] for end in "ab" if row.get(f"priority_{end}", 0)]

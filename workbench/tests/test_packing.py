@@ -9,16 +9,14 @@ from pathlib import Path
 from hypothesis import given
 from hypothesis import strategies as st
 
-from murdjohe import files, packing
-from murdjohe.packing import Piece
+from murdjohe.core import files, packing
 
 PIECES = st.lists(st.binary(max_size=200) | st.sampled_from([b"", b"case,settled\n", b"a,yes\n" * 20_000]), max_size=5)
 
 
 @given(PIECES)
 def test_a_file_of_pieces_holds_them_in_order(pieces: list[bytes]) -> None:
-    file = packing.file_of(Piece(data, packing.packed(data)) for data in pieces)
-    assert gzip.decompress(file) == b"".join(pieces)
+    assert gzip.decompress(b"".join(map(packing.packed, pieces))) == b"".join(pieces)
 
 
 def test_gzip_itself_reads_a_file_that_grew(folder: Path) -> None:
@@ -30,10 +28,8 @@ def test_gzip_itself_reads_a_file_that_grew(folder: Path) -> None:
     assert (
         subprocess.run(["gzip", "-dc", "rows.csv.gz"], capture_output=True, check=True).stdout == b"case\n" + 2 * rows
     )
-    # (one member, without name and time: the same pieces make the same file)
-    assert Path("rows.csv.gz").read_bytes() == packing.file_of(
-        Piece(data, packing.packed(data)) for data in (b"case\n", rows, rows)
-    )
+    # (members without name and time: the same pieces make the same file)
+    assert Path("rows.csv.gz").read_bytes() == b"".join(map(packing.packed, (b"case\n", rows, rows)))
 
 
 def test_a_file_without_gz_grows_plain(folder: Path) -> None:

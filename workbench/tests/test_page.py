@@ -12,7 +12,10 @@ from typing import Any
 import pytest
 from conftest import EXAMPLES, murdjohe
 
-from murdjohe import api, moments, page_data, pages, places, plan_file, rehearsals, runs, wiring
+from murdjohe.answers import api
+from murdjohe.network import plan_file, wiring
+from murdjohe.picture import page_data, pages, places
+from murdjohe.runs import moments, rehearsals, simulation
 
 NODE = shutil.which("node")
 WANTS_NODE = pytest.mark.skipif(NODE is None, reason="there is no node (Debian: nodejs)")
@@ -24,9 +27,9 @@ RUNS = sorted(
 def data_of(name: str, has_cuts: bool = False, until: int = 400_000) -> dict[str, Any]:
     """What the page of an example knows."""
     at = EXAMPLES / name
-    plan, file = plan_file.read(str(at / "plan.toml")), runs.read_events(str(at / "events.csv"))
+    plan, file = plan_file.read(str(at / "plan.toml")), simulation.read_events(str(at / "events.csv"))
     found = rehearsals.rehearsed(plan, file, until)
-    layout = places.layout_of(plan.tables, None, None)
+    layout = places.layout_of(plan.network, None, None)
     return page_data.data_of(plan, found, layout, 0, name, has_cuts)
 
 
@@ -94,7 +97,7 @@ def test_the_model_is_the_report_in_each_moment(name: str) -> None:
     console.log(JSON.stringify(said));"""
     at = EXAMPLES / name
     report = api.sim(at / "plan.toml", at / "events.csv", data["until"]).result
-    wired = wiring.wiring_of(plan_file.read(str(at / "plan.toml")).tables)
+    wired = wiring.wiring_of(plan_file.read(str(at / "plan.toml")).network)
     said = ran_by_node(script, data)
     assert [row[0] for row in said] == sorted(row[0] for row in said[: len(said) // 2]) * 2 or len(said) % 2 == 0
     for moment, shown, traces, closed in said:

@@ -8,10 +8,12 @@ from pathlib import Path
 import pytest
 from conftest import EXAMPLES, murdjohe, started
 
-from murdjohe import bands, drawing, strips
-from murdjohe.bands import Band, Row
+from murdjohe.answers.reports import Change
 from murdjohe.commands import timeline
-from murdjohe.strips import Red
+from murdjohe.picture import bands, plan_graph, strips
+from murdjohe.picture.bands import Band
+from murdjohe.picture.strips import Red
+from murdjohe.runs import report_file
 
 PLANS = sorted(EXAMPLES.glob("*/*.toml"))
 REPORTS = sorted(
@@ -44,12 +46,12 @@ def name(path: Path) -> str:
 def test_each_plan_is_drawn_with_all_that_it_has(folder: Path, plan: Path) -> None:
     ran = murdjohe("draw", str(plan), "-o", "plan.dot", folder=folder)
     assert (ran.status, ran.err) == (0, "")
-    dot, tables = (folder / "plan.dot").read_text(), drawing.read_plan(str(plan))
-    for element in tables["element"]:
-        assert f'"e {element["name"]}" [label="' in dot
-    arrows = sum(link.get(f"priority_{end}", 0) > 0 for link in tables.get("link", []) for end in "ab")
-    quiet = sum(not any(link.get(f"priority_{end}", 0) for end in "ab") for link in tables.get("link", []))
-    assert dot.count(" -> ") == arrows + quiet + len(tables.get("source", []))
+    dot, network = (folder / "plan.dot").read_text(), plan_graph.read_plan(str(plan))
+    for element in network.elements:
+        assert f'"e {element.name}" [label="' in dot
+    arrows = sum(link.priority(end) > 0 for link in network.links for end in "ab")
+    quiet = sum(not any(link.priority(end) for end in "ab") for link in network.links)
+    assert dot.count(" -> ") == arrows + quiet + len(network.sources)
 
 
 @pytest.mark.parametrize("ending", ["svg", "png", "pdf", "dot"])
@@ -100,7 +102,8 @@ def test_the_stored_pictures_are_drawn(folder: Path, stored: Path) -> None:
 
 @pytest.mark.parametrize("report", REPORTS, ids=name)
 def test_bands_cover_the_run(report: Path) -> None:
-    rows, order = bands.changes_of(str(report))
+    its_report = report_file.read(str(report))
+    rows, order = list(its_report.changes), bands.order_of(its_report)
     end = rows[-1].at + 1000
     for element, its in bands.bands_of(rows, order, end).items():
         own = [row for row in rows if row.element == element]
@@ -110,12 +113,12 @@ def test_bands_cover_the_run(report: Path) -> None:
 
 def test_a_picture_from_a_millisecond_on() -> None:
     rows = [
-        Row(0, "A", "S", "QL-PRC", "locked"),
-        Row(0, "B", "L", "QL-PRC", "locked"),
-        Row(50, "A", "none", "QL-SEC", "holdover"),
+        Change(0, "A", "auto", "S", "QL-PRC", "locked"),
+        Change(0, "B", "auto", "L", "QL-PRC", "locked"),
+        Change(50, "A", "auto", None, "QL-SEC", "holdover"),
     ]
     later = bands.rows_from(rows, 20)
-    assert later == [Row(20, "A", "S", "QL-PRC", "locked"), rows[2]]
+    assert later == [Change(20, "A", "auto", "S", "QL-PRC", "locked"), rows[2]]
     assert bands.bands_of(later, ["B", "A"], 90) == {
         "A": [Band(20, 50, "S", "QL-PRC", "locked"), Band(50, 90, "none", "QL-SEC", "holdover")]
     }
@@ -123,7 +126,8 @@ def test_a_picture_from_a_millisecond_on() -> None:
 
 def test_loops_at_the_end_of_a_report_stand_since_the_same_millisecond_without_its_plan() -> None:
     ring = [str(EXAMPLES / "ring" / name) for name in ("report", "plan.toml")]
-    alone, whole = timeline.red_of(ring[0], None, 120_000), timeline.red_of(ring[0], ring[1], 120_000)
+    report = report_file.read(ring[0])
+    alone, whole = (timeline.red_of(ring[0], report, plan, 120_000) for plan in (None, ring[1]))
     assert alone == whole == [Red(name, 3, 120_000, strips.LOOP) for name in "BCA"]
     assert timeline.within(whole, 5, 90) == [Red(name, 5, 90, strips.LOOP) for name in "BCA"]
     assert timeline.within(whole, 0, 3) == []
@@ -172,7 +176,7 @@ def test_long_times_are_folded() -> None:
         (["draw", "plan.toml", "--certificate", "report", "-o", "plan.dot"], "report: it is no certificate"),
         (["draw", "plan.toml", "--answer", "report", "-o", "plan.dot"], "report: it is no answer of rank or check"),
         (["draw", "plan.toml", "-o", "/dev/full"], "a picture ends in"),
-        (["timeline", "plan.toml", "-o", "t.svg"], "plan.toml: it doesn't begin with the line `changes`"),
+        (["timeline", "plan.toml", "-o", "t.svg"], "plan.toml: it is no report of sim: it doesn't begin"),
         (["timeline", "report", "-o", "t.gif"], "t.gif: a picture ends in .svg, .png or .pdf"),
         (["timeline", "report", "--until", "1ms", "-o", "t.svg"], "--until: the last change is at "),
         (["timeline", "report", "--from", "23h", "-o", "t.svg"], "--from: nothing changes after 82800000"),
@@ -193,7 +197,7 @@ def test_what_can_not_be_drawn_is_one_line(words: list[str], said: str) -> None:
 def test_a_report_by_priority_alone_is_no_timeline(folder: Path) -> None:
     report = EXAMPLES / "reserve-clock" / "priority-report"
     ran = murdjohe("timeline", str(report), "-o", "t.svg", folder=folder)
-    assert ran.status == 24 and f"{report}:2: it is no row of changes of `sim`" in ran.err
+    assert ran.status == 24 and f"{report}: it is a report of prio-sim, which has no levels" in ran.err
 
 
 def test_explain_says_what_the_program_itself_answered(core: str) -> None:

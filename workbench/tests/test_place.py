@@ -17,10 +17,12 @@ import pytest
 from conftest import CASES, EXAMPLES, murdjohe
 
 import murdjohe as forms
-from murdjohe import site_cover, placements, sites, wiring
-from murdjohe.groups import Group
-from murdjohe.site_cover import Limits, Problem
-from murdjohe.sites import Site
+from murdjohe.network import wiring
+from murdjohe.network.groups import Group
+from murdjohe.place import placements, site_cover, sites
+from murdjohe.place.site_cover import Limits, Problem
+from murdjohe.place.sites import Site
+from murdjohe.plan.model import plan_of
 
 Plan = dict[str, Any]
 NETWORKS = max(40, 2 * CASES)
@@ -125,7 +127,7 @@ def problem_of(
 ) -> Problem:
     names = [row["name"] for row in plan["element"]]
     standing = tuple((row["name"], names.index(row["at"])) for row in plan["source"])
-    network = site_cover.network_of(wiring.wiring_of(plan), groups)
+    network = site_cover.network_of(wiring.wiring_of(plan_of(plan)), groups)
     return Problem(network, standing, tuple(candidates), limits, survives, time.monotonic() + 60)
 
 
@@ -189,7 +191,7 @@ def test_greedy_sets_cover_too() -> None:
 
 
 def plan_file_of(plan: Plan, folder: Path) -> None:
-    (folder / "plan.toml").write_bytes(placements.with_clocks(plan, (), ()))
+    (folder / "plan.toml").write_bytes(placements.with_clocks(plan_of(plan), (), ()))
 
 
 def table(rows: Sequence[tuple[str, ...]], header: str = "element,cost,level") -> str:
@@ -299,7 +301,7 @@ def test_limits_that_contradict_each_other_are_refused(folder: Path) -> None:
 def test_networks_that_were_built(name: str, costs: dict[int, int], folder: Path) -> None:
     plan, table_of = EXAMPLES / "real" / f"{name}-topology.toml", EXAMPLES / "real" / f"{name}-sites.csv"
     tables: Plan = {**tomllib.loads(plan.read_text()), "source": []}
-    candidates = list(sites.read(str(table_of), tables, sites.SITES))
+    candidates = list(sites.read(str(table_of), plan_of(tables), sites.SITES))
     for links, cost in costs.items():
         ran = murdjohe("place", str(plan), str(table_of), "--anew", "--json", "--links", str(links), folder=folder)
         said = json.loads(ran.out)

@@ -5,9 +5,9 @@ from __future__ import annotations
 import pytest
 from conftest import EXAMPLES, murdjohe
 
-from murdjohe import premises
-from murdjohe.documents import Document
-from murdjohe.plans import Plan
+from murdjohe.core.documents import Document
+from murdjohe.network import premises
+from murdjohe.plan.plan_lines import PlanLines
 
 PAIR = """
 element = [{{ name = 'A'{a} }}, {{ name = 'B'{b} }}]
@@ -16,8 +16,8 @@ source = [{{ name = 'S', at = 'A', level = 'QL-PRC', priority = 2 }}, {{ name = 
 """
 
 
-def plan(a: str = "", b: str = "", level: str = "QL-PRC", t: str = "") -> Plan:
-    return Plan(Document("plan.toml", PAIR.format(a=a, b=b, level=level, t=t).encode()))
+def plan(a: str = "", b: str = "", level: str = "QL-PRC", t: str = "") -> PlanLines:
+    return PlanLines(Document("plan.toml", PAIR.format(a=a, b=b, level=level, t=t).encode()))
 
 
 def test_better_sources_and_no_floor_above_them_keep_all_premises() -> None:
@@ -27,7 +27,7 @@ def test_better_sources_and_no_floor_above_them_keep_all_premises() -> None:
 
 
 def test_without_a_source_there_is_nothing_to_promise() -> None:
-    assert list(premises.broken(Plan(Document("plan.toml", b"element = [{ name = 'A' }]\n")))) == []
+    assert list(premises.broken(PlanLines(Document("plan.toml", b"element = [{ name = 'A' }]\n")))) == []
 
 
 @pytest.mark.parametrize(

@@ -11,7 +11,7 @@ from conftest import murdjohe
 from groups_made import DUCTS, FOUR, NARROW
 
 import murdjohe as forms
-from murdjohe import said_of_groups
+from murdjohe.network import group_remarks
 
 BOTH = "group,kind,part\nnorth,link,L0\nnorth,link,L2\nsouth,link,L1\nsouth,link,L2\n"
 
@@ -41,7 +41,7 @@ def test_a_plan_under_which_no_group_cuts_anybody_off(files: Path) -> None:
     assert any(
         re.match(r"at rest, and then one thing fails, or parts of one group do: .* within 0\.3", line) for line in told
     )
-    assert told[-1] == said_of_groups.ALONE
+    assert told[-1] == group_remarks.ALONE
 
 
 def test_a_group_that_no_priorities_cover_is_told_and_that_it_is_known(files: Path) -> None:
@@ -51,7 +51,7 @@ def test_a_group_that_no_priorities_cover_is_told_and_that_it_is_known(files: Pa
     told = said(ran.err)
     assert told[:3] == [
         "1 of 2 groups cuts nobody off who needn't be",
-        said_of_groups.sentence(rows[0], None).replace(" fails,", " is cut,"),
+        group_remarks.sentence(rows[0], None).replace(" fails,", " is cut,"),
         "no priorities behind those of the sources do better: an exact search, by HiGHS, came to its end",
     ]
     assert "checked: accepted, agreed, 1 gap with these groups" in told

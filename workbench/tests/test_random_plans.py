@@ -16,7 +16,7 @@ from conftest import CASES
 from random_plans import NO_NUMBERS, NO_TEXTS, RandomPlan, Spelled, random_plan
 from refusing import refused, told
 
-from murdjohe.levels import LEVELS
+from murdjohe.core.levels import LEVELS
 
 # What is broken in a plan: the number, the section, the row and the key, and words of the sentence.
 BrokenPlan = tuple[int, str, int, str, str]

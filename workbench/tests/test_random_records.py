@@ -15,7 +15,7 @@ from conftest import CASES
 from random_plans import RandomPlan, lines_of, random_plan
 from refusing import refused
 
-from murdjohe.levels import LEVELS
+from murdjohe.core.levels import LEVELS
 
 
 def with_blank_lines(chance: random.Random, rows: list[str]) -> tuple[str, list[int]]:

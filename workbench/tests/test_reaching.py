@@ -6,21 +6,17 @@ import networkx as nx
 from hypothesis import given
 from hypothesis import strategies as st
 
-from murdjohe import reaching, wiring
-from murdjohe.reaching import Lost, Reach
-from murdjohe.wiring import Wiring
+from murdjohe.network import reachability, wiring
+from murdjohe.network.reachability import Lost, Reach
+from murdjohe.network.wiring import Wiring
+from murdjohe.plan.model import Element, Link, Plan, Source
 
 
 def wired_of(count: int, links: list[tuple[int, int]], sources: list[int]) -> Wiring:
     names = [f"E{place}" for place in range(count)]
-    rows = [{"name": f"L{n}", "a": names[a], "b": names[b]} for n, (a, b) in enumerate(links) if a != b]
-    return wiring.wiring_of(
-        {
-            "element": [{"name": name} for name in names],
-            "link": rows,
-            "source": [{"name": f"S{n}", "at": names[at], "level": "QL-PRC"} for n, at in enumerate(sources)],
-        }
-    )
+    rows = [Link(f"L{n}", names[a], names[b]) for n, (a, b) in enumerate(links) if a != b]
+    clocks = [Source(f"S{n}", names[at], "QL-PRC") for n, at in enumerate(sources)]
+    return wiring.wiring_of(Plan("I", tuple(Element(name, "QL-SEC") for name in names), tuple(rows), tuple(clocks)))
 
 
 def searched(wired: Wiring, down: frozenset[str]) -> tuple[frozenset[str], frozenset[str]]:
@@ -50,7 +46,7 @@ def networks(draw: st.DrawFn) -> tuple[Wiring, list[frozenset[str]]]:
 @given(networks())
 def test_who_is_left_is_what_a_search_finds(made: tuple[Wiring, list[frozenset[str]]]) -> None:
     wired, sets = made
-    downs = [frozenset(part for name in names for part in reaching.parts_of(wired, name)) for names in sets]
+    downs = [frozenset(part for name in names for part in reachability.parts_of(wired, name)) for names in sets]
     reach = Reach(wired)
     for down, lost in zip(downs, reach.lost(downs)):
         alone, left = searched(wired, down)
@@ -69,5 +65,5 @@ def test_a_case_costs_what_stands_behind_it() -> None:
     links = [(0, 1 + 10 * arm) for arm in range(1000)]
     links += [(1 + 10 * arm + step, 2 + 10 * arm + step) for arm in range(1000) for step in range(9)]
     reach = Reach(wired_of(10_001, links, [0]))
-    lines = [way for way, (sender, _) in enumerate(reach.ends) if sender != reaching.SOURCE]
+    lines = [way for way, (sender, _) in enumerate(reach.ends) if sender != reachability.SOURCE]
     assert {len(reach.doubtful({way})) for way in lines} == set(range(11))

@@ -7,6 +7,7 @@ import io
 import itertools
 import json
 import random
+from dataclasses import replace
 from pathlib import Path
 
 import pytest
@@ -16,12 +17,16 @@ from hypothesis import strategies as st
 from random_plans import RandomPlan, random_plan
 
 import murdjohe as forms
-from murdjohe import api, levels, moments, plan_file, rehearsals, runs, spans, switching, wiring
+from murdjohe.answers import api
+from murdjohe.answers.reports import Change, Report
 from murdjohe.commands.rehearse import status_of
-from murdjohe.moments import Event
-from murdjohe.reports import Change, Report
-from murdjohe.runs import EventFile
-from murdjohe.wiring import Wiring
+from murdjohe.core import levels
+from murdjohe.network import plan_file, wiring
+from murdjohe.network.wiring import Wiring
+from murdjohe.plan.model import Element, Link, Plan, Source
+from murdjohe.runs import moments, rehearsals, simulation, spans, switches
+from murdjohe.runs.moments import Event
+from murdjohe.runs.simulation import EventFile
 
 RUNS = sorted(
     path.parent.name for path in EXAMPLES.glob("*/events.csv") if (path.parent / "report").exists()
@@ -31,7 +36,7 @@ SHORT = 3_000  # of random runs, in which two elements may take and drop one ano
 
 
 def wired(plan: Path) -> Wiring:
-    return wiring.wiring_of(plan_file.read(str(plan)).tables)
+    return wiring.wiring_of(plan_file.read(str(plan)).network)
 
 
 def random_events(chance: random.Random, plan: RandomPlan) -> list[Event]:
@@ -66,7 +71,7 @@ def random_run(number: int) -> tuple[Wiring, str, list[Event], bytes, Report]:
     plan = random_plan(chance)
     data, events = plan.text()[0].encode(), random_events(chance, plan)
     report = forms.sim(data, as_csv(events), SHORT).result
-    tables = plan_file.taken("random", data).tables
+    tables = plan_file.taken("random", data).network
     return wiring.wiring_of(tables), plan.option, events, data, report
 
 
@@ -139,12 +144,11 @@ def test_walks_and_losses_of_random_runs_millisecond_by_millisecond(number: int)
 def test_walks_and_losses_of_any_changes(number: int) -> None:
     chance = random.Random(number)
     names = "ABCDEF"
-    links = [
-        {"name": f"{a}{b}", "a": a, "b": b, "priority_a": 1, "priority_b": 1}
-        for a, b in itertools.combinations(names, 2)
+    links = [Link(f"{a}{b}", a, b, 1, 1) for a, b in itertools.combinations(names, 2)]
+    elements, sources = [Element(name, "QL-SEC") for name in names], [
+        Source(f"S{name}", name, "QL-PRC") for name in "AB"
     ]
-    elements, sources = [{"name": name} for name in names], [{"name": f"S{name}", "at": name} for name in names[:2]]
-    its = wiring.wiring_of({"element": elements, "link": links, "source": sources})
+    its = wiring.wiring_of(Plan("I", tuple(elements), tuple(links), tuple(sources)))
     inputs = {name: [one for one in (*its.lines, *its.sources) if its.element_of(one) == name] for name in names}
     rows = []
     for at in sorted(chance.randrange(40) for _ in range(20)):
@@ -163,9 +167,9 @@ def test_commands_agree_with_the_modes_of_the_report(number: int) -> None:
     its, _, events, data, report = random_run(number)
     if report.stopped_at is not None:
         return
-    nominated = wiring.nominated_of(plan_file.taken("random", data).tables)
-    commands = switching.commands_of(its, nominated, events)
-    assert len(commands) == sum(event.what in switching.WORDS for event in events)
+    nominated = wiring.nominated_of(plan_file.taken("random", data).network)
+    commands = switches.commands_of(its, nominated, events)
+    assert len(commands) == sum(event.what in switches.WORDS for event in events)
     for name in its.elements:
         for at in sorted({command.at for command in commands if command.element == name}):
             before = [one for one in commands if one.element == name and one.at <= at and one.is_taken]
@@ -186,13 +190,13 @@ def test_the_table_of_commands() -> None:
         *("unlock S", "forced S", "clear B", "manual S", "manual U", "forced Q"),
     ]
     events = [Event(at, what, target, "") for at, (what, target) in enumerate(word.split() for word in words)]
-    found = switching.commands_of(its, frozenset("STU"), events[:-1])
+    found = switches.commands_of(its, frozenset("STU"), events[:-1])
     assert {(one.at, one.why) for one in found if not one.is_taken} == {
         (1, "S is locked out"),
         (2, "S is locked out"),
         (5, "T is forced"),
     }
-    assert switching.commands_of(Wiring(("B",), {}, {}, {"Q": "B"}), frozenset(), events[-1:])[0].why == (
+    assert switches.commands_of(Wiring(("B",), {}, {}, {"Q": "B"}), frozenset(), events[-1:])[0].why == (
         "Q is not nominated"
     )
 
@@ -200,10 +204,10 @@ def test_the_table_of_commands() -> None:
 def test_settled_from_is_the_first_such_millisecond() -> None:
     for name in ("ladder", "metro-ring", "bundle", "mesh", "option-two"):
         plan = plan_file.read(str(EXAMPLES / name / "plan.toml"))
-        events = runs.read_events(str(EXAMPLES / name / "events.csv"))
-        found = runs.settled_from(plan, events, runs.report_of(plan, events, 1_200_000), 1_200_000)
-        assert found and runs.report_of(plan, events, found).is_settled
-        assert not runs.report_of(plan, events, found - 1).is_settled
+        events = simulation.read_events(str(EXAMPLES / name / "events.csv"))
+        found = simulation.settled_from(plan, events, simulation.report_of(plan, events, 1_200_000), 1_200_000)
+        assert found and simulation.report_of(plan, events, found).is_settled
+        assert not simulation.report_of(plan, events, found - 1).is_settled
 
 
 def test_works_as_a_person_reads_them(folder: Path) -> None:
@@ -266,6 +270,35 @@ def test_a_run_that_is_stopped() -> None:
     assert f"  00:00:00.000 to the end, 2 times, 0.016 s in all  {walk}" in said
     assert said[-1] == "the program stopped at 00:00:00.020: more than 200,000 changes"
     assert status_of(found) == 11
+    end = "the program stopped at 00:00:00.020, after 200,000 changes, the last of them of East, West"
+    assert said[0] == f"who is without a source at the end isn't known: {end}"
+    late = replace(found, events=(Event(30, "up", "L1", ""),))
+    assert rehearsals.text_of(late, 0, False)[0].endswith(f"{end}; 1 event after that was not run")
+    assert rehearsals.list_text(late, 0, True)[-1] == "00:00:00.030  * up L1, not run"
+
+
+def test_times_of_day_past_midnight_want_a_start(tmp_path: Path) -> None:
+    (tmp_path / "works.csv").write_text("at,what,target,value\n23:15,down,L1,\n01:00,up,L1,\n")
+    plan = str(EXAMPLES / "ring" / "plan.toml")
+    ran = murdjohe("rehearse", plan, "works.csv", folder=tmp_path)
+    assert (ran.status, ran.out) == (5, b"")
+    assert "if these are times of day past midnight, give --start; else sort the rows by time" in ran.err
+    assert murdjohe("rehearse", plan, "works.csv", "--start", "23:00", folder=tmp_path).status != 5
+
+
+def test_who_changes_again_and_again_is_listed_a_few_times_and_counted() -> None:
+    its = wired(EXAMPLES / "bundle" / "plan.toml")
+    rows = [(at, "West", "L1>West" if at % 2 else None) for at in range(25)] + [(30, "East", "L1>East")]
+    changes = tuple(Change(at, name, "auto", taken, "QL-SEC", "locked") for at, name, taken in rows)
+    found = rehearsals.Rehearsal(40, its, (), 0, Report(changes, (), (), (), None, None), [], [], [], None)
+    said = rehearsals.list_text(found, 0, False)
+    assert [line.split()[1] for line in said] == ["West:"] * 10 + ["East:", ".."]
+    assert said[-1] == "00:00:00.024  .. 15 changes more up to here, which --all lists: West (15)"
+    assert len(rehearsals.list_text(found, 0, True)) == 26
+    # (an event begins the count anew)
+    event = Event(12, "down", "L1", "")
+    again = rehearsals.list_text(replace(found, events=(event,)), 0, False)
+    assert again[0].endswith("12 changes up to here, before the first event") and len(again) == 1 + 1 + 10 + 1 + 1
 
 
 @pytest.mark.parametrize(
@@ -289,4 +322,4 @@ def test_what_can_not_be_rehearsed(words: list[str], status: int, said: str) -> 
 def test_times_of_day() -> None:
     assert rehearsals.clock(3_723_004) == "01:02:03.004"
     assert rehearsals.clock(7_200_000, 82_800_000) == "01:00:00.000"
-    assert runs.usual_end(EventFile("", b"at,what,target,value\n")) == 1_200_000
+    assert simulation.usual_end(EventFile("", b"at,what,target,value\n")) == 1_200_000

@@ -215,13 +215,14 @@ def test_a_sweep_names_the_cuts_and_warns_of_locked() -> None:
 def test_a_study_names_the_cases_that_the_sweep_has_as_cuts() -> None:
     cases = "case,at,what,target,value\n" + "".join(f"{link},60000,down,{link},\n" for link in ("A4", "C", "N1", "A1"))
     few = "of 4 cases leave elements without a source at the end (how many, most first): "
-    assert said("study", "mesh/plan.toml", "-", "400s", stdin=cases)[:-1] == [f"3 {few}N1 (2), A4 (1), A1 (1)"]
+    assert said("study", "mesh/plan.toml", "-", "400s", stdin=cases)[:1] == [f"3 {few}N1 (2), A4 (1), A1 (1)"]
     none = [
         "4 of 4 events are after 59999, and had no effect",
         "no case of 4 leaves anybody without a source at the end",
     ]
     assert said("study", "mesh/plan.toml", "-", "59999", stdin=cases)[:-1] == none
-    assert said("study", "mesh/redundant.toml", "-", "400s", stdin=cases)[:-1] == none[1:]
+    way = "1 of 4 cases makes levels worse than before on the way, and 0 still at the end (for which element longest, and for how long): A1 (cell-1, 2 ms)"
+    assert said("study", "mesh/redundant.toml", "-", "400s", stdin=cases)[:-1] == [*none[1:], way]
 
 
 def test_a_run_says_who_follows_no_clock_and_that_it_goes_on(folder: Path) -> None:
@@ -237,6 +238,8 @@ def test_a_run_says_who_follows_no_clock_and_that_it_goes_on(folder: Path) -> No
 
 def test_a_loop_that_stands_is_told() -> None:
     assert "1 timing loop stands at the end: L1>B L2>C L3>A" in said("sim", "ring/plan.toml", "ring/events.csv", "120s")
+    facing = "1 pair takes timing from each other at the end, over one link or bundle: trunk>station trunk>harbour"
+    assert facing in said("sim", "swinging/plan.toml", "swinging/events.csv", "15")
 
 
 def test_packets_that_are_none_and_the_other_option_are_told() -> None:

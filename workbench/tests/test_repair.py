@@ -9,7 +9,6 @@ import re
 import subprocess
 from itertools import combinations
 from pathlib import Path
-from typing import Any
 
 import networkx as nx
 import numpy
@@ -19,10 +18,12 @@ from hypothesis import given, settings
 from hypothesis import strategies as st
 
 import murdjohe as forms
-from murdjohe import edits, greedy_sets, knots, least_sets, nominated, repairs, rings, weighed
-from murdjohe.documents import Document
-from murdjohe.knots import Cost, Inputs
-from murdjohe.plans import Plan
+from murdjohe.core.documents import Document
+from murdjohe.plan import edits
+from murdjohe.plan.model import Plan
+from murdjohe.plan.plan_lines import PlanLines
+from murdjohe.repair import greedy_sets, knots, least_sets, repairs, ring_weights, rings
+from murdjohe.repair.knots import Cost, Inputs
 
 TRIED = settings(max_examples=max(40, CASES))
 
@@ -106,12 +107,12 @@ def test_a_repair_as_json(folder: Path) -> None:
     assert ran.status == 2 and "--patch and --json: standard output has one of them" in ran.err
 
 
-def in_knots(text: str) -> tuple[dict[str, Any], Inputs, nx.DiGraph]:
-    """The tables of a plan, its inputs, and the hops of its knots."""
-    tables = Plan(Document("plan.toml", text.encode())).tables
-    lines = nominated.lines_of(tables)
+def in_knots(text: str) -> tuple[Plan, Inputs, nx.DiGraph]:
+    """The network of a plan, its inputs, and the hops of its knots."""
+    network = PlanLines(Document("plan.toml", text.encode())).network
+    lines = network.nominated_lines()
     parts = knots.knots_of(knots.graph_of(lines))
-    return tables, knots.inputs_of(tables, lines), nx.compose_all(parts) if parts else nx.DiGraph()
+    return network, knots.inputs_of(network, lines), nx.compose_all(parts) if parts else nx.DiGraph()
 
 
 def all_sets(graph: nx.DiGraph, inputs: Inputs) -> list[tuple[Cost, frozenset[str]]]:
@@ -161,8 +162,8 @@ def random_network(seed: int) -> str:
 @given(st.integers(0, 2**32))
 def test_sets_are_least_of_all(seed: int) -> None:
     text = random_network(seed)
-    tables, inputs, graph = in_knots(text)
-    repair = repairs.repair_of(tables)
+    network, inputs, graph = in_knots(text)
+    repair = repairs.repair_of(network)
     assert repair.is_least
     if not graph:
         assert repair.sets == [] and repair.knots == []
@@ -179,8 +180,8 @@ def test_sets_are_least_of_all(seed: int) -> None:
 @given(st.integers(0, 2**32))
 def test_after_a_repair_the_program_gives_ranks(seed: int) -> None:
     text = random_network(seed)
-    plan = Plan(Document("plan.toml", text.encode()))
-    repair = repairs.repair_of(plan.tables)
+    plan = PlanLines(Document("plan.toml", text.encode()))
+    repair = repairs.repair_of(plan.network)
     before = forms.rank(text.encode()).result
     assert (before.ring is None) == (repair.sets == [])
     for found in repair.sets:
@@ -203,8 +204,8 @@ def test_greedy_sets_leave_no_ring_and_take_nothing_needless(seed: int) -> None:
 
 
 def test_where_time_runs_out_the_set_is_found_alone() -> None:
-    tables, inputs, graph = in_knots(METRO)
-    repair = repairs.repair_of(tables, 0.0)
+    network, inputs, graph = in_knots(METRO)
+    repair = repairs.repair_of(network, 0.0)
     (found,) = repair.sets
     assert not repair.is_least and rings.rings_left(graph, [line.name for line in found.lines]) == []
     assert found.cost >= (0, 0, 0, 1014)  # (256 - 2, 256 - 3, 256 - 2 and 256 - 3 for the least set)
@@ -227,15 +228,15 @@ def test_knots_apart_are_repaired_together() -> None:
     text = "".join(
         [links[0][0], links[1][0], *("[[link]]" + one[1] for one in links), *("[[source]]" + one[1] for one in rows)]
     )
-    tables, _, graph = in_knots(text)
-    repair = repairs.repair_of(tables)
+    network, _, graph = in_knots(text)
+    repair = repairs.repair_of(network)
     assert repair.knots == [(24, 36, True)] * 2 and len(graph) == 48 and repair.is_least
     assert [found.cost for found in repair.sets] == [(0, 0, 0, 2028), (0, 0, 0, 2029), (0, 0, 0, 2029)]
 
 
 def both_ways(elements: int) -> str:
     """The ladder with each of its links nominated at both ends."""
-    plan = Plan(Document("ladder", forms.gen(elements).result.text.encode()))
+    plan = PlanLines(Document("ladder", forms.gen(elements).result.text.encode()))
     wanted = {
         ("link", number, f"priority_{end}"): 7
         for number, link in enumerate(plan.rows("link"), start=1)
@@ -260,8 +261,8 @@ def rings_of_rings(count: int, size: int) -> str:
 
 
 def test_a_knot_of_400_lines_is_repaired_at_the_least_cost() -> None:
-    tables, inputs, graph = in_knots(rings_of_rings(10, 18))
-    repair = repairs.repair_of(tables)
+    network, inputs, graph = in_knots(rings_of_rings(10, 18))
+    repair = repairs.repair_of(network)
     assert len(graph) == 400 and repair.is_least and len(repair.sets) == repairs.SETS
     for found in repair.sets:
         removed = frozenset(line.name for line in found.lines)
@@ -279,7 +280,7 @@ def test_rings_over_hops_weigh_least(seed: int) -> None:
     weights = [chance.choice([0.0, 0.25, 0.5, 1.0]) for _ in lines]
     heavy = dict(zip(lines, weights))
     sums = {frozenset(ring): sum(heavy[line] for line in ring) for ring in nx.simple_cycles(graph)}
-    found = weighed.Weighed(graph, lines).rings(numpy.array(weights), 1.0)
+    found = ring_weights.Weighed(graph, lines).rings(numpy.array(weights), 1.0)
     for ring in found:
         assert all(graph.has_edge(line, after) for line, after in zip(ring, [*ring[1:], ring[0]]))
         assert sums[frozenset(ring)] < 1.0

@@ -9,14 +9,18 @@ from conftest import EXAMPLES
 from hypothesis import given
 from hypothesis import strategies as st
 
-from murdjohe import case_files, case_lists, core, failures, portions, stretches, studies, study_runs
-from murdjohe.case_lists import CaseList
-from murdjohe.documents import Document
-from murdjohe.failures import Failure
-from murdjohe.moments import Event
-from murdjohe.plans import Plan
-from murdjohe.portions import Part
-from murdjohe.tallies import Tally
+from murdjohe.answers import studies
+from murdjohe.core import program
+from murdjohe.core.documents import Document
+from murdjohe.plan.model import Link, Plan
+from murdjohe.plan.plan_lines import PlanLines
+from murdjohe.runs import failures
+from murdjohe.runs.failures import Failure
+from murdjohe.runs.moments import Event
+from murdjohe.survey import case_files, case_lists, portions, stretches, study_runs
+from murdjohe.survey.case_lists import CaseList
+from murdjohe.survey.portions import Part
+from murdjohe.survey.tallies import Tally
 
 AT = 7
 PARTS = [f"L{number}" for number in range(6)]
@@ -35,8 +39,8 @@ def found_by(names: st.SearchStrategy[str], is_unique: bool) -> st.SearchStrateg
 
 
 def listed(found: list[Failure], has_pairs: bool, span: tuple[int, int | None]) -> CaseList:
-    tables = {"link": [{"name": name} for name in PARTS]}
-    return case_lists.of_failures(tables, found, has_pairs, AT, (), span)
+    network = Plan("I", (), tuple(Link(name, "A", "B") for name in PARTS), ())
+    return case_lists.of_failures(network, found, has_pairs, AT, (), span)
 
 
 def plain_cases(found: list[Failure], has_pairs: bool, span: tuple[int, int | None]) -> list[tuple[str, str]]:
@@ -98,7 +102,7 @@ def test_parts_are_cut_where_the_program_takes_no_more(found: list[Failure], row
     wanted, held = list[str](), ""
     with pytest.MonkeyPatch.context() as patched:
         patched.setattr(portions, "MOST_ROWS", 8 + rows)
-        patched.setattr(core, "LONGEST_BESIDE", head + 300 + octets)
+        patched.setattr(program, "LONGEST_BESIDE", head + 300 + octets)
         for _, text in plain_cases(found, True, (1, None)):
             if held and ((held + text).count("\n") > 8 + rows or len(held + text) > 300 + octets):
                 wanted.append(held)
@@ -121,9 +125,9 @@ def test_a_part_of_a_table_knows_its_first_row(tmp_path: Path) -> None:
 
 
 def parts_of(plan: str, kinds: tuple[str, ...], common: tuple[Event, ...], size: int) -> list[Part]:
-    tables = Plan(Document("plan.toml", (EXAMPLES / plan).read_bytes())).tables
-    found = failures.failures_of(tables, kinds)
-    return list(portions.parts_of(case_lists.of_failures(tables, found, True, 600_000, common, (1, None)), size))
+    network = PlanLines(Document("plan.toml", (EXAMPLES / plan).read_bytes())).network
+    found = failures.failures_of(network, kinds)
+    return list(portions.parts_of(case_lists.of_failures(network, found, True, 600_000, common, (1, None)), size))
 
 
 def test_parts_have_the_names_that_they_always_had() -> None:
@@ -145,13 +149,13 @@ def test_parts_have_the_names_that_they_always_had() -> None:
 
 TAILS = st.sampled_from(
     [
-        ",yes,9,0,0,0,QL-PRC,300,0,,3",
-        ",yes,9,0,0,0,QL-PRC,300,0,,4",
-        ",yes,7,2,0,0,QL-SEC,none,2,E4,3",
-        ",yes,6,2,1,0,QL-SEC,none,2,E2,0",
-        ",no,8,1,0,0,QL-DNU,none,1,E4,2",
-        ",no,8,1,0,2,QL-DNU,none,1,E2,9",
-        ",no,9,0,0,0,QL-PRC,none,0,,1",
+        ",yes,9,0,0,0,QL-PRC,300,0,,3,0,0,,0",
+        ",yes,9,0,0,0,QL-PRC,300,0,,4,1,20,E1,0",
+        ",yes,7,2,0,0,QL-SEC,none,2,E4,3,3,500,E3,2",
+        ",yes,6,2,1,0,QL-SEC,none,2,E2,0,3,500,E2,3",
+        ",no,8,1,0,0,QL-DNU,none,1,E4,2,1,70,E4,1",
+        ",no,8,1,0,2,QL-DNU,none,1,E2,9,2,900,E1,2",
+        ",no,9,0,0,0,QL-PRC,none,0,,1,0,0,,0",
     ]
 )
 
@@ -163,11 +167,14 @@ def test_cases_counted_at_once_come_to_the_same(parts: list[list[str]], most: in
         names = [f"c{number + place}" for place in range(len(tails))]
         whole.add_all(names, tails)
         for name, tail in zip(names, tails):
-            single.add(studies.case(f"{name}{tail}".split(",")))
+            single.add(studies.case(f"{name}{tail}"))
         number += len(tails)
-    for one in ("lost", "chains", "restless"):
+    for one in ("lost", "chains", "restless", "dark"):
         assert getattr(whole, one).outcomes() == getattr(single, one).outcomes()
-    counts = [(tally.cases, tally.losing, tally.unsettled, tally.looping) for tally in (single, whole)]
+    counts = [
+        (tally.cases, tally.losing, tally.unsettled, tally.looping, tally.hurting, tally.still)
+        for tally in (single, whole)
+    ]
     # (also the order of the elements, which decides among those with as many cases)
     assert counts[0] == counts[1] and list(whole.first.items()) == list(single.first.items())
 

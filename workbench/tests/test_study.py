@@ -10,10 +10,12 @@ import pytest
 from conftest import murdjohe
 
 import murdjohe as forms
-from murdjohe import as_json, inputs, remarks, reports
-from murdjohe.core import Answer
-from murdjohe.forms import FORMS
-from murdjohe.inputs import Words
+from murdjohe.answers import answer_json, reports
+from murdjohe.core import inputs, row_tables
+from murdjohe.core.forms import FORMS
+from murdjohe.core.inputs import Words
+from murdjohe.core.program import Answer
+from murdjohe.remarks import form_remarks
 from murdjohe.sentences import answers
 
 PLAN = """version = 2
@@ -37,13 +39,13 @@ delay_b = 10
 """
 HEAD = "case,at,what,target,value\n"
 CASES = HEAD + "cut,1000,down,L1,\nlate,90000,down,L1,\nlast,1000,down,L2,\nall,1000,down,S,\n"
-COLUMNS = "case,settled,locked,holdover,freerun,loops,worst,bound,lost,first,longest"
+COLUMNS = "case,settled,locked,holdover,freerun,loops,worst,bound,lost,first,longest,hurt,dark,darkest,still"
 # (the longest wait is 300,000 milliseconds, there is a rank above 0, and a line takes 10)
 TABLE = f"""{COLUMNS}
-cut,yes,2,1,0,0,QL-SEC,301021,2,B,1
-late,yes,3,0,0,0,QL-PRC,300021,0,,2
-last,yes,2,1,0,0,QL-SEC,301021,1,C,1
-all,yes,2,1,0,0,QL-SEC,301021,3,A,2
+cut,yes,2,1,0,0,QL-SEC,301021,2,B,1,2,8701,B,2
+late,yes,3,0,0,0,QL-PRC,300021,0,,2,0,0,,0
+last,yes,2,1,0,0,QL-SEC,301021,1,C,1,1,8701,C,1
+all,yes,2,1,0,0,QL-SEC,301021,3,A,2,3,8701,A,3
 """
 PAIR = """element = [{ name = "A" }, { name = "B" }]
 link = [{ name = "L1", a = "A", b = "B", priority_a = 1, priority_b = 1, delay_a = 10, delay_b = 10 }]
@@ -60,24 +62,26 @@ def words_of(folder: Path, cases: str | bytes, until: str = "10000") -> Words:
 
 
 def said(folder: Path, text: str, cases: str = CASES, until: str = "10000") -> list[str]:
-    return remarks.remarks(words_of(folder, cases, until), Answer(0, text.encode()))
+    return form_remarks.remarks(words_of(folder, cases, until), Answer(0, text.encode()))
 
 
 def test_the_table_is_read_row_by_row() -> None:
-    answer = Answer(0, (TABLE + "pair,no,0,1,1,2,QL-DNU,none,2,A,0\n").encode())
+    answer = Answer(0, (TABLE + "pair,no,0,1,1,2,QL-DNU,none,2,A,0,1,20,B,0\n").encode())
     rows = reports.read("study", answer).rows
-    assert rows[0] == reports.Case("cut", True, 2, 1, 0, 0, "QL-SEC", 301_021, 2, "B", 1)
-    assert rows[1] == reports.Case("late", True, 3, 0, 0, 0, "QL-PRC", 300_021, 0, None, 2)
-    assert rows[-1] == reports.Case("pair", False, 0, 1, 1, 2, "QL-DNU", None, 2, "A", 0)
+    assert rows[0] == reports.Case("cut", True, 2, 1, 0, 0, "QL-SEC", 301_021, 2, "B", 1, 2, 8_701, "B", 2)
+    assert rows[1] == reports.Case("late", True, 3, 0, 0, 0, "QL-PRC", 300_021, 0, None, 2, 0, 0, None, 0)
+    assert rows[-1] == reports.Case("pair", False, 0, 1, 1, 2, "QL-DNU", None, 2, "A", 0, 1, 20, "B", 0)
     assert [row.case for row in rows] == ["cut", "late", "last", "all", "pair"]
     assert reports.read("study", Answer(0, f"{COLUMNS}\n".encode())) == reports.Study(())
 
 
 def test_what_the_program_does_not_write_is_no_table() -> None:
     for row in (
-        "x,yes,1,1,1,1,QL-PRC,none,1,A",
-        "x,yes,1,1,1,1,QL-PRC,none,1,A,1,1",
-        "x,yes,1,1,b,1,QL-PRC,1,1,A,1",
+        "x,yes,1,1,1,1,QL-PRC,none,1,A,1",
+        "x,yes,1,1,1,1,QL-PRC,none,1,A,1,0,0,",
+        "x,yes,1,1,1,1,QL-PRC,none,1,A,1,0,0,,0,1",
+        "x,yes,1,1,b,1,QL-PRC,1,1,A,1,0,0,,0",
+        "x,yes,1,1,1,1,QL-PRC,1,1,A,1,0,,,0",
         "x",
     ):
         with pytest.raises((ValueError, IndexError)):
@@ -90,13 +94,13 @@ def test_a_row_has_what_one_of_sweep_has() -> None:
     shared = [field.name for field in dataclasses.fields(reports.Cut)]
     assert shared == ["link", "is_settled", "locked", "holdover", "freerun", "loops", "worst", "bound"]
     row = "L1,no,1,2,3,4,QL-SEC,5"
-    cut = reports.read("sweep", Answer(0, f"{COLUMNS[:50]}\n{row}\n".encode())).rows[0]
-    case = reports.read("study", Answer(0, f"{COLUMNS}\n{row},6,A,7\n".encode())).rows[0]
+    cut = reports.read("sweep", Answer(0, f"{row_tables.CUTS.header}\n{row}\n".encode())).rows[0]
+    case = reports.read("study", Answer(0, f"{COLUMNS}\n{row},6,A,7,8,9,B,10\n".encode())).rows[0]
     assert dataclasses.astuple(cut) == dataclasses.astuple(case)[:8] == ("L1", False, 1, 2, 3, 4, "QL-SEC", 5)
 
 
 def test_json_has_the_columns_in_order(folder: Path) -> None:
-    told = json.loads(as_json.text(words_of(folder, CASES), Answer(0, TABLE.encode()), ["a sentence"]))
+    told = json.loads(answer_json.text(words_of(folder, CASES), Answer(0, TABLE.encode()), ["a sentence"]))
     assert (told["form"], told["name"], told["said"]) == ("study", "Done", ["a sentence"])
     assert list(told["answer"]["rows"][1].items()) == [
         ("case", "late"),
@@ -110,16 +114,21 @@ def test_json_has_the_columns_in_order(folder: Path) -> None:
         ("lost", 0),
         ("first", None),
         ("longest", 2),
+        ("hurt", 0),
+        ("dark", 0),
+        ("darkest", None),
+        ("still", 0),
     ]
 
 
 def test_cases_that_leave_somebody_without_a_source_are_told_worst_first(folder: Path) -> None:
     some = "3 of 4 cases leave elements without a source at the end (how many, most first): all (3), cut (2), last (1)"
-    end = "only the end, 00:01:30.000, is looked at: what is lost and back by then isn't counted"
-    assert said(folder, TABLE, until="90000") == [some, end]
+    end = "only the end, 00:01:30.000, is looked at: a source lost and back by then isn't counted, a level worse on the way is"
+    way = "3 of 4 cases make levels worse than before on the way, and 3 still at the end (for which element longest, and for how long): cut (B, 8,701 ms), last (C, 8,701 ms), all (A, 8,701 ms)"
+    assert said(folder, TABLE, until="90000") == [some, way, end]
     one = "\n".join(TABLE.splitlines()[:3]) + "\n"
     assert (
-        said(folder, one)[-2]
+        said(folder, one)[-3]
         == "1 of 2 cases leaves elements without a source at the end (how many, most first): cut (2)"
     )
     none = "\n".join(TABLE.splitlines()[:3:2]) + "\n"
@@ -127,7 +136,7 @@ def test_cases_that_leave_somebody_without_a_source_are_told_worst_first(folder:
 
 
 def test_many_cases_are_counted_and_the_worst_of_them_named(folder: Path) -> None:
-    rows = "".join(f"c{number},yes,9,1,0,0,QL-SEC,none,{number % 50},A,1\n" for number in range(1000))
+    rows = "".join(f"c{number},yes,9,1,0,0,QL-SEC,none,{number % 50},A,1,0,0,,0\n" for number in range(1000))
     line, _ = said(folder, f"{COLUMNS}\n{rows}", until="90000")
     worst = ", ".join(f"c{number} (49)" for number in range(49, 600 + 49, 50))
     assert (
@@ -137,14 +146,15 @@ def test_many_cases_are_counted_and_the_worst_of_them_named(folder: Path) -> Non
 
 
 def test_rows_that_are_not_settled_and_loops_are_told(folder: Path) -> None:
-    rows = "x,no,1,0,1,0,QL-SEC,none,0,,1\ny,no,2,0,0,1,QL-SEC,none,0,,61\nz,yes,2,0,0,0,QL-SEC,none,0,,60\n"
+    rows = "x,no,1,0,1,0,QL-SEC,none,0,,1,0,0,,0\ny,no,2,0,0,1,QL-SEC,none,0,,61,0,0,,0\nz,yes,2,0,0,0,QL-SEC,none,0,,60,1,700,B,0\n"
     assert said(folder, f"{COLUMNS}\n{rows}") == [
         "1 of 4 events is after 10000, and had no effect",
         "no case of 3 leaves anybody without a source at the end",
         "2 rows not settled, run longer, to a later UNTIL: x, y",
         "loops stand in 1 case: y",
         "traces of more than G.803's 60 lines in 1 case: y (61)",
-        "only the end, 00:00:10.000, is looked at: what is lost and back by then isn't counted",
+        "1 of 3 cases makes levels worse than before on the way, and 0 still at the end (for which element longest, and for how long): z (B, 700 ms)",
+        "only the end, 00:00:10.000, is looked at: a source lost and back by then isn't counted, a level worse on the way is",
     ]
 
 
@@ -288,7 +298,7 @@ def test_a_number_of_a_later_program_is_told(folder: Path) -> None:
 
 def test_a_refusal_as_json(folder: Path) -> None:
     words, answer = words_of(folder, HEAD + TWICE), Answer(5, b"bad events 52 4\n")
-    told = json.loads(as_json.text(words, answer, [str(answers.sentence(words, answer))]))
+    told = json.loads(answer_json.text(words, answer, [str(answers.sentence(words, answer))]))
     assert (told["name"], told["refusal"]["number"], told["refusal"]["place"]) == ("BadEvents", 52, "4")
     assert told["refusal"]["sentence"].startswith("cases.csv:6: `a,9,up,L1,`: the case ")
 
@@ -320,8 +330,8 @@ def test_the_program_has_these_rows(folder: Path) -> None:
     assert found.result.rows == reports.read("study", Answer(0, TABLE.encode())).rows
     swings = forms.study(PAIR.encode(), f"{HEAD}x,5,lockout,L1>A,\ny,16,lockout,L1>A,\n".encode(), 15).result.rows
     assert swings == (
-        reports.Case("x", False, 1, 0, 1, 0, "QL-SEC", None, 2, "A", 1),
-        reports.Case("y", False, 2, 0, 0, 1, "QL-SEC", None, 2, "A", 0),
+        reports.Case("x", False, 1, 0, 1, 0, "QL-SEC", None, 2, "A", 1, 0, 0, None, 0),
+        reports.Case("y", False, 2, 0, 0, 1, "QL-SEC", None, 2, "A", 0, 0, 0, None, 0),
     )
     assert forms.study(folder / "plan.toml", HEAD.encode(), 0).result == reports.Study(())
 
@@ -330,14 +340,16 @@ def test_the_command_has_the_rows_and_says_what_they_are(folder: Path) -> None:
     words_of(folder, CASES)
     ran = murdjohe("study", "plan.toml", "-", "90s", folder=folder, stdin=CASES.encode())
     rows = TABLE.replace("late,yes,3,0,0,0,QL-PRC,300021,0,,2", "late,no,3,0,0,0,QL-PRC,390021,0,,2")
+    rows = rows.replace(",8701,", ",88701,")
     assert (ran.status, ran.out.decode()) == (0, rows)
     assert ran.err.splitlines() == [
         "murdjohe: 3 of 4 cases leave elements without a source at the end (how many, most first): all (3), cut (2), last (1)",
         "murdjohe: 1 row not settled, run longer, to a later UNTIL: late",
-        "murdjohe: only the end, 00:01:30.000, is looked at: what is lost and back by then isn't counted",
+        "murdjohe: 3 of 4 cases make levels worse than before on the way, and 3 still at the end (for which element longest, and for how long): cut (B, 88,701 ms), last (C, 88,701 ms), all (A, 88,701 ms)",
+        "murdjohe: only the end, 00:01:30.000, is looked at: a source lost and back by then isn't counted, a level worse on the way is",
     ]
     told = json.loads(murdjohe("study", "plan.toml", "cases.csv", "10s", "--json", folder=folder).out)
-    assert [row["first"] for row in told["answer"]["rows"]] == ["B", None, "C", "A"] and len(told["said"]) == 3
+    assert [row["first"] for row in told["answer"]["rows"]] == ["B", None, "C", "A"] and len(told["said"]) == 4
 
 
 @pytest.mark.parametrize(("rows", "number", "line", "sentence"), REFUSED)

@@ -11,7 +11,8 @@ from pathlib import Path
 
 import pytest
 from conftest import EXAMPLES, LAUNCHER, WORKBENCH, murdjohe, started
-from murdjohe import main, streams
+from murdjohe import main
+from murdjohe.core import streams
 
 RING = EXAMPLES / "ring"
 CHECK = f"{LAUNCHER} check plan.toml certificate.csv"

@@ -15,9 +15,9 @@ from hypothesis import given
 from hypothesis import strategies as st
 from surveys_made import EACH, INTERRUPT, RING, UNTIL, Double, ended, rows_in, surveyed, table_of
 
-from murdjohe import studies
-from murdjohe.studies import Case
-from murdjohe.tallies import Tally, Worst
+from murdjohe.answers import studies
+from murdjohe.answers.studies import Case
+from murdjohe.survey.tallies import Tally, Worst
 
 PLAN = str(RING)
 HEAD = "case,at,what,target,value\n"
@@ -80,11 +80,11 @@ def test_some_cases_of_a_table_and_none(double: Double, capfd: pytest.CaptureFix
     assert rows_in("some.csv") == core_double.rows_of(table_of(), UNTIL)[19:]
     ran = surveyed(capfd, PLAN, "cases.csv", "--cases", "22-30", "-o", "none.csv")
     assert (ran.status, rows_in("none.csv")) == (0, [])
-    assert ran.out.startswith(b"0 cases, each looked at in its last millisecond alone, ")
+    assert ran.out.startswith(b"0 cases, each looked at in its last millisecond, ")
 
 
 def test_the_summary_has_the_worst_first(double: Double, capfd: pytest.CaptureFixture[str]) -> None:
-    rows = [studies.case(line.split(",")) for line in core_double.rows_of(table_of(), UNTIL)]
+    rows = [studies.case(line) for line in core_double.rows_of(table_of(), UNTIL)]
     told = json.loads(surveyed(capfd, PLAN, *EACH, "--worst", "4", "--size", "6", "--json").out)
     assert (told["cases"], told["until"]) == (21, int(UNTIL))
     assert told["losing"] == sum(row.lost > 0 for row in rows)
@@ -114,7 +114,25 @@ def test_the_worst_are_those_of_the_whole_list(rows: list[tuple[int, int, bool, 
     made = []
     for number, (lost, loops, is_settled, longest) in enumerate(rows):
         first = f"E{lost}" if lost else None
-        made.append(Case(str(number), is_settled, 0, 0, 0, loops, "QL-PRC", None, lost, first, longest))
+        made.append(
+            Case(
+                str(number),
+                is_settled,
+                0,
+                0,
+                0,
+                loops,
+                "QL-PRC",
+                None,
+                lost,
+                first,
+                longest,
+                lost,
+                3 * longest,
+                first,
+                0,
+            )
+        )
         tally.add(made[-1])
     assert tally.lost.outcomes() == sorted((one for one in made if one.lost), key=lambda one: -one.lost)[:most]
     assert tally.chains.outcomes() == sorted((one for one in made if one.longest), key=lambda one: -one.longest)[:most]
@@ -123,7 +141,7 @@ def test_the_worst_are_those_of_the_whole_list(rows: list[tuple[int, int, bool, 
 
 def test_a_measure_of_nothing_is_not_among_the_worst() -> None:
     worst = Worst(3)
-    worst.add((0, 7), 0, Case("a", True, 0, 0, 0, 0, "QL-PRC", 1, 0, None, 0))
+    worst.add((0, 7), 0, Case("a", True, 0, 0, 0, 0, "QL-PRC", 1, 0, None, 0, 0, 0, None, 0))
     assert worst.outcomes() == []
 
 

@@ -16,8 +16,9 @@ from conftest import WORKBENCH
 from surveys_made import EACH, KILL, PATIENCE_S, RING, UNTIL, Double, ended, rows_in, table_of
 
 import murdjohe
-from murdjohe import cluster, core
-from murdjohe.wrong import Wrong
+from murdjohe.core import program
+from murdjohe.core.faults import Wrong
+from murdjohe.survey import cluster
 
 PLAN = str(RING)
 WORKING = {"PYTHONPATH": str(WORKBENCH / "src"), "DASK_DISTRIBUTED__WORKER__MEMORY__TERMINATE": "False"}
@@ -39,10 +40,10 @@ class Dask:
             self.started.append(subprocess.Popen(command, env=environment, stdout=said, stderr=said, cwd=self.folder))
         return self.started[-1]
 
-    def worker(self, name: str, program: str, **settings: str) -> subprocess.Popen[bytes]:
+    def worker(self, name: str, executable: str, **settings: str) -> subprocess.Popen[bytes]:
         """Starts a worker with this program."""
         options = ["--nthreads", "1", "--no-nanny", "--no-dashboard", "--name", name, "--host", "127.0.0.1"]
-        its = {**WORKING, "MURDJOHE_CORE": program, **settings}
+        its = {**WORKING, "MURDJOHE_CORE": executable, **settings}
         return self.start("distributed.cli.dask_worker", *options, "--local-directory", str(self.folder), **its)
 
     @property
@@ -157,8 +158,8 @@ def test_what_a_worker_says_of_itself(answer: object, said: str | None, monkeypa
 def test_a_worker_that_lost_its_program_says_so(double: Double, monkeypatch: pytest.MonkeyPatch) -> None:
     monkeypatch.setattr(cluster, "here", lambda: "worker w on h")
     monkeypatch.setenv("MURDJOHE_CORE", "/nonexistent")
-    with pytest.raises(core.Absent, match="^worker w on h: MURDJOHE_CORE is /nonexistent, which is no program"):
+    with pytest.raises(program.Absent, match="^worker w on h: MURDJOHE_CORE is /nonexistent, which is no program"):
         cluster.worked(b"", b"", 0, "abc")
     monkeypatch.setenv("MURDJOHE_CORE", double.program)
-    with pytest.raises(core.Absent, match="^worker w on h: it has another proved program than this command"):
+    with pytest.raises(program.Absent, match="^worker w on h: it has another proved program than this command"):
         cluster.worked(b"", b"", 0, "abc")

@@ -13,11 +13,12 @@ import pytest
 from conftest import EXAMPLES, TOP, murdjohe, started
 from surveys_made import EACH, INTERRUPT, PATIENCE_S, RING, UNTIL, Double, ended, rows_in, surveyed, table_of
 
-from murdjohe import case_maps, reports, tiles
-from murdjohe.case_maps import FREERUN, HOLDOVER, CaseMap
-from murdjohe.core import DONE, Answer
-from murdjohe.reports import Report
-from murdjohe.views import LOOP
+from murdjohe.answers import reports
+from murdjohe.answers.reports import Report
+from murdjohe.core.program import DONE, Answer
+from murdjohe.picture import case_maps, tiles
+from murdjohe.picture.case_maps import FREERUN, HOLDOVER, CaseMap
+from murdjohe.picture.views import LOOP
 
 MESH = EXAMPLES / "mesh"
 HEAD = "case,at,what,target,value\n"

@@ -11,7 +11,7 @@ import pytest
 from conftest import EXAMPLES, LAUNCHER, TOP, murdjohe, started
 from surveys_made import RING, Double, rows_in, surveyed, table_of
 
-from murdjohe import core
+from murdjohe.core import program
 
 COMMON = [",5,lockout,L1>B,", ",1500,esmc-off,L2>C,"]
 UNTIL = "3000"
@@ -68,7 +68,7 @@ def test_rows_of_the_program_are_those_of_one_study(
     Path("cases.csv").write_text(table)
     whole = subprocess.run([has_study, "study", str(plan), "cases.csv", "1800000"], capture_output=True, check=True)
     words = ["--links", "--sources", "--elements", "--pairs", "--size", "7"]
-    ran = surveyed(capfd, str(plan), *words, "-o", "rows.csv")
+    ran = surveyed(capfd, str(plan), *words, "--until", "30m", "-o", "rows.csv")
     assert ran.status == 0, ran.err
     assert rows_in("rows.csv") == whole.stdout.decode().splitlines()[1:]
 
@@ -94,5 +94,5 @@ def test_the_program_names_the_row_that_it_refuses(
 def test_an_answer_that_is_kept_is_that_which_is_read(has_study: str) -> None:
     running = set[int]()
     for words in list[list[str]]([["gen", "400"], ["study", "none.toml", "none.csv", "0"], []]):
-        read, kept = core.run(words), core.run_kept(words, running)
+        read, kept = program.run(words), program.run_kept(words, running)
         assert (kept.status, kept.text) == (read.status, read.text) and not running

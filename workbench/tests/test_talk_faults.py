@@ -6,9 +6,10 @@ from __future__ import annotations
 import json
 from pathlib import Path
 
-import captures_made as made
 import pytest
 from conftest import EXAMPLES, Ran, murdjohe
+
+from bench import captures as made
 
 INFO = made.FRAMES[0]  # of QL-PRTC, with an extended TLV
 PLAIN = bytes.fromhex("0180c200000202000000000188090a0019a7000110000000010004" + "02").ljust(60, b"\0")

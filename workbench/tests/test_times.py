@@ -6,7 +6,7 @@ import pytest
 from hypothesis import given
 from hypothesis import strategies as st
 
-from murdjohe.times import milliseconds
+from murdjohe.core.times import milliseconds
 
 
 @pytest.mark.parametrize(

@@ -9,7 +9,7 @@ from conftest import murdjohe
 from hypothesis import given
 from hypothesis import strategies as st
 
-from murdjohe import toml_reader
+from murdjohe.core import toml_reader
 
 NEWER = [
     ("a = {b = 1,}", {"a": {"b": 1}}),

@@ -9,11 +9,13 @@ from pathlib import Path
 import pytest
 from conftest import EXAMPLES, murdjohe
 
-from murdjohe import colours, drawing, places, views, wiring
-from murdjohe.levels import LEVELS
-from murdjohe.moments import Event
-from murdjohe.views import View
-from murdjohe.wrong import Wrong
+from murdjohe.core.faults import Wrong
+from murdjohe.core.levels import LEVELS
+from murdjohe.network import wiring
+from murdjohe.picture import colours, places, plan_graph, views
+from murdjohe.picture.views import View
+from murdjohe.runs import report_file
+from murdjohe.runs.moments import Event
 
 WITH_REPORTS = sorted(
     path.parent.name for path in EXAMPLES.glob("*/events.csv") if (path.parent / "report").exists()
@@ -22,10 +24,10 @@ WITH_REPORTS = sorted(
 
 def view(folder: str, report: str = "report", plan: str = "plan.toml") -> View:
     """An example at the end of one of its reports."""
-    tables = drawing.read_plan(str(EXAMPLES / folder / plan))
+    network = plan_graph.read_plan(str(EXAMPLES / folder / plan))
     path = str(EXAMPLES / folder / report)
-    found = views.of_this_plan(path, views.read_report(path), wiring.wiring_of(tables))
-    return views.view_of(plan, tables, found, (), None)
+    found = views.of_this_plan(path, report_file.read(path), wiring.wiring_of(network))
+    return views.view_of(plan, network, found, (), None)
 
 
 @pytest.mark.parametrize("option", ["I", "II"])
@@ -43,7 +45,7 @@ def test_levels_have_colours_that_grow_darker_and_are_read(option: str) -> None:
 
 @pytest.mark.parametrize("folder", WITH_REPORTS)
 def test_who_is_hatched_and_what_is_red_is_what_the_report_says(folder: str) -> None:
-    report = views.read_report(str(EXAMPLES / folder / "report"))
+    report = report_file.read(str(EXAMPLES / folder / "report"))
     found = view(folder)
     assert found.unfed == {trace.element for trace in report.traces if trace.kind != "source"}
     assert set(found.red) == {line for walk in report.loops for line in walk}
@@ -60,17 +62,17 @@ def test_a_ring_that_loops_is_red_and_says_so(folder: Path) -> None:
 
 
 def test_a_cut_is_seen_at_its_millisecond_alone(folder: Path) -> None:
-    tables = drawing.read_plan(str(EXAMPLES / "mesh" / "plan.toml"))
-    report = views.read_report(str(EXAMPLES / "mesh" / "report"))
+    network = plan_graph.read_plan(str(EXAMPLES / "mesh" / "plan.toml"))
+    report = report_file.read(str(EXAMPLES / "mesh" / "report"))
     events = (Event(60_000, "down", "S2", ""), Event(600_000, "up", "S2", ""))
     for at, down in ((59_999, set()), (60_000, {"S2>hub-south", "S2>core-2"}), (600_000, set())):
-        assert views.view_of("mesh", tables, report, events, at).down == down
+        assert views.view_of("mesh", network, report, events, at).down == down
 
 
 def test_a_plan_by_itself_hatches_who_has_no_way() -> None:
-    tables = drawing.read_plan(str(EXAMPLES / "mesh" / "topology.toml"))
-    assert views.plain_view("mesh", tables).unfed == {
-        row["name"] for row in tables["element"] if row["name"] not in ("core-1", "core-2")
+    network = plan_graph.read_plan(str(EXAMPLES / "mesh" / "topology.toml"))
+    assert views.plain_view("mesh", network).unfed == {
+        name for name in network.names() if name not in ("core-1", "core-2")
     }
 
 
@@ -84,15 +86,15 @@ def test_reports_of_other_plans_are_refused() -> None:
 
 def test_a_map_where_there_are_rings() -> None:
     for folder, has_rings in (("ring", True), ("mesh", True), ("backhaul", False), ("lab", False)):
-        tables = drawing.read_plan(str(EXAMPLES / folder / "plan.toml"))
-        assert places.has_rings(tables) == has_rings, folder
+        network = plan_graph.read_plan(str(EXAMPLES / folder / "plan.toml"))
+        assert places.has_rings(network) == has_rings, folder
 
 
 def test_places_by_a_table(folder: Path) -> None:
-    tables = drawing.read_plan(str(EXAMPLES / "ring" / "plan.toml"))
+    network = plan_graph.read_plan(str(EXAMPLES / "ring" / "plan.toml"))
     table = folder / "places.csv"
     table.write_text("x;site;Y;name\n1,5;Bern;0;A\n3;;2;B\n1.5;;4;C\n")
-    spots = places.layout_of(tables, None, str(table)).spots
+    spots = places.layout_of(network, None, str(table)).spots
     (ax, ay), (bx, by), (cx, cy) = (spots[places.ELEMENT, name] for name in "ABC")
     assert ax == cx < bx and ay < by < cy and (cy - by) == pytest.approx(by - ay)
     for text, said in (
@@ -102,13 +104,13 @@ def test_places_by_a_table(folder: Path) -> None:
     ):
         table.write_text(text)
         with pytest.raises(Wrong, match=said):
-            places.layout_of(tables, None, str(table))
+            places.layout_of(network, None, str(table))
 
 
 @pytest.mark.parametrize("layout", [places.MAP, places.LAYERED])
 def test_no_element_covers_another(layout: str) -> None:
-    tables = drawing.read_plan(str(EXAMPLES / "ring-of-rings" / "plan.toml"))
-    spots = list(places.layout_of(tables, layout, None).spots.values())
-    assert len(spots) == len(tables["element"]) + len(tables["source"])
+    network = plan_graph.read_plan(str(EXAMPLES / "ring-of-rings" / "plan.toml"))
+    spots = list(places.layout_of(network, layout, None).spots.values())
+    assert len(spots) == len(network.elements) + len(network.sources)
     for (x, y), (u, v) in itertools.combinations(spots, 2):
         assert abs(x - u) >= places.BOX[0] * 0.99 or abs(y - v) >= places.BOX[1] * 0.99

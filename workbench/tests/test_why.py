@@ -9,12 +9,13 @@ import answers_by_hand as by_hand
 import pytest
 from conftest import EXAMPLES, TOP, murdjohe
 
-from murdjohe import switching, why_text, whys
-from murdjohe.history import History
-from murdjohe.inspections import Inspected
-from murdjohe.moments import Event
-from murdjohe.whys import Since, Why
-from murdjohe.wrong import Wrong
+from murdjohe.answers.inspections import Inspected
+from murdjohe.core.faults import Wrong
+from murdjohe.runs import switches
+from murdjohe.runs.moments import Event
+from murdjohe.why import choice_text, choices
+from murdjohe.why.choices import Since, Why
+from murdjohe.why.history import History
 
 METRO = EXAMPLES / "metro-ring"
 WORKS = """\
@@ -81,7 +82,7 @@ ms, and fails at 1200 ms unless it is up again before.
 
 
 def text(why: Why, start: int | None = None) -> str:
-    return "".join(f"{line}\n" for line in why_text.text_of(why, start))
+    return "".join(f"{line}\n" for line in choice_text.text_of(why, start))
 
 
 def test_why_half_a_ring_holds_over() -> None:
@@ -170,10 +171,10 @@ def test_since_when_an_input_is_forced(told: str, since: int, expected: int) -> 
     network = by_hand.forced(700).network
     rows = [row.split() for row in told.split(", ")]
     events = tuple(Event(int(at), what, target, "") for at, what, target in rows)
-    commands = switching.commands_of(network.wired, frozenset(("S1", "S2")), events)
+    commands = switches.commands_of(network.wired, frozenset(("S1", "S2")), events)
     history = History(network, events, tuple(commands), ())
     chosen = Inspected("A", "forced", "S2", "S2", "QL-SSU-B", "locked")
-    found = whys.switch_of(history, chosen, Since(None, None, since))
+    found = choices.switch_of(history, chosen, Since(None, None, since))
     assert found and found.at == expected
 
 
@@ -197,7 +198,7 @@ def test_reserve_loses_by_priority() -> None:
 
 def test_of_many_causes_the_last_are_told() -> None:
     some = by_hand.works(3)
-    assert [cause_at["at"] for cause_at in why_text.as_data(some, None)["before"]] == [120_302, 120_302, 180_000]
+    assert [cause_at["at"] for cause_at in choice_text.as_data(some, None)["before"]] == [120_302, 120_302, 180_000]
     assert not some.is_whole and "What brought it about, the last of it (all by --all):\n" in text(some)
     assert by_hand.works(10).is_whole and not by_hand.works(9).is_whole
 
@@ -222,7 +223,7 @@ def test_a_report_that_ends_early_tells_no_past() -> None:
 
 
 def test_as_json() -> None:
-    found = why_text.as_data(by_hand.cut("north-1"), None)
+    found = choice_text.as_data(by_hand.cut("north-1"), None)
     assert (found["element"], found["input"], found["level"]) == ("north-1", "N2>north-1", "QL-PRC")
     assert found["since"] == {"input": 60_300, "level": 1, "mode": None}
     assert [(row["input"], row["verdict"], row["why"] is None) for row in found["inputs"]] == [
@@ -251,7 +252,7 @@ def test_as_json() -> None:
 )
 def test_names_that_are_no_elements(name: str, said: str) -> None:
     with pytest.raises(Wrong) as wrong:
-        whys.known(whys.network_of(by_hand.plan_of(METRO / "plan.toml")), name, "plan.toml")
+        choices.known(choices.network_of(by_hand.plan_of(METRO / "plan.toml")), name, "plan.toml")
     assert said in str(wrong.value) and "\n" not in str(wrong.value)
 
 

@@ -7,7 +7,7 @@ use crate::tree::Tree;
 use std::alloc::Global;
 use sync_ql::limits::MOST_INPUTS;
 use sync_text::NoMemory;
-use sync_topo::{InputId, LineId, Plan, all_lines_out};
+use sync_topo::{InputId, LineId, Plan};
 
 /// The bundles from which elements are to take their timing, and the priorities of lines by them.
 ///
@@ -26,13 +26,12 @@ pub struct Choice {
 /// have.
 ///
 /// Of each bundle as many lines are numbered as the sources' numbers and the limit of inputs leave
-/// room for. Which priorities are found isn't promised. The work grows with the elements, the links
+/// room for. `outputs` has the lines out of each element. Which priorities are found isn't promised. The work grows with the elements, the links
 /// and the sources, and with the depth of the tree as its logarithm. This project's own, with ears
 /// after Whitney, and their order after Maon, Schieber and Vishkin, and Ramachandran.
-pub fn choose(alloc: Global, plan: &Plan) -> Result<Choice, NoMemory> {
-    let tree = Tree::of(alloc, plan)?;
+pub fn choose(alloc: Global, plan: &Plan, outputs: &[Vec<LineId>]) -> Result<Choice, NoMemory> {
+    let tree = Tree::of(alloc, plan, outputs)?;
     let ears = Ears::of(alloc, plan, &tree)?;
-    let outputs = all_lines_out(alloc, plan)?;
     let Ok(priorities) = vec![in alloc; 0; plan.lines() as usize] else {
         return Err(NoMemory);
     };
@@ -41,7 +40,7 @@ pub fn choose(alloc: Global, plan: &Plan) -> Result<Choice, NoMemory> {
         seconds: ears.seconds,
         priorities,
     };
-    choice.number_all(plan, outputs.as_slice());
+    choice.number_all(plan, outputs);
     Ok(choice)
 }
 

@@ -2,7 +2,7 @@
 
 use std::alloc::Global;
 use sync_text::NoMemory;
-use sync_topo::{InputId, LineId, Plan, all_lines_out};
+use sync_topo::{InputId, LineId, Plan};
 
 /// Where an element or the root stands in the tree.
 #[derive(Clone, Copy, Drop)]
@@ -31,9 +31,12 @@ pub(crate) struct Tree {
 }
 
 impl Tree {
-    /// The tree of a plan. The work grows with the elements and links.
-    pub(crate) fn of(alloc: Global, plan: &Plan) -> Result<Tree, NoMemory> {
-        let outputs = all_lines_out(alloc, plan)?;
+    /// The tree of a plan, by the lines out of each element. The work grows with the elements and links.
+    pub(crate) fn of(
+        alloc: Global,
+        plan: &Plan,
+        outputs: &[Vec<LineId>],
+    ) -> Result<Tree, NoMemory> {
         let mut tree = Tree::alone(alloc, plan)?;
         let root = tree.root;
         for element in 0..plan.elements() {
@@ -42,7 +45,7 @@ impl Tree {
             }
         }
         for place in 0..plan.elements() as usize {
-            tree.grow(plan, outputs.as_slice(), place + 1)?;
+            tree.grow(plan, outputs, place + 1)?;
         }
         Ok(tree)
     }

@@ -39,6 +39,7 @@ use Rattle.nominate.proofs.BelowLemmas.{below-false, below-but_one}
 use Rattle.nominate.proofs.HopLaws.{count-of_walk, closer-of_count, facts-by_counts, one-list}
 use Rattle.nominate.proofs.PlanFacts.{with-same, lines-same, sender-same, receiver-same, priority-is, changed-well}
 use Rattle.protection.specs.Orderly.{is_apart, IsOfTwoBundles, IsFound}
+use Rattle.protection.proofs.SharedLaws.{walks-same, walks-back}
 use Rattle.protection.specs.private.Tree.{comes_closer, pick_at, IsPick, ArePicks, tree_priority, IsTree}
 
 -- what is one less
@@ -267,25 +268,7 @@ module _ (plan : Topology) (counts : Counts) (picks : List (Option ℕ)) (well :
   pub tree-agrees : Rises (bears_on tree) rank
   tree-agrees line next bears = let meets = hop-meets BarredFromLast tree line next bears in rank-less line next meets.from meets.to meets.joined
 
-  -- walks are the plan's
-  walks-same : (n element : ℕ) → IsReachedIn tree n element → IsReachedIn plan n element
-  walks-same zero element root = root
-  walks-same (suc n) element (line, within, into, before) = (
-    line,
-    subst (λ k. line < k) (lines-same plan given) within,
-    sym (receiver-same plan given line) ∙ into,
-    subst (IsReachedIn plan n) (sender-same plan given line) (walks-same n (sender_of tree line) before),
-  )
-
-  walks-back : (n element : ℕ) → IsReachedIn plan n element → IsReachedIn tree n element
-  walks-back zero element root = root
-  walks-back (suc n) element (line, within, into, before) = (
-    line,
-    subst (λ k. line < k) (sym (lines-same plan given)) within,
-    receiver-same plan given line ∙ into,
-    subst (IsReachedIn tree n) (sym (sender-same plan given line)) (walks-back n (sender_of plan line) before),
-  )
-
+  -- hop counts are the plan's
   counts-same : (others : Counts) → AreHopCounts tree others → counts ≡ others
   counts-same others also = one-list plan counts others are (record {
     counted = also.counted;
@@ -293,10 +276,10 @@ module _ (plan : Topology) (counts : Counts) (picks : List (Option ℕ)) (well :
   })
     where
       back : (element : ℕ) (o : Option ℕ) → IsCountOf tree element o → IsCountOf plan element o
-      back element None none = λ links reached. none links (walks-back links element reached)
+      back element None none = λ links reached. none links (walks-back plan given links element reached)
       back element (Some hops) is = record {
-        reached = walks-same hops element is.reached;
-        least = λ links reached. is.least links (walks-back links element reached);
+        reached = walks-same plan given hops element is.reached;
+        least = λ links reached. is.least links (walks-back plan given links element reached);
       }
 
   -- each input of an element with a nominated line is this line

@@ -5,22 +5,24 @@ ghost use Rattle.std.specs.List.{range_with_len};
 ghost use Rattle.sync_topo.specs.Lines.{line_count, receiver_of};
 ghost use Rattle.reach_rules.specs.declared.failure.Failure.TheVariants as fails;
 ghost use Rattle.reach_rules.specs.Protection.{IsProtectedFrom};
+ghost use Rattle.nominate.specs.HopCount.{AreHopCounts};
 ghost use Rattle.protection.specs.Orderly.{IsFound};
 ghost use Rattle.protection.specs.private.Tree.{pick_at, ArePicks, tree_priority, IsTree};
 
 use cycle_plan::{Agreement, agree};
-use nominate::{Hops, is_one_less, least_hops, with_priorities};
+use nominate::{Hops, is_one_less, with_priorities};
 use std::alloc::Global;
 use sync_text::NoMemory;
 use sync_topo::{LineId, Plan};
 
 /// The plan in which each element without a clock of its own takes its timing over one line alone, by
 /// which it has the fewest hops: orderly, and with no failure it cuts nobody off.
-pub(crate) fn tree_of(alloc: Global, plan: &Plan) -> Result<Plan, NoMemory>
+pub(crate) fn tree_of(alloc: Global, plan: &Plan, hops: &Hops) -> Result<Plan, NoMemory>
+    requires { AreHopCounts plan.now hops.now }
     ensures found { IfOk result (IsFound plan.now) }
     ensures served { IfOk result (λ tree. IsProtectedFrom tree fails.Nothing) }
 {
-    let tree = tree_plan(alloc, plan)?;
+    let tree = tree_plan(alloc, plan, hops)?;
     let agreement = agree(alloc, &tree)?;
     match agreement {
         Agreement::Bound(_) => Ok(tree),
@@ -29,13 +31,13 @@ pub(crate) fn tree_of(alloc: Global, plan: &Plan) -> Result<Plan, NoMemory>
 }
 
 /// The plan itself.
-fn tree_plan(alloc: Global, plan: &Plan) -> Result<Plan, NoMemory>
+fn tree_plan(alloc: Global, plan: &Plan, hops: &Hops) -> Result<Plan, NoMemory>
+    requires { AreHopCounts plan.now hops.now }
     ensures { IfOk result (IsTree plan.now) }
 {
     // Every plan keeps the rules.
     let _lines = plan.lines();
-    let hops = least_hops(alloc, plan)?;
-    let picks = picks_of(alloc, plan, &hops)?;
+    let picks = picks_of(alloc, plan, hops)?;
     let priorities = priorities_of(alloc, plan, picks.as_slice())?;
     let given = with_priorities(alloc, plan, priorities.as_slice())?;
     match given {

@@ -2,9 +2,12 @@
 
 ghost use Rattle.std.specs.Prelude.{◌≡◌, IfOk, IfSome};
 ghost use Rattle.std.specs.List.{All};
+ghost use Rattle.sync_topo.specs.Lines.{line_count};
+ghost use Rattle.sync_topo.specs.Outputs.{AreOutputs};
 ghost use Rattle.net_rules.specs.Safety.{IsLoopFree};
 ghost use Rattle.reach_rules.specs.declared.failure.Failure.TheVariants as fails;
 ghost use Rattle.reach_rules.specs.Protection.{IsProtected, IsProtectedFrom, HoldsOut};
+ghost use Rattle.nominate.specs.HopCount.{AreHopCounts};
 ghost use Rattle.protection.specs.Gaps.{IsGapIn};
 ghost use Rattle.protection.specs.Orderly.{IsFound};
 ghost use Rattle.protection.specs.Protected.{IfPlan, IfGaps, AreFoundGaps};
@@ -12,13 +15,13 @@ ghost use Rattle.protection.specs.Protected.{IfPlan, IfGaps, AreFoundGaps};
 use crate::fewest::tree_of;
 use crate::gap::Gap;
 use crate::orderly::is_orderly;
-use crate::protecting::protected;
+use crate::protecting::all_gaps;
 use crate::serving::serves_all;
 use ears::choose;
-use nominate::with_priorities;
+use nominate::{Hops, least_hops, with_priorities};
 use std::alloc::Global;
 use sync_text::{NoMemory, Rows};
-use sync_topo::Plan;
+use sync_topo::{LineId, Plan, all_lines_out};
 
 /// What a plan becomes.
 ///
@@ -40,7 +43,7 @@ pub enum Protected {
 /// found isn't promised, nor that one is found. It is tried, that one is wherever the sources'
 /// numbers and the limit of inputs leave room; where what the search finds isn't orderly, or cuts
 /// somebody off with no failure, the tree of fewest hops stands in its place. So the plan whose gaps
-/// are told cuts nobody off with no failure. The work is that of [`protected`].
+/// are told cuts nobody off with no failure. The work is that of [`crate::protected`].
 ///
 /// This project's own, with ears after Whitney.
 pub fn protect(alloc: Global, plan: &Plan) -> Result<Protected, NoMemory>
@@ -56,8 +59,12 @@ pub fn protect(alloc: Global, plan: &Plan) -> Result<Protected, NoMemory>
     ensures gaps { IfGaps result (AreFoundGaps plan.now) }
     ensures within { IfGaps result (All (IsGapIn plan.now)) }
 {
-    let found = find(alloc, plan)?;
-    let gaps = protected(alloc, &found)?;
+    let outputs = all_lines_out(alloc, plan)?;
+    let hops = least_hops(alloc, plan)?;
+    let found = find(alloc, plan, outputs.as_slice(), &hops)?;
+    // Every plan keeps the rules.
+    let _elements = found.elements();
+    let gaps = all_gaps(alloc, &found, outputs)?;
     if gaps.as_slice().is_empty() {
         return Ok(Protected::Plan(found));
     }
@@ -66,23 +73,32 @@ pub fn protect(alloc: Global, plan: &Plan) -> Result<Protected, NoMemory>
 
 /// An orderly plan that with no failure cuts nobody off: what the search finds or, where that isn't
 /// one, the tree of fewest hops.
-fn find(alloc: Global, plan: &Plan) -> Result<Plan, NoMemory>
+fn find(alloc: Global, plan: &Plan, outputs: &[Vec<LineId>], hops: &Hops) -> Result<Plan, NoMemory>
+    requires outputs { AreOutputs plan.now (line_count plan.now) outputs.now }
+    requires hops { AreHopCounts plan.now hops.now }
     ensures found { IfOk result (IsFound plan.now) }
     ensures served { IfOk result (λ found. IsProtectedFrom found fails.Nothing) }
 {
-    match searched(alloc, plan)? {
+    match searched(alloc, plan, outputs, hops)? {
         Some(found) => Ok(found),
-        None => tree_of(alloc, plan),
+        None => tree_of(alloc, plan, hops),
     }
 }
 
 /// What the search finds, if it is orderly and with no failure cuts nobody off.
-fn searched(alloc: Global, plan: &Plan) -> Result<Option<Plan>, NoMemory>
+fn searched(
+    alloc: Global,
+    plan: &Plan,
+    outputs: &[Vec<LineId>],
+    hops: &Hops,
+) -> Result<Option<Plan>, NoMemory>
+    requires outputs { AreOutputs plan.now (line_count plan.now) outputs.now }
+    requires hops { AreHopCounts plan.now hops.now }
     ensures found { IfOk result (λ found. IfSome found (IsFound plan.now)) }
     ensures served { IfOk result (λ found. IfSome found (λ plan.
         IsProtectedFrom plan fails.Nothing)) }
 {
-    let choice = choose(alloc, plan)?;
+    let choice = choose(alloc, plan, outputs)?;
     if choice.priorities.len() != plan.lines() as usize {
         return Ok(None);
     }
@@ -91,11 +107,11 @@ fn searched(alloc: Global, plan: &Plan) -> Result<Option<Plan>, NoMemory>
         return Ok(None);
     };
     let firsts = choice.firsts.as_slice();
-    let orderly = is_orderly(alloc, &found, firsts, choice.seconds.as_slice())?;
+    let orderly = is_orderly(alloc, &found, firsts, choice.seconds.as_slice(), hops)?;
     if !orderly {
         return Ok(None);
     }
-    let served = serves_all(alloc, &found)?;
+    let served = serves_all(alloc, &found, outputs)?;
     if !served {
         return Ok(None);
     }

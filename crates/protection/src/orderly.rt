@@ -6,23 +6,26 @@ ghost use Rattle.sync_topo.specs.Bundles.{line_bundle};
 ghost use Rattle.sync_topo.specs.Hops.{IsRising};
 ghost use Rattle.reach_rules.specs.Agreement.{IsAgreedBound};
 ghost use Rattle.reach_rules.specs.Failing.{IsFailureBound, is_planned};
-ghost use Rattle.nominate.specs.HopCount.{count_at, is_one_less};
+ghost use Rattle.nominate.specs.HopCount.{count_at, is_one_less, AreHopCounts};
 ghost use Rattle.protection.specs.Orderly.{is_apart, stands_apart, is_first_choice, ComesByFewest, IsOrderly};
 ghost use Rattle.protection.specs.private.Trying.{bundle_at};
 
 use cycle_plan::{Agreement, Ranked, agree, rank_plan};
-use nominate::{Hops, is_one_less, least_hops};
+use nominate::{Hops, is_one_less};
 use std::alloc::Global;
 use sync_text::NoMemory;
 use sync_topo::{InputId, LineId, Plan};
 
-/// Whether a plan is orderly, by two bundles for each element of which its lines are to be.
+/// Whether a plan is orderly, by two bundles for each element of which its lines are to be, and by the
+/// hops of the elements.
 pub(crate) fn is_orderly(
     alloc: Global,
     plan: &Plan,
     firsts: &[Option<u32>],
     seconds: &[Option<u32>],
+    hops: &Hops,
 ) -> Result<bool, NoMemory>
+    requires { AreHopCounts plan.now hops.now }
     ensures { IfOk result (λ orderly. IsTrue orderly → IsOrderly plan.now) }
 {
     // Every plan keeps the rules.
@@ -33,8 +36,7 @@ pub(crate) fn is_orderly(
     if !stand_apart(plan) {
         return Ok(false);
     }
-    let hops = least_hops(alloc, plan)?;
-    if !come_by_fewest(plan, &hops) {
+    if !come_by_fewest(plan, hops) {
         return Ok(false);
     }
     let rising = rises(alloc, plan)?;

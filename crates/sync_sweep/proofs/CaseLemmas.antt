@@ -1,6 +1,8 @@
 -- What a run is told, and when something happens in it last.
-use Rattle.std.proofs.Common.{◌≡◌, ◌≢◌, ◌≤◌, ◌<◌, ◌⊎◌, ◌+◌, ◌-◌, inl, inr, ℕ, zero, suc, List, [], ◌∷◌, ◌++◌, length, take, drop, refl, ap, sym, subst, ◌∙◌, arith}
+use Rattle.std.proofs.Common.{min, ◌≡◌, ◌≢◌, ◌≤◌, ◌<◌, ◌⊎◌, ◌+◌, ◌-◌, inl, inr, ℕ, zero, suc, List, [], ◌∷◌, ◌++◌, length, take, drop, refl, ap, sym, subst, ◌∙◌, arith}
 use Rattle.std.specs.Prelude.{slice_get, slice_index_or, Some}
+use Rattle.std.specs.List.{All}
+use Rattle.std.proofs.Math.Nat.{le-min}
 use Rattle.std.proofs.Math.Decide.{dec_lt}
 use Rattle.std.proofs.lemmas.List.{get_or-drop, get_or-take, length-drop, length-take, take-append-drop}
 use Rattle.std.proofs.lemmas.List.Elements.{All-drop, filter-append}
@@ -12,6 +14,7 @@ use Rattle.net_rules.specs.Settling.{IsGreatest}
 use Rattle.event_times.specs.EventTimes.{AreTold, AreWithin}
 use Rattle.event_times.proofs.EventTimes.{in-order, none-at}
 use Rattle.sync_sweep.specs.Cases.{merged, IsTimeUntil, IsLastUntil}
+use Rattle.sync_sweep.specs.OnWay.{before_own}
 use Rattle.sync_sweep.proofs.ChunkLemmas.{got}
 use Rattle.event_times.proofs.Ascending.{ascend}
 use Rattle.sync_sweep.proofs.Merging.{at-merged, each-merged, merged-list, stands-at}
@@ -156,3 +159,26 @@ last-early events until last is = elim is.reached [
   | inl none ↦ omega (arith, none)
   | inr time ↦ time.0
 ]
+
+-- what comes before a case's own events isn't before where its run begins
+pub before-late : (own : List Event) (from until : ℕ) → All (λ event. from ≤ event.at) own → from ≤ until → from ≤ before_own own until + 1
+before-late [] from until later in_order = omega (arith, in_order)
+before-late (event ∷ events) from until later in_order =
+    let first : from ≤ event.at = later 0 event (omega arith) in
+    let least : from - 1 ≤ min (event.at - 1) until = le-min (omega (arith, first)) (omega (arith, in_order)) in
+    omega (arith, least)
+
+-- what is told up to a millisecond, and what is told after it
+pub told-first : (plan : Topology) (all told first middle : List Event) (from before until : ℕ) → before ≤ until → AreTold plan all from until told → AreTold plan told 0 before middle
+    → ((t : ℕ) → from ≤ t → events_at t middle ≡ events_at t first) → AreTold plan all from before first
+told-first plan all told first middle from before until in_order are up_to later = record {
+  ordered = are.ordered;
+  here = λ t low high. are.here t low (omega (arith, high, in_order)) ∙ up_to.here t (omega arith) high ∙ later t low;
+}
+
+pub told-rest : (plan : Topology) (all told rest : List Event) (from before until : ℕ) → from ≤ before + 1 → AreTold plan all from until told
+    → ((t : ℕ) → before + 1 ≤ t → events_at t told ≡ events_at t rest) → AreTold plan all (before + 1) until rest
+told-rest plan all told rest from before until begun are later = record {
+  ordered = are.ordered;
+  here = λ t low high. are.here t (omega (arith, begun, low)) high ∙ later t low;
+}

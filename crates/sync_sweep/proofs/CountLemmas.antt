@@ -52,7 +52,7 @@ module _ (plan : Topology) (signals : Signals) (out : Levels) (place next : ℕ)
   level-now level says = by_past clock_level_at level says
 
 -- as many pass a test at the front of a list as numbers pass one that is alike
-alike-counted : (p : ClockState → Bool) (q : ℕ → Bool) (list : List ClockState) (other : ClockState) (n : ℕ) → n ≤ length list
+pub alike-counted : {A : Type 0} (p : A → Bool) (q : ℕ → Bool) (list : List A) (other : A) (n : ℕ) → n ≤ length list
     → ((e : ℕ) → e < n → p (slice_index_or list e other) ≡ q e) → count_by p (take n list) ≡ count_by q (range_with_len 0 n)
 alike-counted p q list other zero few same = refl
 alike-counted p q list other (suc n) few same =

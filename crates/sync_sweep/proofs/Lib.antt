@@ -18,5 +18,8 @@ pub mod EndsLemmas
 pub mod TimedLemmas
 pub mod WorkLemmas
 pub mod RowLemmas
+pub mod TakeLemmas
+pub mod SpellLemmas
+pub mod WayLemmas
 pub mod StudyLemmas
 pub mod StudyTextLemmas

@@ -12,6 +12,7 @@ use Rattle.sync_topo.specs.declared.event.Case.{Case}
 use Rattle.sync_sweep.specs.declared.row.SweepRow.{SweepRow}
 use Rattle.sync_sweep.specs.declared.working.Worked.{Worked}
 use Rattle.sync_sweep.specs.Cases.{merged, IsLastUntil}
+use Rattle.sync_sweep.specs.OnWay.{before_own}
 use Rattle.sync_sweep.specs.Outcomes.{IsOutcome, IsBoundAfter}
 use Rattle.sync_sweep.specs.private.Rows.{IsRowOf}
 use Rattle.sync_sweep.specs.Sweep.{failure, IsSweepRow, AreRows, AreSweepRows}
@@ -53,9 +54,9 @@ last-of-failure at until link last early is =
       ]
     ]
 
-row-of : (plan : Topology) (at until link : ℕ) (timed : Bool) (worked : Worked) (row : SweepRow) → at ≤ until → row.link ≡ link → IsRowOf worked row
-    → IsWorked plan (failure at link) until timed worked → IsSweepRow plan at until link row
-row-of plan at until link timed worked row early link_is same is =
+row-of : (plan : Topology) (at before until link : ℕ) (timed : Bool) (worked : Worked) (row : SweepRow) → at ≤ until → row.link ≡ link → IsRowOf worked row
+    → IsWorked plan (failure at link) before until timed worked → IsSweepRow plan at until link row
+row-of plan at before until link timed worked row early link_is same is =
     let outcome : IsOutcome plan (failure at link) until row.outcome = subst (IsOutcome plan (failure at link) until) (sym same) is.outcome in
     let last : outcome.last ≡ at = last-of-failure at until link outcome.last early outcome.is_last in
     record { link_is = link_is; shown = outcome.shown; bound = subst (λ t. IsBoundAfter plan t row.outcome.bound) last outcome.bound }
@@ -70,7 +71,8 @@ rows-of-failures plan at until timed (link ∷ links) cases worked [] early case
 rows-of-failures plan at until timed (link ∷ links) [] worked (row ∷ rows) early case_of is same numbered = absurd case_of
 rows-of-failures plan at until timed (link ∷ links) (case ∷ cases) [] (row ∷ rows) early case_of is same numbered = absurd is
 rows-of-failures plan at until timed (link ∷ links) (case ∷ cases) (one ∷ worked) (row ∷ rows) early case_of is same numbered = (
-  row-of plan at until link timed one row early numbered.0 same.0 (subst (λ events. IsWorked plan events until timed one) case_of.0 is.0),
+  row-of plan at (before_own (failure at link) until) until link timed one row early numbered.0 same.0
+      (subst (λ events. IsWorked plan events (before_own events until) until timed one) case_of.0 is.0),
   rows-of-failures plan at until timed links cases worked rows early case_of.1 is.1 same.1 numbered.1,
 )
 
@@ -84,7 +86,7 @@ swept {E} plan at until n timed cases worked result early count case_of is same 
     many : length worked ≡ n
     many =
         let first = zip-length (λ link case. case.events ≡ failure at link) (range_with_len 0 n) cases case_of in
-        let second = zip-length (λ case. IsWorked plan (merged [] case.events) until timed) cases worked is in
+        let second = zip-length (λ case. IsWorked plan (merged [] case.events) (before_own case.events until) until timed) cases worked is in
         omega (arith, first, second, length-range_with_len 0 n)
 
     by : (result : Result (List SweepRow) E) → IfOk result (AllZip IsRowOf worked) → IfOk result (AllZip (λ link row. row.link ≡ link) (range_with_len 0 (length worked)))

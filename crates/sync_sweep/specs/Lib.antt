@@ -3,6 +3,7 @@ pub mod Outcomes
 pub mod Sweep
 pub mod SweepText
 pub mod Timing
+pub mod OnWay
 pub mod Study
 pub mod StudyText
 pub mod private

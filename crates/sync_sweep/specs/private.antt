@@ -9,5 +9,6 @@ pub mod Ends
 pub mod Examples
 pub mod Rows
 pub mod ShownNow
+pub mod Spells
 pub mod Timed
 pub mod Working

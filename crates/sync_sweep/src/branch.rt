@@ -13,8 +13,10 @@ ghost use Rattle.sync_net.specs.Standing.{StandsFor};
 ghost use Rattle.sync_net.specs.Evaluated.{IsContinued};
 ghost use Rattle.sync_sweep.specs.private.Branching.{IsBranch, AreMarksOf};
 ghost use Rattle.sync_sweep.specs.private.ShownNow.{AreShown};
+ghost use Rattle.sync_sweep.specs.private.Spells.{AreNone, AreNoneUnmarked, AreNotedAt, AreWorseNow, AreCountedSo};
 
 use crate::shown::{Shown, all_shown, note_shown};
+use crate::spells::{Spell, no_spells, note_worse};
 use crate::touched::{Touched, forget, mark_all, mark_named, none_touched};
 use event_times::{next_time, split_at_time};
 use std::alloc::Global;
@@ -24,13 +26,14 @@ use sync_ql::limits::LAST_MILLISECOND;
 use sync_text::{NoMemory, Steps};
 use sync_topo::Event;
 
-/// A network that runs on from another, what of it the steps since then touched, and what each element
-/// shows.
+/// A network that runs on from another, what of it the steps since then touched, what each element
+/// showed where it was last asked, and for how long it is worse since.
 #[derive(Debug)]
 pub struct Branch<'a> {
     pub net: Net<'a>,
     pub touched: Touched,
     pub shown: Shown,
+    pub spells: Vec<Spell>,
 }
 
 // Written out, so that a way out of a function drops the whole in one step and not field by field.
@@ -40,10 +43,12 @@ impl<'a> Drop for Branch<'a> {
             net,
             touched,
             shown,
+            spells,
         } = self;
         drop(net);
         drop(touched);
         drop(shown);
+        drop(spells);
     }
 }
 
@@ -53,18 +58,23 @@ pub(crate) fn new_branch<'a>(alloc: Global, base: &'a Net<'_>) -> Result<Branch<
     ensures branch { IfOk result (λ branch. IsBranch base.now branch.net branch.touched) }
     ensures net { IfOk result (λ branch. branch.net ≡ base.now) }
     ensures shown { IfOk result (λ branch. AreShown base.now branch.shown) }
+    ensures spells { IfOk result (λ branch.
+        AreNone (length base.now.plan.elements) branch.spells.items) }
 {
     let touched = none_touched(alloc, base.plan())?;
     let shown = all_shown(alloc, base)?;
+    let spells = no_spells(alloc, base.plan().elements())?;
     let net = base.share(alloc)?;
     Ok(Branch {
         net,
         touched,
         shown,
+        spells,
     })
 }
 
-/// A step, which marks what it evaluates and calls, and what its events name.
+/// A step, which marks what it evaluates and calls, and what its events name, and notes which elements are
+/// worse than they were.
 fn step<L: Ledger>(
     branch: &mut Branch<'_>,
     now: u64,
@@ -77,8 +87,16 @@ fn step<L: Ledger>(
     requires fit { All (Fits branch.old.net.plan) events.now }
     requires here { All (λ event. event.at ≡ now) events.now }
     requires marks { AreMarksOf branch.old.net.plan branch.old.touched }
+    requires levels { length branch.old.shown.levels ≡ length branch.old.net.plan.elements }
+    requires spells { length branch.old.spells.items ≡ length branch.old.net.plan.elements }
     ensures plan { branch.new.net.plan ≡ branch.old.net.plan }
     ensures shown { branch.new.shown ≡ branch.old.shown }
+    ensures spells { length branch.new.spells.items ≡ length branch.old.spells.items }
+    ensures noted { OnOk result (AreNotedAt now branch.old.spells.items branch.new.spells.items) }
+    ensures worse { OnOk result (AreWorseNow branch.old.net branch.old.shown.levels branch.old.spells.items →
+        AreWorseNow branch.new.net branch.old.shown.levels branch.new.spells.items) }
+    ensures unmarked { OnOk result (AreNoneUnmarked branch.old.touched branch.old.spells.items →
+        AreNoneUnmarked branch.new.touched branch.new.spells.items) }
     ensures marks { OnOk result (AreMarksOf branch.new.net.plan branch.new.touched) }
     ensures live { OnOk result (branch.new.net.spent ≡ false) }
     ensures next { OnOk result (branch.new.net.next ≡ now + 1) }
@@ -93,6 +111,13 @@ fn step<L: Ledger>(
     mark_all(&mut branch.touched.elements, branch.net.evaluated());
     mark_all(&mut branch.touched.lines, branch.net.called());
     mark_named(branch.net.plan(), &mut branch.touched, events);
+    note_worse(
+        &branch.net,
+        &branch.shown.levels,
+        now,
+        branch.spells.as_mut_slice(),
+        branch.net.evaluated(),
+    );
     Ok(())
 }
 
@@ -106,12 +131,21 @@ pub(crate) fn run_events<L: Ledger>(
 ) -> Result<(), NoMemory>
     requires live { branch.old.net.spent ≡ false }
     requires from { branch.old.net.next ≡ from }
-    requires before { from ≤ until }
+    requires before { from ≤ until + 1 }
     requires in_range { until ≤ LAST_MILLISECOND }
     requires events { AreWithin branch.old.net.plan from until events.now }
     requires marks { AreMarksOf branch.old.net.plan branch.old.touched }
+    requires levels { length branch.old.shown.levels ≡ length branch.old.net.plan.elements }
+    requires spells { length branch.old.spells.items ≡ length branch.old.net.plan.elements }
     ensures plan { branch.new.net.plan ≡ branch.old.net.plan }
     ensures shown { branch.new.shown ≡ branch.old.shown }
+    ensures spells { length branch.new.spells.items ≡ length branch.old.spells.items }
+    ensures unmarked { OnOk result (AreNoneUnmarked branch.old.touched branch.old.spells.items →
+        AreNoneUnmarked branch.new.touched branch.new.spells.items) }
+    ensures counted { OnOk result ((all : List Event) (before : ℕ) →
+        AreTold branch.old.net.plan all from until events.now → StandsFor branch.old.net all from →
+        AreCountedSo branch.old.net branch.old.shown.levels all before from branch.old.spells.items →
+        AreCountedSo branch.new.net branch.old.shown.levels all before (until + 1) branch.new.spells.items) }
     ensures live { OnOk result (branch.new.net.spent ≡ false) }
     ensures next { OnOk result (branch.new.net.next ≡ until + 1) }
     ensures stands { OnOk result ((all : List Event) →
@@ -121,6 +155,7 @@ pub(crate) fn run_events<L: Ledger>(
         IsBranch base branch.old.net branch.old.touched →
         IsBranch base branch.new.net branch.new.touched) }
 {
+    sync_net::elements_law();
     let mut next = from;
     let mut rest = events;
     while next <= until {
@@ -141,6 +176,7 @@ pub(crate) fn show(branch: &mut Branch<'_>)
     requires levels { length branch.old.shown.levels ≡ length branch.old.net.plan.elements }
     ensures net { branch.new.net ≡ branch.old.net }
     ensures touched { branch.new.touched ≡ branch.old.touched }
+    ensures spells { branch.new.spells ≡ branch.old.spells }
     ensures shown { (base : NetState) →
         IsBranch base branch.old.net branch.old.touched →
         AreShown base branch.old.shown → AreShown branch.new.net branch.new.shown }
@@ -165,6 +201,7 @@ pub(crate) fn go_back(
     ensures branch { OnOk result (IsBranch base.now branch.new.net branch.new.touched) }
     ensures net { OnOk result (branch.new.net ≡ base.now) }
     ensures shown { OnOk result (AreShown base.now branch.new.shown) }
+    ensures spells { branch.new.spells ≡ branch.old.spells }
 {
     branch.net.return_to(
         alloc,

@@ -9,6 +9,7 @@ ghost use Rattle.net_rules.specs.Signals.{events_at};
 ghost use Rattle.net_rules.specs.Settling.{IsGreatest};
 ghost use Rattle.event_times.specs.EventTimes.{AreTold, AreWithin};
 ghost use Rattle.sync_sweep.specs.Cases.{after_earlier, merged, IsLastUntil};
+ghost use Rattle.sync_sweep.specs.OnWay.{before_own};
 ghost use Rattle.sync_sweep.specs.private.Cases.{NoneBefore};
 ghost use Rattle.sync_sweep.specs.Sweep.{failure};
 
@@ -65,6 +66,18 @@ fn earlier(begin: u64, events: &[Event]) -> u64
     match events.first() {
         Some(event) if event.at < begin => event.at,
         _ => begin,
+    }
+}
+
+/// The millisecond before the first of a case's own events, or 0 where that is at 0; the last one of
+/// all where none comes before its end.
+pub(crate) fn before_own(events: &[Event], until: u64) -> u64
+    ensures is { result ≡ before_own events.now until }
+    ensures up_to { result ≤ until }
+{
+    match events.first() {
+        Some(event) => event.at.saturating_sub(1).min(until),
+        None => until,
     }
 }
 

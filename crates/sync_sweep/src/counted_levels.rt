@@ -66,6 +66,14 @@ impl CountedLevels {
         self.counts[level.place as usize] += 1;
     }
 
+    /// The place of an element's level in the table.
+    pub(crate) fn place(&self, element: u32) -> u8
+        requires element { element < length self.now }
+        ensures { (other : Level) → (slice_index_or self.now element other).place ≡ result }
+    {
+        self.levels[element as usize].place
+    }
+
     /// The greatest place that one of the levels has. It takes the same time for any number of them.
     pub(crate) fn greatest_place(&self) -> u8
         requires some { 0 < length self.now }

@@ -100,7 +100,7 @@ fn state_of(element: &Element) -> ClockState
     element.state()
 }
 
-fn level_of(element: &Element) -> Level
+pub(crate) fn level_of(element: &Element) -> Level
     ensures { ShowsLevel element.now result }
 {
     element.level()

@@ -2,8 +2,10 @@
 
 ghost use Rattle.std.specs.Prelude.{◌≡◌, ◌++◌, ◌<◌, length, IfOk, IfSome, OnOk};
 ghost use Rattle.std.specs.List.{All};
-ghost use Rattle.sync_sweep.specs.StudyText.{case_text, first_word, study_text, timing_text};
+ghost use Rattle.sync_sweep.specs.Study.{IsOfPlan};
+ghost use Rattle.sync_sweep.specs.StudyText.{case_text, first_word, study_text, timed_text, timing_text, way_text};
 
+use crate::on_way::OnWay;
 use crate::studying::StudyRow;
 use crate::table::put_results;
 use crate::timings::Timing;
@@ -13,7 +15,9 @@ use sync_topo::Plan;
 
 /// The rows of a study over a plan, as text: a head, and then a row for each case with its name, what
 /// a row of a sweep says of a network, how many elements have no timing from a source, the name of the
-/// first of these or nothing, and the lines of the longest trace that ends.
+/// first of these or nothing, the lines of the longest trace that ends, and what the case costs on the
+/// way: how many elements are worse than before in some millisecond, the most milliseconds in which one
+/// is, the name of the first such element or nothing, and how many are at the end.
 ///
 /// There are as many names as rows, and the elements are of this plan. `NoMemory` comes for want of
 /// memory alone. This project's own.
@@ -24,12 +28,13 @@ pub fn study_text(
     rows: &[StudyRow],
 ) -> Result<Text, NoMemory>
     requires names { length names.now ≡ length rows.now }
-    requires of_plan { All (λ row. IfSome row.timing.first (λ element.
-        element < length plan.now.elements)) rows.now }
+    requires of_plan { All (IsOfPlan plan.now) rows.now }
     ensures text { IfOk result (λ text. text ≡ study_text plan.now names.now rows.now) }
 {
     let mut text = Text::new(alloc);
-    text.put(b"case,settled,locked,holdover,freerun,loops,worst,bound,lost,first,longest\n")?;
+    text.put(
+        b"case,settled,locked,holdover,freerun,loops,worst,bound,lost,first,longest,hurt,dark,darkest,still\n",
+    )?;
     for (place, row) in rows.iter().enumerate() {
         put_case(&mut text, plan, &names[place], row)?;
     }
@@ -38,15 +43,26 @@ pub fn study_text(
 
 /// Puts the row of a case.
 fn put_case(text: &mut Text, plan: &Plan, name: &Text, row: &StudyRow) -> Result<(), NoMemory>
-    requires of_plan { IfSome row.now.timing.first (λ element. element < length plan.now.elements) }
+    requires of_plan { IsOfPlan plan.now row.now }
     ensures put { OnOk result (text.new ≡ text.old ++ case_text plan.now name.now row.now) }
 {
     text.put(name.bytes())?;
     text.put(b",")?;
     put_results(text, &row.outcome)?;
     text.put(b",")?;
-    put_timing(text, plan, &row.timing)?;
+    put_timed(text, plan, row)?;
     text.put(b"\n")
+}
+
+/// Puts whence the elements have their timing, and what the case costs on the way.
+#[tactic(auto, unfolding(crate::specs::StudyText::timed_text))]
+fn put_timed(text: &mut Text, plan: &Plan, row: &StudyRow) -> Result<(), NoMemory>
+    requires of_plan { IsOfPlan plan.now row.now }
+    ensures put { OnOk result (text.new ≡ text.old ++ timed_text plan.now row.now) }
+{
+    put_timing(text, plan, &row.timing)?;
+    text.put(b",")?;
+    put_way(text, plan, &row.way)
 }
 
 /// Puts whence the elements have their timing.
@@ -59,6 +75,20 @@ fn put_timing(text: &mut Text, plan: &Plan, timing: &Timing) -> Result<(), NoMem
     put_first(text, plan, timing.first)?;
     text.put(b",")?;
     text.put_number(u64::from(timing.longest))
+}
+
+/// Puts what a case costs on the way.
+fn put_way(text: &mut Text, plan: &Plan, way: &OnWay) -> Result<(), NoMemory>
+    requires of_plan { IfSome way.now.darkest (λ element. element < length plan.now.elements) }
+    ensures put { OnOk result (text.new ≡ text.old ++ way_text plan.now way.now) }
+{
+    text.put_number(u64::from(way.hurt))?;
+    text.put(b",")?;
+    text.put_number(way.dark)?;
+    text.put(b",")?;
+    put_first(text, plan, way.darkest)?;
+    text.put(b",")?;
+    text.put_number(u64::from(way.still))
 }
 
 /// Puts the name of an element, where there is one.

@@ -4,9 +4,10 @@ ghost use Rattle.std.specs.Prelude.{◌≡◌, ◌≤◌, ◌<◌, true, length,
 ghost use Rattle.std.specs.List.{All, AllZip};
 ghost use Rattle.sync_topo.specs.Events.{IsCase, IsEventList};
 ghost use Rattle.sync_sweep.specs.private.Rows.{IsStudyRowOf};
-ghost use Rattle.sync_sweep.specs.Study.{AreStudyRows};
+ghost use Rattle.sync_sweep.specs.Study.{AreStudyRows, IsOfPlan};
 
 use crate::gate::Gate;
+use crate::on_way::OnWay;
 use crate::outcomes::Outcome;
 use crate::sweeping::work_all;
 use crate::timings::Timing;
@@ -17,7 +18,8 @@ use sync_ql::limits::LAST_MILLISECOND;
 use sync_text::{NoMemory, Rows};
 use sync_topo::{Case, Event, Plan};
 
-/// What becomes of a network in a case, and whence its elements have their timing then.
+/// What becomes of a network in a case, whence its elements have their timing then, and what the case
+/// costs on the way.
 ///
 /// This project's own.
 #[derive(Clone, Copy, Debug, PartialEq, Eq, Drop)]
@@ -26,6 +28,8 @@ pub struct StudyRow {
     pub outcome: Outcome,
     /// Whence its elements have their timing.
     pub timing: Timing,
+    /// What the case costs on the way.
+    pub way: OnWay,
 }
 
 /// What becomes of the plan's network at `until` in each case, in order, where the common events
@@ -52,8 +56,7 @@ pub fn study<R: Threads + Sync, G: Gate + Sync>(
     requires in_range { until ≤ LAST_MILLISECOND }
     ensures rows { IfOk result (AreStudyRows plan.now common.now until cases.now) }
     ensures count { IfOk result (λ rows. length rows ≡ length cases.now) }
-    ensures of_plan { IfOk result (All (λ row. IfSome row.timing.first (λ element.
-        element < length plan.now.elements))) }
+    ensures of_plan { IfOk result (All (IsOfPlan plan.now)) }
     ensures bound { IfOk result (All (λ row. IfSome row.outcome.bound (λ bound. bound ≤ until →
         row.outcome.settled ≡ true))) }
 {
@@ -82,6 +85,7 @@ fn study_row(worked: Worked) -> StudyRow
         Some(timing) => StudyRow {
             outcome: worked.outcome,
             timing,
+            way: worked.way,
         },
         None => unreachable!(),
     }

@@ -11,61 +11,33 @@ ghost use Rattle.sync_net.specs.Standing.{StandsFor};
 ghost use Rattle.sync_sweep.specs.private.Base.{AreCommonBefore};
 ghost use Rattle.sync_sweep.specs.private.Branching.{IsBranch, AreMarksOf};
 ghost use Rattle.sync_sweep.specs.Cases.{merged};
+ghost use Rattle.sync_sweep.specs.OnWay.{before_own};
 ghost use Rattle.sync_sweep.specs.Outcomes.{IsBoundAfter};
 ghost use Rattle.sync_sweep.specs.private.ShownNow.{AreShown};
+ghost use Rattle.sync_sweep.specs.private.Spells.{AreNone};
 ghost use Rattle.sync_sweep.specs.private.Timed.{IsTimed};
 ghost use Rattle.sync_sweep.specs.private.Working.{IsWorked};
 
-use crate::branch::{Branch, go_back, run_events, show};
-use crate::cases::{run_last, told_of};
+use crate::branch::{Branch, go_back};
+use crate::cases::{before_own, run_last, told_of};
+use crate::on_way::OnWay;
 use crate::outcomes::{Outcome, bound_after, outcome_of};
+use crate::running::run_case;
 use crate::timed::{Timed, timing_if};
 use crate::timings::Timing;
 use std::alloc::Global;
-use std::marker::Brand;
-use std::sync::ledger::{Blank, Ledger};
 use sync_net::Net;
 use sync_ql::limits::LAST_MILLISECOND;
-use sync_text::{NoMemory, Steps};
+use sync_text::NoMemory;
 use sync_topo::{Case, Event};
 
-/// What becomes of a network in a case, and the timing of its elements where that is asked for.
+/// What becomes of a network in a case, the timing of its elements where that is asked for, and what the
+/// case costs on the way.
 #[derive(Clone, Copy, Debug, PartialEq, Eq, Drop)]
 pub struct Worked {
     pub outcome: Outcome,
     pub timing: Option<Timing>,
-}
-
-/// The network runs to its end; its steps are counted on a ledger.
-fn run_out<L: Ledger>(
-    branch: &mut Branch<'_>,
-    from: u64,
-    told: &[Event],
-    until: u64,
-    blank: Blank,
-) -> Result<(), NoMemory>
-    requires name { blank.name ≡ L.name }
-    requires parts { blank.parts ≡ L.parts }
-    requires some { 0 < blank.parts }
-    requires live { branch.old.net.spent ≡ false }
-    requires from { branch.old.net.next ≡ from }
-    requires before { from ≤ until }
-    requires in_range { until ≤ LAST_MILLISECOND }
-    requires events { AreWithin branch.old.net.plan from until told.now }
-    requires marks { AreMarksOf branch.old.net.plan branch.old.touched }
-    ensures plan { branch.new.net.plan ≡ branch.old.net.plan }
-    ensures shown { branch.new.shown ≡ branch.old.shown }
-    ensures live { OnOk result (branch.new.net.spent ≡ false) }
-    ensures next { OnOk result (branch.new.net.next ≡ until + 1) }
-    ensures stands { OnOk result ((all : List Event) →
-        AreTold branch.old.net.plan all from until told.now →
-        StandsFor branch.old.net all from → StandsFor branch.new.net all (until + 1)) }
-    ensures branch { OnOk result ((base : NetState) →
-        IsBranch base branch.old.net branch.old.touched →
-        IsBranch base branch.new.net branch.new.touched) }
-{
-    let mut steps = Steps::<L>::new(blank);
-    run_events(branch, from, told, until, &mut steps)
+    pub way: OnWay,
 }
 
 /// What becomes of the network in a case, on a branch of the network that has come as far as up to a
@@ -95,24 +67,30 @@ pub(crate) fn case_worked(
     requires branch { IsBranch base.now branch.old.net branch.old.touched }
     requires same { branch.old.net ≡ base.now }
     requires shown { AreShown base.now branch.old.shown }
+    requires spells { AreNone (length base.now.plan.elements) branch.old.spells.items }
     requires timed { IfSome timed.old (IsTimed base.now) }
-    ensures worked { IfOk result
-        (IsWorked base.now.plan (merged common.now case.now.events) until (is_some timed.old)) }
+    ensures worked { IfOk result (IsWorked base.now.plan (merged common.now case.now.events)
+        (before_own case.now.events until) until (is_some timed.old)) }
     ensures branch { OnOk result (IsBranch base.now branch.new.net branch.new.touched) }
     ensures same { OnOk result (branch.new.net ≡ base.now) }
     ensures shown { OnOk result (AreShown base.now branch.new.shown) }
+    ensures spells { OnOk result (AreNone (length base.now.plan.elements) branch.new.spells.items) }
     ensures kept { OnOk result (is_some timed.new ≡ is_some timed.old) }
     ensures timed { OnOk result (IfSome timed.new (IsTimed base.now)) }
 {
     let _elements = base.plan().elements();
     let own = case.events.as_slice();
     let told = told_of(alloc, common, own, from, until)?;
-    run_out::<Brand>(branch, from, told.as_slice(), until, Blank::new(1))?;
-    show(branch);
+    let before = before_own(own, until);
+    let way = run_case(branch, from, told.as_slice(), before, until)?;
     let last = run_last(common, own, until);
     let bound = bound_after(bound, until, last);
     let outcome = outcome_of(alloc, &branch.net, &branch.shown, last, bound)?;
     let timing = timing_if(alloc, &branch.net, timed, branch.touched.elements.listed())?;
     go_back(alloc, branch, base)?;
-    Ok(Worked { outcome, timing })
+    Ok(Worked {
+        outcome,
+        timing,
+        way,
+    })
 }

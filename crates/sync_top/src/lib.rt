@@ -5,7 +5,7 @@
 //! written, and `IsCut` what a write fault leaves. Which words are a form is `form_of`. That there
 //! is one answer, to all words but `protect`, is [`one_answer_law`], and that what `rank` writes is
 //! accepted [`planned_is_accepted_law`]. That `protected` with no group answers as without is
-//! [`no_groups_law`]. No clause says that memory is found; docs/promises.md tells what shows it.
+//! [`no_groups_law`]. No clause says that memory is found; docs/verify/promises.md tells what shows it.
 #![tactic(auto)]
 
 mod agreeing;

@@ -113,11 +113,11 @@ fn reply_to<R: Threads + Sync, F: Folder, G: Gate + Sync>(
 /// tells of each command whether it was taken, what each element chose, and of each input why it is
 /// taken or isn't. `sweep PLAN AT UNTIL` tells for each link what the network is at UNTIL where
 /// that link alone fails at AT, a millisecond up to UNTIL, and `study PLAN CASES UNTIL` for each case
-/// of a list of cases what it is where the case's events happen. `prio-check`, `prio-rank` and `prio-sim`
-/// take the same files for a network whose elements choose by priority alone: a test of ranks, the
-/// least ranks or the event file of forced switches that make a loop, and the report of a run. `gen
-/// N` writes the ladder of N elements, 2 to 2,000, and `trial N` what planner, test and simulator
-/// find of it.
+/// of a list of cases what it is where the case's events happen, and what they cost on the way there.
+/// `prio-check`, `prio-rank` and `prio-sim` take the same files for a network whose elements choose by
+/// priority alone: a test of ranks, the least ranks or the event file of forced switches that make a
+/// loop, and the report of a run. `gen N` writes the ladder of N elements, 2 to 2,000, and `trial N`
+/// what planner, test and simulator find of it.
 ///
 /// A plan has at most 2,000 elements, 4,000 links and 2,000 sources. Before each of these words but
 /// those for captured frames and rows may stand `large`: then a plan has at most 100,000 elements,

@@ -6,10 +6,12 @@ import _signal  # type: ignore[import]
 import os
 import sys
 
-from murdjohe import core, forms, run_form, streams
-from murdjohe.run_form import JSON, QUIET, Settings
-from murdjohe.streams import Output
-from murdjohe.wrong import Wrong
+from murdjohe.commands import form_run
+from murdjohe.commands.form_run import JSON, QUIET, Settings
+from murdjohe.core import forms, program, streams
+from murdjohe.core.faults import Wrong
+from murdjohe.core.row_columns import RowFault
+from murdjohe.core.streams import Output
 
 ENDING = (1, 15)  # SIGHUP and SIGTERM (the module `signal` takes long to import)
 INTERRUPTED = 130  # as a shell says of a command that Ctrl-C ended
@@ -30,8 +32,8 @@ def answered(words: list[str], output: Output) -> int:
     """Answers the words, and gives the exit status."""
     if found := plain(words):
         form, given, settings = found
-        return run_form.run(form, given, settings, output)
-    from murdjohe import cli
+        return form_run.run(form, given, settings, output)
+    from murdjohe.commands import cli
 
     return cli.run(words, output)
 
@@ -43,12 +45,15 @@ def guarded(words: list[str], output: Output) -> int:
     except Wrong as wrong:
         streams.tell(*wrong.lines)
         return wrong.status
-    except core.NoAnswer as none:
+    except program.NoAnswer as none:
         streams.tell(str(none))
-        return core.MISTAKE
-    except (core.Absent, core.Ended) as absent:
+        return program.MISTAKE
+    except RowFault as fault:
+        streams.tell(f"{program.NAME} gave an answer that isn't known here: {fault}; see `murdjohe help core`")
+        return program.MISTAKE
+    except (program.Absent, program.Ended) as absent:
         streams.tell(str(absent))
-        return core.UNAVAILABLE
+        return program.UNAVAILABLE
     except streams.Lost as lost:
         if not lost.is_gone:
             streams.tell(f"standard output: {lost}")
@@ -59,14 +64,14 @@ def guarded(words: list[str], output: Output) -> int:
         return INTERRUPTED
     except MemoryError:
         streams.tell("out of memory; free some, and run again")
-        return core.NO_MEMORY
+        return program.NO_MEMORY
     except Exception as mistake:
         if (status := ended_by(mistake)) is not None:
             return status
-        from murdjohe import failure
+        from murdjohe.core import crash
 
-        streams.tell(failure.told(mistake))
-        return core.MISTAKE
+        streams.tell(crash.told(mistake))
+        return program.MISTAKE
 
 
 def ended_by(fault: BaseException | None) -> int | None:

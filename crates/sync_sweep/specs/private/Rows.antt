@@ -8,7 +8,8 @@ use Rattle.sync_sweep.specs.declared.working.Worked.{Worked}
 abbrev pub IsRowOf : Worked → SweepRow → Type 0
 IsRowOf worked row = row.outcome ≡ worked.outcome
 
--- and one of a study its timing too
+-- and one of a study its timing too, and what the case costs on the way
 pub record IsStudyRowOf (worked : Worked) (row : StudyRow) : Type 0 where
   pub outcome : row.outcome ≡ worked.outcome
   pub timing : worked.timing ≡ Some row.timing
+  pub way : row.way ≡ worked.way

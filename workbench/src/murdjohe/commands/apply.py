@@ -4,8 +4,10 @@ from __future__ import annotations
 
 import click
 
-from murdjohe import core, edits, plan_file, priorities, streams
-from murdjohe.commands.common import free, output_options, put
+from murdjohe.commands.options import free, output_options, put
+from murdjohe.core import program, streams
+from murdjohe.network import plan_file
+from murdjohe.plan import edits, priorities
 
 
 @click.command("apply")
@@ -28,7 +30,7 @@ def apply(context: click.Context, plan: str, source: str, output: str | None, fo
     free(output, force, plan, source)
     taken, other = plan_file.read(plan), plan_file.read(source)
     priorities.same_network(taken.plan, other.plan)
-    wanted = priorities.wanted(taken.plan, priorities.priorities_of(other.tables))
+    wanted = priorities.wanted(taken.plan, priorities.priorities_of(other.network))
     data = edits.changed(taken.plan, wanted)
     judgement = plan_file.judged(plan_file.taken("the plan that comes of it", data))
     put(context, output, data)
@@ -36,7 +38,7 @@ def apply(context: click.Context, plan: str, source: str, output: str | None, fo
         number = f"{len(wanted):,} priorit{'y' if len(wanted) == 1 else 'ies'} changed"
         colour = "green" if judgement.is_good else "yellow"
         streams.tell(f"{number}; checked: {judgement.text}", *judgement.lines, colour=colour)
-    return core.DONE if judgement.is_good else core.REFUTED
+    return program.DONE if judgement.is_good else program.REFUTED
 
 
 COMMAND = apply

@@ -8,15 +8,16 @@ from typing import Any
 
 import click
 
-from murdjohe import core, streams, talk_faults
-from murdjohe.commands.common import Milliseconds, free, output_options, put
-from murdjohe.wrong import Wrong
+from murdjohe.capture import talk_faults
+from murdjohe.commands.options import Milliseconds, free, output_options, put
+from murdjohe.core import program, streams
+from murdjohe.core.faults import Wrong
 
 TYPE_CHECKING = False
 if TYPE_CHECKING:
-    from murdjohe import esmc, lab_lines
-    from murdjohe.clock_times import Clock
-    from murdjohe.talkers import Talk
+    from murdjohe.capture import esmc, lab_lines
+    from murdjohe.capture.clock_times import Clock
+    from murdjohe.capture.talkers import Talk
 
 OPTION = click.option(
     "--option", type=click.Choice(["I", "II"]), default="I", help="the network option; I where none is given"
@@ -58,12 +59,12 @@ def ended(context: click.Context, taken: esmc.Capture, said: list[str]) -> int:
     if not is_quiet(context):
         streams.tell(*said, colour="yellow")
     if taken.damage is None:
-        return core.DONE
+        return program.DONE
     name = "standard input" if taken.path == "-" else taken.path
     before = "; what comes before is whole, and was read" if taken.packets else ""
     if not is_quiet(context):
         streams.tell(f"{name}: {taken.damage}{before}")
-    return core.BAD_FRAMES
+    return program.BAD_FRAMES
 
 
 @capture.command("read", short_help="who speaks, at what rate, transitions and silences")
@@ -97,7 +98,8 @@ def read(context: click.Context, file: str, option: str, local: bool, what: str 
       $ murdjohe capture write rows -o capture.pcap
       $ murdjohe capture read capture.pcap
     """
-    from murdjohe import clock_times, esmc, progress, talk_report, talkers
+    from murdjohe.capture import clock_times, esmc, talk_report, talkers
+    from murdjohe.core import progress
 
     output = asked["output"]
     free(output, asked["force"], file)
@@ -115,12 +117,12 @@ def read(context: click.Context, file: str, option: str, local: bool, what: str 
     elif what is None and not (taken.damage and not taken.packets):
         put(context, output, talk_report.text(taken, talk, clock, file).encode("utf-8", "backslashreplace"))
     status = ended(context, taken, said)
-    return status or (core.FOUND if talk_faults.found(taken, talk, asked["fail_on"]) else core.DONE)
+    return status or (program.FOUND if talk_faults.found(taken, talk, asked["fail_on"]) else program.DONE)
 
 
 def all_heard(taken: esmc.Capture, talk: Talk, clock: Clock, what: str | None, sink: Callable[[bytes], None]) -> None:
     """Takes in all frames of a capture; each is written where frames or rows are wanted."""
-    from murdjohe import talk_report
+    from murdjohe.capture import talk_report
 
     lines = [talk_report.FRAMES_HEAD] if what == "frames" else []
     for frame, since in talk.heard(taken.heard()):
@@ -155,7 +157,8 @@ def flushed(sink: Callable[[bytes], None], lines: list[str], count: int) -> list
 
 def bench_of(path: str, option: str, words: tuple[str, ...]) -> tuple[lab_lines.Bench, esmc.Capture]:
     """What a capture holds of the lines that are named."""
-    from murdjohe import esmc, lab_lines, progress
+    from murdjohe.capture import esmc, lab_lines
+    from murdjohe.core import progress
 
     bench = lab_lines.Bench([lab_lines.where_of(word) for word in words])
     taken = esmc.Capture(path, option)
@@ -198,7 +201,7 @@ def node(
       $ murdjohe capture node capture.pcap E1 --line 'S1>E1=020000000001' > received
       $ murdjohe node plan.toml E1 received 2s
     """
-    from murdjohe import clock_times, lab_lines, lab_report, talk_report
+    from murdjohe.capture import clock_times, lab_lines, lab_report, talk_report
 
     free(output, force, file, events)
     lines = {where.line for where in map(lab_lines.where_of, line) if where.line.endswith(f">{element}")}
@@ -257,7 +260,8 @@ def compare(context: click.Context, plan: str, element: str, file: str, line: tu
       $ murdjohe capture write rows -o capture.pcap
       $ murdjohe capture compare plan.toml E1 capture.pcap --line S1\\>E1=020000000001 --line S1\\>E0=020000000002
     """
-    from murdjohe import api, clock_times, lab_report, talk_report
+    from murdjohe.answers import api
+    from murdjohe.capture import clock_times, lab_report, talk_report
 
     output, force = settings.pop("output"), settings.pop("force")
     free(output, force, plan, file, settings["events"])
@@ -276,7 +280,7 @@ def compare(context: click.Context, plan: str, element: str, file: str, line: tu
     said = [*lab_report.remarks(bench, read_plan, asked, found, clock), *talk_report.of_capture(taken)]
     shown = lab_report.as_json(bench, found, said) if is_json else lab_report.text(bench, found, clock)
     put(context, output, shown.encode("utf-8", "backslashreplace"))
-    return ended(context, taken, said) or (core.DONE if found.is_passed else core.REFUTED)
+    return ended(context, taken, said) or (program.DONE if found.is_passed else program.REFUTED)
 
 
 @capture.command("write", short_help="a capture to send, of rows")
@@ -297,17 +301,18 @@ def write(context: click.Context, rows: str, option: str, every: int, output: st
       $ murdjohe capture write rows -o to-send.pcap
       $ murdjohe capture read to-send.pcap
     """
-    from murdjohe import files, rows_written
+    from murdjohe.capture import frame_writer
+    from murdjohe.core import files
 
     free(output, force, rows)
     name = "standard input" if rows == "-" else rows
     try:
-        data = b"".join(rows_written.capture_of(name, files.octets(rows), option, every))
-    except rows_written.Refused as refused:
+        data = b"".join(frame_writer.capture_of(name, files.octets(rows), option, every))
+    except frame_writer.Refused as refused:
         streams.tell(str(refused))
         return refused.status
     put(context, output, data)
-    return core.DONE
+    return program.DONE
 
 
 COMMAND = capture

@@ -10,7 +10,7 @@ SHELLS: dict[str, type[ShellComplete]] = {"bash": BashComplete, "zsh": ZshComple
 
 def source(shell: str) -> str:
     """The text for a shell."""
-    from murdjohe import cli
+    from murdjohe.commands import cli
 
     completion = SHELLS[shell](cli.command(), {}, cli.NAME, f"_{cli.NAME.upper()}_COMPLETE")
     return completion.source_template % completion.source_vars()

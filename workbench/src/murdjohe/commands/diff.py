@@ -8,11 +8,13 @@ import io
 
 import click
 
-from murdjohe import api, core, differences, groups, plain_json, plan_file, progress, said_of_groups, streams, times
-from murdjohe.commands.common import GROUPS, START, free, one_input, output_options, put
-from murdjohe.groups import GroupFile
-from murdjohe.plan_file import Judgement, PlanFile
-from murdjohe.wrong import Wrong
+from murdjohe.answers import api
+from murdjohe.commands.options import GROUPS, START, free, one_input, output_options, put
+from murdjohe.core import plain_json, program, progress, streams, times
+from murdjohe.core.faults import Wrong
+from murdjohe.network import differences, group_remarks, groups, plan_file
+from murdjohe.network.groups import GroupFile
+from murdjohe.network.plan_file import Judgement, PlanFile
 
 
 def swept(taken: PlanFile, words: tuple[str, str], start: int | None) -> differences.Facts:
@@ -36,10 +38,10 @@ def grouped(taken: PlanFile, path: str | None) -> GroupFile | None:
 
 def facts_of_plan(taken: PlanFile, table: GroupFile | None, judgement: Judgement) -> differences.Facts:
     """What a plan says, and whom groups cut off in it."""
-    facts = differences.facts_of(taken.tables, taken.plan.option)
+    facts = differences.facts_of(taken.network, taken.plan.option)
     if table is None:
         return facts
-    lost = said_of_groups.parted(taken.tables, table.groups)
+    lost = group_remarks.parted(taken.network, table.groups)
     return facts | differences.facts_of_groups(table.groups, judgement.gaps or (), lost)
 
 
@@ -109,9 +111,9 @@ def diff(
     put(context, output, shown(found, form or ("json" if context.find_root().params["json"] else "")))
     if not context.find_root().params["quiet"]:
         number = f"{len(found):,} difference{'' if len(found) == 1 else 's'}"
-        lines = [line for one in judgements for line in one.lines] + ([said_of_groups.ALONE] if groups_path else [])
+        lines = [line for one in judgements for line in one.lines] + ([group_remarks.ALONE] if groups_path else [])
         streams.tell(f"{number}; {verdicts(pair, judgements)}", *lines, colour="yellow" if found else "green")
-    return core.REFUTED if found else core.DONE
+    return program.REFUTED if found else program.DONE
 
 
 COMMAND = diff

@@ -7,41 +7,47 @@ from typing import Any
 
 import click
 
-from murdjohe import core, drawing, figures, group_bands, groups, places, plan_file, progress, runs, views, wiring
-from murdjohe.commands.common import GROUPS, START, Milliseconds, free, from_start, put
-from murdjohe.drawing import Plan
-from murdjohe.inputs import STDIN
-from murdjohe.places import Layout
-from murdjohe.views import View
-from murdjohe.wrong import Wrong
+from murdjohe.commands.options import GROUPS, START, Milliseconds, free, from_start, put
+from murdjohe.core import program, progress
+from murdjohe.core.faults import Wrong
+from murdjohe.core.inputs import STDIN
+from murdjohe.network import groups, plan_file, wiring
+from murdjohe.picture import figures, group_bands, places, plan_graph, views
+from murdjohe.picture.places import Layout
+from murdjohe.picture.views import View
+from murdjohe.plan import side_table
+from murdjohe.plan.model import Plan
+from murdjohe.runs import report_file, simulation
 
 ENDINGS = (*figures.ENDINGS, "dot")
 WAY_OUT = "draw a part by --near ELEMENT, or write a file that ends in .dot, which Graphviz draws"
 
 
-def view_of(plan: str, tables: Plan, report: str | None, events: str | None, at: int | None, start: int | None) -> View:
+def view_of(
+    plan: str, network: Plan, report: str | None, events: str | None, at: int | None, start: int | None
+) -> View:
     """What is drawn of the whole plan. Raises Wrong."""
     if report is None:
         if events is not None or at is not None:
             raise Wrong("--at and --events are of a run: name its report by --report")
-        return views.plain_view(plan, tables)
-    found = views.of_this_plan(report, views.read_report(report), wiring.wiring_of(tables))
-    rows = runs.read_events(events, start).events if events else ()
-    return views.view_of(plan, tables, found, rows, at, start or 0)
+        return views.plain_view(plan, network)
+    found = views.of_this_plan(report, report_file.read(report), wiring.wiring_of(network))
+    rows = simulation.read_events(events, start).events if events else ()
+    return views.view_of(plan, network, found, rows, at, start or 0)
 
 
-def as_dot(tables: Plan, view: View, marks: frozenset[str]) -> bytes:
+def as_dot(network: Plan, view: View, marks: frozenset[str]) -> bytes:
     """The picture as Graphviz reads it."""
     last = {name: [one.mode, one.input or "none", one.level or "", one.state] for name, one in view.shown.items()}
-    return drawing.picture_of(tables, drawing.Shown(view.ranks, last, marks, view.groups)).encode()
+    return plan_graph.picture_of(network, plan_graph.Shown(view.ranks, last, marks, view.groups)).encode()
 
 
-def rendered(tables: Plan, view: View, marks: frozenset[str], ending: str, layout: Layout) -> bytes:
+def rendered(network: Plan, view: View, marks: frozenset[str], ending: str, layout: Layout) -> bytes:
     """The picture of a part of the plan in a format of matplotlib."""
-    from murdjohe import sketch
+    from murdjohe.picture import sketch
 
     red = view.red | dict.fromkeys(marks, views.RING)
-    part = replace(view, tables=tables, wired=wiring.wiring_of(tables), red=red)
+    part = replace(view, network=network, wired=wiring.wiring_of(network), red=red)
     return sketch.picture(part, layout, ending)
 
 
@@ -62,6 +68,7 @@ def rendered(tables: Plan, view: View, marks: frozenset[str], ending: str, layou
 @click.option(
     "--places", "table", type=click.Path(), help="a table with the columns name, x and y: where elements stand"
 )
+@click.option("--ports", type=click.Path(), help="the table of ports; PLAN.ports.csv where there is one")
 @GROUPS
 @START
 @click.option("--force", is_flag=True, help="writes over a file that is there already")
@@ -73,8 +80,8 @@ def draw(context: click.Context, plan: str, report: str | None, force: bool, out
     With a report elements have the colours of their levels; what is taken is thick, what is down dashed, a closed walk red with
     the word LOOP, and who follows no source hatched. Up to 30 elements go on a page of A4, up to 320 on one of A3, and 5,000 are the
     most; of a larger plan --near draws a part. A report of another plan is refused. With --groups each group of parts that fail
-    together has a colour, as a band along its links and round its elements and sources. A file that is there is written over by
-    --force alone.
+    together has a colour, as a band along its links and round its elements and sources. Ports of the table beside the plan stand behind
+    the priorities. A file that is there is written over by --force alone.
 
     \b
       $ murdjohe gen 5 > plan.toml
@@ -87,22 +94,24 @@ def draw(context: click.Context, plan: str, report: str | None, force: bool, out
     its = asked["groups_path"]
     if its and plan == STDIN:
         raise Wrong("draw --groups: the plan can't come on standard input; name its file")
-    free(output, force, plan, asked["certificate"], report, events, answer, asked["table"], its)
+    free(output, force, plan, asked["certificate"], report, events, answer, asked["table"], its, asked["ports"])
     table = groups.read(its, plan_file.read(plan)).groups if its else ()
-    tables = drawing.read_plan(plan)
-    cut = drawing.nearby(tables, asked["near"], asked["links"])
+    network = plan_graph.read_plan(plan)
+    cut = plan_graph.nearby(network, asked["near"], asked["links"])
     if ending != "dot":
-        places.small_enough(len(cut.get("element", [])), WAY_OUT)
-    marks = drawing.read_marks(answer)
-    view = view_of(plan, tables, report, events, at, asked["start"])
-    view = replace(view, ranks=drawing.read_ranks(asked["certificate"]), groups=group_bands.painted(table))
+        places.small_enough(len(cut.elements), WAY_OUT)
+    marks = plan_graph.read_marks(answer)
+    view = view_of(plan, network, report, events, at, asked["start"])
+    ports = side_table.ports_of(side_table.beside(plan, asked["ports"], network), network)
+    ranks = plan_graph.read_ranks(asked["certificate"])
+    view = replace(view, ranks=ranks, groups=group_bands.painted(table), ports=ports)
     with progress.watched("draw"):
         if ending == "dot":
             picture = as_dot(cut, view, marks)
         else:
             picture = rendered(cut, view, marks, ending, places.layout_of(cut, asked["layout"], asked["table"]))
     put(context, output, picture)
-    return core.DONE
+    return program.DONE
 
 
 COMMAND = draw

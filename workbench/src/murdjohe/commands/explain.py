@@ -4,27 +4,28 @@ from __future__ import annotations
 
 import click
 
-from murdjohe import core, documents, files, inputs, remarks
-from murdjohe.core import Answer
-from murdjohe.forms import FORMS
-from murdjohe.inputs import Words
+from murdjohe.core import documents, files, inputs, program
+from murdjohe.core.faults import Wrong
+from murdjohe.core.forms import FORMS
+from murdjohe.core.inputs import Words
+from murdjohe.core.program import Answer
+from murdjohe.remarks import form_remarks
 from murdjohe.sentences import answers
-from murdjohe.wrong import Wrong
 
 # How refusals begin, with their statuses.
 BEGINNINGS = (
-    (b"usage\n", core.USAGE),
-    (b"bad plan", core.BAD_PLAN),
-    (b"bad certificate", core.BAD_CERTIFICATE),
-    (b"bad events", core.BAD_EVENTS),
-    (b"bad groups", core.BAD_EVENTS),
-    (b"bad frames", core.BAD_FRAMES),
-    (b"bad capture", core.BAD_FRAMES),
-    (b"bad node", core.BAD_FRAMES),
-    (b"read fault\n", core.READ_FAULT),
-    (b"too long\n", core.TOO_LONG),
-    (b"falls", core.REFUTED),
-    (b"cycle", core.REFUTED),
+    (b"usage\n", program.USAGE),
+    (b"bad plan", program.BAD_PLAN),
+    (b"bad certificate", program.BAD_CERTIFICATE),
+    (b"bad events", program.BAD_EVENTS),
+    (b"bad groups", program.BAD_EVENTS),
+    (b"bad frames", program.BAD_FRAMES),
+    (b"bad capture", program.BAD_FRAMES),
+    (b"bad node", program.BAD_FRAMES),
+    (b"read fault\n", program.READ_FAULT),
+    (b"too long\n", program.TOO_LONG),
+    (b"falls", program.REFUTED),
+    (b"cycle", program.REFUTED),
 )
 
 
@@ -34,20 +35,20 @@ def status_of(form: str, text: bytes) -> int:
         if text.startswith(beginning):
             return status
     if form == "prio-rank" and text.startswith(b"at,what,target,value\n"):
-        return core.REFUTED
+        return program.REFUTED
     last = text.rstrip(b"\n").rpartition(b"\n")[2]
-    return core.STOPPED if last.startswith(b"stopped,") else core.DONE
+    return program.STOPPED if last.startswith(b"stopped,") else program.DONE
 
 
 def said_of(words: Words, answer: Answer) -> list[str]:
     """The sentences on an answer that was read. Raises Wrong where it is none of the program's."""
     try:
-        if answer.status in (core.REFUTED, core.STOPPED):
-            return remarks.remarks(words, answer)
+        if answer.status in (program.REFUTED, program.STOPPED):
+            return form_remarks.remarks(words, answer)
         sentence = answers.sentence(words, answer)
     except (ValueError, IndexError, KeyError):
         sentence = None
-    if answer.status != core.DONE and sentence is None:
+    if answer.status != program.DONE and sentence is None:
         raise Wrong(f"{answer.said[:80]!r} is no answer of the program to these words")
     return [sentence] if sentence else []
 

@@ -6,26 +6,28 @@ from typing import Any
 
 import click
 
-from murdjohe import core, failures, plain_json, plan_file, streams
-from murdjohe.commands import asked_failures
-from murdjohe.commands.common import free, output_options, put
-from murdjohe.failures import Case
-from murdjohe.remarks import plural
+from murdjohe.commands import failure_options
+from murdjohe.commands.options import free, output_options, put
+from murdjohe.core import plain_json, program, streams
+from murdjohe.core.faults import Wrong
+from murdjohe.core.wording import plural
+from murdjohe.network import plan_file
+from murdjohe.runs import failures
+from murdjohe.runs.failures import Case
 from murdjohe.sentences.records import MOST_ROWS
-from murdjohe.wrong import Wrong
 
 
 def small_enough(rows: int, data: bytes, cases: list[Case]) -> None:
     """Raises Wrong where a table is larger than the program takes one."""
-    limit = f"a table of cases has at most {MOST_ROWS:,} rows and {core.LONGEST_FILE:,} bytes"
-    if rows > MOST_ROWS or len(data) > core.LONGEST_FILE:
+    limit = f"a table of cases has at most {MOST_ROWS:,} rows and {program.LONGEST_FILE:,} bytes"
+    if rows > MOST_ROWS or len(data) > program.LONGEST_FILE:
         told = f"{plural(len(cases), 'case')} have {rows:,} rows and {len(data):,} bytes"
         raise Wrong(f"{told}, and {limit}: write some after others, as by --cases 1-5000")
 
 
 @click.command("failures")
 @click.argument("plan", type=click.Path())
-@asked_failures.options
+@failure_options.options
 @click.option("--json", "as_json", is_flag=True, help="JSON: the cases with what fails in each")
 @output_options
 @click.pass_context
@@ -44,14 +46,14 @@ def write_failures(
       $ murdjohe failures plan.toml --links --sources --pairs -o cases.csv
       $ murdjohe study plan.toml cases.csv
     """
-    first, last = asked_failures.span_of(span)
-    asked_failures.with_start(asked)
+    first, last = failure_options.span_of(span)
+    failure_options.with_start(asked)
     free(output, force, plan, asked["groups"], asked["during"])
     taken = plan_file.read(plan)
-    found = asked_failures.asked_of(taken, asked)
-    common = asked_failures.common_of(taken, asked)
-    end, at = asked_failures.placed(taken, common, asked, None), asked["at"]
-    every = failures.cases_of(found, asked["pairs"], failures.in_order(taken.tables))
+    found = failure_options.asked_of(taken, asked)
+    common = failure_options.common_of(taken, asked)
+    end, at = failure_options.placed(taken, common, asked, None), asked["at"]
+    every = failures.cases_of(found, asked["pairs"], failures.in_order(taken.network))
     cases = list(failures.chosen(every, first, last))
     data = failures.table_of(common, cases, at)
     rows = data.count(b"\n") - 1
@@ -60,9 +62,9 @@ def write_failures(
         data = plain_json.text(failures.as_data(common, cases, at))
     put(context, output, data)
     if not context.find_root().params["quiet"]:
-        said = [*asked_failures.remarks(found, common, asked), asked_failures.on_end(asked, end)]
+        said = [*failure_options.remarks(found, common, asked), failure_options.on_end(asked, end)]
         streams.tell(f"{plural(len(cases), 'case')}, {plural(rows, 'row')}", *said, colour="green")
-    return core.DONE
+    return program.DONE
 
 
 COMMAND = write_failures

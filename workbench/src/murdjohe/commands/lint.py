@@ -7,12 +7,14 @@ from typing import Any
 
 import click
 
-from murdjohe import core, findings, groups, plain_json, plan_file, protecting, said_of_groups, streams
-from murdjohe.commands.common import GROUPS, free, one_input, output_options, put
-from murdjohe.findings import ERROR, KINDS, NOTE, WARNING, Finding, Said
-from murdjohe.plan_file import Judgement, PlanFile
-from murdjohe.remarks import plural
-from murdjohe.wrong import Wrong
+from murdjohe.commands.options import GROUPS, free, one_input, output_options, put
+from murdjohe.core import plain_json, program, streams
+from murdjohe.core.faults import Wrong
+from murdjohe.core.wording import plural
+from murdjohe.network import accepted, findings, group_remarks, groups, plan_file
+from murdjohe.network.findings import ERROR, KINDS, NOTE, WARNING, Finding, Said
+from murdjohe.network.plan_file import Judgement, PlanFile
+from murdjohe.protection import promise
 
 LARGE = 10_000  # elements from which on single failures take long
 LONG = "whom single failures cut off may take minutes to find in a plan of this size; --no-gaps leaves it out"
@@ -26,7 +28,7 @@ def judged(taken: PlanFile, path: str | None, has_gaps: bool) -> tuple[Judgement
     table = groups.read(path, taken) if path else None
     judgement = plan_file.judged(taken, has_gaps=has_gaps, groups=table.data if table else None)
     known = table.groups if table else ()
-    lost = said_of_groups.parted(taken.tables, known) if known else {}
+    lost = group_remarks.parted(taken.network, known) if known else {}
     return judgement, Said(taken.ranking.ring, judgement.clash, judgement.gaps or (), taken.chains(), known, lost)
 
 
@@ -41,8 +43,8 @@ def told(taken: PlanFile, judgement: Judgement, found: list[Finding]) -> list[st
     """How much was found, what the program says of the plan, and what isn't looked at."""
     counts = [plural(sum(one.kind == kind for one in found), kind) for kind in KINDS]
     has_gaps = judgement.gaps is None or bool(judgement.gaps)
-    times = protecting.beside_findings(taken.plan, taken.agreement, has_gaps) if judgement.is_good else []
-    more = [LEFT_OUT] * (judgement.gaps is None) + [said_of_groups.ALONE] * judgement.has_groups
+    times = promise.beside_findings(taken.plan, taken.agreement, has_gaps) if judgement.is_good else []
+    more = [LEFT_OUT] * (judgement.gaps is None) + [group_remarks.ALONE] * judgement.has_groups
     return [f"{', '.join(counts)}; checked: {judgement.text}", *times, *more]
 
 
@@ -50,9 +52,9 @@ def status_of(found: list[Finding], fail_on: str | None) -> int:
     """What the command ends with."""
     kinds = {finding.kind for finding in found}
     if ERROR in kinds:
-        return core.REFUTED
+        return program.REFUTED
     failing = KINDS[: KINDS.index(fail_on) + 1] if fail_on else ()
-    return core.DONE if kinds.isdisjoint(failing) else core.FOUND
+    return program.DONE if kinds.isdisjoint(failing) else program.FOUND
 
 
 @click.command("lint")
@@ -64,6 +66,7 @@ def status_of(found: list[Finding], fail_on: str | None) -> int:
 @click.option(
     "--no-gaps", is_flag=True, help="leaves out whom single failures cut off: on large plans that takes longest"
 )
+@click.option("--accept", type=click.Path(), help="leaves out the findings in this file, as `lint` printed them before")
 @GROUPS
 @output_options
 @click.pass_context
@@ -75,7 +78,8 @@ def lint(context: click.Context, plan: str, as_json: bool, fail_on: str | None, 
     one way in, single failures that cut somebody off to whom other links lead (`protected`), chains longer than G.803's 60 lines, 20 since a filter and 10 filters
     (`chains`), links and bundles that are nominated at both ends without floors, inputs of one priority; with --groups also groups
     that cut somebody off to whom other links lead, or leave somebody without any way to a clock. Notes: sources whose name says
-    another level. The status is 1 where there is an error, and 21 where there is none, but what --fail-on names.
+    another level. The status is 1 where there is an error, and 21 where there is none, but what --fail-on names. Warnings and
+    notes of a file of --accept are left out: what `lint` printed of an earlier plan and somebody looked at; their lines may differ.
 
     \b
       $ murdjohe gen 5 > plan.toml
@@ -83,16 +87,16 @@ def lint(context: click.Context, plan: str, as_json: bool, fail_on: str | None, 
     """
     path = asked["groups_path"]
     one_input(plan, path)
-    free(asked["output"], asked["force"], plan, path)
+    free(asked["output"], asked["force"], plan, path, asked["accept"])
     taken, root = plan_file.read(plan), context.find_root().params
-    if not (root["quiet"] or no_gaps) and len(taken.tables.get("element", [])) > LARGE:
+    if not (root["quiet"] or no_gaps) and len(taken.network.elements) > LARGE:
         streams.tell(LONG, colour="yellow")
     judgement, said = judged(taken, path, not no_gaps)
-    found = findings.findings_of(taken.plan, said)
+    found, left_out = accepted.parted(findings.findings_of(taken.plan, said), asked["accept"])
     put(context, asked["output"], shown(taken, found, as_json or root["json"]))
     if not root["quiet"]:
         has_errors = any(finding.kind == ERROR for finding in found)
-        streams.tell(*told(taken, judgement, found), colour="yellow" if has_errors else "green")
+        streams.tell(*told(taken, judgement, found), *left_out, colour="yellow" if has_errors else "green")
     return status_of(found, fail_on)
 
 

@@ -9,43 +9,33 @@ from typing import Any
 
 import click
 
-from murdjohe import (
-    core,
-    figures,
-    files,
-    groups,
-    placed_text,
-    placements,
-    plain_json,
-    plan_file,
-    progress,
-    site_cover,
-    sites,
-)
-from murdjohe import streams, wiring
-from murdjohe.commands.common import free
-from murdjohe.groups import GroupFile
-from murdjohe.inputs import STDIN
-from murdjohe.placements import Placed
-from murdjohe.plan_file import PlanFile
-from murdjohe.site_cover import Late, Limits, Problem
-from murdjohe.sites import Site
-from murdjohe.wrong import Wrong
+from murdjohe.commands.options import free
+from murdjohe.core import files, plain_json, program, progress, streams
+from murdjohe.core.faults import Wrong
+from murdjohe.core.inputs import STDIN
+from murdjohe.network import groups, plan_file, wiring
+from murdjohe.network.groups import GroupFile
+from murdjohe.network.plan_file import PlanFile
+from murdjohe.picture import figures
+from murdjohe.place import placement_text, placements, site_cover, sites
+from murdjohe.place.placements import Placed
+from murdjohe.place.site_cover import Late, Limits, Problem
+from murdjohe.place.sites import Site
+from murdjohe.plan.model import Plan
 
-Tables = dict[str, Any]
 SINCE = 20  # lines since the last filter, of G.803
 
 
-def standing_of(tables: Tables) -> tuple[tuple[str, int], ...]:
+def standing_of(network: Plan) -> tuple[tuple[str, int], ...]:
     """The nominated sources of a plan, with the numbers of their elements."""
-    places = {row["name"]: place for place, row in enumerate(tables.get("element", []))}
-    return tuple((row["name"], places[row["at"]]) for row in tables.get("source", []) if row.get("priority", 1))
+    places = {row.name: place for place, row in enumerate(network.elements)}
+    return tuple((row.name, places[row.at]) for row in network.sources if row.priority)
 
 
-def candidates_of(tables: Tables, path: str) -> tuple[Site, ...]:
+def candidates_of(network: Plan, path: str) -> tuple[Site, ...]:
     """The candidates of a table without those at which a clock of the plan stands. Raises Wrong."""
-    at = {row["at"] for row in tables.get("source", [])}
-    found = sites.read(path, tables, sites.SITES)
+    at = {row.at for row in network.sources}
+    found = sites.read(path, network, sites.SITES)
     for site in found:
         if site.element in at and site.cost:
             raise Wrong(
@@ -69,7 +59,7 @@ def limits_of(links: int | None, links_failed: int | None) -> Limits:
 class Given:
     """What is asked: the plan, parts of it that fail together, candidates for filters, and what is to be covered by sites."""
 
-    tables: Tables
+    network: Plan
     together: GroupFile | None
     filters: tuple[Site, ...]
     problem: Problem
@@ -77,15 +67,15 @@ class Given:
 
 def given(taken: PlanFile, table: str, asked: dict[str, Any]) -> Given:
     """What the words of the command ask for. Raises Wrong."""
-    tables = {**taken.tables, "source": []} if asked["anew"] else taken.tables
-    candidates, limits = candidates_of(tables, table), limits_of(asked["links"], asked["links_failed"])
-    level = placements.FILTERING["II" if tables.get("option") == "II" else "I"]
-    filters = sites.read(asked["filters"], tables, sites.FILTERS, level) if asked["filters"] else ()
+    plan = taken.network._replace(sources=()) if asked["anew"] else taken.network
+    candidates, limits = candidates_of(plan, table), limits_of(asked["links"], asked["links_failed"])
+    level = placements.FILTERING[plan.option]
+    filters = sites.read(asked["filters"], plan, sites.FILTERS, level) if asked["filters"] else ()
     together = groups.read(asked["groups"], taken) if asked["groups"] else None
-    network = site_cover.network_of(wiring.wiring_of(tables), together.groups if together else ())
+    network = site_cover.network_of(wiring.wiring_of(plan), together.groups if together else ())
     end = time.monotonic() + asked["seconds"]
-    problem = Problem(network, standing_of(tables), candidates, limits, asked["survive"], end)
-    return Given(tables, together, filters, problem)
+    problem = Problem(network, standing_of(plan), candidates, limits, asked["survive"], end)
+    return Given(plan, together, filters, problem)
 
 
 def sought(its: Given, since: int, partly: bool) -> tuple[Placed, dict[int | None, Decimal]]:
@@ -93,12 +83,12 @@ def sought(its: Given, since: int, partly: bool) -> tuple[Placed, dict[int | Non
     problem = its.problem
     try:
         if (barred := problem.impossible()) and not partly:
-            raise Wrong(*placed_text.on_impossible(problem, barred), status=core.REFUTED)
-        found = placements.placed(problem, its.tables, its.together, its.filters, since)
+            raise Wrong(*placement_text.on_impossible(problem, barred), status=program.REFUTED)
+        found = placements.placed(problem, its.network, its.together, its.filters, since)
     except Late:
         raise Wrong(
             "the time ran out before a set of sites was found; give more by --seconds, or fewer candidates",
-            status=core.REFUTED,
+            status=program.REFUTED,
         ) from None
     return found, placements.costs_by_limit(problem, found.problem.cost(found.chosen.sites))
 
@@ -107,21 +97,21 @@ def printed(
     context: click.Context, found: Placed, costs: dict[int | None, Decimal], is_plan: bool, asked: dict[str, Any]
 ) -> None:
     """Prints the plan with what is said beside it, or that alone, or as JSON."""
-    said = placed_text.text_of(found, costs, asked["since"])
+    said = placement_text.text_of(found, costs, asked["since"])
     if is_plan and found.made.judgement:
         context.obj.put(found.made.data)
         streams.tell(*said, colour="green" if found.holds() else "yellow")
     elif asked["as_json"] or context.find_root().params["json"]:
-        context.obj.put(plain_json.text(placed_text.as_data(found, costs)))
+        context.obj.put(plain_json.text(placement_text.as_data(found, costs)))
     else:
         context.obj.put("".join(f"{line}\n" for line in said).encode("utf-8", "surrogateescape"))
 
 
-def picture(found: Placed, tables: Tables, ending: str) -> bytes:
+def picture(found: Placed, network: Plan, ending: str) -> bytes:
     """The picture in a format."""
-    from murdjohe import site_picture
+    from murdjohe.picture import site_picture
 
-    return site_picture.drawn(found, tables, ending)
+    return site_picture.drawn(found, network, ending)
 
 
 @click.command("place")
@@ -173,10 +163,10 @@ def place(context: click.Context, plan: str, table: str, **asked: Any) -> int:
         found, limit_costs = sought(its, asked["since"], asked["partly"])
     written = {output: found.made.data} if output and output != STDIN and found.made.judgement else {}
     if drawn:
-        written[drawn] = picture(found, its.tables, ending)
+        written[drawn] = picture(found, its.network, ending)
     files.all_written(written)
     printed(context, found, limit_costs, output == STDIN, asked)
-    return core.DONE if found.holds() and not its.problem.left_out else core.REFUTED
+    return program.DONE if found.holds() and not its.problem.left_out else program.REFUTED
 
 
 COMMAND = place

@@ -2,31 +2,23 @@
 
 from __future__ import annotations
 
-from murdjohe import (
-    api,
-    core,
-    files,
-    groups,
-    plain_json,
-    plan_file,
-    progress,
-    protecting,
-    protecting_groups,
-    run_form,
-    streams,
-)
-from murdjohe.commands.common import one_input
-from murdjohe.run_form import Settings
-from murdjohe.streams import Output
+from murdjohe.answers import api
+from murdjohe.commands import form_run
+from murdjohe.commands.form_run import Settings
+from murdjohe.commands.options import one_input
+from murdjohe.core import files, plain_json, program, progress, streams
+from murdjohe.core.streams import Output
+from murdjohe.network import groups, plan_file
+from murdjohe.protection import group_protection, promise
 
 
 def on_none(text: bytes, settings: Settings, output: Output) -> int:
     """What is answered where `protect` gives no plan: its rows."""
-    if status := run_form.put(output, text, settings.is_quiet):
+    if status := form_run.put(output, text, settings.is_quiet):
         return status
     if not settings.is_quiet:
-        streams.tell(*protecting.on_none(text.decode("utf-8", "replace")), colour="yellow")
-    return core.REFUTED
+        streams.tell(*promise.on_none(text.decode("utf-8", "replace")), colour="yellow")
+    return program.REFUTED
 
 
 def run(plan: str, path: str, settings: Settings, output: Output) -> int:
@@ -34,17 +26,17 @@ def run(plan: str, path: str, settings: Settings, output: Output) -> int:
     one_input(plan, path)
     taken = plan_file.read(plan)
     table = groups.read(path, taken)
-    protecting_groups.small_enough(taken)
+    group_protection.small_enough(taken)
     answer = api.protect(taken.data)
     if answer.result.text is None:
         return on_none(answer.text, settings, output)
     with progress.watched("protect --groups"):
-        made = protecting_groups.made_of(answer.text, table)
-    data = plain_json.text(protecting_groups.as_data(made)) if settings.is_json else made.data
+        made = group_protection.made_of(answer.text, table)
+    data = plain_json.text(group_protection.as_data(made)) if settings.is_json else made.data
     if settings.path is not None:
         files.written(settings.path, data)
-    elif status := run_form.put(output, data, settings.is_quiet):
+    elif status := form_run.put(output, data, settings.is_quiet):
         return status
     if not (settings.is_quiet or settings.is_json):
-        streams.tell(*protecting_groups.said(made), colour="green" if made.is_good else "yellow")
-    return core.DONE if made.is_good else core.REFUTED
+        streams.tell(*group_protection.said(made), colour="green" if made.is_good else "yellow")
+    return program.DONE if made.is_good else program.REFUTED

@@ -8,11 +8,13 @@ from typing import Any
 
 import click
 
-from murdjohe import core, forms, plain_json, plan_file, progress, rehearsals, runs, streams
-from murdjohe.commands.common import START, Milliseconds, free, from_start, output_options, put
-from murdjohe.inputs import STDIN
-from murdjohe.rehearsals import Rehearsal
-from murdjohe.wrong import Wrong
+from murdjohe.commands.options import START, Milliseconds, changed_events, free, from_start, output_options, put
+from murdjohe.core import forms, plain_json, program, progress, streams
+from murdjohe.core.faults import Wrong
+from murdjohe.core.inputs import STDIN
+from murdjohe.network import plan_file
+from murdjohe.runs import rehearsals, simulation, what_if
+from murdjohe.runs.rehearsals import Rehearsal
 
 
 def shown(found: Rehearsal, start: int, form: str, has_all: bool) -> bytes:
@@ -29,10 +31,10 @@ def shown(found: Rehearsal, start: int, form: str, has_all: bool) -> bytes:
 def status_of(found: Rehearsal, limit: int | None = None) -> int:
     """What the command ends with: whoever is worse at the end, or for longer than the limit, has a status of its own."""
     if found.report.stopped_at is not None:
-        return core.STOPPED
+        return program.STOPPED
     if not found.is_smooth:
-        return core.REFUTED
-    return core.LOSS if found.hurt(limit) else core.DONE
+        return program.REFUTED
+    return program.LOSS if found.hurt(limit) else program.DONE
 
 
 @click.command("rehearse")
@@ -48,6 +50,7 @@ def status_of(found: Rehearsal, limit: int | None = None) -> int:
 @click.option("--all", "has_all", is_flag=True, help="also what changes before the first event")
 @click.option("--csv", "form", flag_value="csv", help="the list of events and changes as a table with commas")
 @click.option("--json", "form", flag_value="json", help="JSON: the list, commands, pairs and loops, and losses")
+@changed_events
 @output_options
 @click.pass_context
 def rehearse(context: click.Context, plan: str, events: str, form: str | None, **asked: Any) -> int:
@@ -77,14 +80,14 @@ def rehearse(context: click.Context, plan: str, events: str, form: str | None, *
     if until is not None and until > forms.DAY_MS:
         raise Wrong("--until: at most a day, 24h")
     free(asked["output"], asked["force"], plan, events)
-    taken, file = plan_file.read(plan), runs.read_events(events, start)
-    runs.report_of(taken, file, 0)  # (events that can't be read are told before their end is looked for)
+    taken, file = plan_file.read(plan), what_if.read(events, start, asked["more"], asked["is_sorted"])
+    simulation.report_of(taken, file, 0)  # (events that can't be read are told before their end is looked for)
     with progress.watched("rehearse"):
         found = rehearsals.to_rest(taken, file) if until is None else rehearsals.rehearsed(taken, file, until)
     form = form or ("json" if root["json"] else "")
     put(context, asked["output"], shown(found, start or 0, form, asked["has_all"]))
     if not root["quiet"]:
-        streams.tell(*runs.likely_seconds(file, until), colour="yellow")
+        streams.tell(*simulation.likely_seconds(file, until), colour="yellow")
     return status_of(found, asked["limit"])
 
 

@@ -7,13 +7,16 @@ from typing import Any
 
 import click
 
-from murdjohe import core, documents, files, nominated, plain_json, plan_file, progress, protecting, repairs, streams
-from murdjohe.commands.common import free
-from murdjohe.inputs import STDIN
-from murdjohe.plan_file import Judgement, PlanFile
-from murdjohe.remarks import plural
-from murdjohe.repairs import Found, Repair
-from murdjohe.wrong import Wrong
+from murdjohe.commands.options import free
+from murdjohe.core import documents, files, plain_json, program, progress, streams
+from murdjohe.core.faults import Wrong
+from murdjohe.core.inputs import STDIN
+from murdjohe.core.wording import plural
+from murdjohe.network import plan_file
+from murdjohe.network.plan_file import Judgement, PlanFile
+from murdjohe.protection import promise
+from murdjohe.repair import repairs
+from murdjohe.repair.repairs import Found, Repair
 
 TEXT, PATCH, JSON = "text", "patch", "json"  # what standard output has
 
@@ -71,7 +74,7 @@ def report(taken: PlanFile, repair: Repair, number: int, judgement: Judgement) -
 
 def staying_of(taken: PlanFile, keep: tuple[str, ...]) -> tuple[str, ...]:
     """The lines that stay nominated. Raises Wrong where one is no nominated line."""
-    names = [line.name for line in nominated.lines_of(taken.tables)]
+    names = [line.name for line in taken.network.nominated_lines()]
     for name in keep:
         if name not in names:
             raise Wrong(f'--keep: the plan has no nominated line "{name}"{documents.hint(name, names)}')
@@ -91,8 +94,8 @@ def sought(taken: PlanFile, keep: tuple[str, ...]) -> Repair:
     """The sets for a plan. Raises Wrong."""
     staying = staying_of(taken, keep)
     with progress.watched("repair"):
-        kept = protecting.lines_kept(taken.data) if taken.ranking.ring else ()
-        repair = repairs.repair_of(taken.tables, kept=kept, staying=staying)
+        kept = promise.lines_kept(taken.data) if taken.ranking.ring else ()
+        repair = repairs.repair_of(taken.network, kept=kept, staying=staying)
         return repairs.agreeing_sets(taken.plan, taken.data, repair)
 
 
@@ -179,7 +182,7 @@ def repair_plan(context: click.Context, plan: str, patch: bool, as_json: bool, *
     if output and output != STDIN and made.repair.sets:
         files.written(output, made.data)
     printed(context, made, form, output == STDIN)
-    return core.DONE if made.judgement.is_good else core.REFUTED
+    return program.DONE if made.judgement.is_good else program.REFUTED
 
 
 COMMAND = repair_plan

@@ -6,10 +6,13 @@ import os
 
 import click
 
-from murdjohe import core, forms, page_data, pages, places, plan_file, progress, rehearsals, runs, streams
-from murdjohe.commands.common import START, Milliseconds, free, from_start, put
-from murdjohe.inputs import STDIN
-from murdjohe.wrong import Wrong
+from murdjohe.commands.options import START, Milliseconds, free, from_start, put
+from murdjohe.core import forms, program, progress, streams
+from murdjohe.core.faults import Wrong
+from murdjohe.core.inputs import STDIN
+from murdjohe.network import plan_file
+from murdjohe.picture import page_data, pages, places
+from murdjohe.runs import rehearsals, simulation
 
 
 @click.command("report")
@@ -68,21 +71,21 @@ def made(
     plan: str, events: str, until: int | None, start: int | None, cuts: bool, layout: str | None, table: str | None
 ) -> tuple[bytes, int, list[str]]:
     """The page, the status, and what is said beside it. Raises Wrong."""
-    taken, file = plan_file.read(plan), runs.read_events(events, start)
-    places.small_enough(len(taken.tables.get("element", [])), "`rehearse` tells the same run without a picture")
-    runs.report_of(taken, file, 0)  # (events that can't be read are told before their end is looked for)
-    found = rehearsals.rehearsed(taken, file, runs.usual_end(file) if until is None else until)
+    taken, file = plan_file.read(plan), simulation.read_events(events, start)
+    places.small_enough(len(taken.network.elements), "`rehearse` tells the same run without a picture")
+    simulation.report_of(taken, file, 0)  # (events that can't be read are told before their end is looked for)
+    found = rehearsals.rehearsed(taken, file, simulation.usual_end(file) if until is None else until)
     title = f"{os.path.basename(taken.name)}, {os.path.basename(file.name)}"
-    spots = places.layout_of(taken.tables, layout, table)
+    spots = places.layout_of(taken.network, layout, table)
     data = page_data.data_of(taken, found, spots, start or 0, title, cuts)
-    status = core.DONE if found.report.stopped_at is None else core.STOPPED
+    status = program.DONE if found.report.stopped_at is None else program.STOPPED
     said = [rehearsals.dark_text(found, start or 0)] if found.dark else []
     said += [found.oscillation] if found.oscillation else []
     said += [pages.cuts_text(data["cases"])] if data["cases"] else []
     return (
         pages.page(title, data, pages.facts(taken, file, found, data["cases"])),
         status,
-        said + runs.likely_seconds(file, until),
+        said + simulation.likely_seconds(file, until),
     )
 
 

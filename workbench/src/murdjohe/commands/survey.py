@@ -10,38 +10,37 @@ from typing import Any
 import click
 from click.core import ParameterSource
 
-from murdjohe import (
+from murdjohe.commands import failure_options, map_options
+from murdjohe.commands.options import Milliseconds, free
+from murdjohe.core import inputs, plain_json, program, progress, streams, times
+from murdjohe.core.faults import Wrong
+from murdjohe.core.files import Growing
+from murdjohe.core.wording import plural
+from murdjohe.network import plan_file, wiring
+from murdjohe.network.plan_file import PlanFile
+from murdjohe.runs import ends, failures, moments, simulation
+from murdjohe.runs.ends import Ending
+from murdjohe.runs.failures import KINDS
+from murdjohe.runs.moments import Event
+from murdjohe.runs.simulation import EventFile
+from murdjohe.sentences.records import MOST_ROWS
+from murdjohe.survey import (
     case_files,
     case_lists,
     case_refusals,
-    core,
-    ends,
-    failures,
-    inputs,
     lost_names,
-    moments,
-    plain_json,
-    plan_file,
+    portions,
+    study_runs,
+    survey_report,
+    workers,
 )
-from murdjohe import portions, progress, runs, streams, study_runs, survey_report, surveying, times, wiring
-from murdjohe.case_lists import CaseList
-from murdjohe.commands import asked_failures, asked_map
-from murdjohe.commands.common import Milliseconds, free
-from murdjohe.ends import Ending
-from murdjohe.failures import KINDS
-from murdjohe.files import Growing
-from murdjohe.finished import Finished
-from murdjohe.lost_names import Names
-from murdjohe.moments import Event
-from murdjohe.needless import Losses
-from murdjohe.plan_file import PlanFile
-from murdjohe.remarks import plural
-from murdjohe.runs import EventFile
-from murdjohe.sentences.records import MOST_ROWS
-from murdjohe.survey_report import FAILING
-from murdjohe.surveying import Crew, Here, Survey
-from murdjohe.tallies import Tally
-from murdjohe.wrong import Wrong
+from murdjohe.survey.case_lists import CaseList
+from murdjohe.survey.lost_names import Names
+from murdjohe.survey.needless_losses import Losses
+from murdjohe.survey.part_store import Finished
+from murdjohe.survey.survey_report import FAILING
+from murdjohe.survey.tallies import Tally
+from murdjohe.survey.workers import Crew, Here, Survey
 
 PARTS = "murdjohe-parts"
 OF_FAILURES = (*KINDS, "groups", "pairs", "at", "during")
@@ -51,7 +50,7 @@ def cases_of(
     context: click.Context, taken: PlanFile, table: str | None, until: int | None, asked: dict[str, Any]
 ) -> tuple[CaseList, Ending]:
     """The cases of a table, or else those of the failures that are asked for, and when their runs end. Raises Wrong."""
-    span = asked_failures.span_of(asked["span"])
+    span = failure_options.span_of(asked["span"])
     if table is not None:
         given = [name for name in OF_FAILURES if context.get_parameter_source(name) == ParameterSource.COMMANDLINE]
         if given:
@@ -60,21 +59,21 @@ def cases_of(
         cases = case_files.CaseFile(table, asked["start"]).listed(span)
         end = ends.ending(taken, cases.told, ends.bounds_of(taken)) if until is None else Ending(until, None)
         return cases, end
-    found = asked_failures.asked_of(taken, asked)
-    common = asked_failures.common_of(taken, asked)
-    end = asked_failures.placed(taken, common, asked, until)
-    asked["remarks"] = asked_failures.remarks(found, common, asked)
+    found = failure_options.asked_of(taken, asked)
+    common = failure_options.common_of(taken, asked)
+    end = failure_options.placed(taken, common, asked, until)
+    asked["remarks"] = failure_options.remarks(found, common, asked)
     asked["common"] = common
-    return case_lists.of_failures(taken.tables, found, asked["pairs"], asked["at"], common, span), end
+    return case_lists.of_failures(taken.network, found, asked["pairs"], asked["at"], common, span), end
 
 
 def crew_of(scheduler: str | None, jobs: int | None, plan: bytes, until: int) -> Crew:
     """Who works the parts. Raises Wrong."""
     if scheduler is None:
-        return Here(plan, until, jobs or surveying.processors())
+        return Here(plan, until, jobs or workers.processors())
     if jobs is not None:
         raise Wrong("--jobs is for this machine alone: a cluster's workers have their own numbers of threads")
-    from murdjohe.cluster import Cluster
+    from murdjohe.survey.cluster import Cluster
 
     return Cluster(scheduler, plan, until)
 
@@ -101,7 +100,7 @@ def kept(survey: Survey, cases: CaseList, parts: str) -> Iterator[None]:
     """Where what stands inside is ended before it is done, it is told where the survey goes on."""
     try:
         yield
-    except (KeyboardInterrupt, core.Absent, core.Ended, core.NoAnswer):
+    except (KeyboardInterrupt, program.Absent, program.Ended, program.NoAnswer):
         done, of = survey.worked + survey.found, plural(cases.total, "case")
         streams.tell(f"{done:,} of {of} are worked, and kept in {parts}: the same command goes on there")
         raise
@@ -113,7 +112,7 @@ def works_alone(taken: PlanFile, common: tuple[Event, ...], until: int) -> list[
     if not common:
         return None
     rows = failures.lines_of((event.at, event.what, event.target, event.value) for event in common)
-    report = runs.report_of(taken, EventFile("the common events", runs.NO_EVENTS + rows.encode()), until)
+    report = simulation.report_of(taken, EventFile("the common events", simulation.NO_EVENTS + rows.encode()), until)
     if report.stopped_at is not None:
         return None
     return [trace.element for trace in report.traces if trace.kind != moments.SOURCE]
@@ -124,7 +123,7 @@ def worked(
 ) -> tuple[Tally, Survey]:
     """The summary of the cases, and what was worked for it."""
     alone = works_alone(taken, settings["common"], until)
-    wired = wiring.wiring_of(taken.tables)
+    wired = wiring.wiring_of(taken.network)
     losses = Losses(wired, until, settings["worst"], None if alone is None else len(alone))
     settings["alone"], settings["losses"] = alone, losses
     crew = crew_of(settings["scheduler"], settings["jobs"], taken.data, until)
@@ -142,8 +141,8 @@ def named(taken: PlanFile, cases: CaseList, tally: Tally, until: int, asked: dic
     """Who has no source at the end of each case that is told, first of those that needn't be. Raises Wrong."""
     told = [loss.case for loss in asked["losses"].outcomes()] + tally.lost.outcomes()
     worst = {case.case: case for case in told}
-    jobs = asked["jobs"] or surveying.processors()
-    return lost_names.of_cases(taken, wiring.wiring_of(taken.tables), cases, list(worst.values()), until, jobs)
+    jobs = asked["jobs"] or workers.processors()
+    return lost_names.of_cases(taken, wiring.wiring_of(taken.network), cases, list(worst.values()), until, jobs)
 
 
 class Standard:
@@ -172,7 +171,7 @@ def written(
                 asked["named"] = named(taken, cases, tally, until, asked)
         if picture:
             with kept(survey, cases, asked["parts"]), progress.watched("map"):
-                picture.write(asked_map.drawn(taken, cases, tally, until, asked))
+                picture.write(map_options.drawn(taken, cases, tally, until, asked))
     return tally, survey
 
 
@@ -199,7 +198,7 @@ def told(context: click.Context, tally: Tally, done: Survey, end: Ending, asked:
 @click.command("survey")
 @click.argument("plan", type=click.Path())
 @click.argument("table", metavar="[CASES]", type=click.Path(), required=False)
-@asked_failures.options
+@failure_options.options
 @click.option(
     "--until", type=Milliseconds(), help="the end of each run; without it that by which `agree` says it rests"
 )
@@ -261,8 +260,8 @@ def survey(
     """
     if plan == inputs.STDIN and table == inputs.STDIN:
         raise Wrong("standard input is one file: the plan or the cases")
-    until = asked_failures.with_start(asked, until)
-    asked_map.can_be_drawn(asked["map"], output, asked["worst"])
+    until = failure_options.with_start(asked, until)
+    map_options.can_be_drawn(asked["map"], output, asked["worst"])
     free(output, force, plan, table, asked["groups"], asked["during"], more=[asked["map"]])
     taken = plan_file.read(plan)
     cases, end = cases_of(context, taken, table, until, asked)
@@ -270,7 +269,7 @@ def survey(
     tally, done = written(taken, cases, end.until, asked, output)
     clash = plan_file.judged(taken).lines if tally.unsettled else []
     told(context, tally, done, end, asked | {"clash": clash, "is_filled": output == inputs.STDIN})
-    return core.FOUND if survey_report.has(tally, asked["losses"], asked["fail_on"]) else core.DONE
+    return program.FOUND if survey_report.has(tally, asked["losses"], asked["fail_on"]) else program.DONE
 
 
 COMMAND = survey

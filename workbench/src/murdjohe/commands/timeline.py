@@ -6,12 +6,15 @@ from typing import Any
 
 import click
 
-from murdjohe import bands, core, drawing, figures, places, progress, runs, spans, strips, times, views, wiring
-from murdjohe.commands.common import START, Milliseconds, free, from_start, put
-from murdjohe.inputs import STDIN
-from murdjohe.reports import Loop, Report
-from murdjohe.strips import Red, Timeline
-from murdjohe.wrong import Wrong
+from murdjohe.answers.reports import Loop, Report
+from murdjohe.commands.options import START, Milliseconds, free, from_start, put
+from murdjohe.core import program, progress, times
+from murdjohe.core.faults import Wrong, unusable
+from murdjohe.core.inputs import STDIN
+from murdjohe.network import wiring
+from murdjohe.picture import bands, figures, places, plan_graph, strips, views
+from murdjohe.picture.strips import Red, Timeline
+from murdjohe.runs import report_file, simulation, spans
 
 
 def word_of(walk: Loop) -> str:
@@ -42,12 +45,12 @@ def since(report: Report, name: str) -> int:
     return later
 
 
-def red_of(path: str, plan: str | None, end: int) -> list[Red]:
+def red_of(path: str, report: Report, plan: str | None, end: int) -> list[Red]:
     """The closed walks of a run: all of them where its plan is there, else those that the report names. Raises Wrong."""
     if plan is None:
-        return standing(views.read_report(path), end)
-    wired = wiring.wiring_of(drawing.read_plan(plan))
-    report = views.of_this_plan(path, views.read_report(path), wired)
+        return standing(report, end)
+    wired = wiring.wiring_of(plan_graph.read_plan(plan))
+    views.of_this_plan(path, report, wired)
     return [
         Red(
             wired.lines[line].receiver,
@@ -69,11 +72,14 @@ def within(red: list[Red], start: int, end: int) -> list[Red]:
     ]
 
 
-def timeline_of(report: str, asked: dict[str, Any]) -> Timeline:
+def timeline_of(path: str, asked: dict[str, Any]) -> Timeline:
     """What is drawn. Raises Wrong."""
     start, plan, events, fold = asked["start"], asked["plan"], asked["events"], asked["fold"]
     first, until = from_start(asked["first"], start, "--from"), from_start(asked["until"], start, "--until")
-    rows, order = bands.changes_of(report)
+    report = report_file.read(path)
+    rows = list(report.changes)
+    if not rows:
+        raise unusable(f"{path}: nothing changes in it")
     places.small_enough(len({row.element for row in rows}), "`rehearse --csv` writes the changes as a table")
     last = rows[-1].at
     if first is not None:
@@ -81,12 +87,12 @@ def timeline_of(report: str, asked: dict[str, Any]) -> Timeline:
     end = last + fold if until is None else until
     if end < last:
         raise Wrong(f"--until: the last change is at {last}")
-    red = within(red_of(report, plan, end), rows[0].at, end)
-    its = runs.read_events(events, start).events if events else ()
+    red = within(red_of(path, report, plan, end), rows[0].at, end)
+    its = simulation.read_events(events, start).events if events else ()
     marks = tuple(one for one in its if rows[0].at <= one.at <= end)
     up_to = bands.minutes(end) if start is None else times.clock(end, start)
-    title = f"{plan or report}" + (f", {events}" if events else "") + f", up to {up_to}"
-    return Timeline(title, rows, order, marks, red, end, fold, start)
+    title = f"{plan or path}" + (f", {events}" if events else "") + f", up to {up_to}"
+    return Timeline(title, rows, bands.order_of(report), marks, red, end, fold, start)
 
 
 @click.command("timeline")
@@ -127,7 +133,7 @@ def timeline(context: click.Context, report: str, force: bool, output: str, **as
     with progress.watched("timeline"):
         data = strips.picture(drawn, ending)
     put(context, output, data)
-    return core.DONE
+    return program.DONE
 
 
 COMMAND = timeline

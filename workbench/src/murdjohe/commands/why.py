@@ -7,11 +7,15 @@ from typing import Any
 import click
 from click.shell_completion import CompletionItem
 
-from murdjohe import cli, core, forms, plain_json, plan_file, progress, runs, streams, why_text, whys
-from murdjohe.commands.common import START, Milliseconds, free, from_start, output_options, put
-from murdjohe.inputs import STDIN
-from murdjohe.whys import Why
-from murdjohe.wrong import Wrong
+from murdjohe.commands import cli
+from murdjohe.commands.options import START, Milliseconds, changed_events, free, from_start, output_options, put
+from murdjohe.core import forms, plain_json, program, progress, streams
+from murdjohe.core.faults import Wrong
+from murdjohe.core.inputs import STDIN
+from murdjohe.network import plan_file
+from murdjohe.runs import simulation, what_if
+from murdjohe.why import choice_text, choices
+from murdjohe.why.choices import Why
 
 
 def completed(context: click.Context, _: click.Parameter, incomplete: str) -> list[CompletionItem]:
@@ -22,8 +26,8 @@ def completed(context: click.Context, _: click.Parameter, incomplete: str) -> li
 def shown(found: Why, start: int | None, is_json: bool) -> bytes:
     """The answer in sentences, or as JSON."""
     if is_json:
-        return plain_json.text(why_text.as_data(found, start))
-    return "".join(f"{line}\n" for line in why_text.text_of(found, start)).encode()
+        return plain_json.text(choice_text.as_data(found, start))
+    return "".join(f"{line}\n" for line in choice_text.text_of(found, start)).encode()
 
 
 @click.command("why")
@@ -33,9 +37,10 @@ def shown(found: Why, start: int | None, is_json: bool) -> bytes:
 @click.argument("at", type=Milliseconds())
 @START
 @click.option(
-    "--all", "has_all", is_flag=True, help=f"all that brought it about, not the last {whys.USUAL} things alone"
+    "--all", "has_all", is_flag=True, help=f"all that brought it about, not the last {choices.USUAL} things alone"
 )
 @click.option("--json", "as_json", is_flag=True, help="JSON: the same, with times in milliseconds")
+@changed_events
 @output_options
 @click.pass_context
 def why(context: click.Context, plan: str, events: str, element: str, at: int, **asked: Any) -> int:
@@ -64,13 +69,13 @@ def why(context: click.Context, plan: str, events: str, element: str, at: int, *
     if at > forms.DAY_MS:
         raise Wrong(f"AT: {at} ms is more than a day; at most {forms.DAY_MS}, or 24h")
     free(asked["output"], asked["force"], plan, events)
-    taken, file = plan_file.read(plan), runs.read_events(events, start)
+    taken, file = plan_file.read(plan), what_if.read(events, start, asked["more"], asked["is_sorted"])
     with progress.watched("why"):
-        found = whys.answered(taken, file, whys.Asked(element, at, None if asked["has_all"] else whys.USUAL))
+        found = choices.answered(taken, file, choices.Asked(element, at, None if asked["has_all"] else choices.USUAL))
     put(context, asked["output"], shown(found, start, asked["as_json"] or root["json"]))
     if not root["quiet"]:
-        streams.tell(*runs.likely_seconds(file), colour="yellow")
-    return core.DONE if found.stopped_at is None else core.STOPPED
+        streams.tell(*simulation.likely_seconds(file), colour="yellow")
+    return program.DONE if found.stopped_at is None else program.STOPPED
 
 
 COMMAND = why

@@ -5,11 +5,11 @@ from __future__ import annotations
 import os
 import stat
 
-from murdjohe import core, documents, forms, refusals, times
-from murdjohe.core import Answer
-from murdjohe.documents import Document
-from murdjohe.inputs import STDIN, File, Words
-from murdjohe.plans import Plan
+from murdjohe.core import documents, forms, program, refusals, times
+from murdjohe.core.documents import Document
+from murdjohe.core.inputs import STDIN, File, Words
+from murdjohe.core.program import Answer
+from murdjohe.plan.plan_lines import PlanLines
 from murdjohe.sentences import frames, groups, plan as plan_sentences, records
 
 # The files that stand beside a plan, as they are told where the two are swapped.
@@ -96,21 +96,21 @@ def on_length(words: Words) -> str:
         except OSError:
             continue
     for most, among in [
-        (core.LONGEST_FILE, sizes),
-        (core.LONGEST_BESIDE, [s for s in sizes if s[0].kind != forms.PLAN]),
+        (program.LONGEST_FILE, sizes),
+        (program.LONGEST_BESIDE, [s for s in sizes if s[0].kind != forms.PLAN]),
     ]:
         for file, size in among:
             if size > most:
                 remedy = "a capture is split by `editcap -c`" if file.kind == forms.CAPTURE else "split it"
                 return f"{file.name}: it has more than {most:,} bytes; {remedy}"
-    return f"a file has more than {core.LONGEST_FILE:,} bytes; split it"
+    return f"a file has more than {program.LONGEST_FILE:,} bytes; split it"
 
 
-def plan_of(words: Words) -> Plan | None:
+def plan_of(words: Words) -> PlanLines | None:
     """The plan that the words name, where it can be read."""
     file = words.file(forms.PLAN)
     try:
-        return Plan(documents.read(file)) if file else None
+        return PlanLines(documents.read(file)) if file else None
     except OSError:
         return None
 
@@ -167,13 +167,13 @@ def refusal_of(words: Words, answer: Answer) -> refusals.Refusal | None:
 
 def sentence(words: Words, answer: Answer) -> str | None:
     """The sentence on an answer that is a refusal or a fault; None for one that isn't."""
-    if answer.status == core.NO_MEMORY:
+    if answer.status == program.NO_MEMORY:
         return NO_MEMORY
-    if answer.status == core.USAGE:
+    if answer.status == program.USAGE:
         return on_words(words.form, words.given)
-    if answer.status == core.READ_FAULT:
+    if answer.status == program.READ_FAULT:
         return on_reading(words)
-    if answer.status == core.TOO_LONG:
+    if answer.status == program.TOO_LONG:
         return on_length(words)
     refusal = refusal_of(words, answer)
     if refusal is None:

@@ -2,10 +2,10 @@
 
 from __future__ import annotations
 
-from murdjohe import documents, levels, refusals, times
-from murdjohe.documents import Document
-from murdjohe.plans import Plan
-from murdjohe.refusals import Refusal
+from murdjohe.core import documents, levels, refusals, times
+from murdjohe.core.documents import Document
+from murdjohe.core.refusals import Refusal
+from murdjohe.plan.plan_lines import PlanLines
 
 SHOWN = 60  # signs of a line that a sentence shows
 NODE_WORDS = (
@@ -132,7 +132,7 @@ def of_capture(document: Document, refusal: Refusal) -> str:
     return f"{document.name}: it {refusals.says('capture', 40)}{f': it is {kind}' if kind else ''}; {remedy}"
 
 
-def on_received(number: int, fields: list[str], plan: Plan | None) -> str:
+def on_received(number: int, fields: list[str], plan: PlanLines | None) -> str:
     """What is wrong with a line of what an element received, in a word more than its number says."""
     field = fields[min(len(fields), {44: 1, 46: 2, 47: 3}.get(number, 4)) - 1]
     if number == 44 and (time := times.milliseconds(field)) is not None:
@@ -147,7 +147,7 @@ def on_received(number: int, fields: list[str], plan: Plan | None) -> str:
     return f"it {refusals.says('node', number)}"
 
 
-def of_node(document: Document, refusal: Refusal, element: str, plan: Plan | None) -> str:
+def of_node(document: Document, refusal: Refusal, element: str, plan: PlanLines | None) -> str:
     """The sentence on a refused line of what an element received, or on an element that isn't there."""
     number = refusal.number
     if number == 50:

@@ -2,10 +2,10 @@
 
 from __future__ import annotations
 
-from murdjohe import documents, refusals
-from murdjohe.documents import Document
-from murdjohe.plans import Plan
-from murdjohe.refusals import Refusal
+from murdjohe.core import documents, refusals
+from murdjohe.core.documents import Document
+from murdjohe.core.refusals import Refusal
+from murdjohe.plan.plan_lines import PlanLines
 from murdjohe.sentences.plan import name_fault
 from murdjohe.sentences.records import MOST_ROWS, Row, on_fields, on_header, rows_of, what_it_is
 
@@ -36,7 +36,7 @@ def on_apart(rows: list[Row], at: int) -> str:
     return f'the group "{name}" stood above, up to line {last.line}, and other rows came between'
 
 
-def on_kind(plan: Plan | None, kind: str, part: str) -> tuple[str, str]:
+def on_kind(plan: PlanLines | None, kind: str, part: str) -> tuple[str, str]:
     """What is wrong with the kind of a part, and what would be right."""
     its = next((one for one in KINDS if plan and part in plan.names(one)), None)
     likely = its or ALIKE.get(kind.lower()) or documents.nearest(kind, KINDS)
@@ -48,7 +48,7 @@ def on_kind(plan: Plan | None, kind: str, part: str) -> tuple[str, str]:
     )
 
 
-def on_part(plan: Plan | None, rows: list[Row], at: int) -> tuple[str, str]:
+def on_part(plan: PlanLines | None, rows: list[Row], at: int) -> tuple[str, str]:
     """What is wrong with the name of a part, and what would be right."""
     row = rows[at]
     group, kind, part = row.fields
@@ -63,7 +63,7 @@ def on_part(plan: Plan | None, rows: list[Row], at: int) -> tuple[str, str]:
     return f'"{part}" names no {kind} of the plan{documents.hint(part, names)}', "correct the name, or take the row out"
 
 
-def on_row(plan: Plan | None, number: int, rows: list[Row], at: int) -> tuple[str, str]:
+def on_row(plan: PlanLines | None, number: int, rows: list[Row], at: int) -> tuple[str, str]:
     """What is wrong with a row, and what would be right."""
     if number == 27:
         return on_fields(rows[at], TABLE)
@@ -77,7 +77,7 @@ def on_row(plan: Plan | None, number: int, rows: list[Row], at: int) -> tuple[st
     return on_part(plan, rows, at)
 
 
-def of_groups(document: Document, refusal: Refusal, plan: Plan | None) -> str:
+def of_groups(document: Document, refusal: Refusal, plan: PlanLines | None) -> str:
     """The sentence on a refused list of groups."""
     number = refusal.number
     if number == 26:

@@ -4,10 +4,11 @@ from __future__ import annotations
 
 import re
 
-from murdjohe import documents, levels, plans, refusals
-from murdjohe.documents import Document
-from murdjohe.plans import Plan
-from murdjohe.refusals import Refusal
+from murdjohe.core import documents, levels, refusals
+from murdjohe.core.documents import Document
+from murdjohe.core.refusals import Refusal
+from murdjohe.plan import plan_lines
+from murdjohe.plan.plan_lines import PlanLines
 
 TYPE_CHECKING = False
 if TYPE_CHECKING:
@@ -17,7 +18,11 @@ if TYPE_CHECKING:
 NAME = re.compile(r"[A-Za-z0-9_-]{1,32}")
 POSITION = re.compile(r" \(at line (\d+), column (\d+)\)$")
 BIG_NUMBER = re.compile(r"^[^#\n]*=[ \t]*[+-]?[\d_]{19,}[ \t]*(?:#|$)", re.M)
-KINDS = {plans.TEXT: "a text in quotes", plans.NUMBER: "a whole number without quotes", "array": "an array of tables"}
+KINDS = {
+    plan_lines.TEXT: "a text in quotes",
+    plan_lines.NUMBER: "a whole number without quotes",
+    "array": "an array of tables",
+}
 
 
 class Finding:
@@ -55,11 +60,11 @@ def kind_of(value: Any) -> str:
 
 
 def is_kind(value: Any, kind: str) -> bool:
-    wanted = {plans.TEXT: str, plans.NUMBER: int}.get(kind, list)
+    wanted = {plan_lines.TEXT: str, plan_lines.NUMBER: int}.get(kind, list)
     return isinstance(value, wanted) and not isinstance(value, bool)
 
 
-def title(plan: Plan, section: str, number: int) -> str:
+def title(plan: PlanLines, section: str, number: int) -> str:
     """How a sentence calls a row."""
     if section == "head":
         return "the head"
@@ -67,15 +72,15 @@ def title(plan: Plan, section: str, number: int) -> str:
     return f'{section} "{name}"' if isinstance(name, str) else f"{section} number {number}"
 
 
-def keys_of(plan: Plan, section: str) -> dict[str, str]:
+def keys_of(plan: PlanLines, section: str) -> dict[str, str]:
     """The keys that a row of a section may have in the version of the plan."""
-    keys = dict(plans.KEYS[section])
+    keys = dict(plan_lines.KEYS[section])
     if section == "link" and plan.tables.get("version") != 2:
         keys.pop("bundle")
     return keys
 
 
-def on_document(plan: Plan) -> Finding:
+def on_document(plan: PlanLines) -> Finding:
     """Where the bytes are no TOML document."""
     document = plan.document
     if kind := documents.binary_kind_of(document):
@@ -99,7 +104,7 @@ def on_document(plan: Plan) -> Finding:
     return Finding(None, "it is no TOML document that is read", "tables may be nested up to 80 deep")
 
 
-def on_keys(plan: Plan, section: str, number: int) -> Finding:
+def on_keys(plan: PlanLines, section: str, number: int) -> Finding:
     """Where a table has an unknown key, or lacks one (23)."""
     row, known = plan.row(section, number), keys_of(plan, section)
     name = title(plan, section, number)
@@ -111,16 +116,16 @@ def on_keys(plan: Plan, section: str, number: int) -> Finding:
             return Finding(line, f'{name} has the key "bundle"', "write `version = 2` at the head")
         remedy = f"the keys are {', '.join(known)}"
         return Finding(line, f'{name} has the unknown key "{key}"{documents.hint(key, known)}', remedy)
-    for key in plans.MUST[section]:
+    for key in plan_lines.MUST[section]:
         if key not in row:
             return Finding(plan.line(section, number), f'{name} lacks the key "{key}"', f"add `{key} = ..`")
     return Finding(plan.line(section, number), f"{name} {refusals.says('plan', 23)}")
 
 
-def on_head_kinds(plan: Plan) -> Finding:
+def on_head_kinds(plan: PlanLines) -> Finding:
     """Where a value at the head is of another kind (24)."""
     for key, value in plan.tables.items():
-        kind, line = plans.KEYS["head"].get(key, ""), plan.line_of_table(key)
+        kind, line = plan_lines.KEYS["head"].get(key, ""), plan.line_of_table(key)
         if kind == "array" and isinstance(value, dict):
             return Finding(line, f'"{key}" is one table', f"write `[[{key}]]`, with two brackets")
         if kind and not is_kind(value, kind):
@@ -133,20 +138,20 @@ def on_head_kinds(plan: Plan) -> Finding:
     return Finding(None, f"the head {refusals.says('plan', 24)}")
 
 
-def on_kinds(plan: Plan, section: str, number: int) -> Finding:
+def on_kinds(plan: PlanLines, section: str, number: int) -> Finding:
     """Where a value is of another kind than its key's (24)."""
     if section == "head":
         return on_head_kinds(plan)
     name = title(plan, section, number)
     for key, value in plan.row(section, number).items():
-        kind = plans.KEYS[section].get(key)
+        kind = plan_lines.KEYS[section].get(key)
         if kind and not is_kind(value, kind):
             line = plan.line(section, number, key)
             return Finding(line, f'{name} has for "{key}" {kind_of(value)}', f"it has to be {KINDS[kind]}")
     return Finding(plan.line(section, number), f"{section} number {number} is no table", f"write `[[{section}]]`")
 
 
-def inputs_of(plan: Plan, element: str, section: str, number: int) -> int:
+def inputs_of(plan: PlanLines, element: str, section: str, number: int) -> int:
     """How many nominated inputs an element has by the rows up to this one."""
     links = plan.rows("link")[: number if section == "link" else None]
     sources = plan.rows("source")[: number if section == "source" else 0]
@@ -154,21 +159,23 @@ def inputs_of(plan: Plan, element: str, section: str, number: int) -> int:
     return lines + sum(1 for row in sources if row.get("at") == element and row.get("priority", 1) != 0)
 
 
-def on_limit(plan: Plan, section: str, number: int) -> Finding:
+def on_limit(plan: PlanLines, section: str, number: int) -> Finding:
     """Where there are too many rows, or inputs at an element (15)."""
     line, name = plan.line(section, number), title(plan, section, number)
-    if number > plans.ROWS[section]:
-        return Finding(line, f"{name} is number {number}", f"a plan has at most {plans.ROWS[section]:,} {section}s")
+    if number > plan_lines.ROWS[section]:
+        return Finding(
+            line, f"{name} is number {number}", f"a plan has at most {plan_lines.ROWS[section]:,} {section}s"
+        )
     row = plan.row(section, number)
     ends = [row.get(key) for key in ("a", "b", "at") if key in row]
-    full = [str(end) for end in ends if inputs_of(plan, str(end), section, number) > plans.INPUTS]
+    full = [str(end) for end in ends if inputs_of(plan, str(end), section, number) > plan_lines.INPUTS]
     whose = f' of element "{full[0]}"' if full else " of an element"
     return Finding(
-        line, f"{name} is nominated input {plans.INPUTS + 1}{whose}", f"an element has at most {plans.INPUTS}"
+        line, f"{name} is nominated input {plan_lines.INPUTS + 1}{whose}", f"an element has at most {plan_lines.INPUTS}"
     )
 
 
-def on_name(plan: Plan, section: str, number: int, key: str = "name") -> Finding:
+def on_name(plan: PlanLines, section: str, number: int, key: str = "name") -> Finding:
     """Where a name breaks the rule for names (16, and 39 for a bundle)."""
     name = str(plan.row(section, number).get(key, ""))
     line, whose = plan.line(section, number, key), "its bundle's name" if key == "bundle" else "its name"
@@ -176,7 +183,7 @@ def on_name(plan: Plan, section: str, number: int, key: str = "name") -> Finding
     return Finding(line, f'{section} number {number}: {whose} "{name}" {what}', remedy)
 
 
-def on_twice(plan: Plan, section: str, number: int) -> Finding:
+def on_twice(plan: PlanLines, section: str, number: int) -> Finding:
     """Where an earlier row has the name (17)."""
     name = plan.row(section, number).get("name")
     spaces = ("link", "source") if section == "source" else (section,)
@@ -189,7 +196,7 @@ def on_twice(plan: Plan, section: str, number: int) -> Finding:
     return Finding(plan.line(section, number, "name"), f"{title(plan, section, number)} {refusals.says('plan', 17)}")
 
 
-def on_element(plan: Plan, section: str, number: int) -> Finding:
+def on_element(plan: PlanLines, section: str, number: int) -> Finding:
     """Where an end or a source's element isn't there (18)."""
     row, names = plan.row(section, number), plan.names("element")
     for key in ("a", "b", "at"):
@@ -200,24 +207,24 @@ def on_element(plan: Plan, section: str, number: int) -> Finding:
     return Finding(plan.line(section, number), f"{title(plan, section, number)} {refusals.says('plan', 18)}")
 
 
-def on_self(plan: Plan, section: str, number: int) -> Finding:
+def on_self(plan: PlanLines, section: str, number: int) -> Finding:
     """Where both ends of a link are one element (19)."""
     end = plan.row(section, number).get("a")
     what = f'{title(plan, section, number)} joins "{end}" to itself'
     return Finding(plan.line(section, number, "b"), what)
 
 
-def on_range(plan: Plan, section: str, number: int) -> Finding:
+def on_range(plan: PlanLines, section: str, number: int) -> Finding:
     """Where a number is outside its limits (20)."""
     row = plan.row(section, number)
-    for key, (least, greatest, unit) in plans.LIMITS.items():
+    for key, (least, greatest, unit) in plan_lines.LIMITS.items():
         if key in row and not least <= row[key] <= greatest:
             what = f"{title(plan, section, number)} has {key} = {row[key]}"
             return Finding(plan.line(section, number, key), what, f"it has to be {least} to {greatest}{unit}")
     return Finding(plan.line(section, number), f"{title(plan, section, number)} {refusals.says('plan', 20)}")
 
 
-def on_level(plan: Plan, section: str, number: int) -> Finding:
+def on_level(plan: PlanLines, section: str, number: int) -> Finding:
     """Where a level is none of the option, or do-not-use where that can't be (21)."""
     row, option = plan.row(section, number), plan.option
     known = levels.LEVELS[option]
@@ -232,7 +239,7 @@ def on_level(plan: Plan, section: str, number: int) -> Finding:
     return Finding(plan.line(section, number), f"{title(plan, section, number)} {refusals.says('plan', 21)}")
 
 
-def on_bundle(plan: Plan, section: str, number: int) -> Finding:
+def on_bundle(plan: PlanLines, section: str, number: int) -> Finding:
     """Where a bundle's name breaks the rule, or joins other elements (39)."""
     row = plan.row(section, number)
     bundle, ends = row.get("bundle"), {row.get("a"), row.get("b")}
@@ -249,7 +256,7 @@ def on_bundle(plan: Plan, section: str, number: int) -> Finding:
     return Finding(plan.line(section, number, "bundle"), f"{title(plan, section, number)} {refusals.says('plan', 39)}")
 
 
-ON: dict[int, Callable[[Plan, str, int], Finding]] = {
+ON: dict[int, Callable[[PlanLines, str, int], Finding]] = {
     23: on_keys,
     24: on_kinds,
     15: on_limit,
@@ -263,10 +270,10 @@ ON: dict[int, Callable[[Plan, str, int], Finding]] = {
 }
 
 
-def finding(plan: Plan, refusal: Refusal) -> Finding:
+def finding(plan: PlanLines, refusal: Refusal) -> Finding:
     """What is wrong in the plan, by the refusal."""
     section = refusal.place.partition(" ")[0]
-    if refusal.number == 22 or section not in plans.KEYS:
+    if refusal.number == 22 or section not in plan_lines.KEYS:
         return on_document(plan)
     if plan.fault:  # (a document that Python's older reader doesn't take)
         what = f"{section} number {refusal.row} {refusals.says('plan', refusal.number)}"
@@ -276,6 +283,6 @@ def finding(plan: Plan, refusal: Refusal) -> Finding:
 
 def sentence(document: Document, refusal: Refusal) -> str:
     """The sentence on a refused plan."""
-    found = finding(Plan(document), refusal)
+    found = finding(PlanLines(document), refusal)
     remedy = refusals.remedy("plan", refusal.number) if found.remedy is None else found.remedy
     return document.place(found.line) + found.what + (f"; {remedy}" if remedy else "")

@@ -6,10 +6,10 @@ import csv
 import io
 import sys
 
-from murdjohe import documents, levels, refusals, times
-from murdjohe.documents import Document
-from murdjohe.plans import Plan
-from murdjohe.refusals import Refusal
+from murdjohe.core import documents, levels, refusals, times
+from murdjohe.core.documents import Document
+from murdjohe.core.refusals import Refusal
+from murdjohe.plan.plan_lines import PlanLines
 from murdjohe.sentences.plan import name_fault
 
 HEADERS = {
@@ -22,6 +22,7 @@ NAMES = {"certificate": "certificate", "events": "event list", "cases": "list of
 FIELDS = {"events": "four", "cases": "five", "groups": "three"}  # how many a row has
 HEADER_NUMBERS = (34, 26)
 MOST_ROWS = 100_000  # of an event list, and of a list of cases
+HALF_DAY = 43_200_000  # milliseconds: a time that goes back so far is probably one of the next day
 # What would be right where one kind of list of events stands for the other.
 INSTEAD = {
     ("events", "a list of cases"): "`murdjohe study` runs each of its cases",
@@ -89,7 +90,7 @@ def on_header(document: Document, table: str) -> str:
     return f"{document.place(1)}{what}; begin with `{wanted}`"
 
 
-def line_missing(plan: Plan, name: str) -> str:
+def line_missing(plan: PlanLines, name: str) -> str:
     """Why a name is no nominated line of the plan, where that can be told, and what would be right."""
     lines = plan.lines_of()
     if name in lines:
@@ -103,7 +104,7 @@ def line_missing(plan: Plan, name: str) -> str:
     return f"names no line of the plan{documents.hint(name, lines)}"
 
 
-def of_certificate(document: Document, refusal: Refusal, plan: Plan | None) -> str:
+def of_certificate(document: Document, refusal: Refusal, plan: PlanLines | None) -> str:
     """The sentence on a refused certificate."""
     number, remedy = refusal.number, refusals.remedy("certificate", refusal.number)
     if number == 34:
@@ -125,7 +126,7 @@ def of_certificate(document: Document, refusal: Refusal, plan: Plan | None) -> s
     return f"{document.place(row.line)}{what}; {remedy}"
 
 
-def targets(plan: Plan, word: str) -> tuple[str, list[str]]:
+def targets(plan: PlanLines, word: str) -> tuple[str, list[str]]:
     """What a word of an event is said of, in words, and the names of these."""
     lines, links, sources = list(plan.lines_of()), plan.names("link"), plan.names("source")
     if word == "clear":
@@ -139,7 +140,7 @@ def targets(plan: Plan, word: str) -> tuple[str, list[str]]:
     return "a link, a line, as L1>B, or a source", links + lines + sources
 
 
-def what_it_is(plan: Plan, name: str) -> str:
+def what_it_is(plan: PlanLines, name: str) -> str:
     """What a name is in the plan, in words, and nothing where it is no name of it."""
     if name in plan.names("link"):
         return f"a link; its lines are {' and '.join(line for line in plan.lines_of() if line.startswith(name + '>'))}"
@@ -157,7 +158,7 @@ def what_it_is(plan: Plan, name: str) -> str:
     return f"a bundle; its links are {', '.join(bundle)}" if bundle else ""
 
 
-def on_target(plan: Plan | None, fields: list[str]) -> tuple[str, str]:
+def on_target(plan: PlanLines | None, fields: list[str]) -> tuple[str, str]:
     """What is wrong with the target of an event, and what would be right."""
     word, name = fields[1], fields[2]
     if plan is None:
@@ -169,7 +170,7 @@ def on_target(plan: Plan | None, fields: list[str]) -> tuple[str, str]:
     return f'"{name}" names nothing in the plan{documents.hint(name, names)}', f"`{word}` takes {right}"
 
 
-def on_value(plan: Plan | None, fields: list[str]) -> tuple[str, str]:
+def on_value(plan: PlanLines | None, fields: list[str]) -> tuple[str, str]:
     """What is wrong with the value of an event, and what would be right."""
     word, value = fields[1], fields[3]
     if word != "level":
@@ -203,14 +204,17 @@ def on_fields(row: Row, table: str) -> tuple[str, str]:
     return said, refusals.remedy(table, 27)
 
 
-def on_event(number: int, rows: list[Row], at: int, plan: Plan | None) -> tuple[str, str]:
+def on_event(number: int, rows: list[Row], at: int, plan: PlanLines | None) -> tuple[str, str]:
     """What is wrong with an event of four fields, and what would be right."""
     row = rows[at]
     if number == 28:
         return on_time(row.fields[0])
     if number == 29:
         before = rows[at - 1]
-        return f"its time is before {before.fields[0]}, that of line {before.line}", refusals.remedy("events", 29)
+        gap = int(before.fields[0]) - int(row.fields[0])
+        midnight = "if these are times of day past midnight, give --start; else " if gap > HALF_DAY else ""
+        remedy = midnight + refusals.remedy("events", 29)
+        return f"its time is before {before.fields[0]}, that of line {before.line}", remedy
     if number == 30:
         word = row.fields[1]
         likely = ALIKE.get(word.lower()) or documents.nearest(word, WORDS)
@@ -229,7 +233,7 @@ def on_case_name(rows: list[Row], at: int) -> tuple[str, str]:
     return f"the name of its case {what}", remedy
 
 
-def on_case(number: int, rows: list[Row], at: int, plan: Plan | None) -> tuple[str, str]:
+def on_case(number: int, rows: list[Row], at: int, plan: PlanLines | None) -> tuple[str, str]:
     """What is wrong with a row of five fields of a list of cases, and what would be right."""
     if number == 51:
         return on_case_name(rows, at)
@@ -241,7 +245,7 @@ def on_case(number: int, rows: list[Row], at: int, plan: Plan | None) -> tuple[s
     return on_event(number, [Row(row.line, row.fields[1:]) for row in rows[: at + 1]], at, plan)
 
 
-def of_events(document: Document, refusal: Refusal, plan: Plan | None) -> str:
+def of_events(document: Document, refusal: Refusal, plan: PlanLines | None) -> str:
     """The sentence on a refused event list, or list of cases."""
     table, number = refusal.table, refusal.number
     if number == 26:

@@ -16,7 +16,7 @@ unreachable-requires c =
     let listed : c.as_slice-2.result.now ≡ map (tree_priority c.args.plan.now c.in_ok-picks.picks.items) (range_with_len 0 (line_count c.args.plan.now)) =
     c.as_slice-2.ensures.value ∙ (rw c.as_slice.ensures.value at c.in_ok-priorities.ensures) in
     (rw c.in-None.is at c.in_ok-given.ensures.none) refl
-    (listed-well c.args.plan.now c.in_ok-hops.hops c.in_ok-picks.picks.items c.as_slice-2.result.now c.lines-lines.ensures.well_formed c.in_ok-hops.ensures.least
+    (listed-well c.args.plan.now c.args.hops.now c.in_ok-picks.picks.items c.as_slice-2.result.now c.lines-lines.ensures.well_formed c.requires
     c.in_ok-picks.ensures listed)
 
 pub returns : goal.returns
@@ -24,8 +24,8 @@ returns c =
     let listed : c.as_slice-2.result.now ≡ map (tree_priority c.args.plan.now c.in_ok-picks.picks.items) (range_with_len 0 (line_count c.args.plan.now)) =
     c.as_slice-2.ensures.value ∙ (rw c.as_slice.ensures.value at c.in_ok-priorities.ensures) in
     record {
-      counts = c.in_ok-hops.hops;
-      are = c.in_ok-hops.ensures.least;
+      counts = c.args.hops.now;
+      are = c.requires;
       picks = c.in_ok-picks.picks.items;
       are_picks = c.in_ok-picks.ensures;
       is = (rw c.in-Some.is at c.in_ok-given.ensures.plan) ∙ listed-tree c.args.plan.now c.in_ok-picks.picks.items c.as_slice-2.result.now listed;

@@ -1,4 +1,4 @@
-use Rattle.std.proofs.Common.{◌≡◌, ◌+◌, ℕ, suc, List, sym, subst, ◌∙◌, arith}
+use Rattle.std.proofs.Common.{◌≡◌, ◌+◌, ℕ, suc, List, length, ap, sym, subst, ◌∙◌, arith}
 use Rattle.std.specs.List.{All}
 use Rattle.sync_topo.specs.declared.event.Event.{Event}
 use Rattle.sync_topo.specs.Topology.{Topology}
@@ -7,6 +7,8 @@ use Rattle.event_times.specs.EventTimes.{AreWithin}
 use Rattle.event_times.proofs.EventTimes.{within-from}
 use Rattle.sync_net.specs.Standing.{StandsFor}
 use Rattle.sync_net.specs.Evaluated.{IsContinued}
+use Rattle.sync_sweep.specs.private.Spells.{AreWorseNow, AreCountedSo}
+use Rattle.sync_sweep.proofs.SpellLemmas.{counted-step, due-later}
 use Rattle.sync_sweep.proofs.Told.{continued}
 use Rattle.sync_sweep.proofs.branch.run_events.Goals as goal
 
@@ -66,8 +68,41 @@ loop-next-preserved g c =
           (subst (λ (p : Topology). IsContinued p all c.loop-next.next now here) (sym c.loop-next.invariant.plan)
           (continued plan all c.args.from c.args.until c.args.events.now c.loop-next.next now rest here later c.due.result told c.loop-next.invariant.from next c.loop-next.invariant.left parted))
           (c.loop-next.invariant.stands all told stands);
+      spells = c.step.ensures.spells ∙ c.loop-next.invariant.spells;
+      unmarked = λ none. c.in_ok-step.ensures.unmarked (c.loop-next.invariant.unmarked none);
+      counted = λ all before told stands begun.
+          let stood : StandsFor c.loop-next.branch.net all c.loop-next.next = c.loop-next.invariant.stands all told stands in
+          let on : IsContinued plan all c.loop-next.next now here =
+          continued plan all c.args.from c.args.until c.args.events.now c.loop-next.next now rest here later c.due.result told c.loop-next.invariant.from next c.loop-next.invariant.left parted in
+          let levels : c.loop-next.branch.shown.levels ≡ c.args.branch.now.shown.levels = ap (λ s. s.levels) c.loop-next.invariant.shown in
+          let was : AreCountedSo c.loop-next.branch.net c.args.branch.now.shown.levels all before c.loop-next.next c.loop-next.branch.spells.items =
+          c.loop-next.invariant.counted all before told stands begun in
+          counted-step c.elements_law.ensures.stands c.loop-next.branch.net c.step.new.branch.net c.args.branch.now.shown.levels all before c.loop-next.next now
+          c.loop-next.branch.spells.items c.step.new.branch.spells.items c.step.ensures.plan next.later
+          (λ n low high. c.due.ensures.gap all c.loop-next.next n stood low
+          (λ none. absurd (omega (arith, none, c.loop-next.invariant.next, was.later)))
+          (λ t from before_it. on.none t from (omega (arith, before_it, high))) (due-later c.due.result now n next.until_due high))
+          (c.in_ok-step.ensures.stands all c.loop-next.next (subst (λ (p : Topology). IsContinued p all c.loop-next.next now here) (sym c.loop-next.invariant.plan) on) stood)
+          (c.loop-next.invariant.spells ∙ c.requires.spells ∙ ap (λ p. length p.elements) (sym c.loop-next.invariant.plan))
+          c.in_ok-step.ensures.noted
+          (λ worse. subst (λ list. AreWorseNow c.step.new.branch.net list c.step.new.branch.spells.items) levels
+          (c.in_ok-step.ensures.worse (subst (λ list. AreWorseNow c.loop-next.branch.net list c.loop-next.branch.spells.items) (sym levels) worse)))
+          was;
       branch = λ base is. c.in_ok-step.ensures.branch base (c.loop-next.invariant.branch base is);
     }
+
+pub step-requires-clause-levels : goal.step-requires-clause-levels
+step-requires-clause-levels g c =
+    ap (λ s. length s.levels) c.loop-next.invariant.shown ∙ c.requires.levels ∙ ap (λ p. length p.elements) (sym c.loop-next.invariant.plan)
+
+pub step-requires-clause-spells : goal.step-requires-clause-spells
+step-requires-clause-spells g c = c.loop-next.invariant.spells ∙ c.requires.spells ∙ ap (λ p. length p.elements) (sym c.loop-next.invariant.plan)
+
+pub returns-clause-counted : goal.returns-clause-counted
+returns-clause-counted g c = λ all before told stands begun.
+    let end : c.loop-next.next ≡ c.args.until + 1 = omega (arith, c.loop-next.invariant.up_to, c.loop-next-test.false) in
+    subst (λ n. AreCountedSo c.loop-next.branch.net c.args.branch.now.shown.levels all before n c.loop-next.branch.spells.items) end
+    (c.loop-next.invariant.counted all before told stands begun)
 
 pub returns-clause-stands : goal.returns-clause-stands
 returns-clause-stands g c = λ all told stands.

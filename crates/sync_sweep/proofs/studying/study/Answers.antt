@@ -1,12 +1,11 @@
-use Rattle.std.proofs.Common.{◌≡◌, ◌<◌, ℕ, true, List, length, sym, subst}
-use Rattle.std.specs.Prelude.{IfSome, is_some}
+use Rattle.std.proofs.Common.{◌≡◌, ℕ, true, List, length, sym, subst}
+use Rattle.std.specs.Prelude.{is_some}
 use Rattle.std.specs.List.{All, AllZip}
 use Rattle.std.proofs.lemmas.Result.{IfOk-weaker}
 use Rattle.sync_sweep.specs.declared.studying.StudyRow.{StudyRow}
 use Rattle.sync_sweep.specs.declared.working.Worked.{Worked}
-use Rattle.sync_sweep.specs.Cases.{merged}
 use Rattle.sync_sweep.specs.private.Rows.{IsStudyRowOf}
-use Rattle.sync_sweep.specs.Study.{IsStudyRow, AreStudyRows}
+use Rattle.sync_sweep.specs.Study.{IsStudyRow, AreStudyRows, IsOfPlan}
 use Rattle.sync_sweep.specs.private.Working.{AreWorked, IsSettledIfDue}
 use Rattle.sync_sweep.proofs.ChunkLemmas.{zip-length}
 use Rattle.sync_sweep.proofs.StudyLemmas.{all-timed, rows-of-cases}
@@ -30,9 +29,9 @@ returns g c =
       rows = IfOk-weaker c.study_rows.result (AllZip IsStudyRowOf list) (AreStudyRows plan common until cases)
           (λ rows same. (rows-of-cases plan common until true cases list rows worked same).0) c.study_rows.ensures;
       count = IfOk-weaker c.study_rows.result (AllZip IsStudyRowOf list) (λ rows. length rows ≡ length cases)
-          (λ rows same. sym (zip-length (λ case. IsStudyRow plan (merged common case.events) until) cases rows
+          (λ rows same. sym (zip-length (λ case. IsStudyRow plan common case.events until) cases rows
           (rows-of-cases plan common until true cases list rows worked same).0)) c.study_rows.ensures;
-      of_plan = IfOk-weaker c.study_rows.result (AllZip IsStudyRowOf list) (All (λ row. IfSome row.timing.first (λ element. element < length plan.elements)))
+      of_plan = IfOk-weaker c.study_rows.result (AllZip IsStudyRowOf list) (All (IsOfPlan plan))
           (λ rows same k d within. ((rows-of-cases plan common until true cases list rows worked same).1 k d within).of_plan) c.study_rows.ensures;
       bound = IfOk-weaker c.study_rows.result (AllZip IsStudyRowOf list) (All (λ (row : StudyRow). IsSettledIfDue until row.outcome))
           (λ rows same k d within. ((rows-of-cases plan common until true cases list rows worked same).1 k d within).due) c.study_rows.ensures;

@@ -2,6 +2,7 @@ use Rattle.std.proofs.Common.{◌≡◌, ◌<◌, ◌≤◌, ◌*◌, ℕ, lengt
 use Rattle.std.specs.Prelude.{IfOk, Some}
 use Rattle.std.proofs.lemmas.Result.{IfOk-weaker}
 use Rattle.sync_sweep.specs.Cases.{merged}
+use Rattle.sync_sweep.specs.OnWay.{before_own}
 use Rattle.sync_sweep.specs.private.Chunks.{joined}
 use Rattle.sync_sweep.specs.private.Working.{AreWorked, IsWorked}
 use Rattle.sync_sweep.proofs.ChunkLemmas.{joined_whole, parts-enough, got}
@@ -18,7 +19,7 @@ returns-in-Ok g c = record {
       let some : 0 < size = c.chunk_size-size.ensures.some in
       let enough : length cases ≤ length parts * size = parts-enough (length cases) size (length parts) some (omega (arith, c.in-Ok.ensures.len, c.in-Ok.parts.ok)) in
       IfOk-weaker c.join_worked.result (λ worked. joined c.as_slice.result.now ≡ Some worked) (AreWorked plan common c.args.until c.args.timed cases)
-      (λ worked is. joined_whole (λ case. IsWorked plan (merged common case.events) c.args.until c.args.timed) size parts cases worked enough
+      (λ worked is. joined_whole (λ case. IsWorked plan (merged common case.events) (before_own case.events c.args.until) c.args.until c.args.timed) size parts cases worked enough
       (λ n part at.
       let there = got parts n (Ok part) (Ok part) at in
       let one = (c.in-Ok.ensures.each n (Ok part) there.0).1 in

@@ -4,6 +4,7 @@ use Rattle.std.proofs.lemmas.Result.{IfOk-weaker}
 use Rattle.sync_topo.specs.declared.event.Case.{Case}
 use Rattle.sync_topo.specs.Events.{IsCase}
 use Rattle.sync_sweep.specs.Cases.{merged}
+use Rattle.sync_sweep.specs.OnWay.{before_own}
 use Rattle.sync_sweep.specs.private.Rows.{IsRowOf}
 use Rattle.sync_sweep.specs.Sweep.{AreSweepRows}
 use Rattle.sync_sweep.specs.private.Working.{AreWorked, IsWorked}
@@ -23,7 +24,7 @@ pub rows_of-requires : goal.rows_of-requires
 rows_of-requires g c = record {
   few =
       let well = c.links.ensures.well_formed in
-      let many = zip-length (λ case. IsWorked c.args.plan.now (merged [] case.events) c.args.until false) c.as_slice.result.now c.in_ok-worked.worked c.in_ok-worked.ensures.worked in
+      let many = zip-length (λ case. IsWorked c.args.plan.now (merged [] case.events) (before_own case.events c.args.until) c.args.until false) c.as_slice.result.now c.in_ok-worked.worked c.in_ok-worked.ensures.worked in
       omega (arith, well.few_links, c.links.ensures.count, c.in_ok-cases.ensures.count, ap length c.as_slice.ensures, many, ap length c.as_slice-2.ensures);
 }
 

@@ -1,0 +1,80 @@
+"""What bench.clauses, bench.words and bench.measure.headline take out of the source, and what docs/check_style finds."""
+
+from __future__ import annotations
+
+import importlib.machinery
+import importlib.util
+import pathlib
+
+from bench.clauses import Clause, clauses_at, comment_above, first_sentence, short, Call
+from bench.definitions import rust_items
+from bench.measure.headline import counted_row, files_of
+
+TOP = pathlib.Path(__file__).resolve().parent.parent.parent
+SOURCE = """\
+/// Gives the sum of `a` and `b`. It is never less
+/// than either.
+#[tactic(auto)]
+pub fn add(a: u32, b: u32) -> u64
+    requires small { a ≤ 9 }
+    // What comes out is the sum,
+    // whatever the order.
+    ensures sum { result ≡ a + b }
+    ensures { result ≤ 2 ^ 33 }
+{
+    0
+}
+"""
+
+
+def clauses() -> list[Clause]:
+    plain = rust_items.without_hidden(SOURCE)
+    return list(clauses_at(plain, SOURCE, plain.index("pub fn")))
+
+
+def test_clauses_come_with_their_comments() -> None:
+    assert clauses() == [
+        Clause("requires", "small", "a ≤ 9", ""),
+        Clause("ensures", "sum", "result ≡ a + b", "What comes out is the sum, whatever the order."),
+        Clause("ensures", "", "result ≤ 2 ^ 33", ""),
+    ]
+
+
+def test_a_comment_ends_where_something_else_stands() -> None:
+    assert comment_above(SOURCE.split("\n"), 3, "///") == "Gives the sum of `a` and `b`. It is never less\nthan either."
+    assert (
+        first_sentence("Gives the sum of `a` and `b`. It is never less\nthan either.")
+        == "Gives the sum of `a` and `b`."
+    )
+
+
+def test_a_call_lists_what_is_said_and_names_the_rest() -> None:
+    text = short(Call("Adder", "add", "Gives the sum.", tuple(clauses())))
+    assert text.split("\n") == [
+        "**`Adder::add`**: Gives the sum.",
+        "",
+        "- `sum`: What comes out is the sum, whatever the order.",
+        "- `small` (owed)",
+        "",
+    ]
+
+
+def test_a_row_counts_the_files_that_it_names() -> None:
+    cell = " sync_topo `Bundles`, `Hops`, sync_ql `Level` "
+    assert files_of(cell) == [("sync_topo", "Bundles"), ("sync_topo", "Hops"), ("sync_ql", "Level")]
+    counts = {("sync_topo", "Hops"): 5, ("sync_ql", "Level"): 7, ("sync_ql", "Table"): 1}
+    assert counted_row(f"|{cell}| 0 | what |", counts) == f"|{cell}| 12 | what |"
+    assert counts == {("sync_ql", "Table"): 1}
+
+
+def test_style_finds_words_and_long_sentences() -> None:
+    loader = importlib.machinery.SourceFileLoader("check_style", str(TOP / "docs" / "check_style"))
+    spec = importlib.util.spec_from_loader("check_style", loader)
+    assert spec is not None
+    style = importlib.util.module_from_spec(spec)
+    loader.exec_module(style)
+    text = "He knows whence it comes, `whence` aside.\n\n```\nwhence\n```\n\n" + "word " * 46 + "end.\n"
+    assert list(style.finds("x.md", text)) == [
+        "x.md:1: whence: better: where .. from",
+        "x.md:7: a sentence of 47 words",
+    ]

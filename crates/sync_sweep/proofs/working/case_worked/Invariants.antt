@@ -1,4 +1,0 @@
-use Rattle.sync_sweep.proofs.working.case_worked.Given as goal
-
-abbrev pub ghosts-run_out : goal.ghosts-run_out
-ghosts-run_out a = record { name = a.blank.name; parts = a.blank.parts }

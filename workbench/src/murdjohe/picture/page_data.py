@@ -1,0 +1,210 @@
+"""What the page of a run knows, as JSON within it: the network with its places, changes in columns, events, losses, and cases."""
+
+from __future__ import annotations
+
+import os
+from concurrent.futures import ThreadPoolExecutor
+from dataclasses import dataclass
+from typing import Any
+
+from murdjohe.answers import api, reports
+from murdjohe.answers.reports import Change, Cut
+from murdjohe.core import row_tables
+from murdjohe.core.faults import Wrong
+from murdjohe.core.levels import LEVELS
+from murdjohe.network import wiring
+from murdjohe.network.plan_file import PlanFile
+from murdjohe.network.reachability import Reach
+from murdjohe.network.wiring import Wiring
+from murdjohe.picture import colours, places
+from murdjohe.picture.places import ELEMENT, SOURCE, Layout
+from murdjohe.runs import moments, simulation
+from murdjohe.runs.moments import Event
+from murdjohe.runs.rehearsals import Rehearsal, event_text, reasons
+from murdjohe.runs.simulation import EventFile
+from murdjohe.runs.spans import Loss
+
+MODES = {word: place for place, word in enumerate(row_tables.CHANGES.column("mode").words)}
+STATES = {word: place for place, word in enumerate(row_tables.CHANGES.column("state").words)}
+CUT_AT, CUT_UNTIL = 60_000, 400_000  # when a link goes down in a case, and when the network is looked at
+SIGNS = {
+    "loop": colours.LOOP,
+    "pair": colours.PAIR,
+    "dark": colours.DARK,
+    "grey": colours.GREY,
+    "pale": colours.PALE,
+}
+MOST_CELLS = 200_000  # elements of all cases together
+HEADS = ("link", "settled", "locked", "holdover", "free-running", "loops", "worst", "no source", "another way left")
+
+
+@dataclass(frozen=True)
+class Numbers:
+    """The numbers under which the page knows elements, inputs (lines, then sources) and levels."""
+
+    elements: dict[str, int]
+    inputs: dict[str, int]
+    levels: dict[str, int]
+
+
+def numbers_of(wired: Wiring, option: str) -> Numbers:
+    """The numbers of a plan's things."""
+
+    def numbered(names: Any) -> dict[str, int]:
+        return {name: place for place, name in enumerate(names)}
+
+    return Numbers(numbered(wired.elements), numbered([*wired.lines, *wired.sources]), numbered(LEVELS[option]))
+
+
+def columns_of(numbers: Numbers, changes: tuple[Change, ...]) -> dict[str, list[int]]:
+    """Changes as columns of numbers."""
+    return {
+        "at": [change.at for change in changes],
+        "element": [numbers.elements[change.element] for change in changes],
+        "mode": [MODES[change.mode] for change in changes],
+        "input": [-1 if change.input is None else numbers.inputs[change.input] for change in changes],
+        "level": [numbers.levels[change.level or ""] for change in changes],
+        "state": [STATES[change.state] for change in changes],
+    }
+
+
+def spot(layout: Layout, kind: str, name: str) -> dict[str, float]:
+    """Where a thing stands, to a hundredth of an inch."""
+    x, y = layout.spots[kind, name]
+    return {"x": round(x, 2), "y": round(y, 2)}
+
+
+def levels_of(option: str, used: set[str]) -> list[dict[str, Any]]:
+    """The levels of an option, best first, with their colours."""
+    found = []
+    for name in LEVELS[option]:
+        colour = colours.of_level(name)
+        found.append({"name": name, "colour": colour, "ink": colours.ink(colour), "isUsed": name in used})
+    return found
+
+
+def network_of(plan: PlanFile, wired: Wiring, layout: Layout, used: set[str]) -> dict[str, Any]:
+    """The network: elements, lines and sources with their places."""
+    numbers = numbers_of(wired, plan.plan.option)
+    bundles = {
+        bundle: place for place, bundle in enumerate(dict.fromkeys(line.bundle for line in wired.lines.values()))
+    }
+    elements = [
+        {"name": name, "own": numbers.levels[wired.own[name]], **spot(layout, ELEMENT, name)} for name in wired.elements
+    ]
+    lines = [
+        {
+            "name": line.name,
+            "link": line.link,
+            "sender": numbers.elements[line.sender],
+            "receiver": numbers.elements[line.receiver],
+            "priority": line.priority,
+            "bundle": bundles[line.bundle],
+            "bundleName": line.bundle[1],
+        }
+        for line in wired.lines.values()
+    ]
+    sources = [
+        {
+            "name": row.name,
+            "at": numbers.elements[row.at],
+            "level": numbers.levels[row.level],
+            "priority": row.priority,
+            **spot(layout, SOURCE, row.name),
+        }
+        for row in plan.network.sources
+    ]
+    size = {"width": round(layout.width, 2), "height": round(layout.height, 2), "box": places.BOX}
+    scale = round(places.room_of(list(layout.spots.values())), 4)
+    rows = {"elements": elements, "lines": lines, "sources": sources}
+    return {**rows, **size, "scale": scale, "levels": levels_of(plan.plan.option, used), "signs": SIGNS}
+
+
+def events_of(wired: Wiring, numbers: Numbers, events: tuple[Event, ...], why: dict[Any, str]) -> list[dict[str, Any]]:
+    """Events with what they are in words, and the inputs that they are of."""
+    found = []
+    for event in events:
+        names = wired.lines_of(event.target) or (event.target,)
+        inputs = [] if event.what == "clear" else [numbers.inputs[name] for name in names]
+        text, reason = event_text(event, why), why.get((event.at, event.what, event.target))
+        found.append({"at": event.at, "what": event.what, "inputs": inputs, "text": text, "why": reason})
+    return found
+
+
+def ended(wired: Wiring, numbers: Numbers, changes: tuple[Change, ...]) -> dict[str, list[int]]:
+    """The level of each element at the end of a run, and whether it follows a source."""
+    shown = moments.shown_at(wired, changes, CUT_UNTIL)
+    traces = moments.traces_of(wired, moments.taken_of(shown))
+    levels = [numbers.levels[shown[name].level or ""] for name in wired.elements]
+    return {"level": levels, "fed": [int(traces[name].kind == moments.SOURCE) for name in wired.elements]}
+
+
+def lost_of(wired: Wiring, reach: Reach, cut: Cut, fed: list[int]) -> tuple[int, int]:
+    """How many elements have no source at the end of a cut, and how many of these a link could still serve."""
+    lost = {name for name, is_fed in zip(wired.elements, fed) if not is_fed}
+    left = reach.apart(frozenset(wired.lines_of(cut.link)))[1] if lost else frozenset()
+    return len(lost), len(lost - left)
+
+
+def case_of(plan: PlanFile, wired: Wiring, reach: Reach, cut: Cut) -> dict[str, Any]:
+    """The run in which one link goes down alone, with its row of `sweep`, who has no source, and who needn't be without."""
+    numbers = numbers_of(wired, plan.plan.option)
+    events = (Event(CUT_AT, "down", cut.link, ""),)
+    file = EventFile(cut.link, simulation.NO_EVENTS + f"{CUT_AT},down,{cut.link},\n".encode())
+    report = simulation.report_of(plan, file, CUT_UNTIL)
+    its_end = ended(wired, numbers, report.changes)
+    row = ["yes" if cut.is_settled else "no", cut.locked, cut.holdover, cut.freerun, cut.loops, cut.worst]
+    row += lost_of(wired, reach, cut, its_end["fed"])
+    return {
+        "name": cut.link,
+        "row": [str(field) for field in row],
+        "until": CUT_UNTIL,
+        "events": events_of(wired, numbers, events, {}),
+        "changes": columns_of(numbers, report.changes),
+        "ended": its_end,
+    }
+
+
+def cases_of(plan: PlanFile, wired: Wiring) -> list[dict[str, Any]]:
+    """Each link down alone, worked at once on all processors. Raises Wrong where these are too many for a page."""
+    links = len(plan.network.links)
+    if links * len(wired.elements) > MOST_CELLS:
+        raise Wrong(
+            f"--cuts: {links:,} links and {len(wired.elements):,} elements are too many for a page; see `sweep`"
+        )
+    sweep: reports.Sweep = api.sweep(plan.data, CUT_AT, CUT_UNTIL).result
+    reach = Reach(wired)
+    with ThreadPoolExecutor(os.cpu_count() or 1) as workers:
+        return list(workers.map(lambda cut: case_of(plan, wired, reach, cut), sweep.rows))
+
+
+def losing_cases(cases: list[dict[str, Any]]) -> tuple[int, int]:
+    """How many cases leave somebody without a source whom a link could still serve, and how many only others."""
+    lost = [(int(case["row"][-2]), int(case["row"][-1])) for case in cases]
+    return sum(needless > 0 for _, needless in lost), sum(all_lost > 0 and not needless for all_lost, needless in lost)
+
+
+def losses_of(losses: list[Loss]) -> list[dict[str, Any]]:
+    """What each element went without, and when first."""
+    keys = ("best", "below", "worst", "unfed", "since")
+    return [{key: getattr(loss, key) for key in keys} for loss in losses]
+
+
+def data_of(plan: PlanFile, found: Rehearsal, layout: Layout, start: int, title: str, has_cuts: bool) -> dict[str, Any]:
+    """All that the page knows."""
+    wired = wiring.wiring_of(plan.network)
+    numbers = numbers_of(wired, plan.plan.option)
+    used = {change.level or "" for change in found.report.changes} | set(wired.own.values())
+    used |= {row.level for row in plan.network.sources}
+    times = sorted({0, found.until, *(change.at for change in found.report.changes), *(one.at for one in found.events)})
+    return {
+        "title": title,
+        "start": start,
+        "until": found.until,
+        "first": times.index(found.events[0].at) if found.events else len(times) - 1,
+        "network": network_of(plan, wired, layout, used),
+        "changes": columns_of(numbers, found.report.changes),
+        "events": events_of(wired, numbers, found.events, reasons(found)),
+        "losses": losses_of(found.losses),
+        "cases": cases_of(plan, wired) if has_cuts else [],
+    }

@@ -1,0 +1,210 @@
+"""What `survey` prints: the worst cases, and which elements are the first to lose their clock."""
+
+from __future__ import annotations
+
+import dataclasses
+from typing import Any
+
+from murdjohe.answers.studies import Case
+from murdjohe.core import times
+from murdjohe.core.columns import table
+from murdjohe.core.wording import NAMED, listed, plural
+from murdjohe.survey.lost_names import Names
+from murdjohe.survey.needless_losses import Loss, Losses
+from murdjohe.survey.tallies import Tally
+
+FAILING = ("lost", "needless", "unsettled", "loops")  # what a survey may be asked to fail on
+FIRST = "is the first without a source, in the order of the plan; a row names no other element"
+
+
+def of_cases(count: int, does: str, do: str) -> str:
+    """That so many cases do something."""
+    return f"{plural(count, 'case')} {does if count == 1 else do}"
+
+
+def rows_of(outcomes: list[Case]) -> list[str]:
+    """The columns of cases that a planner looks at."""
+    heads = ["case", "lost", "first", "holdover", "freerun", "loops", "worst", "longest", "settled"]
+    rows = [
+        [one.case, str(one.lost), one.first or "-", str(one.holdover), str(one.freerun), str(one.loops), one.worst]
+        + [str(one.longest), "yes" if one.is_settled else "no"]
+        for one in outcomes
+    ]
+    return [f"  {line}" for line in table(heads, rows)]
+
+
+def section(head: str, outcomes: list[Case]) -> list[str]:
+    """The worst by one measure, where there are any."""
+    return ["", head, *rows_of(outcomes)] if outcomes else []
+
+
+@dataclasses.dataclass(frozen=True)
+class Ends:
+    """The end of each run, the time of day at which runs begin, if one is said, who has no source at the end of the common events
+    alone, if there are any, the losses by why they came, by what the end was chosen, where nobody gave it, and who has no source in
+    cases whose names are asked for."""
+
+    until: int
+    start: int | None
+    alone: list[str] | None
+    losses: Losses
+    why: str | None = None
+    names: list[Names] = dataclasses.field(default_factory=list)
+
+    @property
+    def time(self) -> str:
+        """The end as it is told."""
+        return f"{times.clock(self.until, self.start or 0)} ({self.until:,} ms)"
+
+
+def losing_text(tally: Tally, losses: Losses) -> list[str]:
+    """How many cases leave elements without a source at the end, by why."""
+    needless = f"{of_cases(losses.cases, 'leaves', 'leave')} elements without a source at the end that a link could still serve"
+    worst = losses.outcomes()[:1]
+    most = f", {plural(worst[0].needless, 'element')} at most: {worst[0].case.case}" if worst else ""
+    rest = tally.losing - losses.cases
+    apart = [f"{losses.themselves:,} with elements that are taken away themselves"] if losses.themselves else []
+    apart += [f"{losses.beyond:,} with elements that no link could still serve"] if losses.beyond else []
+    others = f"{rest:,} other {'case leaves' if rest == 1 else 'cases leave'} without one only whom nothing could save: {', '.join(apart)}"
+    return [needless + most, others if rest else "no case leaves anybody without one whom nothing could save"]
+
+
+def alone_text(ends: Ends) -> list[str]:
+    """What the common events do by themselves, and how many cases come to more."""
+    if ends.alone is None:
+        return []
+    alone = f"{plural(len(ends.alone), 'element')} without a source at the end ({listed(ends.alone)})"
+    more = f"{of_cases(ends.losses.more, 'leaves', 'leave')} more elements without one than they do"
+    look = f"what they do before {times.clock(ends.until, ends.start or 0)} isn't looked at: --at and --until say another time"
+    return [
+        f"the common events alone leave {alone if ends.alone else 'nobody without a source at the end'}; {more}; {look}"
+    ]
+
+
+def loss_rows(losses: list[Loss]) -> list[str]:
+    """The columns of cases in which elements lose their source, with how many needn't have, how many no link could serve, and how many
+    are taken away themselves."""
+    heads = [
+        "case",
+        "lost",
+        "needless",
+        "beyond",
+        "themselves",
+        "first",
+        "holdover",
+        "freerun",
+        "loops",
+        "worst",
+        "settled",
+    ]
+    rows = [
+        [
+            one.case.case,
+            str(one.case.lost),
+            str(one.needless),
+            str(one.beyond),
+            str(one.themselves),
+            one.case.first or "-",
+        ]
+        + [str(one.case.holdover), str(one.case.freerun), str(one.case.loops), one.case.worst]
+        + ["yes" if one.case.is_settled else "no"]
+        for one in losses
+    ]
+    return [f"  {line}" for line in table(heads, rows)]
+
+
+def names_text(names: list[Names]) -> list[str]:
+    """Who has no source in each of some cases, all of them, by why."""
+    said = []
+    for one in names:
+        whom = "; ".join(f"{why}: {', '.join(who)}" for why, who in one.each)
+        said.append(f"  {one.case}  {whom if one.is_known else 'not known, since `sim` stops this run'}")
+    return ["", "who has no source at the end, by name and why:", *said] if said else []
+
+
+def end_text(tally: Tally, ends: Ends) -> list[str]:
+    """That the end alone is looked at, when it is, and by what it was chosen."""
+    looked = f"{plural(tally.cases, 'case')}, each looked at in its last millisecond, {ends.time}"
+    chosen = [f"the end is chosen: {ends.why}"] if ends.why else []
+    return [f"{looked}; a source lost and back by then isn't counted, a level worse on the way is", *chosen]
+
+
+def unsettled_text(tally: Tally) -> str:
+    """How many cases are unsettled at the end, with the names of the first, and how many have loops."""
+    names = [case.case for case in tally.restless.outcomes() if not case.is_settled][:NAMED]
+    more = tally.unsettled - len(names)
+    told = f" ({', '.join(names)}{f' and {more:,} more' if more else ''})" if names else ""
+    unsettled = f"{of_cases(tally.unsettled, 'is', 'are')} unsettled at the end, still changing then{told}"
+    return f"{unsettled}, and {of_cases(tally.looping, 'has', 'have')} loops"
+
+
+def way_text(tally: Tally) -> list[str]:
+    """How many cases make levels worse on the way to the end, for how long at most, and how many do yet."""
+    if not tally.hurting:
+        return []
+    worst = tally.dark.outcomes()[0]
+    longest = f"for {worst.dark:,} ms at most, {worst.darkest} in {worst.case}"
+    return [
+        f"{of_cases(tally.hurting, 'makes', 'make')} levels worse than before on the way, and {tally.still:,} still at the end; {longest}"
+    ]
+
+
+def text_of(tally: Tally, most: int, ends: Ends) -> list[str]:
+    """The summary as a person reads it."""
+    said = [*end_text(tally, ends), *losing_text(tally, ends.losses), unsettled_text(tally), *way_text(tally)]
+    said += alone_text(ends)
+    if needless := ends.losses.outcomes():
+        said += [
+            "",
+            "who loses the clock though a link could still serve them, most elements first:",
+            *loss_rows(needless),
+        ]
+    if lost := ends.losses.all_outcomes():
+        said += ["", "who has no source at the end, whatever the cause, most elements first:", *loss_rows(lost)]
+    said += names_text(ends.names)
+    said += section("unsettled, most loops first:", tally.restless.outcomes())
+    said += section("longest chains, in lines:", tally.chains.outcomes())
+    firsts = tally.first.most_common(most)
+    if firsts:
+        rows = [[name, f"{count:,}"] for name, count in firsts]
+        said += ["", f"in how many cases an element {FIRST}:"]
+        said += [f"  {line}" for line in table(["element", "cases"], rows)]
+    return said
+
+
+def has(tally: Tally, losses: Losses, what: str | None) -> bool:
+    """Whether a survey has found what it is to fail on, if anything."""
+    counts = {"lost": tally.losing, "needless": losses.cases, "unsettled": tally.unsettled, "loops": tally.looping}
+    return what is not None and counts[what] > 0
+
+
+def as_data(tally: Tally, ends: Ends) -> dict[str, Any]:
+    """The summary as JSON has it."""
+    losses = ends.losses
+    return {
+        "until": ends.until,
+        "end_by": ends.why,
+        "cases": tally.cases,
+        "losing": tally.losing,
+        "needless": losses.cases,
+        "taken_away": losses.themselves,
+        "beyond": losses.beyond,
+        "common_alone": ends.alone,
+        "more_than_common": losses.more if ends.alone is not None else None,
+        "unsettled": tally.unsettled,
+        "looping": tally.looping,
+        "hurting": tally.hurting,
+        "still": tally.still,
+        "lost": [dataclasses.asdict(one) for one in tally.lost.outcomes()],
+        "worst_needless": [dataclasses.asdict(one) for one in losses.outcomes()],
+        "restless": [dataclasses.asdict(one) for one in tally.restless.outcomes()],
+        "dark": [dataclasses.asdict(one) for one in tally.dark.outcomes()],
+        "chains": [dataclasses.asdict(one) for one in tally.chains.outcomes()],
+        "first": dict(tally.first.most_common()),
+        "names": {
+            one.case: {"needless": one.needless, "beyond": one.beyond, "themselves": one.themselves}
+            if one.is_known
+            else None
+            for one in ends.names
+        },
+    }
