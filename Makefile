@@ -55,7 +55,6 @@ crates/sync_main/out/sync_main:
 install: $(CORE)
 	install -d $(ROOT)/bin $(ROOT)/lib/murdjohe $(ROOT)/share/murdjohe $(ROOT)/share/doc/murdjohe
 	install -m 755 $(CORE) $(ROOT)/lib/murdjohe/murdjohe-core
-	sh packaging/about $(CORE) > $(ROOT)/lib/murdjohe/murdjohe-core.about
 	ln -sf ../lib/murdjohe/murdjohe-core $(ROOT)/bin/murdjohe-core
 	install -d $(ROOT)/$(MODULES)/murdjohe
 	ln -sf ../../../murdjohe/murdjohe-core $(ROOT)/$(MODULES)/murdjohe/murdjohe-core

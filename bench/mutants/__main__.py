@@ -4,12 +4,13 @@ usage: python3 -m bench.mutants [CRATE ..] [--changed SINCE] [--jobs N] [--look]
 
 The edits are those of the merge gate (crates/CRATE/must-fail/) and those of bench/mutants/CRATE/, of all crates, of
 those that are named, or with --changed of those that differ from a commit and all that stand on them. They are tried in
-a clone, N at once (by itself one for each two processors): a crate is proved there, and then with each edit in turn. An
-edit that the prover takes is an error, unless a line `# gap: REASON` of its file says why no contract can refuse it.
+a clone, by N processors (by itself half of them): first the module alone that an edit changes, and where that is proved,
+or a definition was changed, the whole crate. An edit that the prover takes is an error, unless a line `# gap: REASON` of
+its file says why no contract can refuse it.
 --look tries none: it looks whether each edit still applies, which takes a second.
 
 The last line counts; the status is 1 where an edit passed, doesn't apply, or wasn't tried. It wants the toolchain and
-Python 3.11, and a minute or two for each edit.
+Python 3.11, and half a minute for each edit once the crates below are proved.
 """
 
 import collections
@@ -62,8 +63,9 @@ def try_all(edits: list[Edit], top: pathlib.Path, jobs: int) -> int:
         folder = pathlib.Path(name)
         make_clone(top, folder, edits)
         for crate in dict.fromkeys(edit.crate for edit in edits):
-            found |= tried(folder, crate, jobs)
-            for edit in (edit for edit in edits if edit.crate == crate):
+            those = [edit for edit in edits if edit.crate == crate]
+            found |= tried(folder, crate, those, jobs)
+            for edit in those:
                 print(told(edit, *found.get(edit.label, ("not tried", "the crate isn't proved"))), flush=True)
     counts = counted(edits, found)
     parts = ", ".join(f"{counts[word]} {word}" for word in ("refused", "gap", "passed", "doesn't apply", "not tried"))

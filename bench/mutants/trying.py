@@ -1,4 +1,8 @@
-"""Tries edits in a clone: what the prover says of each."""
+"""Tries edits in a clone: what the prover says of each.
+
+An edit is tried first on the module that it changes, which takes seconds: a function that isn't proved there isn't in the whole crate
+either. What passes so, or changes a definition, is tried on the whole crate, as the gate does it.
+"""
 
 import os
 import pathlib
@@ -6,7 +10,7 @@ import re
 import shutil
 import subprocess
 
-from bench.mutants.edits import Edit
+from bench.mutants.edits import Edit, edited
 from bench.repository import dependencies
 
 # What `rt must-fail` says of an edit.
@@ -57,14 +61,72 @@ def verdicts(said: str) -> dict[str, tuple[str, str]]:
     return {f"{m['crate']}/{m['name']}": (verdict_of(m["told"]), reason_of(m["told"])) for m in found}
 
 
-def tried(folder: pathlib.Path, crate: str, jobs: int) -> dict[str, tuple[str, str]]:
-    """Proves a crate of a clone and tries its edits, with so many at once."""
+# What a check of one module says at its end, of a function that isn't proved, and of a place.
+COUNT = re.compile(r"^only=(?P<all>\d+) proved=(?P<proved>\d+)$", re.MULTILINE)
+NOT_PROVED = re.compile(r"^fn (?P<function>\S+): (?:not proved|no proof: (?!it calls)(?P<open>.*))$", re.MULTILINE)
+PLACE = re.compile(r"^(?:\./)?(?P<path>\S+?):\d+:\d+: error: (?P<name>`[^`]*`: )?(?P<told>.*)$", re.MULTILINE)
+# What a proof file says where it names what an edit took away: that tells little of a contract.
+NAMES = re.compile(r"has no field|is not in scope|has no `|was not admitted")
+
+
+def module_of(file: str) -> str | None:
+    """The module of a source file as `rt check --only` names it; none of the crate's own file, a definition or a proof."""
+    found = re.fullmatch(r"src/(?!lib\.rt|main\.rt)(?P<module>[\w/]+?)(?:/mod)?\.rt", file)
+    return found["module"].replace("/", "::") if found else None
+
+
+def refusal_of(said: str) -> str | None:
+    """Why the check of a module refuses an edit; nothing where it proves all, or could not read the edited text."""
+    count, function = COUNT.search(said), NOT_PROVED.search(said)
+    places = list(PLACE.finditer(said))
+    unread = any(not place["name"] and place["path"].startswith("src/") for place in places)
+    if unread or not count or not function or int(count["proved"]) >= int(count["all"]):
+        return None
+    if function["open"]:
+        return f"{function['function']}: {function['open'].rpartition('; ')[2][:160]}"
+    telling = next((place for place in places if not NAMES.search(place["told"])), None)
+    if telling is None:
+        return f"{function['function']}, only because a proof names what the edit took away"
+    return f"{function['function']}, {telling['path']}: {telling['name'] or ''}{telling['told'][:100]}"
+
+
+def said_by(words: list[str], there: pathlib.Path, jobs: int) -> tuple[int, str]:
+    """The status of a run of the toolchain in a folder, and all that it says."""
     env = os.environ | {"RT_JOBS": str(jobs)}
-    said = ""
-    for words in (["rt", "check", "--jobs", str(jobs)], ["rt", "must-fail", crate]):
-        there = folder / "crates" / crate if words[1] == "check" else folder
-        run = subprocess.run(words, cwd=there, env=env, stdout=subprocess.PIPE, stderr=subprocess.STDOUT, check=False)
-        said = run.stdout.decode("utf-8", "replace")
-        if words[1] == "check" and run.returncode:
-            return {}
-    return verdicts(said)
+    run = subprocess.run(words, cwd=there, env=env, stdout=subprocess.PIPE, stderr=subprocess.STDOUT, check=False)
+    return run.returncode, run.stdout.decode("utf-8", "replace")
+
+
+def refused_alone(crate: pathlib.Path, edit: Edit, jobs: int) -> str | None:
+    """Why the module that an edit changes isn't proved with it, or nothing where that doesn't tell."""
+    module, path = module_of(edit.file), crate / edit.file
+    if module is None:
+        return None
+    before = path.read_text(encoding="utf-8")
+    after = edited(before, edit)
+    if after is None:
+        return None
+    path.write_text(after, encoding="utf-8")
+    try:
+        return refusal_of(said_by(["rt", "check", "--jobs", str(jobs), "--only", module], crate, jobs)[1])
+    finally:
+        path.write_text(before, encoding="utf-8")
+
+
+def tried_whole(folder: pathlib.Path, crate: str, jobs: int) -> dict[str, tuple[str, str]]:
+    """Proves a crate of a clone, and tries the edits in its folder as the gate does."""
+    if said_by(["rt", "check", "--jobs", str(jobs)], folder / "crates" / crate, jobs)[0]:
+        return {}
+    return verdicts(said_by(["rt", "must-fail", crate], folder, jobs)[1])
+
+
+def tried(folder: pathlib.Path, crate: str, edits: list[Edit], jobs: int) -> dict[str, tuple[str, str]]:
+    """Tries the edits of a crate in a clone, each on its module first."""
+    found: dict[str, tuple[str, str]] = {}
+    there = folder / "crates" / crate
+    for edit in edits:
+        reason = refused_alone(there, edit, jobs)
+        if reason is not None:
+            found[edit.label] = ("refused", reason)
+            (there / "must-fail" / edit.path.name).unlink()
+    return found if len(found) == len(edits) else found | tried_whole(folder, crate, jobs)

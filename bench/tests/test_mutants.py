@@ -5,7 +5,7 @@ import pathlib
 
 from bench.mutants import __main__ as command
 from bench.mutants.edits import applies, edited, edits_of, read_edit, twice
-from bench.mutants.trying import standing_on, verdicts
+from bench.mutants.trying import module_of, refusal_of, standing_on, verdicts
 from bench.program import TOP
 
 EDIT = "# Says less; refused by `all`.\nfile: src/lib.rt\nold: a < b\nnew: a <= b\nold: end\nnew:\n"
@@ -73,3 +73,26 @@ def test_each_edit_of_this_repository_applies_and_has_a_name_of_its_own() -> Non
     edits = edits_of(TOP)
     assert len(edits) >= 160 and twice(edits) == []
     assert [edit.label for edit in edits if not applies(edit, TOP)] == []
+
+
+PARTLY = """fn one::choice::stands: proved
+./proofs/choice/f/Answers.antt:12:19: error: `returns-2`: record `Past` has no field `g-input`
+./proofs/choice/f/Answers.antt:10:15: error: `returns-1`: `search`: no proof of `a`
+fn one::choice::f: not proved
+only=2 proved=1
+"""
+
+
+def test_what_a_check_of_one_module_says_is_read() -> None:
+    assert refusal_of(PARTLY) == "one::choice::f, proofs/choice/f/Answers.antt: `returns-1`: `search`: no proof of `a`"
+    names = "\n".join(line for line in PARTLY.splitlines() if "search" not in line)
+    assert refusal_of(names) == "one::choice::f, only because a proof names what the edit took away"
+    open_goal = "fn one::choice::f: no proof: expected answers in ./proofs/choice/f/Answers.antt; `search` did not prove `taken`"
+    assert refusal_of(open_goal + "\nonly=2 proved=1\n") == "one::choice::f: `search` did not prove `taken`"
+    assert refusal_of("fn one::choice::f: proved\nonly=1 proved=1\n") is None
+    assert refusal_of("src/choice.rt:1:1: error: expected the end\n" + PARTLY) is None
+
+
+def test_a_module_is_named_by_its_file() -> None:
+    files = ["src/choice.rt", "src/running/ends.rt", "src/lib.rt", "specs/Choice.antt", "src/main.rt"]
+    assert [module_of(file) for file in files] == ["choice", "running::ends", None, None, None]

@@ -213,7 +213,7 @@ def large_page(folder: Path) -> str:
     events = tuple(Event(at, "down", "S1", "") for at in range(1000, time, 5000))
     found = rehearsals.Rehearsal(time + 1000, wired, events, 0, report, [], [], losses, time)
     layout = places.layout_of(plan.network, None, None)
-    data = page_data.data_of(plan, found, layout, 0, "large", False)
+    data = page_data.data_of(plan, found, layout, 0, "large")
     (folder / "page.html").write_bytes(pages.page("large", data, []))
     return (folder / "page.html").as_uri()
 

@@ -113,15 +113,6 @@ def test_the_version_names_workbench_program_and_toolchain(core: str) -> None:
         assert lines[2].startswith("core's commit: ") and lines[3].startswith("toolchain: ")
 
 
-def test_the_version_of_an_installed_program_is_what_stands_beside_it(tmp_path: Path) -> None:
-    program = tmp_path / "murdjohe-core"
-    program.write_text("#!/bin/sh\n")
-    program.chmod(0o755)
-    (tmp_path / "murdjohe-core.about").write_text("0123abcd\nthe toolchain's line\n")
-    lines = murdjohe("--version", MURDJOHE_CORE=str(program)).out.decode().splitlines()
-    assert lines[2:] == ["core's commit: 0123abcd", "toolchain: the toolchain's line"]
-
-
 @pytest.mark.parametrize(
     ("words", "said"),
     [

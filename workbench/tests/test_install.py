@@ -9,6 +9,7 @@ import subprocess
 from pathlib import Path
 
 import pytest
+from elftools.elf.elffile import ELFFile
 from conftest import EXAMPLES, TOP, started
 
 from murdjohe.core.forms import FORMS
@@ -66,6 +67,7 @@ sh -c 'sleep 6' --crate-name sync_ql src/lib.rt &
 wait
 case $FAKE in fail) echo "the last line"; exit 3 ;; esac
 mkdir -p out; printf '#!/bin/sh\\nexit 2\\n' > out/sync_main; chmod 755 out/sync_main
+case $FAKE in elf) cp /bin/true out/sync_main ;; esac
 """
 
 
@@ -93,8 +95,10 @@ def test_the_program_is_built_where_it_is_not_there(tmp_path: Path, fake: str) -
         assert ran.status == 0 and text.endswith("is proved and built\n")
 
 
-def about(program: Path) -> list[str]:
-    return started(["sh", str(TOP / "packaging" / "about"), str(program)]).out.decode().splitlines()
+def origin(program: Path) -> list[str]:
+    """What --version says of a program's commit and toolchain."""
+    told = started([str(TOP / "workbench" / "murdjohe"), "--version"], MURDJOHE_CORE=str(program)).out.decode()
+    return [line.split(": ", 1)[1] for line in told.splitlines()[2:]]
 
 
 def git(top: Path, *words: str) -> str:
@@ -102,38 +106,48 @@ def git(top: Path, *words: str) -> str:
     return subprocess.run(words, check=True, capture_output=True, text=True).stdout.strip()
 
 
-def test_a_program_that_was_built_here_keeps_the_commit_that_it_was_built_of(tmp_path: Path) -> None:
-    (tmp_path / "rt").write_text(FAKE_RT.replace("&& exit 0", "&& { echo kit 7; exit 0; }", 1))
-    (tmp_path / "rt").chmod(0o755)
-    top = bare_checkout(tmp_path)
+def built(folder: Path) -> tuple[Path, Path]:
+    """A checkout of one commit in which a program was built, and the program."""
+    (folder / "rt").write_text(FAKE_RT.replace("&& exit 0", "&& { echo kit 7; exit 0; }", 1))
+    (folder / "rt").chmod(0o755)
+    top = bare_checkout(folder)
     (top / ".gitignore").write_text("out/\n/build/\n")
     git(top, "init", "-q")
     git(top, "add", "-A")
     git(top, "commit", "-q", "-m", "one")
+    ran = started(["make", "-s", "-C", str(top), "core"], None, b"", PATH=f"{folder}:/usr/bin:/bin", FAKE="elf")
+    assert ran.status == 0 and "doesn't say" not in ran.err, ran.err
+    return top, top / "crates" / "sync_main" / "out" / "sync_main"
+
+
+def test_a_program_says_the_commit_that_it_was_built_of(tmp_path: Path) -> None:
+    top, program = built(tmp_path)
     commit = git(top, "rev-parse", "HEAD")
-    assert started(["make", "-s", "-C", str(top), "core"], None, b"", PATH=f"{tmp_path}:/usr/bin:/bin").status == 0
-    program = top / "crates" / "sync_main" / "out" / "sync_main"
-    assert about(program) == [commit, "kit 7"]
+    assert origin(program) == [commit, "kit 7"] and started([str(program)]).status == 0
+    # (wherever the checkout goes, and wherever the program is put)
     git(top, "commit", "-q", "--allow-empty", "-m", "two")
-    assert about(program) == [commit, "kit 7"]
-    lines = started([str(TOP / "workbench" / "murdjohe"), "--version"], MURDJOHE_CORE=str(program)).out.decode()
-    assert f"core's commit: {commit}\ntoolchain: kit 7\n" in lines
+    moved = Path(shutil.copy(program, tmp_path / "moved"))
+    assert origin(program) == origin(moved) == [commit, "kit 7"]
     # (another program that was put there is none of that commit)
-    program.write_text("#!/bin/sh\nexit 3\n")
-    assert about(program) == ["unknown", "unknown"]
-    lines = started([str(TOP / "workbench" / "murdjohe"), "--version"], MURDJOHE_CORE=str(program)).out.decode()
-    assert "core's commit: unknown\ntoolchain: unknown\n" in lines
+    shutil.copy("/bin/true", program)
+    assert origin(program) == ["unknown", "unknown"]
+
+
+def test_a_section_that_is_built_in_changes_nothing_that_is_loaded(tmp_path: Path) -> None:
+    _, program = built(tmp_path)
+    with open(program, "rb") as after, open("/bin/true", "rb") as before:
+        pairs = zip(ELFFile(before).iter_segments(), ELFFile(after).iter_segments(), strict=True)
+        skipped = ELFFile(before).header["e_ehsize"]
+        for one, other in pairs:
+            start = skipped if one.header["p_offset"] == 0 else 0
+            assert one.header == other.header and one.data()[start:] == other.data()[start:]
 
 
 def test_the_commit_of_a_checkout_is_never_that_of_a_program(tmp_path: Path, core: str) -> None:
     program = tmp_path / "other"
-    program.write_text("#!/bin/sh\nexit 2\n")
-    program.chmod(0o755)
-    assert about(program) == ["unknown", "unknown"]
     program.write_text("#!/bin/sh\necho commit 0123abcd; echo toolchain kit 9\n")
-    assert about(program) == ["0123abcd", "kit 9"]
-    lines = started([str(TOP / "workbench" / "murdjohe"), "--version"], MURDJOHE_CORE=str(program)).out.decode()
-    assert "core's commit: 0123abcd\ntoolchain: kit 9\n" in lines
+    program.chmod(0o755)
+    assert origin(program) == ["unknown", "unknown"]
 
 
 def test_without_the_toolchain_that_is_told(tmp_path: Path) -> None:

@@ -6,7 +6,7 @@ from pathlib import Path
 
 import pytest
 from comfort_plans import RESERVE, UNMENDED, played
-from conftest import TOP, murdjohe, started
+from conftest import murdjohe, started
 
 
 # 7. an answer that isn't one
@@ -69,13 +69,3 @@ def test_a_word_that_is_not_known_is_told(folder: Path, core: str, words: str, c
     (folder / "works.csv").write_text(UNMENDED)
     ran = murdjohe(*words.split(), folder=folder, MURDJOHE_CORE=played(folder, f'"{core}" "$@" | sed \'{change}\''))
     assert ran.status == 70 and " gave an answer that isn't known here: " in ran.err and said in ran.err, ran.err
-
-
-# 9. the origin of a program
-
-
-def test_another_programs_origin_is_unknown(folder: Path, core: str) -> None:
-    told = started(["sh", str(TOP / "packaging" / "about"), played(folder, 'exec "$REAL" "$@"')], REAL=core)
-    assert told.out == b"unknown\nunknown\n"
-    answers = played(folder, 'echo "commit 0123456789abcdef"\necho "toolchain kit 7"')
-    assert started(["sh", str(TOP / "packaging" / "about"), answers]).out == b"0123456789abcdef\nkit 7\n"

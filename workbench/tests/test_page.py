@@ -24,13 +24,18 @@ RUNS = sorted(
 )  # (each with a plan)
 
 
-def data_of(name: str, has_cuts: bool = False, until: int = 400_000) -> dict[str, Any]:
+def cases_of(name: str) -> page_data.Cases:
+    """The cases of a page of an example."""
+    return page_data.cases_of(plan_file.read(str(EXAMPLES / name / "plan.toml")))
+
+
+def data_of(name: str, until: int = 400_000) -> dict[str, Any]:
     """What the page of an example knows."""
     at = EXAMPLES / name
     plan, file = plan_file.read(str(at / "plan.toml")), simulation.read_events(str(at / "events.csv"))
     found = rehearsals.rehearsed(plan, file, until)
     layout = places.layout_of(plan.network, None, None)
-    return page_data.data_of(plan, found, layout, 0, name, has_cuts)
+    return page_data.data_of(plan, found, layout, 0, name)
 
 
 def ran_by_node(script: str, data: Any) -> Any:
@@ -113,29 +118,35 @@ def test_the_model_is_the_report_in_each_moment(name: str) -> None:
 
 def test_cases_are_the_rows_of_sweep() -> None:
     at = EXAMPLES / "mesh"
-    data = data_of("mesh", has_cuts=True)
-    sweep = api.sweep(at / "plan.toml", page_data.CUT_AT, page_data.CUT_UNTIL).result
-    assert [case["name"] for case in data["cases"]] == [row.link for row in sweep.rows]
-    for case, row in zip(data["cases"], sweep.rows):
+    cases = cases_of("mesh")
+    down, until = cases.times.at, cases.times.until
+    sweep = api.sweep(at / "plan.toml", down, until).result
+    assert [case["name"] for case in cases.rows] == [row.link for row in sweep.rows]
+    for case, row in zip(cases.rows, sweep.rows):
         assert case["row"][1:4] == [str(row.locked), str(row.holdover), str(row.freerun)]
-        events = f"at,what,target,value\n60000,down,{row.link},\n".encode()
-        report = api.sim(at / "plan.toml", events, page_data.CUT_UNTIL).result
+        events = f"at,what,target,value\n{down},down,{row.link},\n".encode()
+        report = api.sim(at / "plan.toml", events, until).result
         fed = [int(trace.kind == "source") for trace in report.traces]
         assert case["ended"]["fed"] == fed and case["row"][-2] == str(fed.count(0))
         assert len(case["changes"]["at"]) == len(report.changes)
 
 
 def test_who_needs_no_source_after_a_cut_is_apart_from_whom_no_link_could_serve() -> None:
-    data = data_of("mesh", has_cuts=True)
-    rows = {case["name"]: case["row"][-2:] for case in data["cases"]}
+    cases = cases_of("mesh")
+    rows = {case["name"]: case["row"][-2:] for case in cases.rows}
     assert {name: row for name, row in rows.items() if row != ["0", "0"]} == {
         "N1": ["2", "2"],
         "A1": ["1", "1"],
         "A4": ["1", "1"],
     }
-    assert pages.cuts_text(data["cases"]).startswith(
-        "3 links so leave elements without a source that another link could"
-    )
+    said = pages.cuts_text(cases)
+    assert said.startswith("3 links so leave elements without a source that another link could")
+    assert "each link down alone at 00:10:00.000 after the start" in said
+
+
+def test_cases_are_looked_at_by_the_bound_after_failures() -> None:
+    times = cases_of("ring-of-rings").times
+    assert (times.at, times.until) == (600_000, 606_000) and "`failures F` of `agree`" in times.why
 
 
 def test_the_command_writes_a_page_and_says_what_the_program_says(folder: Path) -> None:

@@ -77,13 +77,14 @@ def made(
     found = rehearsals.rehearsed(taken, file, simulation.usual_end(file) if until is None else until)
     title = f"{os.path.basename(taken.name)}, {os.path.basename(file.name)}"
     spots = places.layout_of(taken.network, layout, table)
-    data = page_data.data_of(taken, found, spots, start or 0, title, cuts)
+    cases = page_data.cases_of(taken) if cuts else None
+    data = page_data.data_of(taken, found, spots, start or 0, title, cases)
     status = program.DONE if found.report.stopped_at is None else program.STOPPED
     said = [rehearsals.dark_text(found, start or 0)] if found.dark else []
     said += [found.oscillation] if found.oscillation else []
-    said += [pages.cuts_text(data["cases"])] if data["cases"] else []
+    said += [pages.cuts_text(cases)] if cases and cases.rows else []
     return (
-        pages.page(title, data, pages.facts(taken, file, found, data["cases"])),
+        pages.page(title, data, pages.facts(taken, file, found, cases)),
         status,
         said + simulation.likely_seconds(file, until),
     )

@@ -18,7 +18,7 @@ from murdjohe.network.reachability import Reach
 from murdjohe.network.wiring import Wiring
 from murdjohe.picture import colours, places
 from murdjohe.picture.places import ELEMENT, SOURCE, Layout
-from murdjohe.runs import moments, simulation
+from murdjohe.runs import ends, failure_times, moments, simulation
 from murdjohe.runs.moments import Event
 from murdjohe.runs.rehearsals import Rehearsal, event_text, reasons
 from murdjohe.runs.simulation import EventFile
@@ -26,7 +26,6 @@ from murdjohe.runs.spans import Loss
 
 MODES = {word: place for place, word in enumerate(row_tables.CHANGES.column("mode").words)}
 STATES = {word: place for place, word in enumerate(row_tables.CHANGES.column("state").words)}
-CUT_AT, CUT_UNTIL = 60_000, 400_000  # when a link goes down in a case, and when the network is looked at
 SIGNS = {
     "loop": colours.LOOP,
     "pair": colours.PAIR,
@@ -36,6 +35,23 @@ SIGNS = {
 }
 MOST_CELLS = 200_000  # elements of all cases together
 HEADS = ("link", "settled", "locked", "holdover", "free-running", "loops", "worst", "no source", "another way left")
+
+
+@dataclass(frozen=True)
+class CutTimes:
+    """When a link goes down in a case, when the network is looked at, and why then."""
+
+    at: int
+    until: int
+    why: str
+
+
+@dataclass(frozen=True)
+class Cases:
+    """Each link down alone, and when."""
+
+    times: CutTimes
+    rows: list[dict[str, Any]]
 
 
 @dataclass(frozen=True)
@@ -131,9 +147,17 @@ def events_of(wired: Wiring, numbers: Numbers, events: tuple[Event, ...], why: d
     return found
 
 
-def ended(wired: Wiring, numbers: Numbers, changes: tuple[Change, ...]) -> dict[str, list[int]]:
+def cut_times(plan: PlanFile) -> CutTimes:
+    """When links go down, and when that is seen, by the bounds of `agree`, as `sweep` has them by itself."""
+    bounds = ends.bounds_of(plan)
+    at = failure_times.moment(plan, (), bounds).at
+    end = failure_times.of_failures(plan, (), at, bounds)
+    return CutTimes(at, end.until, end.why or "given")
+
+
+def ended(wired: Wiring, numbers: Numbers, changes: tuple[Change, ...], until: int) -> dict[str, list[int]]:
     """The level of each element at the end of a run, and whether it follows a source."""
-    shown = moments.shown_at(wired, changes, CUT_UNTIL)
+    shown = moments.shown_at(wired, changes, until)
     traces = moments.traces_of(wired, moments.taken_of(shown))
     levels = [numbers.levels[shown[name].level or ""] for name in wired.elements]
     return {"level": levels, "fed": [int(traces[name].kind == moments.SOURCE) for name in wired.elements]}
@@ -146,36 +170,38 @@ def lost_of(wired: Wiring, reach: Reach, cut: Cut, fed: list[int]) -> tuple[int,
     return len(lost), len(lost - left)
 
 
-def case_of(plan: PlanFile, wired: Wiring, reach: Reach, cut: Cut) -> dict[str, Any]:
+def case_of(plan: PlanFile, wired: Wiring, reach: Reach, times: CutTimes, cut: Cut) -> dict[str, Any]:
     """The run in which one link goes down alone, with its row of `sweep`, who has no source, and who needn't be without."""
     numbers = numbers_of(wired, plan.plan.option)
-    events = (Event(CUT_AT, "down", cut.link, ""),)
-    file = EventFile(cut.link, simulation.NO_EVENTS + f"{CUT_AT},down,{cut.link},\n".encode())
-    report = simulation.report_of(plan, file, CUT_UNTIL)
-    its_end = ended(wired, numbers, report.changes)
+    events = (Event(times.at, "down", cut.link, ""),)
+    file = EventFile(cut.link, simulation.NO_EVENTS + f"{times.at},down,{cut.link},\n".encode())
+    report = simulation.report_of(plan, file, times.until)
+    its_end = ended(wired, numbers, report.changes, times.until)
     row = ["yes" if cut.is_settled else "no", cut.locked, cut.holdover, cut.freerun, cut.loops, cut.worst]
     row += lost_of(wired, reach, cut, its_end["fed"])
     return {
         "name": cut.link,
         "row": [str(field) for field in row],
-        "until": CUT_UNTIL,
+        "until": times.until,
         "events": events_of(wired, numbers, events, {}),
         "changes": columns_of(numbers, report.changes),
         "ended": its_end,
     }
 
 
-def cases_of(plan: PlanFile, wired: Wiring) -> list[dict[str, Any]]:
+def cases_of(plan: PlanFile) -> Cases:
     """Each link down alone, worked at once on all processors. Raises Wrong where these are too many for a page."""
-    links = len(plan.network.links)
+    wired, links = wiring.wiring_of(plan.network), len(plan.network.links)
     if links * len(wired.elements) > MOST_CELLS:
         raise Wrong(
             f"--cuts: {links:,} links and {len(wired.elements):,} elements are too many for a page; see `sweep`"
         )
-    sweep: reports.Sweep = api.sweep(plan.data, CUT_AT, CUT_UNTIL).result
+    times = cut_times(plan)
+    sweep: reports.Sweep = api.sweep(plan.data, times.at, times.until).result
     reach = Reach(wired)
     with ThreadPoolExecutor(os.cpu_count() or 1) as workers:
-        return list(workers.map(lambda cut: case_of(plan, wired, reach, cut), sweep.rows))
+        rows = workers.map(lambda cut: case_of(plan, wired, reach, times, cut), sweep.rows)
+        return Cases(times, list(rows))
 
 
 def losing_cases(cases: list[dict[str, Any]]) -> tuple[int, int]:
@@ -190,7 +216,9 @@ def losses_of(losses: list[Loss]) -> list[dict[str, Any]]:
     return [{key: getattr(loss, key) for key in keys} for loss in losses]
 
 
-def data_of(plan: PlanFile, found: Rehearsal, layout: Layout, start: int, title: str, has_cuts: bool) -> dict[str, Any]:
+def data_of(
+    plan: PlanFile, found: Rehearsal, layout: Layout, start: int, title: str, cases: Cases | None = None
+) -> dict[str, Any]:
     """All that the page knows."""
     wired = wiring.wiring_of(plan.network)
     numbers = numbers_of(wired, plan.plan.option)
@@ -206,5 +234,5 @@ def data_of(plan: PlanFile, found: Rehearsal, layout: Layout, start: int, title:
         "changes": columns_of(numbers, found.report.changes),
         "events": events_of(wired, numbers, found.events, reasons(found)),
         "losses": losses_of(found.losses),
-        "cases": cases_of(plan, wired) if has_cuts else [],
+        "cases": cases.rows if cases else [],
     }

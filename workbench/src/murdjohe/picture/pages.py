@@ -15,6 +15,7 @@ from murdjohe.core.wording import plural
 from murdjohe.network import plan_file
 from murdjohe.network.plan_file import Judgement, PlanFile
 from murdjohe.picture import colours, page_data
+from murdjohe.picture.page_data import Cases
 from murdjohe.runs.rehearsals import Rehearsal, clock, dark_text
 from murdjohe.runs.simulation import EventFile
 
@@ -67,20 +68,18 @@ def agreement_text(judgement: Judgement) -> str:
     )
 
 
-def cuts_text(cases: list[dict[str, Any]]) -> str:
+def cuts_text(cases: Cases) -> str:
     """What the cases of a page are, and how many leave somebody without a source."""
-    down, end = clock(page_data.CUT_AT), clock(page_data.CUT_UNTIL)
-    needless, others = page_data.losing_cases(cases)
+    down, end = clock(cases.times.at), clock(cases.times.until)
+    needless, others = page_data.losing_cases(cases.rows)
     lost = f"{plural(needless, 'link')} so {'leaves' if needless == 1 else 'leave'} elements without a source that another link could still serve"
     return (
         f"{lost}, {others:,} only elements that none could; each link down alone at {down} after the start, without the events of this run; the table and the map show the end, "
-        f"{end}: what is lost and back by then isn't counted"
+        f"{end}: what is lost and back by then isn't counted; the end is chosen: {cases.times.why}"
     )
 
 
-def facts(
-    plan: PlanFile, events: EventFile, found: Rehearsal, cases: list[dict[str, Any]] | None = None
-) -> list[tuple[str, str]]:
+def facts(plan: PlanFile, events: EventFile, found: Rehearsal, cases: Cases | None = None) -> list[tuple[str, str]]:
     """The verdicts with what they promise, the versions, and the checksums."""
     with open(program.find(), "rb") as file:
         checksum = hashlib.file_digest(file, "sha256").hexdigest()
