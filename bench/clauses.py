@@ -1,11 +1,12 @@
-"""Writes docs/verify/clauses.md: each public call of each crate, with the clauses of its contract as the source has them.
+"""Puts what the source says of the clauses of the program's top call into docs/verify/promises.md, or prints the contracts of crates.
 
 usage: python3 -m bench.clauses [--write]
        python3 -m bench.clauses CRATE ..
 
-A call is public where lib.rt makes it reachable. The document has for each call its first sentence, the names of its clauses, and
-what the source says above one. For the crates that are named all this is printed with the formulas of the clauses. Without
---write the document is compared with what would be written; the status is 1 where it differs. It needs Python 3.11.
+The parts of promises.md between `<!-- clauses: PART -->` and `<!-- end -->` are made of the comments over the clauses of `run`: those
+that a form's answer brings with it, and all others. Without --write the status is 1 where the document differs. Of the crates that
+are named each public call is printed, which is one that lib.rt makes reachable, with its first sentence, its clauses and what the
+source says above them; `all` stands for every crate of which something is promised. It needs Python 3.11.
 """
 
 from __future__ import annotations
@@ -20,21 +21,13 @@ from bench.definitions import rust_items
 from bench.definitions.publicness import Crate, impl_type, read_crate, shown_names
 from bench.program import TOP, parser
 
-WRITTEN = TOP / "docs" / "verify" / "clauses.md"
+WRITTEN = TOP / "docs" / "verify" / "promises.md"
+TOP_CALL = ("sync_top", "", "run")
+HEADLINE = re.compile(r"Of (?P<forms>`[^.]*)\. ")
+PLACE = re.compile(r"(<!-- clauses: (\w+) -->\n).*?(<!-- end -->)", re.S)
 CRATE = re.compile(r"^([a-z]\w*)(?: [a-z_]+=\w+)*:", re.M)
 FUNCTION = re.compile(r"^(?P<space> *)(?P<shown>pub )?(?:const )?fn (?P<name>\w+)", re.M)
 BLOCK = re.compile(r"^(?:pub )?(?P<kind>impl|trait)\b[^\n{;]*", re.M)
-HEAD = """\
-# Clauses of the public calls
-
-For people who verify: every public call of every crate with its contract, written by `python3 -m bench.clauses --write` from the \
-source. Don't edit it. [promises.md](promises.md) says what the clauses of the program's top call mean for a user, and \
-[definitions.md](definitions.md) what their words mean.
-
-Behind each call stand the names of its clauses; what a caller owes (`requires`) is marked. Where the source has a comment on a \
-clause it stands below. `python3 -m bench.clauses CRATE` prints the formulas too. Crates of which nothing is promised (`ears`, the \
-program, those of tests) are left out.
-"""
 
 
 @dataclasses.dataclass(frozen=True)
@@ -160,12 +153,28 @@ def title_of(call: Call) -> str:
     return f"**`{name}`**{': ' + call.summary if call.summary else ''}"
 
 
-def short(call: Call) -> str:
-    """A call with the names of its clauses, and what is said of some."""
-    said = [f"- {clause_name(clause)}: {clause.comment}" for clause in call.clauses if clause.comment]
-    silent = [clause_name(clause) for clause in call.clauses if not clause.comment and clause.name]
-    names = [f"- {', '.join(silent)}"] if silent else []
-    return "\n".join([title_of(call), "", *said, *names, ""]) if said or names else title_of(call) + "\n"
+def headlines(clauses: tuple[Clause, ...]) -> str:
+    """The clauses that say what a form's answer brings with it, a paragraph each."""
+    parts = []
+    for clause in clauses:
+        if of := HEADLINE.match(clause.comment):
+            text = clause.comment[of.end() :].replace("Not said:", "*Not said*:")
+            parts.append(f"**`{clause.name}`** ({of['forms']}). {text}\n")
+    return "\n".join(parts)
+
+
+def others(clauses: tuple[Clause, ...]) -> str:
+    """All other clauses, a row each."""
+    rows = [f"| `{one.name}` | {one.comment} |\n" for one in clauses if not HEADLINE.match(one.comment)]
+    return "".join(["| clause | what it says |\n", "|---|---|\n", *rows])
+
+
+PARTS: dict[str, Callable[[tuple[Clause, ...]], str]] = {"headlines": headlines, "others": others}
+
+
+def filled(document: str, clauses: tuple[Clause, ...]) -> str:
+    """A document with its parts as the source has them."""
+    return PLACE.sub(lambda found: f"{found[1]}\n{PARTS[found[2]](clauses)}\n{found[3]}", document)
 
 
 def whole(call: Call) -> str:
@@ -177,13 +186,13 @@ def whole(call: Call) -> str:
     return "\n".join([title_of(call), "", *lines, ""])
 
 
-def page(names: list[str], shown: Callable[[Call], str]) -> list[str]:
+def page(names: list[str]) -> list[str]:
     """The crates with their calls, in this order; those without a call that has clauses are left out."""
     parts = []
     for name in names:
         folder = TOP / "crates" / name
         if (folder / "src" / "lib.rt").is_file() and (calls := calls_of(folder)):
-            parts += [f"## {name}\n\n{front(folder)}\n", *map(shown, calls)]
+            parts += [f"## {name}\n\n{front(folder)}\n", *map(whole, calls)]
     return parts
 
 
@@ -193,21 +202,32 @@ def crate_names() -> list[str]:
     return [name for name in names if not name.endswith("_tests") and name not in ("ears", "test_makers", "sync_main")]
 
 
+def top_clauses() -> tuple[Clause, ...]:
+    """The clauses of the program's top call."""
+    crate, owner, name = TOP_CALL
+    return next(call.clauses for call in calls_of(TOP / "crates" / crate) if (call.owner, call.name) == (owner, name))
+
+
 def main(given: list[str] | None = None) -> int:
     words = parser(__doc__)
     words.add_argument("--write", action="store_true")
     words.add_argument("crates", nargs="*", metavar="CRATE")
     said = words.parse_args(given)
     if said.crates:
-        print(*page(said.crates, whole), sep="\n", end="")
+        print(*page(crate_names() if said.crates == ["all"] else said.crates), sep="\n", end="")
         return 0
-    text = "\n".join([HEAD, *page(crate_names(), short)])
+    clauses = top_clauses()
+    if silent := [clause.name for clause in clauses if not clause.comment]:
+        print(f"clauses of {TOP_CALL[-1]} without a comment: {', '.join(silent)}")
+        return 1
+    before = WRITTEN.read_text()
+    text = filled(before, clauses)
     if said.write:
         WRITTEN.write_text(text)
-    elif not WRITTEN.is_file() or WRITTEN.read_text() != text:
-        print("docs/verify/clauses.md isn't what the source says: python3 -m bench.clauses --write")
+    elif before != text:
+        print("docs/verify/promises.md isn't what the source says: python3 -m bench.clauses --write")
         return 1
-    print(f"{len(re.findall('^## ', text, re.M))} crates, {len(re.findall('^[*][*]', text, re.M))} calls")
+    print(f"{len(clauses)} clauses, {len(PLACE.findall(text))} parts")
     return 0
 
 

@@ -6,7 +6,7 @@ import importlib.machinery
 import importlib.util
 import pathlib
 
-from bench.clauses import Clause, clauses_at, comment_above, first_sentence, short, Call
+from bench.clauses import Call, Clause, clauses_at, comment_above, filled, first_sentence, whole
 from bench.definitions import rust_items
 from bench.measure.headline import counted_row, files_of
 
@@ -48,15 +48,29 @@ def test_a_comment_ends_where_something_else_stands() -> None:
     )
 
 
-def test_a_call_lists_what_is_said_and_names_the_rest() -> None:
-    text = short(Call("Adder", "add", "Gives the sum.", tuple(clauses())))
-    assert text.split("\n") == [
+def test_a_call_has_its_clauses_with_their_formulas() -> None:
+    assert whole(Call("Adder", "add", "Gives the sum.", tuple(clauses()))).split("\n") == [
         "**`Adder::add`**: Gives the sum.",
         "",
-        "- `sum`: What comes out is the sum, whatever the order.",
-        "- `small` (owed)",
+        "- `small` (owed): `a ≤ 9`",
+        "- `sum`: What comes out is the sum, whatever the order. `result ≡ a + b`",
+        "- unnamed: `result ≤ 2 ^ 33`",
         "",
     ]
+
+
+def test_a_document_has_the_parts_that_the_source_says() -> None:
+    said = (
+        Clause("ensures", "safe", "..", "Of `check`, and of `trial`. All is well. Not said: why."),
+        Clause("ensures", "calm", "..", "No call failed."),
+    )
+    before = "a\n<!-- clauses: headlines -->\nold\n<!-- end -->\nb\n<!-- clauses: others -->\n<!-- end -->\n"
+    assert filled(before, said) == (
+        "a\n<!-- clauses: headlines -->\n\n**`safe`** (`check`, and of `trial`). All is well. *Not said*: why.\n"
+        "\n<!-- end -->\nb\n<!-- clauses: others -->\n\n| clause | what it says |\n|---|---|\n"
+        "| `calm` | No call failed. |\n\n<!-- end -->\n"
+    )
+    assert filled(filled(before, said), said) == filled(before, said)
 
 
 def test_a_row_counts_the_files_that_it_names() -> None:

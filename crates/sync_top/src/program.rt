@@ -143,85 +143,119 @@ pub fn run<R: Threads + Sync, F: Folder, K: Sink, G: Gate + Sync>(
     sink: &mut K,
     gate: &G,
 ) -> Status
-    // Where the folder tells its contents, status and text are an answer to the words.
+    // Where the folder reports its contents, status and text are an answer to the words. Not said:
+    // in how many calls the text is written; that parts of a sweep run at once.
     ensures answer { OnAnswer result (IfSome (F.contents folder.old)
         (Delivers (map string_bytes words.now) (K.written sink.old) (K.written sink.new) result)) }
 
-    // Where `check` is done, a plan was read, and no timing loop can form in it, but two elements
-    // that face each other on one link or bundle, whatever happens. Where `trial` is done, none can
-    // in the ladder, as in every one.
+    // Of `check`, and of the ladder of `trial`. No timing loop can form in the plan: under
+    // every list of fault and command events, in every millisecond, each closed walk of
+    // selected lines is a facing pair, two elements on one link or bundle. In a settled
+    // millisecond there is no closed walk, and each element has the level of the source or own
+    // clock at which its trace ends (`IsLoopFree`). Not said: that an element gets a clock;
+    // that a network with a link nominated at both ends ever settles; how long anything takes.
+    // How long a facing pair may stand is said by `facing_pair_law`.
     ensures accepted_is_loop_free { result ≡ Status.Done → IfSome (F.contents folder.old)
         (IsCheckedLoopFree (form_of (map string_bytes words.now))) }
 
-    // Where `prio-check` is done, a plan was read, and no timing loop can form in it where elements
-    // choose by priority alone, whatever happens.
+    // Of `prio-check`. Among elements that choose by priority alone, no closed walk stands in
+    // any millisecond of any list of events (`NeverLoops`).
     ensures accepted_never_loops { result ≡ Status.Done → IfSome (F.contents folder.old)
         (IsCheckedForPriority (form_of (map string_bytes words.now))) }
 
-    // Where `chains` is done, a plan was read, and whatever happens, each trace that ends at a
-    // source or an own clock has no more lines, no more since the last filter, and no more filters
-    // than the row of its element says.
+    // Of `chains`. In every millisecond of every list of events, a trace that ends at a source
+    // or an own clock has at most as many lines, lines since the last filter, and filters as
+    // its element's row says. Not said: that a run reaches the row; a row is the greatest over
+    // all chains.
     ensures chains_are_bounds { result ≡ Status.Done → IfSome (F.contents folder.old)
         (IsBoundedByChains (form_of (map string_bytes words.now))) }
 
-    // Where `protected` is done, a plan was read, and it holds out: under every list of events
-    // without commands, in each settled millisecond in which just one failure stands, no element
-    // that is in reach of a clock has a worse level than the worst of the sources that are left. With
-    // groups these were read too, and it is so with each of them in place of a failure; where the plan
-    // has an agreed bound, it survives each of them by it, and by its bound after failures where out of a
-    // settled network their parts only go down.
+    // Of `protected`. The plan holds out. Take a failure of a link, a bundle, a source or an
+    // element, or none. Take a list of events without commands, and a settled millisecond in
+    // which every nominated input that the failure leaves is up and, if it is a line, has its
+    // ESMC on. Let W be a level such that no remaining source is worse than W and no floor is
+    // better than W, and let every remaining source be better than do-not-use. Then each
+    // element that is still in reach has a level no worse than W (`IsHoldingOut`). With groups
+    // the same holds for each failure and for each group. Beyond that (`Withstands`), if the
+    // plan has an agreed bound, it survives each failure and each group by that bound. If it
+    // has a bound after failures, it survives them by that one: out of a settled millisecond,
+    // after which parts of the failure or group only go down. Not said: without groups, that
+    // the network settles or that an input is taken; anything about two failures at once,
+    // unless they are one group; which input is taken. For groups, that the network is settled
+    // and at the best level where a nominated line that still speaks joins two elements of the
+    // group.
     ensures protected_holds_out { result ≡ Status.Done → IfSome (F.contents folder.old)
         (IsHoldingOut (form_of (map string_bytes words.now))) }
 
-    // Where `agree` is done, a plan was read, it has an agreed bound, and its network comes to rest by
-    // it: after the last event of any list by which no element is then under a forced or a manual
-    // switch, each element that a level reaches which is better than every own clock takes the same
-    // from the bound on, at the same level; and where that holds of every element, each millisecond is
-    // settled, and each element has exactly the best of the levels that reach it. So it is from the bound
-    // after failures on, which is no greater, where the network was settled, since then nothing came up
-    // and no line's ESMC went off, and no event changes the level of a source.
+    // Of `agree`. The plan has an agreed bound B. Take a list of events after which no element
+    // is under a forced or manual switch in the millisecond of the last event. From B after
+    // that event on, each element that a level better than every own clock reaches in the last
+    // event's millisecond takes the same input at the same level. If that is every element,
+    // each of these milliseconds is settled, and each element has exactly the best of the
+    // levels that reach it. The same holds from F on (the bound after failures, F ≤ B), if the
+    // list has no event that changes a source's level, some earlier millisecond was settled,
+    // and since then nothing came up and no line's ESMC went off. Not said: anything of
+    // elements that no such level reaches.
     ensures agreed_comes_to_rest { result ≡ Status.Done → IfSome (F.contents folder.old)
         (IsComingToRest (form_of (map string_bytes words.now))) }
 
-    // Where `protect` is done, a plan was read, and the text that was written is that of a plan in
-    // which no timing loop can form, but two elements that face each other on one link or bundle.
+    // Of `protect`. What was written is the text of a plan in which no timing loop can form, as
+    // for `check`.
     ensures protected_plan_is_loop_free { result ≡ Status.Done → IfSome (F.contents folder.old)
         (Protects IsLoopFree (form_of (map string_bytes words.now)) (K.written sink.old) (K.written sink.new)) }
 
-    // And that plan survives each single failure. Let the level of each nominated source be better
-    // than do-not-use and than every own clock, and no floor better than the worst of them. Then for
-    // every failure, and every list of events in which only parts of it go down and come up again:
-    // from the bound after the last event on, each element that is in reach takes an input, the same
-    // in every millisecond, at one level that is no worse than the worst of those; and where all
-    // others than the element that fails are in reach, each of these milliseconds is settled.
+    // Of `protect`. What was written is the text of a plan with an agreed bound B and a bound
+    // after failures F. If each nominated source is better than every own clock, and no floor
+    // is better than W, the worst of these sources, then for every failure: let only parts of
+    // it go down and come up, the ESMC of its lines go off and on, and wait-to-restore be
+    // cleared. From B after the last event on, each element in reach takes an input, the same
+    // in every millisecond, at one level no worse than W. If everybody but the failed element
+    // is in reach, the network is settled, and each element in reach has the best level that
+    // reaches it. From F on the same holds out of a settled millisecond, after which nothing
+    // came up and no line's ESMC went off. Not said: which plan is written, or that one is
+    // found (where the search fails the status is Refuted); anything of two failures, of
+    // commands, or of elements out of reach; anything before the bound, except what
+    // `protected_plan_is_loop_free` says.
     ensures protected_plan_survives { result ≡ Status.Done → IfSome (F.contents folder.old)
         (Protects IsSurvivor (form_of (map string_bytes words.now)) (K.written sink.old) (K.written sink.new)) }
 
-    // Which words are a form doesn't depend on any file. Other words, `gen` and `trial` call the
-    // folder not at all.
+    // The answer is `usage` exactly where the words are no form, whatever any file says.
     ensures usage { OnAnswer result ((result ≡ Status.Usage) ↔ (form_of (map string_bytes words.now) ≡ None)) }
+
+    // Words that name no file call the folder not at all.
     ensures no_call { reads_file (form_of (map string_bytes words.now)) ≡ false → folder.new ≡ folder.old }
 
-    // At most as many starts are tried as the form names files, and one where the plan is refused, or
-    // where the first of two files ends the reading, so that a pipe will do for each.
+    // No more starts of files are tried than the words name files, so that a pipe will do for
+    // each.
     ensures once { F.tries folder.new ≤ F.tries folder.old + file_count (form_of (map string_bytes words.now)) }
+
+    // After a refused plan no second file is started.
     ensures plan_alone { result ≡ Status.BadPlan → F.tries folder.new ≤ F.tries folder.old + 1 }
+
+    // Nor is one where the first of two files ends the reading.
     ensures first_alone { IfSome (F.contents folder.old) (λ files. PlanEndsReading (form_of (map string_bytes words.now)) files
         → F.tries folder.new ≤ F.tries folder.old + 1) }
 
-    // Where the run ends neither in a fault nor out of memory, no call of the folder failed: no
-    // absent file was tried after a refusal. A write failed only where a write fault is answered.
+    // Where the run ends neither in a fault nor out of memory, no call of the folder failed.
     ensures calm { OnAnswer result (F.faults folder.new ≡ F.faults folder.old) }
+
+    // A write failed only where a write fault is answered.
     ensures sink_calm { result ≢ Status.WriteFault → K.faults sink.new ≡ K.faults sink.old }
 
-    // A read fault has a cause, and its line was written. A steady folder with every file has none.
+    // A read fault is answered only where the folder failed.
     ensures read_fault_only { result ≡ Status.ReadFault → Rose (F.faults folder.old) (F.faults folder.new) }
+
+    // Then its line was written.
     ensures read_fault_written { result ≡ Status.ReadFault → Appends (K.written sink.old) (K.written sink.new) fault_text }
+
+    // A steady folder that has every file gives no read fault.
     ensures sure { IsTrue (F.steady folder.old) → HasFiles (map string_bytes words.now) (F.contents folder.old)
         → result ≢ Status.ReadFault }
 
-    // A write fault has a cause, and what was written is a front of what was to be written.
+    // A write fault is answered only where the output failed.
     ensures write_fault_only { result ≡ Status.WriteFault → Rose (K.faults sink.old) (K.faults sink.new) }
+
+    // Then a front of what was to be written was written.
     ensures cut { result ≡ Status.WriteFault → IfSome (F.contents folder.old)
         (IsCut (map string_bytes words.now) (K.written sink.old) (K.written sink.new)
         (MayFault (map string_bytes words.now) (outside_of F.contents F.steady F.faults folder.old folder.new))) }
@@ -229,6 +263,7 @@ pub fn run<R: Threads + Sync, F: Folder, K: Sink, G: Gate + Sync>(
     // Out of memory writes nothing.
     ensures no_memory { result ≡ Status.NoMemory → sink.new ≡ sink.old }
 
+    // The folder's contents stay.
     ensures keeps { KeepsFolder F.contents F.steady F.faults folder.old folder.new }
 {
     let Ok(reply) = reply_to(rt, alloc, words, folder, gate) else {
