@@ -49,7 +49,7 @@ def test_whom_nothing_could_save_is_counted_apart(folder: Path) -> None:
         )
     said = murdjohe("survey", "plan.toml", "--links", "--elements", folder=folder).out.decode()
     assert (
-        "2 cases leave elements without a source at the end that a link could still serve, 2 elements at most: L1"
+        "2 cases leave elements without a source at the end although a link could still serve them, 2 elements at most: L1"
         in said
     )
 

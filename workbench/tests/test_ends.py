@@ -54,14 +54,14 @@ def test_failures_of_one_way_plans_are_looked_at_by_the_bound_after_failures(fol
     ran = surveyed(folder, "plan.toml", "--links", "--sources", "--json")
     told = json.loads(ran.out)
     assert told["until"] == 601_000 and bound < 1_000
-    assert told["end_by"].startswith(f"0.{bound} s after the last failure, `failures F` of `agree`, and up to")
+    assert told["end_by"].startswith(f"0.{bound} s after the last failure (`failures F` of `agree`), rounded up to")
     assert told["unsettled"] == 0
 
 
 def test_where_two_elements_may_face_each_other_five_seconds_more_are_waited(folder: Path) -> None:
     ran = surveyed(folder, str(MESH / "protecting.toml"), "--links", "--pairs")
     assert "00:10:06.000 (606,000 ms)" in first_lines(ran)[0]
-    assert "for which two elements out of reach may take timing from each other" in first_lines(ran)[1]
+    assert "more in which two elements out of reach may take timing from each other" in first_lines(ran)[1]
 
 
 def test_what_comes_up_waits_for_the_greater_bound(folder: Path) -> None:
@@ -70,7 +70,7 @@ def test_what_comes_up_waits_for_the_greater_bound(folder: Path) -> None:
     (folder / "cases.csv").write_text(f"{HEAD}a,60s,down,L1,\na,70s,up,L1,\nb,60s,down,L3,\n")
     told = json.loads(surveyed(folder, "plan.toml", "cases.csv", "--json").out)
     assert bound is not None and told["until"] == ends.whole(70_000 + bound)
-    assert "after the last event, `bound B` of `agree` (which counts waits to restore)" in told["end_by"]
+    assert "after the last event (`bound B` of `agree`, which counts wait-to-restore)" in told["end_by"]
 
 
 @pytest.mark.parametrize("word", ["esmc-off,L1>B,", "level,clock,QL-SSU-A"])
@@ -133,7 +133,8 @@ def test_what_fails_during_works_is_seen_while_they_stand(folder: Path) -> None:
     ran = surveyed(folder, str(MESH / "protecting.toml"), "--during", "works.csv")
     assert "while the works stand, after `down S2` and before `up S2`" in ran.err
     assert any(
-        "elements without a source at the end that a link could still serve" in line for line in first_lines(ran)
+        "elements without a source at the end although a link could still serve them" in line
+        for line in first_lines(ran)
     )
     told = json.loads(surveyed(folder, str(MESH / "protecting.toml"), "--during", "works.csv", "--json").out)
     assert 120_000 < told["until"] < 360_000 and told["losing"] == 2

@@ -84,7 +84,7 @@ def test_cases_by_hand(folder: Path, words: list[str], rows: list[str], said: st
     assert (ran.status, ran.out.decode()) == (0, HEAD + "".join(rows))
     down = "00:00:02.000 (2,000 ms)" if "--at" in words else "00:10:00.000 (600,000 ms)"
     end = "00:00:03.000 (3,000 ms)" if "--at" in words else "00:10:01.000 (601,000 ms)"
-    chosen = "0.302 s after the last failure, `failures F` of `agree`, and up to a whole second"
+    chosen = "0.302 s after the last failure (`failures F` of `agree`), rounded up to a whole second"
     look = f"murdjohe: look at them at {end}: {chosen}\n"
     assert ran.err == f"murdjohe: {said}\nmurdjohe: what fails goes down at {down}\n{look}"
 

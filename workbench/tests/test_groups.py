@@ -42,7 +42,7 @@ def test_a_group_that_cuts_somebody_off_is_said_in_a_sentence(four: Path) -> Non
     assert first.startswith("1 group leaves elements without a clock that they could have: nominate lines")
     assert sentence == "if D is cut, 2 elements lose every clock though a clock could still reach them; the first is B"
     assert (remedy, alone) == (group_remarks.REMEDY, group_remarks.ALONE)
-    assert "two of them at once aren't looked at" in alone
+    assert alone.startswith("not looked at: two failures or groups at once")
 
 
 def test_a_plan_that_no_group_hurts_is_protected_and_what_is_left_out_is_said(four: Path) -> None:
@@ -56,7 +56,7 @@ def test_who_has_no_way_to_a_clock_left_is_told_beside_protected(four: Path) -> 
     ran = murdjohe("protected", "four.toml", "both.csv", folder=four)
     assert (ran.status, ran.out) == (0, b"protected\n")
     assert said(ran.err)[1] == (
-        "2 groups leave elements without any way to a clock, whatever is nominated, so that no row counts them: "
+        "2 groups leave elements without any path to a clock, whatever is nominated (they have no row): "
         "both (B, C, X), hall (B, C, X)"
     )
 

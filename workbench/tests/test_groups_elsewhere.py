@@ -37,7 +37,7 @@ def test_lint_tells_what_groups_cut_off_and_whom_they_leave_without_a_way(four: 
     wanted = [
         f'each-other.toml:{line}: warning: group "D", whose parts fail together, cuts off 2 elements, B first, though other links '
         "lead there; `murdjohe protect --groups` seeks priorities under which it doesn't",
-        f'each-other.toml:{line}: warning: group "E" leaves 3 elements without any way to a clock, whatever is nominated: B, C, X; '
+        f'each-other.toml:{line}: warning: group "E" leaves 3 elements without any path to a clock, whatever is nominated: B, C, X; '
         "lead a link there another way, or put a clock there",
     ]
     assert [line for line in ran.out.decode().splitlines() if "group" in line] == wanted

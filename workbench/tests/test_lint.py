@@ -65,7 +65,7 @@ def test_nothing_is_found_in_a_good_plan() -> None:
     assert (ran.status, ran.out) == (0, b"")
     checked, times = ran.err.splitlines()
     assert checked == "murdjohe: 0 errors, 0 warnings, 0 notes; checked: accepted, agreed, protected"
-    assert "everybody who can still have a clock rests on one within 0.306 s" in times
+    assert "every element that can still have a clock follows one within 0.306 s" in times
 
 
 @pytest.mark.parametrize(

@@ -99,7 +99,7 @@ def test_a_failure_while_the_works_stand_is_seen(folder: Path) -> None:
     ran = surveyed(folder, "--links", "--names", "--fail-on", "needless")
     said = ran.out.decode()
     assert ran.status == 21 and "\n  north  a link could still serve: middle\n" in said
-    assert "1 case leaves elements without a source at the end that a link could still serve" in said
+    assert "1 case leaves elements without a source at the end although a link could still serve them" in said
     assert murdjohe("survey", "plan.toml", "--links", "--fail-on", "lost", folder=folder).status == 0
 
 

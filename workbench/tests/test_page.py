@@ -140,8 +140,10 @@ def test_who_needs_no_source_after_a_cut_is_apart_from_whom_no_link_could_serve(
         "A4": ["1", "1"],
     }
     said = pages.cuts_text(cases)
-    assert said.startswith("3 links so leave elements without a source that another link could")
-    assert "each link down alone at 00:10:00.000 after the start" in said
+    assert said.startswith(
+        "each link alone, down at 00:10:00.000 without the events of this run: 3 links leave elements without a source "
+        "although another link could still serve them, "
+    )
 
 
 def test_cases_are_looked_at_by_the_bound_after_failures() -> None:

@@ -36,10 +36,11 @@ def test_a_plan_under_which_no_group_cuts_anybody_off(files: Path) -> None:
     assert forms.protected(ran.out, DUCTS.encode()).text == b"protected\n"
     assert forms.rank(ran.out).result.ring is None and forms.agree(ran.out).result.clash is None
     told = said(ran.err)
-    assert told[0] == "1 group and each single failure cut nobody off who needn't be"
+    assert told[0] == "1 group and each single failure: no element is cut off that could still have a clock"
     assert "checked: accepted, agreed, protected with these groups" in told
     assert any(
-        re.match(r"at rest, and then one thing fails, or parts of one group do: .* within 0\.3", line) for line in told
+        re.match(r"after one failure in a settled network, or parts of one group going down: .* within 0\.3", line)
+        for line in told
     )
     assert told[-1] == group_remarks.ALONE
 
@@ -50,12 +51,12 @@ def test_a_group_that_no_priorities_cover_is_told_and_that_it_is_known(files: Pa
     assert ran.status == 1 and [row.kind for row in rows] == ["group"]
     told = said(ran.err)
     assert told[:3] == [
-        "1 of 2 groups cuts nobody off who needn't be",
+        "1 of 2 groups: no element is cut off that could still have a clock",
         group_remarks.sentence(rows[0], None).replace(" fails,", " is cut,"),
         "no priorities behind those of the sources do better: an exact search, by HiGHS, came to its end",
     ]
     assert "checked: accepted, agreed, 1 gap with these groups" in told
-    assert any("parts of one group do, those above excepted: everybody" in line for line in told)
+    assert any("parts of one group going down, those above excepted: every element" in line for line in told)
 
 
 def test_groups_that_part_the_network_are_told_apart(files: Path) -> None:
@@ -63,8 +64,8 @@ def test_groups_that_part_the_network_are_told_apart(files: Path) -> None:
     ran = murdjohe("protect", "four.toml", "--groups", "both.csv", folder=files)
     assert ran.status == 0
     assert said(ran.err)[:2] == [
-        "2 groups and each single failure cut nobody off who needn't be",
-        "2 groups leave elements without any way to a clock, whatever is nominated, so that no row counts them: "
+        "2 groups and each single failure: no element is cut off that could still have a clock",
+        "2 groups leave elements without any path to a clock, whatever is nominated (they have no row): "
         "E (B, C, X), F (X)",
     ]
 

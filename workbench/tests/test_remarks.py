@@ -121,7 +121,7 @@ def test_who_wants_a_floor_is_told() -> None:
     want = "2 elements there have no floor better than the other's internal oscillator (own clock), and may oscillate with it while no source reaches them: "
     single, *rest = said("protect", "-", stdin=RING)
     assert single == (
-        "at rest, and then one thing fails: everybody who can still have a clock rests on one within 0.303 s, "
+        "after one failure in a settled network: every element that can still have a clock follows one within 0.303 s, "
         "if nothing comes up meanwhile; after a repair within 300.017 s"
     )
     assert rest == [both, want + "B, C"]
@@ -134,7 +134,7 @@ def test_who_wants_a_floor_is_told() -> None:
     assert said("protect", "-", stdin=floored.replace('name = "C"', 'name = "C", floor = "QL-SSU-B"')) == [single, both]
     missing, last = said("protect", "-", stdin=CHAIN + SOURCE)
     assert [missing] == said("hops", "-", stdin=CHAIN + SOURCE) and last.startswith(
-        "at rest, and then one thing fails: "
+        "after one failure in a settled network: "
     )
 
 
@@ -207,7 +207,7 @@ def test_a_sweep_names_the_cuts_and_warns_of_locked() -> None:
     first, needless, last, end = said("sweep", "mesh/plan.toml", "60s", "400s")
     few = "3 of 8 cuts leave elements in holdover or free-running at the end (how many): N1 (2), A1 (1), A4 (1)"
     assert first == few and end.startswith("each link goes down at 00:01:00.000, and only the end, 00:06:40.000, is ")
-    apart = "3 cuts leave elements without a source that a link could still serve (how many): N1 (2), A1 (1), A4 (1)"
+    apart = "3 cuts leave elements without a source although a link could still serve them (how many): N1 (2), A1 (1), A4 (1)"
     assert needless == apart and last.startswith("`locked` counts whoever takes an input")
     assert said("sweep", "mesh/redundant.toml", "60s", "400s")[0] == "no cut of 8 leaves anybody in holdover at the end"
 

@@ -69,7 +69,7 @@ def test_the_end_is_a_bound_after_the_last_event(double: Double, capfd: pytest.C
     Path("late.csv").write_text(f"{HEAD}a,86399999,down,L1,\n")
     ran = surveyed(capfd, PLAN, "late.csv")
     assert (
-        ran.status == 0 and b"\nthe end is chosen: 0.005 s after the last failure, `failures F` of `agree`" in ran.out
+        ran.status == 0 and b"\nthe end is chosen: 0.005 s after the last failure (`failures F` of `agree`)" in ran.out
     )
     assert double.calls() == ["a b 2 91000", "a a 1 86400000"]
 

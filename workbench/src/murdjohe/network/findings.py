@@ -288,7 +288,7 @@ def on_groups(looked: Looked, said: Said) -> Iterator[Finding]:
             remedy = "`murdjohe protect --groups` seeks priorities under which it doesn't"
             yield Finding(part_place(looked, group, rows), WARNING, what, remedy)
         if lost:
-            its = f"{plural(len(lost), 'element')} without any way to a clock, whatever is nominated: {listed(lost)}"
+            its = f"{plural(len(lost), 'element')} without any path to a clock, whatever is nominated: {listed(lost)}"
             remedy = "lead a link there another way, or put a clock there"
             yield Finding(part_place(looked, group, rows), WARNING, f'group "{group.name}" leaves {its}', remedy)
 

@@ -18,10 +18,7 @@ from murdjohe.plan.plan_tables import network_of
 GROUP = "group"
 SHOWN = 10  # groups of which each is told
 REMEDY = "`murdjohe protect PLAN --groups GROUPS` looks for priorities under which no group does"
-ALONE = (
-    "each failure and each group is looked at alone, with all of its parts down: two of them at once aren't looked at, nor how soon "
-    "who has a way left takes it, which `agree` tells"
-)
+ALONE = "not looked at: two failures or groups at once, and how soon an element takes the path that it still has (`agree` tells that)"
 
 
 def event_of(group: Group) -> str:
@@ -67,7 +64,7 @@ def on_parted(found: dict[str, list[str]]) -> list[str]:
     its = ", ".join(names) + (f" and {plural(more, 'group')} more" if more > 0 else "")
     verb = "leaves" if len(found) == 1 else "leave"
     return [
-        f"{plural(len(found), 'group')} {verb} elements without any way to a clock, whatever is nominated, so that no row counts them: {its}"
+        f"{plural(len(found), 'group')} {verb} elements without any path to a clock, whatever is nominated (they have no row): {its}"
     ]
 
 

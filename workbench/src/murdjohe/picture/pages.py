@@ -72,10 +72,11 @@ def cuts_text(cases: Cases) -> str:
     """What the cases of a page are, and how many leave somebody without a source."""
     down, end = clock(cases.times.at), clock(cases.times.until)
     needless, others = page_data.losing_cases(cases.rows)
-    lost = f"{plural(needless, 'link')} so {'leaves' if needless == 1 else 'leave'} elements without a source that another link could still serve"
+    leaves = "leaves" if needless == 1 else "leave"
     return (
-        f"{lost}, {others:,} only elements that none could; each link down alone at {down} after the start, without the events of this run; the table and the map show the end, "
-        f"{end}: what is lost and back by then isn't counted; the end is chosen: {cases.times.why}"
+        f"each link alone, down at {down} without the events of this run: {plural(needless, 'link')} {leaves} elements without a "
+        f"source although another link could still serve them, {others:,} only elements that none could; the table and the map show "
+        f"the end, {end}: what is lost and back by then isn't counted; the end is chosen: {cases.times.why}"
     )
 
 

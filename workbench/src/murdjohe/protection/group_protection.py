@@ -76,14 +76,11 @@ def on_search(made: Made) -> list[str]:
     covered = total - len(open_groups)
     if not total:
         return ["the table has no group: this is what `protect` gives without one"]
-    verb = "cuts" if covered == 1 else "cut"
     if not open_groups:
         return [
-            f"{plural(covered, 'group')} and each single failure {verb} nobody off who needn't be".replace(
-                "cuts", "cut"
-            )
+            f"{plural(covered, 'group')} and each single failure: no element is cut off that could still have a clock"
         ]
-    said = [f"{covered:,} of {plural(total, 'group')} {verb} nobody off who needn't be"]
+    said = [f"{covered:,} of {plural(total, 'group')}: no element is cut off that could still have a clock"]
     said += group_remarks.on_gaps(open_groups, made.groups.groups)
     if made.found.is_known and made.found.covered == covered:
         return [
@@ -107,7 +104,7 @@ def on_survival(made: Made) -> list[str]:
         return []
     but = ", those above excepted" if made.gaps else ""
     return [
-        f"at rest, and then one thing fails, or parts of one group do{but}: everybody who can still have a clock rests on one within "
+        f"after one failure in a settled network, or parts of one group going down{but}: every element that can still have a clock follows one within "
         f"{agreement.failures / 1000:,.3f} s, if nothing comes up meanwhile; after a repair within {agreement.bound / 1000:,.3f} s"
     ]
 

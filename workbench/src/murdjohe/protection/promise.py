@@ -15,7 +15,7 @@ def on_times(agreed: Agreement, who: str) -> list[str]:
     if agreed.failures is None or agreed.bound is None:
         return []
     return [
-        f"at rest, and then one thing fails: everybody {who} rests on one within {agreed.failures / 1000:,.3f} s, "
+        f"after one failure in a settled network: every element {who} follows one within {agreed.failures / 1000:,.3f} s, "
         f"if nothing comes up meanwhile; after a repair within {agreed.bound / 1000:,.3f} s"
     ]
 
@@ -25,14 +25,14 @@ def on_survival(plan: PlanLines, data: bytes) -> list[str]:
     broken = premises.told(plan)
     if broken or premises.worst_source(plan) is None:
         return [broken] if broken else []
-    return on_times(api.agree(data).result, "who can still have a clock")
+    return on_times(api.agree(data).result, "that can still have a clock")
 
 
 def beside_findings(plan: PlanLines, agreed: Agreement, has_gaps: bool) -> list[str]:
     """The same beside what is to be looked at in a plan, where no premise is broken: that is told there."""
     if premises.told(plan) or premises.worst_source(plan) is None:
         return []
-    return on_times(agreed, "whom nominated lines still lead to a clock" if has_gaps else "who can still have a clock")
+    return on_times(agreed, "that nominated lines still lead to a clock" if has_gaps else "that can still have a clock")
 
 
 def on_found(text: str) -> list[str]:

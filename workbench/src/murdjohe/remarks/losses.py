@@ -78,12 +78,12 @@ def on_needless(words: Words, rows: Sequence[Cut]) -> list[str]:
         verb = "leaves" if len(needless) == 1 else "leave"
         names = listed([f"{cut} ({left})" for cut, left in needless])
         said.append(
-            f"{plural(len(needless), 'cut')} {verb} elements without a source that a link could still serve (how many): {names}"
+            f"{plural(len(needless), 'cut')} {verb} elements without a source although a link could still serve them (how many): {names}"
         )
     if others:
         verb = "leaves" if len(others) == 1 else "leave"
-        whom = "without a source that no link could serve, or that are taken away themselves"
-        said.append(f"{plural(len(others), 'cut')} {verb} only elements {whom} (how many): {listed(others)}")
+        whom = "without a source only elements that no link could serve, or that are taken away themselves"
+        said.append(f"{plural(len(others), 'cut')} {verb} {whom} (how many): {listed(others)}")
     return said
 
 

@@ -144,8 +144,10 @@ def without_bound(plan: PlanFile, told: Told) -> Ending:
 def after_failures(plan: PlanFile, last: int, bound: int) -> Ending:
     """When runs end in which parts fail alone, the last one at a millisecond."""
     pairs = facing(plan)
-    more = f", {seconds(pairs)} for which two elements out of reach may take timing from each other" if pairs else ""
-    why = f"{seconds(bound)} after the last failure, `failures F` of `agree`{more}, and up to a whole second"
+    more = (
+        f", {seconds(pairs)} more in which two elements out of reach may take timing from each other" if pairs else ""
+    )
+    why = f"{seconds(bound)} after the last failure (`failures F` of `agree`){more}, rounded up to a whole second"
     return Ending(whole(last + bound + pairs), why)
 
 
@@ -161,7 +163,7 @@ def ending(plan: PlanFile, told: Told, bounds: Bounds) -> Ending:
         )
     if only_fails(plan, told):
         return after_failures(plan, last, bounds.failures)
-    why = f"{seconds(bounds.events)} after the last event, `bound B` of `agree` (which counts waits to restore), and up to a whole second"
+    why = f"{seconds(bounds.events)} after the last event (`bound B` of `agree`, which counts wait-to-restore), rounded up to a whole second"
     return Ending(whole(last + bounds.events), why)
 
 

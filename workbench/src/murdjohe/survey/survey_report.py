@@ -59,7 +59,7 @@ class Ends:
 
 def losing_text(tally: Tally, losses: Losses) -> list[str]:
     """How many cases leave elements without a source at the end, by why."""
-    needless = f"{of_cases(losses.cases, 'leaves', 'leave')} elements without a source at the end that a link could still serve"
+    needless = f"{of_cases(losses.cases, 'leaves', 'leave')} elements without a source at the end although a link could still serve them"
     worst = losses.outcomes()[:1]
     most = f", {plural(worst[0].needless, 'element')} at most: {worst[0].case.case}" if worst else ""
     rest = tally.losing - losses.cases
