@@ -76,11 +76,16 @@ def compared(folder: Path, said: Said, *words: str) -> Ran:
 
 
 def rows_of(ran: Ran) -> list[list[str]]:
-    """The findings: milliseconds, line, what and which."""
+    """The findings: milliseconds, line, what and which; `frames_of` has the packets that show them."""
     said = ran.out.decode().splitlines()
     lines = [line.split("  ") for line in said[2 : said.index("reaction times")]]  # behind the verdict and the heads
     rows = [[field.strip() for field in line if field] for line in lines]
-    return [[row[0], *row[2:]] for row in rows]
+    return [[row[0], *row[3:]] for row in rows]
+
+
+def frames_of(ran: Ran) -> list[int | None]:
+    """The packet of the capture that shows each finding first."""
+    return [finding["frame"] for finding in json.loads(ran.out)["findings"]]
 
 
 def test_the_file_for_node_is_what_was_received(folder: Path) -> None:
@@ -142,6 +147,11 @@ def test_a_late_device(folder: Path) -> None:
     ran = compared(folder, said)
     words = "QL-DNU (do-not-use) had to be said, and came 600 ms later"
     assert (ran.status, rows_of(ran)) == (1, [["3500", "east>tester", "late", words]])
+    packets = sorted(
+        [(-1, ""), *((at, cable) for at, cable, _ in said), *((at, line.partition(">")[0]) for at, line, _ in RECEIVED)]
+    )
+    late_at = 3_500 + DELAY + 580
+    assert frames_of(compared(folder, said, "--json")) == [packets.index((late_at, "east")) + 1]
     assert compared(folder, said, "--tolerance", "1s").status == 0
     assert b"10:03:03.500" in ran.out
 
@@ -206,6 +216,7 @@ def test_a_device_that_says_what_nobody_asked(folder: Path) -> None:
     assert compared(folder, said, "--from", "6600").status == 0
     found = json.loads(compared(folder, said, "--json").out)
     assert [finding["at"] for finding in found["findings"]] == [4_500, 6_500]
+    assert [finding["frame"] is None for finding in found["findings"]] == [False, False]
     assert found["zero"] == ZERO * 10**6
 
 

@@ -49,10 +49,10 @@ def caught(folder: Path, *words: str) -> None:
 
 
 def said(folder: Path, where: int) -> list[str]:
-    """The rows that are read, from this field on."""
+    """The rows that are read, from this field on, without the number of the packet."""
     ran = murdjohe("capture", "read", "--frames", "caught", folder=folder)
     assert ran.status == 0
-    return [",".join(line.split(",")[where:]).rstrip(",") for line in ran.out.decode().splitlines()[1:]]
+    return [",".join(line.split(",")[where:-1]).rstrip(",") for line in ran.out.decode().splitlines()[1:]]
 
 
 def test_a_live_capture_of_one_interface(folder: Path) -> None:

@@ -54,9 +54,9 @@ source        port  info  event  info a second  from          to            firs
 00107f0000ee  -     2     0      1.00           00:00:03.400  00:00:04.400  QL-SEC       code-3
 
 transitions
-time             source        port  from     to       by     after
-00:00:02.703988  001b1d00a1c3  -     QL-PRTC  QL-eEEC  event  0.600571 s
-00:00:04.400781  00107f0000ee  -     QL-SEC   code-3   info   1.000004 s
+frame  time             source        port  from     to       by     after
+6      00:00:02.703988  001b1d00a1c3  -     QL-PRTC  QL-eEEC  event  0.600571 s
+10     00:00:04.400781  00107f0000ee  -     QL-SEC   code-3   info   1.000004 s
 """,
     )
     said = "2 packets are no ESMC frames: 1 PTP (Ethertype 88f7), 1 slow protocol of subtype 01 (LACP)"
@@ -79,8 +79,9 @@ def test_a_port_that_was_silent_is_named(folder: Path) -> None:
     lines = ran.out.decode().splitlines()
     assert lines[-2:] == [
         "silences of more than 5 seconds",
-        "port 2 (001b1d00a1c3) was silent for 6.2 s from 10:03:11.412",
+        "port 2 (001b1d00a1c3) was silent for 6.2 s from 10:03:11.412, after frame 24",
     ]
+    # (the ports speak in turn, so that the twelfth message of port 2 is the 24th packet)
     # (30 messages of port 2 in 34.2 seconds, 29 of them after the first)
     rows = [line.split() for line in lines if line.startswith("001b1d00a1c3")]
     assert [row[:6] for row in rows] == [
@@ -92,6 +93,7 @@ def test_a_port_that_was_silent_is_named(folder: Path) -> None:
     found = json.loads(murdjohe("--json", "capture", "read", "night.pcapng", folder=folder).out)
     (silence,) = found["silences"]
     assert (silence["port"], silence["length"], silence["is_last"]) == ("port 2", 6_200_000_000, False)
+    assert silence["frame"] == 24
     assert (found["packets"], found["frames"], found["passed"], found["transitions"]) == (65, 65, {}, [])
 
 
@@ -103,8 +105,8 @@ def test_five_seconds_are_no_silence_yet_and_the_end_may_be_one(folder: Path) ->
     (folder / "c").write_bytes(made.classic([(at, frame), (later, frame), (later + 5 * 10**9 + 1000, other)]))
     lines = murdjohe("capture", "read", "c", folder=folder).out.decode().splitlines()
     assert lines[-2:] == [
-        "001b1d00a1c3 was silent for 5.0 s from 00:00:00.103",
-        "001b1d00a1c3 was silent for 5.0 s from 00:00:05.103, to the end of the capture",
+        "001b1d00a1c3 was silent for 5.0 s from 00:00:00.103, after frame 1",
+        "001b1d00a1c3 was silent for 5.0 s from 00:00:05.103, after frame 2, to the end of the capture",
     ]
 
 
@@ -121,11 +123,11 @@ def test_nanoseconds_and_days_are_shown(folder: Path) -> None:
     (folder / "c").write_bytes(made.classic([(at, made.FRAMES[0]), made.RECORDS[0]], "<", 0xA1B23C4D))
     ran = murdjohe("capture", "read", "--frames", "c", folder=folder)
     assert ran.out.decode().splitlines()[1:] == [
-        "2025-11-27 00:00:00.103412007,,,001b1d00a1c3,info,QL-PRTC,001b1dfffe00a1c3,01,1,0",
-        "2025-11-28 00:00:00.103412000,86399.999999993,,001b1d00a1c3,info,QL-PRTC,001b1dfffe00a1c3,01,1,0",
+        "2025-11-27 00:00:00.103412007,,,001b1d00a1c3,info,QL-PRTC,001b1dfffe00a1c3,01,1,0,1",
+        "2025-11-28 00:00:00.103412000,86399.999999993,,001b1d00a1c3,info,QL-PRTC,001b1dfffe00a1c3,01,1,0,2",
     ]
     lines = murdjohe("capture", "read", "c", folder=folder).out.decode().splitlines()
-    assert lines[-1] == "001b1d00a1c3 was silent for 86399.9 s from 2025-11-27 00:00:00.103"
+    assert lines[-1] == "001b1d00a1c3 was silent for 86399.9 s from 2025-11-27 00:00:00.103, after frame 1"
     local = murdjohe("capture", "read", "--local", "--frames", "c", folder=folder, TZ="IST-5:30")
     assert local.out.decode().splitlines()[1].startswith("2025-11-27 05:30:00.103412007,")
 

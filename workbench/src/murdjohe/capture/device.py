@@ -23,12 +23,14 @@ NOT_USED = ("QL-DNU", "QL-DUS")  # what says do-not-use
 
 
 class Finding(NamedTuple):
-    """A way in which a device isn't as the rules say: from which millisecond on, the line, which way, and in words."""
+    """A way in which a device isn't as the rules say: from which millisecond on, the line, which way, in words, and the packet of
+    the capture that shows it first: 0 where none does, since it is missing."""
 
     at: int
     line: str
     what: str
     words: str
+    frame: int = 0
 
 
 @dataclass(frozen=True)
@@ -153,12 +155,11 @@ class Line:
                 if id(step) not in in_place:
                     yield Finding(step.at, self.name, MISSING, f"{level} had to be said; it goes on with {step.before}")
             elif told.at - step.at > spare:
-                yield Finding(
-                    step.at, self.name, LATE, f"{level} had to be said, and came {told.at - step.at} ms later"
-                )
+                words = f"{level} had to be said, and came {told.at - step.at} ms later"
+                yield Finding(step.at, self.name, LATE, words, told.number)
             elif step.event is None and told.at >= step.at - spare:
                 words = f"an event message of {level}; only an information message came, {told.at - step.at} ms later"
-                yield Finding(step.at, self.name, MISSING, words)
+                yield Finding(step.at, self.name, MISSING, words, told.number)
 
     def _is_wrong(self, message: Message) -> Step | None:
         """The step in whose place a message says another level, where it does; not where it is only late with the step."""
@@ -187,21 +188,20 @@ class Line:
     def _run(self, run: list[Message], step: Step) -> Finding:
         """Messages that say another level than that of a step."""
         many = f"in {len(run)} messages up to {run[-1].at}" if len(run) > 1 else "in one message"
-        return Finding(
-            run[0].at, self.name, WRONG, f"says {run[0].level} {many}, where {ways(step.level)} had to be said"
-        )
+        words = f"says {run[0].level} {many}, where {ways(step.level)} had to be said"
+        return Finding(run[0].at, self.name, WRONG, words, run[0].number)
 
     def _events(self) -> Iterator[Finding]:
         """Messages where nothing had to be said, and event messages without a change."""
         for message in self.said:
             if not self.speaks(message.at):
                 words = f"says {message.level}, where nothing had to be said"
-                yield Finding(message.at, self.name, UNEXPECTED, words)
+                yield Finding(message.at, self.name, UNEXPECTED, words, message.number)
             elif message.kind == "event":
                 steps = [step for step in self.allowed(message.at) if step.level == message.level]
                 if steps and not any(step.event is message for step in steps):
                     words = f"an event message of {message.level}, where nothing had changed"
-                    yield Finding(message.at, self.name, UNEXPECTED, words)
+                    yield Finding(message.at, self.name, UNEXPECTED, words, message.number)
 
     def _silences(self) -> Iterator[Finding]:
         """Times of more than a second and the tolerance without a message, where the line has to speak."""
@@ -218,7 +218,12 @@ class Line:
                     yield Finding(at, self.name, MISSING, f"{many}: it was silent for {length / SECOND:.1f} s")
                 elif after != span.until:
                     words = f"an information message came {length} ms after the message before"
-                    yield Finding(at, self.name, LATE, words)
+                    yield Finding(at, self.name, LATE, words, self._number(after))
+
+    def _number(self, at: int) -> int:
+        """Which packet the first message from a millisecond on is; 0 where there is none."""
+        place = bisect_left(self.times, at)
+        return self.said[place].number if place < len(self.said) else 0
 
     def _crowds(self) -> Iterator[Finding]:
         """Information messages that come more often than once a second, and more than ten messages within a second."""
@@ -237,7 +242,8 @@ class Line:
             yield self._crowd(run)
         crowd = next((at for at, after in zip(self.times, self.times[CROWD:]) if after - at < SECOND), None)
         if crowd is not None and crowd >= self.limits.begin:
-            yield Finding(crowd, self.name, TOO_MANY, f"more than {CROWD} messages within a second")
+            words = f"more than {CROWD} messages within a second"
+            yield Finding(crowd, self.name, TOO_MANY, words, self._number(crowd))
 
     def _crowd(self, run: list[int]) -> Finding:
         """Information messages too many."""
@@ -246,7 +252,7 @@ class Line:
         length = max(1, times[last - 1] - times[first])
         rate = (last - 1 - first) * SECOND / length
         words = f"{last - first} information messages up to {run[-1]}, {rate:.1f} a second, where one a second is asked"
-        return Finding(run[0], self.name, TOO_MANY, words)
+        return Finding(run[0], self.name, TOO_MANY, words, self._number(run[0]))
 
     def reactions(self) -> list[int]:
         """After how many milliseconds each change was told, of those that were."""

@@ -4,7 +4,7 @@ from __future__ import annotations
 
 import struct
 from collections import Counter
-from collections.abc import Iterator
+from collections.abc import Iterable, Iterator
 from typing import NamedTuple
 
 from murdjohe.answers import api
@@ -23,12 +23,14 @@ Extended = tuple[str | None, str | None, int | None, int | None]
 
 
 class Heard(NamedTuple):
-    """An ESMC frame: nanoseconds since 1970 began, the interface, its octets from the address on, and what it says."""
+    """An ESMC frame: nanoseconds since 1970 began, the interface, its octets from the address on, what it says, and which packet of
+    the capture it is, from 1 on."""
 
     time: int
     port: str
     octets: bytes
     says: Frame
+    number: int
 
     @property
     def extended(self) -> Extended:
@@ -43,6 +45,7 @@ class Waiting(NamedTuple):
     port: str
     octets: bytes
     done: tuple[str, ...]
+    number: int
 
 
 def piece_of(frames: list[Waiting]) -> bytes:
@@ -75,31 +78,43 @@ class Capture:
 
     def heard(self) -> Iterator[Heard]:
         """The ESMC frames in the order of the file. Raises Wrong, and what `api` raises."""
+        for piece in self.pieces(self._packets()):
+            yield from self.decoded(piece)
+
+    def _packets(self) -> Iterator[capture_files.Packet]:
+        """The packets of the file; where it is damaged that is kept."""
+        try:
+            yield from capture_files.packets(self.path)
+        except capture_files.Damaged as damage:
+            self.damage = str(damage)
+
+    def pieces(self, packets: Iterable[capture_files.Packet]) -> Iterator[list[Waiting]]:
+        """The frames of the slow protocols in packets, in pieces that the program can take; all other packets are counted."""
         waiting: list[Waiting] = []
         octets = 0
-        for frame in self._candidates():
+        for packet in packets:
+            frame = self._candidate(packet)
+            if frame is None:
+                continue
             waiting.append(frame)
             octets += len(frame.octets)
             if len(waiting) == PIECE or octets > PIECE_OCTETS:
-                yield from self._decoded(waiting)
+                yield waiting
                 waiting, octets = [], 0
         if waiting:
-            yield from self._decoded(waiting)
+            yield waiting
 
-    def _candidates(self) -> Iterator[Waiting]:
-        """The frames of the slow protocols; all other packets are counted."""
-        try:
-            for packet in capture_files.packets(self.path):
-                self._counted(packet)
-                found = encapsulation.unwrapped(packet)
-                if isinstance(found, str):
-                    self.passed[found] += 1
-                elif len(found.frame) > PIECE_OCTETS:
-                    self.passed["slow protocol longer than any frame"] += 1
-                else:
-                    yield Waiting(packet.time, packet.port or found.port, found.frame, found.done)
-        except capture_files.Damaged as damage:
-            self.damage = str(damage)
+    def _candidate(self, packet: capture_files.Packet) -> Waiting | None:
+        """The frame of the slow protocols in a packet, which is counted; one without such a frame is by its reason."""
+        self._counted(packet)
+        found = encapsulation.unwrapped(packet)
+        if isinstance(found, str):
+            self.passed[found] += 1
+        elif len(found.frame) > PIECE_OCTETS:
+            self.passed["slow protocol longer than any frame"] += 1
+        else:
+            return Waiting(packet.time, packet.port or found.port, found.frame, found.done, self.packets)
+        return None
 
     def _counted(self, packet: capture_files.Packet) -> None:
         self.packets += 1
@@ -112,29 +127,32 @@ class Capture:
         else:
             self.last = packet.time
 
-    def _decoded(self, frames: list[Waiting]) -> Iterator[Heard]:
-        """What the program says of these frames. Those that it passes over are counted by its reasons."""
+    def decoded(self, frames: list[Waiting]) -> Iterator[Heard]:
+        """What the program says of these frames, of a piece at most. Those that it passes over are counted by its reasons. Nothing
+        is counted before the program has said all of it."""
         rows = {row.seconds: row for row in api.pcap_decode(self.option, piece_of(frames)).result.rows}
-        self._looked_elsewhere(frames, [row for row in rows.values() if row.level.startswith(UNKNOWN)])
+        unknown = [row for row in rows.values() if row.level.startswith(UNKNOWN)]
+        known_elsewhere = self._known_elsewhere([frames[row.seconds or 0] for row in unknown])
+        passed = [self._reason(frame.octets) for number, frame in enumerate(frames) if number not in rows]
+        self.unknown += len(unknown)
+        self.known_elsewhere += known_elsewhere
+        self.passed.update(passed)
         for number, frame in enumerate(frames):
             says = rows.get(number)
             if says is None:
-                self.passed[self._reason(frame.octets)] += 1
                 continue
             self.frames += 1
             self.ports.add(frame.port)
             self.done.update(frame.done)
-            yield Heard(frame.time, frame.port, frame.octets, says)
+            yield Heard(frame.time, frame.port, frame.octets, says, frame.number)
 
-    def _looked_elsewhere(self, frames: list[Waiting], unknown: list[Frame]) -> None:
-        """Whether the other option knows the codes that this one doesn't."""
-        self.unknown += len(unknown)
+    def _known_elsewhere(self, unknown: list[Waiting]) -> int:
+        """Of how many of these frames, whose codes the option doesn't know, the other option knows them."""
         if not unknown:
-            return
+            return 0
         other = "I" if self.option == "II" else "II"
-        again = [frames[row.seconds or 0] for row in unknown]
-        rows = api.pcap_decode(other, piece_of(again)).result.rows
-        self.known_elsewhere += sum(not row.level.startswith(UNKNOWN) for row in rows)
+        rows = api.pcap_decode(other, piece_of(unknown)).result.rows
+        return sum(not row.level.startswith(UNKNOWN) for row in rows)
 
     def _reason(self, octets: bytes) -> str:
         """Why the program takes this for no ESMC frame."""

@@ -4,6 +4,7 @@ from __future__ import annotations
 
 import re
 import sys
+from bisect import bisect_right
 from collections.abc import Iterable
 from typing import NamedTuple
 
@@ -14,6 +15,7 @@ from murdjohe.core.forms import DAY_MS
 from murdjohe.plan.plan_lines import PlanLines
 
 MILLISECOND = 1_000_000  # nanoseconds
+LONGEST_TIME = 12  # digits of the milliseconds of an event
 SOURCE = re.compile(r"[0-9a-f]{12}")
 
 
@@ -29,13 +31,15 @@ class Where(NamedTuple):
 
 
 class Message(NamedTuple):
-    """A frame on a line, in its millisecond from the zero of a comparison on; its octets as hexadecimal digits."""
+    """A frame on a line, in its millisecond from the zero of a comparison on; its octets as hexadecimal digits, and which packet of
+    the capture it is, from 1 on: 0 for one that had to be sent."""
 
     at: int
     line: str
     kind: str
     level: str
     octets: str
+    number: int = 0
 
 
 def where_of(word: str) -> Where:
@@ -100,7 +104,7 @@ class Bench:
         self.zero: int | None = None  # nanoseconds since 1970 began, a whole millisecond
         self.messages: list[Message] = []
         self.sources: dict[str, set[str]] = {}  # who speaks on each line
-        self.outside = 0  # frames before the first packet, or more than a day after it
+        self.outside = 0  # frames before the first packet
         self.others: dict[tuple[str, str], int] = {}  # frames of sources that no line has, by interface and source
 
     def take(self, capture: Capture) -> None:
@@ -114,13 +118,19 @@ class Bench:
                 self.others[who] = self.others.get(who, 0) + 1
                 continue
             self.sources.setdefault(where.line, set()).add(frame.says.source)
-            # (a day's messages are few frames, each kept once)
+            # (a day's messages are few different frames, each kept once)
             at, says = (frame.time - self.zero) // MILLISECOND, frame.says
-            if 0 <= at <= DAY_MS:
-                self.messages.append(Message(at, where.line, says.kind, says.level, sys.intern(frame.octets.hex())))
+            if at >= 0:
+                octets = sys.intern(frame.octets.hex())
+                self.messages.append(Message(at, where.line, says.kind, says.level, octets, frame.number))
             else:
                 self.outside += 1
         self.messages.sort(key=lambda message: message.at)
+
+
+def within_a_day(messages: list[Message]) -> list[Message]:
+    """Those of a day, which is all that a list of `node` may have; they are in order of time."""
+    return messages[: bisect_right(messages, DAY_MS, key=lambda message: message.at)]
 
 
 def events_of(name: str, text: str) -> list[tuple[int, str]]:
@@ -128,7 +138,7 @@ def events_of(name: str, text: str) -> list[tuple[int, str]]:
     found = []
     for number, line in enumerate(text.splitlines(), start=1):
         at = line.partition(",")[0]
-        if line and not (at.isascii() and at.isdigit() and len(at) <= 8):
+        if line and not (at.isascii() and at.isdigit() and len(at) <= LONGEST_TIME):
             raise unusable(
                 f"{name}:{number}: `{line[:60]}`: it doesn't begin with milliseconds; write AT,WORD,TARGET,VALUE"
             )

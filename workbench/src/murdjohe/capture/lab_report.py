@@ -7,16 +7,15 @@ from collections.abc import Iterator
 from dataclasses import asdict, dataclass
 
 from murdjohe.answers import api
-from murdjohe.capture import device, lab_lines, talk_report
+from murdjohe.capture import device, lab_lines, soak, talk_report
 from murdjohe.capture.clock_times import Clock
 from murdjohe.capture.device import Finding, Limits, Reaction
 from murdjohe.capture.esmc import Capture
 from murdjohe.capture.lab_lines import MILLISECOND, Bench, Message
 from murdjohe.capture.talk_report import said
-from murdjohe.core import columns, files, program
+from murdjohe.core import columns, files
 from murdjohe.core.documents import Document
 from murdjohe.core.faults import Wrong
-from murdjohe.core.forms import DAY_MS
 from murdjohe.core.inputs import STDIN
 from murdjohe.plan.plan_lines import PlanLines
 
@@ -46,8 +45,8 @@ class Asked:
 
 @dataclass(frozen=True)
 class Compared:
-    """What came of it, in order of time; how many messages were looked at, and up to which millisecond; and which reaction times are
-    longer than asked."""
+    """What came of it, in order of time; how many messages were looked at, and up to which millisecond; which reaction times are
+    longer than asked; and why not all was compared, where it wasn't."""
 
     findings: list[Finding]
     messages: int
@@ -55,11 +54,12 @@ class Compared:
     reactions: list[Reaction]
     most: int = 0
     slow: tuple[str, ...] = ()
+    why: str | None = None
 
     @property
     def is_passed(self) -> bool:
-        """Whether no more differs than may, and no reaction is slower."""
-        return len(self.findings) <= self.most and not self.slow
+        """Whether all was compared, no more differs than may, and no reaction is slower."""
+        return len(self.findings) <= self.most and not self.slow and self.why is None
 
 
 def slow_of(reactions: list[Reaction], asked: Asked) -> tuple[str, ...]:
@@ -77,6 +77,12 @@ def events_of(path: str | None) -> list[tuple[int, str]]:
     return [] if path is None else lab_lines.events_of(path, files.text(path))
 
 
+def of_day(bench: Bench, within: list[Message]) -> Iterator[str]:
+    """That frames were left out since they came more than a day after the first packet."""
+    if more := len(bench.messages) - len(within):
+        yield f"{said(more, 'frame')} more than a day after the first packet, left out: `node` takes a day at most"
+
+
 def of_bench(bench: Bench, lines: set[str], clock: Clock) -> Iterator[str]:
     """What was taken of a capture and what wasn't, a sentence each."""
     counts = {line: sum(message.line == line for message in bench.messages) for line in sorted(lines)}
@@ -92,7 +98,7 @@ def of_bench(bench: Bench, lines: set[str], clock: Clock) -> Iterator[str]:
         more = f" and {len(names) - SOURCES} more" if len(names) > SOURCES else ""
         yield f"these sources have no --line and were left out: {', '.join(names[:SOURCES])}{more}"
     if bench.outside:
-        yield f"{said(bench.outside, 'frame')} before the first packet, or more than a day after it, left out"
+        yield f"{said(bench.outside, 'frame')} before the first packet, left out"
 
 
 def levels_of(option: str, frames: set[str]) -> dict[str, tuple[str, str]]:
@@ -102,20 +108,34 @@ def levels_of(option: str, frames: set[str]) -> dict[str, tuple[str, str]]:
     return {frame: (row.kind, row.level) for frame, row in zip(order, rows)}
 
 
-def asked_of(asked: Asked, data: bytes, received: bytes, end: int) -> tuple[list[Message], int]:
-    """What the element had to send, and up to which millisecond that is known. Raises Wrong."""
-    if len(received) > program.LONGEST_BESIDE:
-        most = f"{program.LONGEST_BESIDE} bytes"
-        raise Wrong(
-            f"{asked.file}: what {asked.element} received is more than {most}, which is all that is read: --until"
-        )
+@dataclass(frozen=True)
+class Wanted:
+    """What an element had to send, up to which millisecond that is known, and why no longer where it isn't known to the end."""
+
+    messages: list[Message]
+    end: int
+    why: str | None = None
+
+
+def asked_of(asked: Asked, data: bytes, received: str, end: int, limits: soak.Limits) -> Wanted:
+    """What the element had to send. Raises Wrong."""
+
+    def replay(text: str, until: int) -> tuple[list[soak.Sent], int]:
+        answer = api.node(data, asked.element, text.encode(), until).result
+        sent = [soak.Sent(row.at, row.line, row.frame) for row in answer.rows]
+        return sent, until if answer.stopped_at is None else answer.stopped_at
+
+    found: list[soak.Sent] = []
+    why = None
     try:
-        answer = api.node(data, asked.element, received, end).result
+        for piece in soak.Soak(soak.rows_of(received), replay, limits).sent(end):
+            found += piece
+    except soak.Lost as lost:
+        end, why = lost.at, str(lost)
     except api.Refused as refused:
         raise Wrong(f"what {asked.element} received is refused: {refused.sentence}") from None
-    says = levels_of(PlanLines(Document(asked.plan, data)).option, {row.frame for row in answer.rows})
-    wanted = [Message(row.at, row.line, *says[row.frame], row.frame) for row in answer.rows]
-    return wanted, end if answer.stopped_at is None else answer.stopped_at
+    says = levels_of(PlanLines(Document(asked.plan, data)).option, {one.frame for one in found})
+    return Wanted([Message(one.at, one.line, *says[one.frame], one.frame) for one in found], end, why)
 
 
 def plan_of(asked: Asked) -> tuple[bytes, PlanLines]:
@@ -125,24 +145,28 @@ def plan_of(asked: Asked) -> tuple[bytes, PlanLines]:
     return data, PlanLines(Document(asked.plan, data))
 
 
-def compared(asked: Asked, bench: Bench, plan: PlanLines, data: bytes, last: int | None) -> Compared:
+def compared(
+    asked: Asked, bench: Bench, plan: PlanLines, data: bytes, last: int | None, pieces: soak.Limits = soak.Limits()
+) -> Compared:
     """Asks the program what the element had to send, and compares; `last` is the time of the last packet."""
     into, out = lab_lines.sorted_lines(plan, asked.element, bench.wheres)
     if not out:
         raise Wrong(f"--line: none of the lines leads out of {asked.element}, so that nothing can be compared")
     whole = 0 if last is None or bench.zero is None else (last - bench.zero) // MILLISECOND
-    end = min(whole if asked.until is None else asked.until, whole, DAY_MS)
+    end = min(whole if asked.until is None else asked.until, whole)
     taken = {line for line in into if lab_lines.nominated(plan, line)}
     events = [(at, line) for at, line in events_of(asked.events) if at <= end]
     messages = [message for message in bench.messages if message.at <= end]
     text = lab_lines.received(messages, taken, events)
-    wanted, end = asked_of(asked, data, text.encode(), end)
-    if asked.begin >= end:
-        raise Wrong(f"nothing can be compared: {asked.file} is at its end at {end} ms, and --from is {asked.begin} ms")
-    limits = Limits(asked.tolerance, asked.begin, end, asked.rate)
+    wanted = asked_of(asked, data, text, end, pieces)
+    if asked.begin >= wanted.end:
+        at = f"{asked.file} is at its end at {wanted.end} ms"
+        raise Wrong(f"nothing can be compared: {at}, and --from is {asked.begin} ms")
+    limits = Limits(asked.tolerance, asked.begin, wanted.end, asked.rate)
     sent = [message for message in messages if message.line in out and message.at >= asked.begin]
-    findings, reactions = device.looked_at(wanted, messages, out, limits)
-    return Compared(findings, len(sent), limits, reactions, asked.most, slow_of(reactions, asked))
+    findings, reactions = device.looked_at(wanted.messages, messages, out, limits)
+    slow = slow_of(reactions, asked)
+    return Compared(findings, len(sent), limits, reactions, asked.most, slow, wanted.why)
 
 
 def remarks(bench: Bench, plan: PlanLines, asked: Asked, found: Compared, clock: Clock) -> Iterator[str]:
@@ -166,6 +190,8 @@ def verdict(found: Compared) -> str:
     number = said(len(found.findings), "difference") if found.findings else "no differences"
     most = f", {found.most} may be" if found.most else ""
     slow = "".join(f"; {one}" for one in found.slow)
+    if found.why is not None:
+        slow += f"; compared up to {found.limits.end} ms alone: {found.why}"
     return f"{'pass' if found.is_passed else 'fail'}: {number}{most}{slow}\n"
 
 
@@ -194,17 +220,18 @@ def findings_text(bench: Bench, found: Compared, clock: Clock) -> str:
         return ""
     zero = bench.zero or 0
     rows = [
-        [str(finding.at), clock.of_day(zero + finding.at * MILLISECOND, 3), finding.line, finding.what, finding.words]
+        [str(finding.at), clock.of_day(zero + finding.at * MILLISECOND, 3), str(finding.frame or "-"), finding.line]
+        + [finding.what, finding.words]
         for finding in found.findings
     ]
-    return "".join(f"{line}\n" for line in columns.table(["ms", "time", "line", "what", "which"], rows))
+    return "".join(f"{line}\n" for line in columns.table(["ms", "time", "frame", "line", "what", "which"], rows))
 
 
 def as_json(bench: Bench, found: Compared, said_of: list[str]) -> str:
     """The same as JSON."""
-    rows = [finding._asdict() for finding in found.findings]
+    rows = [finding._asdict() | {"frame": finding.frame or None} for finding in found.findings]
     reactions = [asdict(one) for one in found.reactions]
-    passed: dict[str, object] = {"pass": found.is_passed, "slow": found.slow, "reactions": reactions}
+    passed: dict[str, object] = {"pass": found.is_passed, "slow": found.slow, "reactions": reactions, "why": found.why}
     whole: dict[str, object] = {
         "zero": bench.zero,
         "messages": found.messages,

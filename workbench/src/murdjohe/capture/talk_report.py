@@ -29,7 +29,7 @@ def silence(found: Silence, clock: Clock) -> str:
     """A silence as a sentence."""
     length = f"{who(found.port, found.source)} was silent for {seconds(found.length, 1)} s"
     end = ", to the end of the capture" if found.is_last else ""
-    return f"{length} from {clock.of_day(found.at, 3)}{end}"
+    return f"{length} from {clock.of_day(found.at, 3)}, after frame {found.frame}{end}"
 
 
 def row_of(frame: Frame) -> str:
@@ -43,14 +43,15 @@ def as_row(frame: Heard) -> str:
     return f"{frame.time // 1_000_000_000},{frame.time % 1_000_000_000 // 1000},{row_of(frame.says)}\n"
 
 
-FRAMES_HEAD = "time,after,port,source,kind,level,clock,flags,eeecs,eecs\n"
+FRAMES_HEAD = "time,after,port,source,kind,level,clock,flags,eeecs,eecs,frame\n"
 
 
 def as_line(frame: Heard, since: int | None, clock: Clock) -> str:
-    """A frame with its time of day and the seconds since the one before of its source."""
+    """A frame with its time of day, the seconds since the one before of its source, and its number in the capture."""
     port = frame.port.replace(",", " ")
     row = row_of(frame.says) + "," * (4 if frame.says.clock is None else 0)
-    return f"{clock.of_day(frame.time, 9)},{'' if since is None else seconds(since, 9)},{port},{row}\n"
+    after = "" if since is None else seconds(since, 9)
+    return f"{clock.of_day(frame.time, 9)},{after},{port},{row},{frame.number}\n"
 
 
 def rate(talker: Talker) -> str:
@@ -73,10 +74,10 @@ def sources(talk: Talk, clock: Clock) -> list[str]:
 
 def transitions(talk: Talk, clock: Clock) -> list[str]:
     """The table of transitions."""
-    heads = ["time", "source", "port", "from", "to", "by", "after"]
+    heads = ["frame", "time", "source", "port", "from", "to", "by", "after"]
     rows = [
-        [clock.of_day(found.at), found.source, found.port or "-", found.before, found.after, found.kind]
-        + [f"{seconds(found.since)} s"]
+        [str(found.frame), clock.of_day(found.at), found.source, found.port or "-", found.before, found.after]
+        + [found.kind, f"{seconds(found.since)} s"]
         for found in talk.transitions
     ]
     return table(heads, rows)

@@ -8,6 +8,7 @@ from __future__ import annotations
 from collections import Counter, deque
 from collections.abc import Iterable, Iterator
 from dataclasses import dataclass, field
+from typing import NamedTuple
 
 from murdjohe.capture import talk_faults
 from murdjohe.capture.capture_files import SECOND
@@ -24,7 +25,8 @@ Who = tuple[str, str]  # interface and source
 
 @dataclass(frozen=True)
 class Transition:
-    """A message that says another level than the one before, in its nanosecond; `kind` is that of the message."""
+    """A message that says another level than the one before, in its nanosecond; `kind` is that of the message, and `frame` which
+    packet of the capture it is."""
 
     at: int
     port: str
@@ -33,17 +35,28 @@ class Transition:
     after: str
     kind: str
     since: int  # nanoseconds since the message before
+    frame: int
 
 
 @dataclass(frozen=True)
 class Silence:
-    """More than five seconds without a message; `is_last` where none came any more before the capture ended."""
+    """More than five seconds without a message, after the packet `frame` of the capture; `is_last` where none came any more before
+    the capture ended."""
 
     at: int
     port: str
     source: str
     length: int
     is_last: bool
+    frame: int
+
+
+class Taken(NamedTuple):
+    """What a message brought: the nanoseconds since the one before of its source, the silence that it ended, and a change of level."""
+
+    since: int | None
+    silence: Silence | None
+    transition: Transition | None
 
 
 @dataclass
@@ -55,6 +68,7 @@ class Talker:
     first: int
     level: str
     last: int
+    number: int = 0  # which packet of the capture the last message is
     messages: Counter[str] = field(default_factory=Counter)
     first_level: str = ""
     informed: tuple[int, int] | None = None  # the first and the last information message
@@ -85,7 +99,7 @@ class Talker:
         if self.crowded is None and len(self.recent) == CROWD and 0 <= at - self.recent[0] < SECOND:
             self.crowded = at
         self.recent.append(at)
-        self.last, self.level = at, heard.says.level
+        self.last, self.level, self.number = at, heard.says.level, heard.number
         self.reserved.update(talk_faults.reserved_of(heard.octets))
         if heard.says.level.startswith(UNKNOWN):
             self.unknown[heard.says.level] += 1
@@ -114,23 +128,33 @@ class Talk:
     def heard(self, frames: Iterable[Heard]) -> Iterator[tuple[Heard, int | None]]:
         """Takes in all frames, and gives each with the nanoseconds since the one before of the same source."""
         for frame in frames:
-            row, who = frame.says, (frame.port, frame.says.source)
-            talker = self.talkers.get(who)
-            since = None if talker is None else frame.time - talker.last
-            if talker is None or since is None:
-                talker = Talker(*who, frame.time, row.level, frame.time, first_level=row.level)
-                self.talkers[who] = talker
-            else:
-                if since > LOST:
-                    self.kept(Silence(talker.last, *who, since, False))
-                if row.level != talker.level:
-                    self.kept(Transition(frame.time, *who, talker.level, row.level, row.kind, since))
+            yield frame, self.took(frame).since
+
+    def took(self, frame: Heard) -> Taken:
+        """Takes in a frame, and gives what it brought."""
+        row, who = frame.says, (frame.port, frame.says.source)
+        talker = self.talkers.get(who)
+        if talker is None:
+            talker = Talker(*who, frame.time, row.level, frame.time, first_level=row.level)
+            self.talkers[who] = talker
             talker.counted(frame)
-            yield frame, since
+            return Taken(None, None, None)
+        since = frame.time - talker.last
+        silence = Silence(talker.last, *who, since, False, talker.number) if since > LOST else None
+        changed = row.level != talker.level
+        transition = (
+            Transition(frame.time, *who, talker.level, row.level, row.kind, since, frame.number) if changed else None
+        )
+        for found in (silence, transition):
+            if found is not None:
+                self.kept(found)
+        talker.counted(frame)
+        return Taken(since, silence, transition)
 
     def ended(self, last: int | None) -> None:
         """Takes in that the capture ended with a packet of this time."""
         for talker in self.talkers.values():
             if last is not None and last - talker.last > LOST:
-                self.kept(Silence(talker.last, talker.port, talker.source, last - talker.last, True))
+                length = last - talker.last
+                self.kept(Silence(talker.last, talker.port, talker.source, length, True, talker.number))
         self.silences.sort(key=lambda silence: silence.at)

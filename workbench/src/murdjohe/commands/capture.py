@@ -9,6 +9,8 @@ from typing import Any
 import click
 
 from murdjohe.capture import talk_faults
+from murdjohe.commands import capture_watch
+from murdjohe.commands.capture_options import EVENTS, LINE, LOCAL, OPTION, ended
 from murdjohe.commands.options import Milliseconds, free, output_options, put
 from murdjohe.core import program, streams
 from murdjohe.core.faults import Wrong
@@ -19,21 +21,6 @@ if TYPE_CHECKING:
     from murdjohe.capture.clock_times import Clock
     from murdjohe.capture.talkers import Talk
 
-OPTION = click.option(
-    "--option", type=click.Choice(["I", "II"]), default="I", help="the network option; I where none is given"
-)
-LOCAL = click.option("--local", is_flag=True, help="times of day by this machine's clock, in place of UTC")
-LINE = click.option(
-    "--line",
-    multiple=True,
-    metavar="LINE=WHERE",
-    help="whose frames went over a line, as L1>B=02:00:00:00:00:01, L1>B=@eth1, or both with an @; once for each line",
-)
-EVENTS = click.option(
-    "--events",
-    type=click.Path(),
-    help="what else was done to the element: lines AT,WORD,TARGET,VALUE as `node` has them",
-)
 PIECE = 4_000  # lines that are written at once
 
 
@@ -50,21 +37,7 @@ def capture(context: click.Context) -> None:
         context.obj.put((context.get_help().rstrip("\n") + "\n").encode())
 
 
-def is_quiet(context: click.Context) -> bool:
-    return bool(context.find_root().params["quiet"] or context.params.get("quiet"))
-
-
-def ended(context: click.Context, taken: esmc.Capture, said: list[str]) -> int:
-    """Tells what there is to say, and that the capture is damaged where it is; the status."""
-    if not is_quiet(context):
-        streams.tell(*said, colour="yellow")
-    if taken.damage is None:
-        return program.DONE
-    name = "standard input" if taken.path == "-" else taken.path
-    before = "; what comes before is whole, and was read" if taken.packets else ""
-    if not is_quiet(context):
-        streams.tell(f"{name}: {taken.damage}{before}")
-    return program.BAD_FRAMES
+capture.add_command(capture_watch.watch)
 
 
 @capture.command("read", short_help="who speaks, at what rate, transitions and silences")
@@ -210,10 +183,11 @@ def node(
     bench, taken = bench_of(file, option, line)
     if taken.damage and not taken.packets:
         return ended(context, taken, [])
-    text = lab_lines.received(bench.messages, lines, lab_report.events_of(events))
-    put(context, output, text.encode())
-    said = [*lab_report.of_bench(bench, lines, clock_times.Clock(local)), *talk_report.of_capture(taken)]
-    return ended(context, taken, said)
+    within = lab_lines.within_a_day(bench.messages)
+    put(context, output, lab_lines.received(within, lines, lab_report.events_of(events)).encode())
+    clock = clock_times.Clock(local)
+    said = [*lab_report.of_day(bench, within), *lab_report.of_bench(bench, lines, clock)]
+    return ended(context, taken, [*said, *talk_report.of_capture(taken)])
 
 
 @capture.command("compare", short_help="a device beside what it had to send")
