@@ -13,7 +13,7 @@ from murdjohe.capture.device import Finding, Limits, Reaction
 from murdjohe.capture.esmc import Capture
 from murdjohe.capture.lab_lines import MILLISECOND, Bench, Message
 from murdjohe.capture.talk_report import said
-from murdjohe.core import columns, files
+from murdjohe.core import columns, files, program
 from murdjohe.core.documents import Document
 from murdjohe.core.faults import Wrong
 from murdjohe.core.inputs import STDIN
@@ -185,6 +185,39 @@ def remarks(bench: Bench, plan: PlanLines, asked: Asked, found: Compared, clock:
     yield f"compared: {counts}, {span}, with a tolerance of {asked.tolerance} ms"
 
 
+@dataclass(frozen=True)
+class Comparison:
+    """A comparison that was asked for, what came of it, and what there is to say beside it; `taken` is the capture, which may be
+    damaged at its end."""
+
+    asked: Asked
+    found: Compared
+    bench: Bench
+    taken: Capture
+    clock: Clock
+    said: tuple[str, ...]
+
+    @property
+    def is_passed(self) -> bool:
+        """Whether the device passes, by a capture that isn't damaged."""
+        return self.found.is_passed and self.taken.damage is None
+
+
+def comparison(asked: Asked) -> Comparison:
+    """Reads the capture, asks the program and compares. Raises Wrong, and api.Refused where the program refuses the plan."""
+    data, plan = plan_of(asked)
+    bench = Bench([lab_lines.where_of(word) for word in asked.lines])
+    taken = Capture(asked.file, plan.option)
+    bench.take(taken)
+    if taken.damage and not taken.packets:
+        name = "standard input" if asked.file == STDIN else asked.file
+        raise Wrong(f"{name}: {taken.damage}", status=program.BAD_FRAMES)
+    found = compared(asked, bench, plan, data, taken.last)
+    clock = day_of(bench, taken, asked.local)
+    said_of = (*remarks(bench, plan, asked, found, clock), *talk_report.of_capture(taken))
+    return Comparison(asked, found, bench, taken, clock, said_of)
+
+
 def verdict(found: Compared) -> str:
     """Whether the device passes."""
     number = said(len(found.findings), "difference") if found.findings else "no differences"
@@ -209,9 +242,9 @@ def reactions_text(found: Compared) -> str:
     return "reaction times\n" + "".join(f"{line}\n" for line in columns.table(heads, rows))
 
 
-def text(bench: Bench, found: Compared, clock: Clock) -> str:
+def text_of(done: Comparison) -> str:
     """Whether the device passes, the findings as rows with their times of day, and the reaction times."""
-    return verdict(found) + findings_text(bench, found, clock) + reactions_text(found)
+    return verdict(done.found) + findings_text(done.bench, done.found, done.clock) + reactions_text(done.found)
 
 
 def findings_text(bench: Bench, found: Compared, clock: Clock) -> str:

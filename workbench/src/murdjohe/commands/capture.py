@@ -9,7 +9,7 @@ from typing import Any
 import click
 
 from murdjohe.capture import talk_faults
-from murdjohe.commands import capture_watch
+from murdjohe.commands import capture_compare, capture_watch
 from murdjohe.commands.capture_options import EVENTS, LINE, LOCAL, OPTION, ended
 from murdjohe.commands.options import Milliseconds, free, output_options, put
 from murdjohe.core import program, streams
@@ -38,6 +38,7 @@ def capture(context: click.Context) -> None:
 
 
 capture.add_command(capture_watch.watch)
+capture.add_command(capture_compare.compare)
 
 
 @capture.command("read", short_help="who speaks, at what rate, transitions and silences")
@@ -188,73 +189,6 @@ def node(
     clock = clock_times.Clock(local)
     said = [*lab_report.of_day(bench, within), *lab_report.of_bench(bench, lines, clock)]
     return ended(context, taken, [*said, *talk_report.of_capture(taken)])
-
-
-@capture.command("compare", short_help="a device beside what it had to send")
-@click.argument("plan", type=click.Path())
-@click.argument("element")
-@click.argument("file", type=click.Path())
-@LINE
-@LOCAL
-@EVENTS
-@click.option("--tolerance", type=Milliseconds(), default="100ms", show_default=True, help="what isn't late yet")
-@click.option(
-    "--from", "begin", type=Milliseconds(), default="5s", show_default=True, help="nothing before is compared"
-)
-@click.option("--until", type=Milliseconds(), help="nothing after is compared; without it to the capture's end")
-@click.option("--most", type=click.IntRange(0), default=0, show_default=True, help="how many differences still pass")
-@click.option(
-    "--reaction", type=Milliseconds(), help="the longest time after which a change may be told; any without it"
-)
-@click.option("--median", type=Milliseconds(), help="the same for the middle one of a line's times")
-@click.option(
-    "--rate",
-    type=click.FloatRange(1, 100),
-    default=1.1,
-    show_default=True,
-    help="how many information messages a second aren't too many",
-)
-@click.option("--json", "is_json", is_flag=True, help="the findings as JSON")
-@click.option("-q", "--quiet", is_flag=True, help="without sentences on standard error")
-@output_options
-@click.pass_context
-def compare(context: click.Context, plan: str, element: str, file: str, line: tuple[str, ...], **settings: Any) -> int:
-    """Compares what a device sent with what ELEMENT of PLAN has to send for what the device received.
-
-    What it received are the frames of the capture FILE on lines into ELEMENT, which `murdjohe node` is given; what it sent
-    are those on lines out of it. The first line is `pass` or `fail`. What differs is a row: missing, late by more than the
-    tolerance, wrong level, unexpected, or too many, by --rate. Below stands how soon the changes of each line were told; where that
-    is longer than --reaction or --median say, the device fails too. Information messages may come in any part of a second.
-    Millisecond 0 is that of the first packet; what the device had heard before isn't known, so the first five seconds aren't
-    compared. The status is 0 where it passes, else 1; 3 and 6 for a plan and a capture that are refused.
-
-    \b
-      $ murdjohe gen 2 > plan.toml
-      $ yes 020000000001,info,QL-PRC | head -n 9 > rows
-      $ murdjohe capture write rows -o capture.pcap
-      $ murdjohe capture compare plan.toml E1 capture.pcap --line S1\\>E1=020000000001 --line S1\\>E0=020000000002
-    """
-    from murdjohe.answers import api
-    from murdjohe.capture import clock_times, lab_report, talk_report
-
-    output, force = settings.pop("output"), settings.pop("force")
-    free(output, force, plan, file, settings["events"])
-    is_json, _ = settings.pop("is_json") or context.find_root().params["json"], settings.pop("quiet")
-    asked = lab_report.Asked(plan, element, file, line, **settings)
-    try:
-        data, read_plan = lab_report.plan_of(asked)
-    except api.Refused as refused:
-        streams.tell(refused.sentence)
-        return refused.status
-    bench, taken = bench_of(file, read_plan.option, line)
-    if taken.damage and not taken.packets:
-        return ended(context, taken, [])
-    found = lab_report.compared(asked, bench, read_plan, data, taken.last)
-    clock = lab_report.day_of(bench, taken, asked.local)
-    said = [*lab_report.remarks(bench, read_plan, asked, found, clock), *talk_report.of_capture(taken)]
-    shown = lab_report.as_json(bench, found, said) if is_json else lab_report.text(bench, found, clock)
-    put(context, output, shown.encode("utf-8", "backslashreplace"))
-    return ended(context, taken, said) or (program.DONE if found.is_passed else program.REFUTED)
 
 
 @capture.command("write", short_help="a capture to send, of rows")
