@@ -5,6 +5,7 @@ from __future__ import annotations
 import json
 import time
 from collections.abc import Callable
+from dataclasses import asdict
 from pathlib import Path
 
 import pytest
@@ -19,7 +20,8 @@ PLAN, WORKS = MESH / "redundant.toml", MESH / "works.csv"
 
 def test_what_there_is_can_be_listed() -> None:
     assert {"check", "sim", "api", "tasks"} <= set(dir(package)) and package.tasks is tasks
-    assert {"lint", "why", "rehearse", "repair", "orders", "steps", "diff", "judge"} <= set(dir(tasks))
+    wanted = {"lint", "why", "rehearse", "repair", "orders", "steps", "diff", "judge", "survey", "place", "compare"}
+    assert wanted <= set(dir(tasks)) and all(hasattr(tasks, name) for name in dir(tasks))
 
 
 def test_findings_are_those_of_the_command() -> None:
@@ -47,6 +49,64 @@ def test_a_repair_orders_and_steps() -> None:
     way = tasks.steps(MESH / "plan.toml", MESH / "protecting.toml")
     assert way is not None and all(step.is_good for step in way)
     assert tasks.diff(PLAN, PLAN) == ()
+
+
+def test_a_survey_is_that_of_the_command(tmp_path: Path) -> None:
+    found = tasks.survey(PLAN, kinds=["links", "sources"], pairs=True, worst=3, parts=tmp_path / "parts")
+    words = ["survey", str(PLAN), "--links", "--sources", "--pairs", "--worst", "3", "--json", "--parts", "other"]
+    told = json.loads(murdjohe(*words, folder=tmp_path).out)
+    counts = ("until", "cases", "losing", "needless", "unsettled", "looping", "hurting", "still", "first")
+    assert {name: getattr(found, name) for name in counts} == {name: told[name] for name in counts}
+    for name in ("lost", "worst_needless", "restless", "dark", "chains"):
+        assert [asdict(one) for one in getattr(found, name)] == told[name], name
+    # (parts stay in the folder that was named, and are taken from there)
+    assert len(list((tmp_path / "parts").glob("*.csv.gz"))) >= 1
+    again = tasks.survey(PLAN, kinds=["links", "sources"], pairs=True, worst=3, parts=tmp_path / "parts")
+    assert again == found
+    with pytest.raises(tasks.Wrong, match="'lines' is no kind of failures"):
+        tasks.survey(PLAN, kinds=["lines"])
+    with pytest.raises(tasks.Wrong, match="is before what fails goes down"):
+        tasks.survey(PLAN, at="10m", until="5m")
+    with pytest.raises(tasks.Late, match="longer than it was given"):
+        tasks.survey(PLAN, timeout=0)
+
+
+def test_a_survey_of_a_table_and_during_works(tmp_path: Path) -> None:
+    (tmp_path / "cases.csv").write_text("case,at,what,target,value\ncut,60000,down,N1,\nclock,60000,down,clock-1,\n")
+    found = tasks.survey(PLAN, tmp_path / "cases.csv", until="6m")
+    assert (found.cases, found.until, found.at, found.end_by) == (2, 360_000, None, None)
+    with pytest.raises(tasks.Wrong, match="has the cases"):
+        tasks.survey(PLAN, tmp_path / "cases.csv", pairs=True)
+    works = tasks.survey(PLAN, during=WORKS)
+    words = ["survey", str(PLAN), "--during", str(WORKS), "--json"]
+    told = json.loads(murdjohe(*words, folder=tmp_path).out)
+    assert (works.cases, works.until, works.losing) == (told["cases"], told["until"], told["losing"])
+    assert list(works.common_alone or ()) == told["common_alone"]
+
+
+def test_sites_are_those_of_the_command(tmp_path: Path) -> None:
+    (tmp_path / "plan.toml").write_bytes(murdjohe("gen", "6").out)
+    (tmp_path / "sites.csv").write_text("element,cost,level\nE0,0,QL-PRC\nE5,4,QL-PRTC\nE3,3,QL-PRTC\n")
+    found = tasks.place(tmp_path / "plan.toml", tmp_path / "sites.csv", links=3, anew=True)
+    ran = murdjohe("place", "plan.toml", "sites.csv", "--links", "3", "--anew", "--json", folder=tmp_path)
+    told = json.loads(ran.out)
+    assert found.is_good == (ran.status == 0) and len(found.sites) >= 2
+    assert list(found.sites) == [site["element"] for site in told["sites"]] and float(found.found.cost) == told["cost"]
+    with pytest.raises(tasks.Wrong, match="is less than --links"):
+        tasks.place(tmp_path / "plan.toml", tmp_path / "sites.csv", links=3, links_failed=2)
+
+
+def test_a_device_is_compared() -> None:
+    at = EXAMPLES / "node"
+    lines = ["west>device=02:00:00:00:00:a1", "east>device=02:00:00:00:00:a2", "east>tester=02:00:00:00:00:01@east"]
+    done = tasks.compare(at / "plan.toml", "device", at / "bench.pcapng", lines, at / "events", begin=0)
+    assert not done.is_passed
+    assert [(one.at, one.frame, one.what) for one in done.found.findings] == [(3_500, 25, "late")]
+    more = tasks.compare(at / "plan.toml", "device", at / "bench.pcapng", lines, at / "events", "1s", 0)
+    assert more.is_passed and [one.greatest for one in more.found.reactions] == [600]
+    with pytest.raises(tasks.Wrong, match='it has no element "devise"') as wrong:
+        tasks.compare(at / "plan.toml", "devise", at / "bench.pcapng", lines)
+    assert wrong.value.status == 6
 
 
 def test_what_is_wrong_is_raised_with_its_sentence_and_status(tmp_path: Path) -> None:

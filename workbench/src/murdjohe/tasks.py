@@ -5,7 +5,7 @@
     >>> night.is_smooth, [loss.element for loss in night.losses]
 
 What is wrong with a file or a word is raised as `tasks.Wrong`, with the sentence and the status that the command would have. Every
-function takes a `timeout` in seconds for each start of the program; `tasks.Late` is raised after it.
+function takes a `timeout` in seconds for each start of the program, `survey` one for all of it; `tasks.Late` is raised after it.
 """
 
 from __future__ import annotations
@@ -14,7 +14,11 @@ import os
 from collections.abc import Collection, Iterator
 from contextlib import contextmanager
 from dataclasses import dataclass
+from decimal import Decimal
 
+from murdjohe.answers.api import Refused
+from murdjohe.capture import lab_report
+from murdjohe.capture.lab_report import Comparison as Comparison
 from murdjohe.core import program, times
 from murdjohe.core.faults import Wrong as Wrong
 from murdjohe.core.program import Late as Late
@@ -23,17 +27,39 @@ from murdjohe.network.differences import Difference
 from murdjohe.network.findings import Finding, Said
 from murdjohe.network.orders import Order
 from murdjohe.network.plan_file import Judgement
+from murdjohe.place import questions
+from murdjohe.place.placements import Placed
+from murdjohe.place.questions import SECONDS, SINCE
 from murdjohe.plan import priorities
 from murdjohe.repair import repairs
 from murdjohe.repair.repairs import Repair
 from murdjohe.runs import rehearsals, what_if
+from murdjohe.runs.failures import LINKS
 from murdjohe.runs.rehearsals import Rehearsal
+from murdjohe.survey import surveys
+from murdjohe.survey.surveys import Surveyed as Surveyed
 from murdjohe.why import choices
 from murdjohe.why.choices import Asked, Why
 from murdjohe.works import step_text, steps as step_search
 from murdjohe.works.step_text import Step
 
-__all__ = ["Late", "Linted", "Wrong", "diff", "judge", "lint", "orders", "rehearse", "repair", "steps", "why"]
+__all__ = [
+    *[
+        "Comparison",
+        "Late",
+        "Linted",
+        "Placement",
+        "Surveyed",
+        "Wrong",
+        "compare",
+        "diff",
+        "judge",
+        "lint",
+        "orders",
+        "place",
+    ],
+    *["rehearse", "repair", "steps", "survey", "why"],
+]
 
 Path = str | os.PathLike[str]
 Time = int | str  # milliseconds, or a spelling such as 5m or 02:10
@@ -159,3 +185,98 @@ def steps(old: Path, new: Path, timeout: float | None = None) -> tuple[Step, ...
         wanted = priorities.priorities_of(after.network)
         way = step_search.planned(before.network, priorities.priorities_of(before.network), wanted)
         return None if way.visits is None else tuple(step_text.followed(before, wanted, way.visits))
+
+
+@dataclass(frozen=True)
+class Placement:
+    """Sites for clocks with the plan that comes of them, and what other limits would cost: the least limit of each cost, None for any."""
+
+    found: Placed
+    costs: dict[int | None, Decimal]
+
+    @property
+    def sites(self) -> tuple[str, ...]:
+        """The elements at which clocks are put."""
+        return tuple(site.element for site in self.found.sites)
+
+    @property
+    def is_good(self) -> bool:
+        """Whether the program says that all which was asked for holds."""
+        return self.found.holds() and not self.found.problem.left_out
+
+
+def path_of(path: Path | None) -> str | None:
+    """The words of a path, where there is one."""
+    return None if path is None else os.fspath(path)
+
+
+def place(
+    plan: Path,
+    sites: Path,
+    links: int | None = None,
+    links_failed: int | None = None,
+    filters: Path | None = None,
+    since: int = SINCE,
+    survive: bool = True,
+    groups_path: Path | None = None,
+    anew: bool = False,
+    partly: bool = False,
+    seconds: float = SECONDS,
+    timeout: float | None = None,
+) -> Placement:
+    """The cheapest sites for clocks of a table, by which every element keeps one after any single failure."""
+    with limited(timeout):
+        its = (links, links_failed, path_of(filters), since, survive, path_of(groups_path), anew, partly, seconds)
+        given = questions.given(plan_file.read(os.fspath(plan)), os.fspath(sites), questions.Wish(*its))
+        return Placement(*questions.sought(given, since, partly))
+
+
+def survey(
+    plan: Path,
+    cases: Path | None = None,
+    kinds: Collection[str] = (LINKS,),
+    pairs: bool = False,
+    groups_path: Path | None = None,
+    during: Path | None = None,
+    at: Time | None = None,
+    until: Time | None = None,
+    start: str | None = None,
+    worst: int = 10,
+    jobs: int | None = None,
+    parts: Path | None = None,
+    timeout: float | None = None,
+) -> Surveyed:
+    """What the network has come to in each case of a table, or of failures of the plan: `kinds` are links, bundles, sources and
+    elements. Where a folder for `parts` is named, what is worked stays there, and the same survey goes on with it."""
+    begin = start_of(start)
+    then, end = (None if one is None else millisecond(one, begin) for one in (at, until))
+    files = path_of(groups_path), path_of(during)
+    wish = surveys.Wish(path_of(cases), tuple(kinds), pairs, *files, then, end, begin, worst, jobs, path_of(parts))
+    return surveys.surveyed(plan_file.read(os.fspath(plan)), wish, timeout)
+
+
+def compare(
+    plan: Path,
+    element: str,
+    capture: Path,
+    lines: Collection[str],
+    events: Path | None = None,
+    tolerance: Time = 100,
+    begin: Time = 5_000,
+    until: Time | None = None,
+    most: int = 0,
+    reaction: Time | None = None,
+    median: Time | None = None,
+    rate: float = 1.1,
+    timeout: float | None = None,
+) -> Comparison:
+    """What a device sent in a capture beside what the element has to send for what it received; `lines` as `capture compare --line`
+    has them."""
+    least, first = millisecond(tolerance, None), millisecond(begin, None)
+    last, longest, middle = (None if one is None else millisecond(one, None) for one in (until, reaction, median))
+    its = os.fspath(plan), element, os.fspath(capture), tuple(lines), False, path_of(events)
+    with limited(timeout):
+        try:
+            return lab_report.comparison(lab_report.Asked(*its, least, first, last, most, longest, middle, rate))
+        except Refused as refused:
+            raise Wrong(refused.sentence, status=refused.status) from None

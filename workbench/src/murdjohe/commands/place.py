@@ -2,8 +2,6 @@
 
 from __future__ import annotations
 
-import time
-from dataclasses import dataclass
 from decimal import Decimal
 from typing import Any
 
@@ -11,86 +9,15 @@ import click
 
 from murdjohe.commands.options import free
 from murdjohe.core import files, plain_json, program, progress, streams
-from murdjohe.core.faults import Wrong
 from murdjohe.core.inputs import STDIN
-from murdjohe.network import groups, plan_file, wiring
-from murdjohe.network.groups import GroupFile
-from murdjohe.network.plan_file import PlanFile
+from murdjohe.network import plan_file
 from murdjohe.picture import figures
-from murdjohe.place import placement_text, placements, site_cover, sites
+from murdjohe.place import placement_text, questions
 from murdjohe.place.placements import Placed
-from murdjohe.place.site_cover import Late, Limits, Problem
-from murdjohe.place.sites import Site
+from murdjohe.place.questions import SECONDS, SINCE, Wish
 from murdjohe.plan.model import Plan
 
-SINCE = 20  # lines since the last filter, of G.803
-
-
-def standing_of(network: Plan) -> tuple[tuple[str, int], ...]:
-    """The nominated sources of a plan, with the numbers of their elements."""
-    places = {row.name: place for place, row in enumerate(network.elements)}
-    return tuple((row.name, places[row.at]) for row in network.sources if row.priority)
-
-
-def candidates_of(network: Plan, path: str) -> tuple[Site, ...]:
-    """The candidates of a table without those at which a clock of the plan stands. Raises Wrong."""
-    at = {row.at for row in network.sources}
-    found = sites.read(path, network, sites.SITES)
-    for site in found:
-        if site.element in at and site.cost:
-            raise Wrong(
-                f"{path}: {site.element!r} has a source in the plan, and a cost of {site.cost} here; "
-                "a clock that stands costs 0, or leave the plan's sources out by --anew"
-            )
-    return tuple(site for site in found if site.element not in at)
-
-
-def limits_of(links: int | None, links_failed: int | None) -> Limits:
-    """The limits that were asked for. Raises Wrong."""
-    if links is not None and links_failed is not None and links_failed < links:
-        raise Wrong(
-            f"--links-failed {links_failed}: it is less than --links {links}; after a failure ways are no shorter"
-        )
-    # (more lines than --links-failed are too many without a failure too)
-    return Limits(links if links is not None else links_failed, links_failed)
-
-
-@dataclass(frozen=True)
-class Given:
-    """What is asked: the plan, parts of it that fail together, candidates for filters, and what is to be covered by sites."""
-
-    network: Plan
-    together: GroupFile | None
-    filters: tuple[Site, ...]
-    problem: Problem
-
-
-def given(taken: PlanFile, table: str, asked: dict[str, Any]) -> Given:
-    """What the words of the command ask for. Raises Wrong."""
-    plan = taken.network._replace(sources=()) if asked["anew"] else taken.network
-    candidates, limits = candidates_of(plan, table), limits_of(asked["links"], asked["links_failed"])
-    level = placements.FILTERING[plan.option]
-    filters = sites.read(asked["filters"], plan, sites.FILTERS, level) if asked["filters"] else ()
-    together = groups.read(asked["groups"], taken) if asked["groups"] else None
-    network = site_cover.network_of(wiring.wiring_of(plan), together.groups if together else ())
-    end = time.monotonic() + asked["seconds"]
-    problem = Problem(network, standing_of(plan), candidates, limits, asked["survive"], end)
-    return Given(plan, together, filters, problem)
-
-
-def sought(its: Given, since: int, partly: bool) -> tuple[Placed, dict[int | None, Decimal]]:
-    """The placement and what other limits would cost. Raises Wrong where no set does."""
-    problem = its.problem
-    try:
-        if (barred := problem.impossible()) and not partly:
-            raise Wrong(*placement_text.on_impossible(problem, barred), status=program.REFUTED)
-        found = placements.placed(problem, its.network, its.together, its.filters, since)
-    except Late:
-        raise Wrong(
-            "the time ran out before a set of sites was found; give more by --seconds, or fewer candidates",
-            status=program.REFUTED,
-        ) from None
-    return found, placements.costs_by_limit(problem, found.problem.cost(found.chosen.sites))
+WISHES = ("links", "links_failed", "filters", "since", "survive", "groups", "anew", "partly", "seconds")
 
 
 def printed(
@@ -131,7 +58,9 @@ def picture(found: Placed, network: Plan, ending: str) -> bytes:
 @click.option("--groups", type=click.Path(), help="parts that fail together, as ducts: a table group,kind,part")
 @click.option("--anew", is_flag=True, help="leaves the sources of the plan out: the table has all candidates")
 @click.option("--partly", is_flag=True, help="covers what sites can cover, and tells what none can")
-@click.option("--seconds", type=click.FloatRange(1), default=60.0, show_default=True, help="for how long it is sought")
+@click.option(
+    "--seconds", type=click.FloatRange(1), default=SECONDS, show_default=True, help="for how long it is sought"
+)
 @click.option(
     "--json", "as_json", is_flag=True, help="JSON: sites, costs, what each is there for, other limits, verdicts"
 )
@@ -152,15 +81,16 @@ def place(context: click.Context, plan: str, table: str, **asked: Any) -> int:
 
     \b
       $ murdjohe gen 6 > plan.toml
-      $ printf 'element,cost,level\\nE0,0,QL-PRC\\nE5,4,QL-PRTC\\nR3,3,QL-PRTC\\n' > sites.csv
+      $ printf 'element,cost,level\\nE0,0,QL-PRC\\nE5,4,QL-PRTC\\nE3,3,QL-PRTC\\n' > sites.csv
       $ murdjohe place plan.toml sites.csv --links 3
     """
     output, drawn = asked["output"], asked["drawn"]
     ending = figures.ending_of(drawn) if drawn else ""
     free(output, asked["force"], plan, table, asked["filters"], asked["groups"], more=[drawn])
-    its = given(plan_file.read(plan), table, asked)
+    wish = Wish(**{name: asked[name] for name in WISHES})
+    its = questions.given(plan_file.read(plan), table, wish)
     with progress.watched("place"):
-        found, limit_costs = sought(its, asked["since"], asked["partly"])
+        found, limit_costs = questions.sought(its, wish.since, wish.partly)
     written = {output: found.made.data} if output and output != STDIN and found.made.judgement else {}
     if drawn:
         written[drawn] = picture(found, its.network, ending)

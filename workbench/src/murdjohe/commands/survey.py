@@ -3,7 +3,7 @@
 from __future__ import annotations
 
 from collections.abc import Iterator
-from contextlib import ExitStack, closing, contextmanager
+from contextlib import ExitStack, contextmanager
 from functools import partial
 from typing import Any
 
@@ -18,11 +18,9 @@ from murdjohe.core.files import Growing
 from murdjohe.core.wording import plural
 from murdjohe.network import plan_file, wiring
 from murdjohe.network.plan_file import PlanFile
-from murdjohe.runs import ends, failures, moments, simulation
+from murdjohe.runs import ends
 from murdjohe.runs.ends import Ending
 from murdjohe.runs.failures import KINDS
-from murdjohe.runs.moments import Event
-from murdjohe.runs.simulation import EventFile
 from murdjohe.sentences.records import MOST_ROWS
 from murdjohe.survey import (
     case_files,
@@ -32,6 +30,7 @@ from murdjohe.survey import (
     portions,
     study_runs,
     survey_report,
+    surveys,
     workers,
 )
 from murdjohe.survey.case_lists import CaseList
@@ -78,23 +77,6 @@ def crew_of(scheduler: str | None, jobs: int | None, plan: bytes, until: int) ->
     return Cluster(scheduler, plan, until)
 
 
-def gone_through(
-    cases: CaseList, survey: Survey, size: int, most: int, file: Growing | Standard | None, losses: Losses
-) -> Tally:
-    """Has all cases worked: their rows are counted, and written where there is a file for them. Raises Wrong."""
-    tally = Tally(most)
-    if file:
-        file.write(study_runs.BEGIN)
-    with closing(survey.rows(portions.parts_of(cases, size))) as found:
-        for rows in found:
-            if file:
-                file.write(rows.data, rows.packed)
-            if survey.part is not None:
-                losses.add(survey.part, rows, tally.cases)
-            tally.add_all(rows.names, rows.tails)
-    return tally
-
-
 @contextmanager
 def kept(survey: Survey, cases: CaseList, parts: str) -> Iterator[None]:
     """Where what stands inside is ended before it is done, it is told where the survey goes on."""
@@ -106,23 +88,11 @@ def kept(survey: Survey, cases: CaseList, parts: str) -> Iterator[None]:
         raise
 
 
-def works_alone(taken: PlanFile, common: tuple[Event, ...], until: int) -> list[str] | None:
-    """Who has no source at the end where only the events common to all cases happen; None where there are none, or the program
-    stopped."""
-    if not common:
-        return None
-    rows = failures.lines_of((event.at, event.what, event.target, event.value) for event in common)
-    report = simulation.report_of(taken, EventFile("the common events", simulation.NO_EVENTS + rows.encode()), until)
-    if report.stopped_at is not None:
-        return None
-    return [trace.element for trace in report.traces if trace.kind != moments.SOURCE]
-
-
 def worked(
     taken: PlanFile, cases: CaseList, until: int, settings: dict[str, Any], file: Growing | Standard | None
 ) -> tuple[Tally, Survey]:
     """The summary of the cases, and what was worked for it."""
-    alone = works_alone(taken, settings["common"], until)
+    alone = surveys.works_alone(taken, settings["common"], until)
     wired = wiring.wiring_of(taken.network)
     losses = Losses(wired, until, settings["worst"], None if alone is None else len(alone))
     settings["alone"], settings["losses"] = alone, losses
@@ -133,7 +103,7 @@ def worked(
         survey = Survey(crew, finished, refused, tell)
         with kept(survey, cases, settings["parts"]):
             size = settings["size"] or portions.usual(cases.total, len(wired.elements))
-            tally = gone_through(cases, survey, size, settings["worst"], file, losses)
+            tally = surveys.gone_through(cases, survey, size, settings["worst"], file, losses)
     return tally, survey
 
 
