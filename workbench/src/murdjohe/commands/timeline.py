@@ -11,6 +11,7 @@ from murdjohe.commands.options import START, Milliseconds, free, from_start, put
 from murdjohe.core import program, progress, times
 from murdjohe.core.faults import Wrong, unusable
 from murdjohe.core.inputs import STDIN
+from murdjohe.core.wording import plural
 from murdjohe.network import wiring
 from murdjohe.picture import bands, figures, places, plan_graph, strips, views
 from murdjohe.picture.strips import Red, Timeline
@@ -77,6 +78,7 @@ def timeline_of(path: str, asked: dict[str, Any]) -> Timeline:
     start, plan, events, fold = asked["start"], asked["plan"], asked["events"], asked["fold"]
     first, until = from_start(asked["first"], start, "--from"), from_start(asked["until"], start, "--until")
     report = report_file.read(path)
+    its = simulation.read_events(events, start).events if events else ()
     rows = list(report.changes)
     if not rows:
         raise unusable(f"{path}: nothing changes in it")
@@ -84,14 +86,20 @@ def timeline_of(path: str, asked: dict[str, Any]) -> Timeline:
     last = rows[-1].at
     if first is not None:
         rows = bands.rows_from(rows, first)
+    count = len({row.element for row in rows})
+    if first is None and its and not asked["has_all"]:
+        rows = bands.moving(rows, its[0].at)
     end = last + fold if until is None else until
     if end < last:
         raise Wrong(f"--until: the last change is at {last}")
     red = within(red_of(path, report, plan, end), rows[0].at, end)
-    its = simulation.read_events(events, start).events if events else ()
     marks = tuple(one for one in its if rows[0].at <= one.at <= end)
     up_to = bands.minutes(end) if start is None else times.clock(end, start)
+    left_out = count - len({row.element for row in rows})
     title = f"{plan or path}" + (f", {events}" if events else "") + f", up to {up_to}"
+    title += f"; {plural(left_out, 'element')} that {'does' if left_out == 1 else 'do'} not change left out" * bool(
+        left_out
+    )
     return Timeline(title, rows, bands.order_of(report), marks, red, end, fold, start)
 
 
@@ -106,6 +114,7 @@ def timeline_of(path: str, asked: dict[str, Any]) -> Timeline:
 @click.option(
     "--fold", type=Milliseconds(), default=1000, show_default=True, help="longer times without a change are left out"
 )
+@click.option("--all", "has_all", is_flag=True, help="also elements that don't change from the first event on")
 @START
 @click.option("--force", is_flag=True, help="writes over a file that is there already")
 @click.option("-o", "--output", type=click.Path(), required=True, help="a file that ends in .svg, .png or .pdf")

@@ -35,6 +35,12 @@ def rows_from(rows: list[Change], start: int) -> list[Change]:
     return [*first.values(), *(row for row in rows if row.at > start)]
 
 
+def moving(rows: list[Change], start: int) -> list[Change]:
+    """The rows of the elements that change from a millisecond on; all of them where none does."""
+    its = {row.element for row in rows if row.at >= start}
+    return [row for row in rows if row.element in its] or rows
+
+
 def places_of(times: list[int], fold: int) -> tuple[dict[int, float], dict[float, int]]:
     """Where each of the rising times stands, and at which places time is left out, with how many milliseconds lie there."""
     places: dict[int, float] = {times[0]: 0}

@@ -21,7 +21,10 @@ def ending_of(path: str) -> str:
 
 
 def begin(stroke: float) -> None:
-    """Has matplotlib draw without a screen, with hatches of so many points."""
+    """Has matplotlib draw without a screen, with hatches of so many points. That there is no folder for its cache is not told."""
+    import logging
+
+    logging.getLogger("matplotlib").setLevel(logging.ERROR)
     import matplotlib
 
     matplotlib.use("agg")

@@ -16,7 +16,7 @@ from murdjohe.network import wiring
 from murdjohe.network.plan_file import PlanFile
 from murdjohe.network.reachability import Reach
 from murdjohe.network.wiring import Wiring
-from murdjohe.picture import colours, places
+from murdjohe.picture import colours, places, worst
 from murdjohe.picture.places import ELEMENT, SOURCE, Layout
 from murdjohe.runs import ends, failure_times, moments, simulation
 from murdjohe.runs.moments import Event
@@ -90,6 +90,12 @@ def spot(layout: Layout, kind: str, name: str) -> dict[str, float]:
     return {"x": round(x, 2), "y": round(y, 2)}
 
 
+def way_of(layout: Layout, sender: str, receiver: str) -> list[list[float]]:
+    """The points of a line that goes beside a box, to a hundredth of an inch; none where it is straight."""
+    found = layout.way((ELEMENT, sender), (ELEMENT, receiver))
+    return [[round(x, 2), round(y, 2)] for x, y in found or ()]
+
+
 def levels_of(option: str, used: set[str]) -> list[dict[str, Any]]:
     """The levels of an option, best first, with their colours."""
     found = []
@@ -130,6 +136,9 @@ def network_of(plan: PlanFile, wired: Wiring, layout: Layout, used: set[str]) ->
         }
         for row in plan.network.sources
     ]
+    ways = [way_of(layout, line.sender, line.receiver) for line in wired.lines.values()]
+    for row, way in zip(lines, ways):
+        row |= {"way": way} if way else {}
     size = {"width": round(layout.width, 2), "height": round(layout.height, 2), "box": places.BOX}
     scale = round(places.room_of(list(layout.spots.values())), 4)
     rows = {"elements": elements, "lines": lines, "sources": sources}
@@ -233,6 +242,7 @@ def data_of(
         "network": network_of(plan, wired, layout, used),
         "changes": columns_of(numbers, found.report.changes),
         "events": events_of(wired, numbers, found.events, reasons(found)),
+        "summary": worst.summary_of(found, start),
         "losses": losses_of(found.losses),
         "cases": cases.rows if cases else [],
     }

@@ -1,20 +1,27 @@
-"""Where elements and sources stand in a picture: by Graphviz, or by a table with the columns name, x and y."""
+"""Where elements and sources stand in a picture: by Graphviz, or by a table with the columns name, x and y; how a layout fits on its
+page, and which ways links go."""
 
 from __future__ import annotations
 
 import csv
 import subprocess
-from dataclasses import dataclass
+from dataclasses import dataclass, field, replace
 
 from murdjohe.core import files
 from murdjohe.core.faults import Wrong, unusable
 from murdjohe.core.program import UNAVAILABLE
+from murdjohe.picture import ways
+from murdjohe.picture.ways import Way
 from murdjohe.plan.model import Plan
 
 LAYERED, MAP = "layered", "map"
 BOX = (1.0, 0.42)  # inches, the room of an element before the picture is brought to its page
 MOST, GAP = 1.5, 1.25  # the largest boxes, and how far apart their middles are at least, in boxes
 MANY = 400  # elements from which on a map is made by `sfdp`, in seconds, and not by `neato`, in minutes
+# Pages in inches, with the greatest number of elements for each; the last serves any number.
+PAGES = ((30, (11.7, 8.3)), (320, (16.5, 11.7)), (100_000, (33.1, 23.4)))
+MARGIN, HEAD, FOOT = 0.35, 0.5, 0.75  # inches round the picture, above it for the title, below it for the legend
+READABLE = 0.55  # the size of boxes, of their whole one, from which on a map can be read: names of five points
 LARGEST = 5_000  # elements that a picture or a page may have: with more it takes minutes, and nobody can read it
 ELEMENT, SOURCE = "element", "source"
 Key = tuple[str, str]  # the kind of a thing and its name
@@ -23,11 +30,52 @@ Spots = dict[Key, tuple[float, float]]
 
 @dataclass(frozen=True)
 class Layout:
-    """Where each element and source stands, from the lower left corner on, and the size of it all, in inches."""
+    """Where each element and source stands, from the lower left corner on, and the size of it all, in inches; and the ways between
+    those that a straight one would join behind a box."""
 
     spots: Spots
     width: float
     height: float
+    ways: dict[tuple[Key, Key], Way] = field(default_factory=dict)
+
+    def way(self, first: Key, second: Key) -> Way | None:
+        """The way between two, from the first on; None where it is straight."""
+        found = self.ways.get((second, first))
+        return self.ways.get((first, second)) if found is None else found[::-1]
+
+
+@dataclass(frozen=True)
+class Fit:
+    """How a layout comes to its page: the page's size, how much longer it is across and up, and where its corner stands."""
+
+    size: tuple[float, float]
+    across: float
+    up: float
+    left: float
+    low: float
+
+    def spot(self, point: tuple[float, float]) -> tuple[float, float]:
+        """Where a point of the layout stands on the page."""
+        return self.left + point[0] * self.across, self.low + point[1] * self.up
+
+
+def fit(layout: Layout, count: int) -> Fit:
+    """How a layout of so many elements comes to its page."""
+    width, height = next(size for most, size in PAGES if count <= most)
+    if layout.height > layout.width * 1.2:
+        width, height = height, width
+    room = width - 2 * MARGIN, height - HEAD - FOOT - 2 * MARGIN
+    across = room[0] / max(layout.width, BOX[0] * 2)
+    up = room[1] / max(layout.height, BOX[1] * 3)
+    across, up = min(across, up * 1.6), min(up, across * 1.6)
+    left = MARGIN + (room[0] - layout.width * across) / 2
+    return Fit((width, height), across, up, left, MARGIN + FOOT + (room[1] - layout.height * up) / 2)
+
+
+def size_of_boxes(layout: Layout, count: int) -> float:
+    """How large boxes are on the page of a layout of so many elements, of their whole size."""
+    its = fit(layout, count)
+    return room_of([its.spot(point) for point in layout.spots.values()])
 
 
 def pairs_of(network: Plan) -> list[tuple[str, str]]:
@@ -136,10 +184,32 @@ def small_enough(elements: int, way_out: str) -> None:
 
 
 def layout_of(network: Plan, layout: str | None, places: str | None) -> Layout:
-    """The layout that is asked for: without a wish a map where the plan has rings, and else in layers. Raises Wrong."""
-    if places is not None:
-        return placed(network, places)
-    return laid_out(network, layout or (MAP if has_rings(network) else LAYERED))
+    """The layout that is asked for, with the ways of its links: without a wish a map where the plan has rings and the map can be
+    read, and else in layers. Raises Wrong."""
+    found = placed(network, places) if places is not None else laid_out(network, layout or usual(network))
+    count = len(network.elements)
+    if places is None and layout is None and count <= MANY and size_of_boxes(found, count) < READABLE:
+        layers = laid_out(network, LAYERED)
+        found = max(found, layers, key=lambda one: size_of_boxes(one, count))
+    return replace(found, ways=ways_of(network, found))
+
+
+def usual(network: Plan) -> str:
+    """The layout of a plan without a wish, where it can be read."""
+    return MAP if has_rings(network) else LAYERED
+
+
+def ways_of(network: Plan, layout: Layout) -> dict[tuple[Key, Key], Way]:
+    """The ways of links that would go behind a box if they were straight."""
+    keys = list(layout.spots)
+    number = {key: place for place, key in enumerate(keys)}
+    pairs = [(number[ELEMENT, a], number[ELEMENT, b]) for a, b in pairs_of(network)]
+    pairs += [(number[SOURCE, row.name], number[ELEMENT, row.at]) for row in network.sources]
+    its = fit(layout, len(network.elements))
+    scale = size_of_boxes(layout, len(network.elements))
+    box = BOX[0] * scale / its.across, BOX[1] * scale / its.up
+    found = ways.found_ways([layout.spots[key] for key in keys], pairs, box)
+    return {(keys[first], keys[second]): way for (first, second), way in found.items()}
 
 
 def room_of(spots: list[tuple[float, float]]) -> float:

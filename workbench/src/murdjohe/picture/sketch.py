@@ -5,15 +5,12 @@ from __future__ import annotations
 from typing import Any
 
 from murdjohe.network.wiring import Line
-from murdjohe.picture import colours, figures, group_bands, places
-from murdjohe.picture.places import BOX, ELEMENT, SOURCE, Layout
+from murdjohe.picture import colours, figures, group_bands, places, ways
+from murdjohe.picture.places import BOX, ELEMENT, MARGIN, SOURCE, Key, Layout
 from murdjohe.picture.views import View
+from murdjohe.picture.ways import Point
 from murdjohe.plan.model import Element, Source
 
-Point = tuple[float, float]
-# Pages in inches, with the greatest number of elements for each; the last serves any number.
-PAGES = ((30, (11.7, 8.3)), (320, (16.5, 11.7)), (100_000, (33.1, 23.4)))
-MARGIN, HEAD, FOOT = 0.35, 0.5, 0.75  # inches round the picture, above it for the title, below it for the legend
 FONT = 9.0  # points, where boxes have their whole size
 STROKE = 0.8  # points of a hatch
 APART = 0.09  # inches between links that join the same elements
@@ -27,16 +24,10 @@ class Page:
     def __init__(self, layout: Layout, count: int) -> None:
         from matplotlib import pyplot
 
-        width, height = next(size for most, size in PAGES if count <= most)
-        if layout.height > layout.width * 1.2:
-            width, height = height, width
-        self.room = width - 2 * MARGIN, height - HEAD - FOOT - 2 * MARGIN
-        across = self.room[0] / max(layout.width, BOX[0] * 2)
-        up = self.room[1] / max(layout.height, BOX[1] * 3)
-        across, up = min(across, up * 1.6), min(up, across * 1.6)
-        self.left = MARGIN + (self.room[0] - layout.width * across) / 2
-        self.low = MARGIN + FOOT + (self.room[1] - layout.height * up) / 2
-        self.spots = {key: (self.left + x * across, self.low + y * up) for key, (x, y) in layout.spots.items()}
+        self.layout = layout
+        self.fit = places.fit(layout, count)
+        width, height = self.fit.size
+        self.spots = {key: self.fit.spot(point) for key, point in layout.spots.items()}
         self.scale = places.room_of(list(self.spots.values()))
         self.font = FONT * self.scale
         self.box = (BOX[0] * self.scale, BOX[1] * self.scale)
@@ -73,10 +64,23 @@ def way_of(page: Page, a: Point, b: Point, aside: float) -> tuple[Point, Point]:
     return (start[0] + move[0], start[1] + move[1]), (end[0] + move[0], end[1] + move[1])
 
 
-def before(page: Page, start: Point, end: Point) -> Point:
+def path_of(page: Page, first: Key, second: Key, aside: float) -> list[Point]:
+    """The points of a cable between two boxes, moved aside by some inches: two where it is straight."""
+    a, b = page.spots[first], page.spots[second]
+    bent = page.layout.way(first, second)
+    if bent is None:
+        return list(way_of(page, a, b, aside))
+    box = page.box[0] + 0.04, page.box[1] + 0.04
+    inner = [page.fit.spot(point) for point in bent]
+    inner = [point for point in inner if not (ways.is_within(point, a, box) or ways.is_within(point, b, box))]
+    if not inner:
+        return list(way_of(page, a, b, aside))
+    return ways.moved([edge_of_box(page, a, inner[0]), *inner, edge_of_box(page, b, inner[-1])], aside)
+
+
+def before(page: Page, path: list[Point]) -> Point:
     """Where the priority of an arrow stands: a little before its end."""
-    length = max(((end[0] - start[0]) ** 2 + (end[1] - start[1]) ** 2) ** 0.5, 1e-9)
-    return between(start, end, max(1 - page.font * 0.026 / length, 0.6))
+    return ways.point_at(path, max(1 - page.font * 0.026 / max(ways.length_of(path), 1e-9), 0.6))
 
 
 def beside(page: Page, start: Point, end: Point, share: float) -> Point:
@@ -107,17 +111,27 @@ def arrow(page: Page, start: Point, end: Point, colour: str, width: float, **how
     page.axes.annotate("", xy=end, xytext=start, arrowprops=style | how, zorder=3)
 
 
-def drawn_lines(page: Page, view: View, lines: list[Line], start: Point, end: Point) -> None:
+def arrow_along(page: Page, path: list[Point], colour: str, width: float, **how: Any) -> None:
+    """An arrow along a cable, at whose last piece its head is."""
+    start = path[-2]
+    if len(path) > 2:
+        line = {"color": colour, "linewidth": width, "linestyle": how.get("linestyle", "-"), "zorder": 3}
+        page.axes.plot(*zip(*path), solid_capstyle="butt", **line)
+        start = ways.point_at(path, max(1 - 0.2 / ways.length_of(path), 0.5))
+    arrow(page, start, path[-1], colour, width, **how)
+
+
+def drawn_lines(page: Page, view: View, lines: list[Line], path: list[Point]) -> None:
     """The lines of a cable into one of its ends: an arrow, thick where one is taken, red on a closed walk, and their priorities."""
     word = next((view.red[line.name] for line in lines if line.name in view.red), None)
     if word:
-        arrow(page, start, end, colours.LOOP, 3 * page.scale + 0.8)
+        arrow_along(page, path, colours.LOOP, 3 * page.scale + 0.8)
         paper = {"facecolor": "white", "edgecolor": colours.LOOP, "pad": 1.2}
-        page.write(between(start, end, 0.5), word, color=colours.LOOP, weight="bold", bbox=paper, zorder=7)
+        page.write(ways.point_at(path, 0.5), word, color=colours.LOOP, weight="bold", bbox=paper, zorder=7)
     elif any(view.taken(line.receiver) == line.name for line in lines):
-        arrow(page, start, end, colours.DARK, 2.2 * page.scale + 0.4)
+        arrow_along(page, path, colours.DARK, 2.2 * page.scale + 0.4)
     else:
-        arrow(page, between(start, end, 0.8), end, colours.GREY, 0.8)
+        arrow(page, ways.point_at(path, 0.8 if len(path) == 2 else 0.95), path[-1], colours.GREY, 0.8)
     if view.has_words:
         ranks = [f" r{view.ranks[line.name]}" if line.name in view.ranks else "" for line in lines]
         ports = [f" {view.ports[line.name]}" if line.name in view.ports else "" for line in lines]
@@ -127,20 +141,16 @@ def drawn_lines(page: Page, view: View, lines: list[Line], start: Point, end: Po
             "fontsize": page.font * 0.72,
             "bbox": {"facecolor": "white", "lw": 0, "pad": 0.6},
         }
-        page.write(before(page, start, end), words, **text)
+        page.write(before(page, path), words, **text)
 
 
-def drawn_bands(page: Page, view: View, links: list[str], start: Point, end: Point) -> list[str]:
+def drawn_bands(page: Page, view: View, links: list[str], path: list[Point]) -> list[str]:
     """The bands of the groups that have a link, side by side below its cable; their signs."""
     found = group_bands.along(view.groups, links)
-    across, up = end[0] - start[0], end[1] - start[1]
-    length = max((across**2 + up**2) ** 0.5, 1e-9)
     for number, one in enumerate(found):
         aside = (number - (len(found) - 1) / 2) * BAND * page.scale / 72
-        move = -up / length * aside, across / length * aside
-        ends = [(x + move[0], y + move[1]) for x, y in (start, end)]
         band = {"color": one.colour, "linewidth": BAND * page.scale, "zorder": 1.5, "solid_capstyle": "butt"}
-        page.axes.plot(*zip(*ends), **band)
+        page.axes.plot(*zip(*ways.moved(path, aside)), **band)
     return [one.sign for one in found]
 
 
@@ -160,18 +170,17 @@ def drawn_ground(page: Page, view: View, key: places.Key) -> None:
 def drawn_cable(page: Page, view: View, lines: list[Line], aside: float) -> None:
     """A link or a bundle: the cable, its arrows, its name, and a cross where it has failed."""
     first = lines[0]
-    ends = page.spots[ELEMENT, first.sender], page.spots[ELEMENT, first.receiver]
-    start, end = way_of(page, *ends, aside)
+    path = path_of(page, (ELEMENT, first.sender), (ELEMENT, first.receiver), aside)
     links = dict.fromkeys(line.link for line in lines)
     if first.bundle[0] == "bundle" and len(links) > 1:
         band = {"color": colours.PALE, "linewidth": 9 * page.scale, "zorder": 1, "solid_capstyle": "butt"}
-        page.axes.plot(*zip(start, end), **band)
-    grouped = drawn_bands(page, view, list(links), start, end)
-    page.axes.plot(*zip(start, end), **cable_style(view, lines))
-    for receiver, way in ((first.receiver, (start, end)), (first.sender, (end, start))):
+        page.axes.plot(*zip(*path), **band)
+    grouped = drawn_bands(page, view, list(links), path)
+    page.axes.plot(*zip(*path), **cable_style(view, lines))
+    for receiver, way in ((first.receiver, path), (first.sender, path[::-1])):
         own = [line for line in lines if line.priority and line.receiver == receiver]
         if own:
-            drawn_lines(page, view, own, *way)
+            drawn_lines(page, view, own, way)
     is_cut = any(line.name in view.down for line in lines)
     name = f"{first.bundle[1]}: {len(links)} links" if len(links) > 1 else first.link
     name += f" {''.join(grouped)}" if grouped else ""
@@ -184,7 +193,7 @@ def drawn_cable(page: Page, view: View, lines: list[Line], aside: float) -> None
         }
         text["bbox"] = {"facecolor": "white", "lw": 0, "pad": 0.6}
         share = 0.3 if any(line.name in view.red for line in lines) else 0.5
-        page.write(beside(page, start, end, share), f"✕ {name}" if is_cut else name, **text)
+        page.write(beside(page, *ways.piece_at(path, share)), f"✕ {name}" if is_cut else name, **text)
 
 
 def cables_of(view: View) -> list[tuple[list[Line], int, int]]:
@@ -238,15 +247,15 @@ def drawn_source(page: Page, view: View, source: Source) -> None:
     """A source: an ellipse coloured by the level that it gives, and the arrow to its element."""
     from matplotlib.patches import Ellipse
 
-    here, there = page.spots[SOURCE, source.name], page.spots[ELEMENT, source.at]
+    here = page.spots[SOURCE, source.name]
     level = view.level_of_source(source)
-    start, end = way_of(page, here, there, 0)
+    path = path_of(page, (SOURCE, source.name), (ELEMENT, source.at), 0)
     is_down = source.name in view.down
     dashes: Any = DASHED if is_down else "-"
     is_taken = view.taken(source.at) == source.name
     colour, width = (colours.DARK, 2.2 * page.scale + 0.4) if is_taken else (colours.GREY, 0.8)
     if source.priority:
-        arrow(page, start, end, colour, width, linestyle=dashes)
+        arrow_along(page, path, colour, width, linestyle=dashes)
     how: dict[str, Any] = {"facecolor": colours.of_level(level), "edgecolor": colours.DARK, "zorder": 5}
     page.axes.add_patch(Ellipse(here, *page.box, linestyle=dashes, **how))
     rows = [source.name, level] + (["✕ down"] if is_down else []) if view.has_words else [source.name]

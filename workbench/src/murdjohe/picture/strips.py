@@ -17,6 +17,7 @@ LOOP, PAIR, CLOSED = "LOOP", "PAIR", "CLOSED"  # closed is a walk of which only 
 MEANINGS = {LOOP: "TIMING LOOP", PAIR: "pair, taking timing from each other", CLOSED: "closed walk, by another link"}
 LABELLED = 60  # events that are written beside their marks
 STROKE = 0.6  # points of a hatch
+SIGN, SLANT = 0.062, 0.77  # inches of a sign of a label, and how much of them goes across, and up
 
 
 @dataclass(frozen=True)
@@ -61,6 +62,18 @@ class Timeline:
         return sorted({row.at for row in self.rows} | {event.at for event in self.events} | walks | {self.end})
 
 
+def words_of(line: Timeline) -> dict[int, str]:
+    """What is written at the events of each millisecond: the first three of them, and how many more there are."""
+    its: dict[int, list[Event]] = {}
+    for event in line.events:
+        its.setdefault(event.at, []).append(event)
+    found = {}
+    for at, events in its.items():
+        words = [" ".join(word for word in (one.what, one.target, one.value) if word) for one in events]
+        found[at] = ", ".join(words[:3]) + (f" and {len(words) - 3} more" if words[3:] else "")
+    return found
+
+
 class Strips:
     """The axes of a timeline, and where each millisecond stands on them."""
 
@@ -72,9 +85,15 @@ class Strips:
         self.places, self.folds = bands.places_of(line.moments, line.fold)
         self.width = self.places[line.end] or 1
         self.foot_rows = 1.3 if self.folds else 0.0
+        width = 12.0
         left, right = 0.35 + 0.075 * max(map(len, self.its), default=0), 0.3
-        head, high = 1.75 if line.events else 0.65, 0.3 * (len(self.its) + self.foot_rows + 0.2)
-        width, height = 12.0, head + high + FOOT
+        self.words = words_of(line) if len(line.events) <= LABELLED else {}
+        rise = 0.0
+        for at, text in self.words.items():
+            long = SIGN * (len(text) + 3) * SLANT  # inches that a label goes to the right, and up
+            rise, right = max(rise, long), max(right, long - (self.width - self.places[at]) / self.width * 10.0 + 0.1)
+        head, high = max(0.65, rise + 0.65) if line.events else 0.65, 0.3 * (len(self.its) + self.foot_rows + 0.2)
+        height = head + high + FOOT
         self.figure = pyplot.figure(figsize=(width, height))
         place = (left / width, FOOT / height, (width - left - right) / width, high / height)
         self.axes = self.figure.add_axes(place)
@@ -105,16 +124,11 @@ class Strips:
 
     def drawn_events(self) -> None:
         """Events as marks: a line through all strips, and above it what happens."""
-        its: dict[int, list[Event]] = {}
-        for event in self.line.events:
-            its.setdefault(event.at, []).append(event)
-        for at, events in its.items():
+        for at in dict.fromkeys(event.at for event in self.line.events):
             self.axes.axvline(self.places[at], color=colours.DARK, linewidth=0.9, zorder=3)
-            words = [" ".join(word for word in (one.what, one.target, one.value) if word) for one in events]
-            text = ", ".join(words[:3]) + (f" and {len(words) - 3} more" if words[3:] else "")
-            if len(self.line.events) <= LABELLED:
-                how = {"rotation": 40, "ha": "left", "va": "bottom", "fontsize": 7, "rotation_mode": "anchor"}
-                self.axes.text(self.places[at], -0.75, f"▾ {text}", **how)
+        for at, text in self.words.items():
+            how = {"rotation": 40, "ha": "left", "va": "bottom", "fontsize": 7, "rotation_mode": "anchor"}
+            self.axes.text(self.places[at], -0.75, f"▾ {text}", **how)
 
     def drawn_folds(self) -> None:
         """Where time is left out: a dotted line, and how long it is."""

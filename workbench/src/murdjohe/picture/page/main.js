@@ -22,6 +22,7 @@ class Page {
     const printed = data.events.slice(0, PRINTED * 5);
     const text = event => `${clock(event.at, data.start)}  ${event.text}`;
     part("events").replaceChildren(...printed.map(event => made("li", "", text(event))));
+    this.fillSummary();
     this.fillCases();
     this.fillKeys();
     this.listen();
@@ -91,6 +92,16 @@ class Page {
     this.show(one.run, `${one.name} down alone`, one.run.moments.length - 1);
     this.select(element);
     part("picture").scrollIntoView({block: "nearest"});
+  }
+
+  /** The worst moments of the works, each with a button that goes there. */
+  fillSummary() {
+    part("worst").replaceChildren(...this.data.summary.map(one => {
+      const row = made("li", one.isBad ? "bad" : ""), button = row.appendChild(made("button", "name", one.time));
+      button.addEventListener("click", () => this.show(this.main, this.data.title, this.main.moments.indexOf(one.at)));
+      row.append(` ${one.text}`);
+      return row;
+    }));
   }
 
   fillCases() {

@@ -32,7 +32,7 @@ export class Picture {
   cablesOf() {
     const found = new Map();
     this.network.lines.forEach((line, number) => {
-      if (!found.has(line.bundle)) found.set(line.bundle, {lines: [], sender: line.sender, receiver: line.receiver});
+      if (!found.has(line.bundle)) found.set(line.bundle, {lines: [], sender: line.sender, receiver: line.receiver, way: line.way ?? []});
       found.get(line.bundle).lines.push(number);
     });
     return [...found.values()];
@@ -119,11 +119,10 @@ export class Picture {
     this.heads = new Map();
     for (const cable of this.cables) {
       const a = this.spots[cable.sender], b = this.spots[cable.receiver];
-      cable.start = this.leaving(a, b);
-      cable.end = this.leaving(b, a);
-      if (cable.lines.length > 2) this.stroke(cable.start, cable.end, this.signs.pale, 8, []);
+      cable.path = this.pathOf(cable, a, b);
+      if (cable.lines.length > 2) this.stroke(cable.path, this.signs.pale, 8, []);
       const isWanted = cable.lines.some(line => this.network.lines[line].priority);
-      this.stroke(cable.start, cable.end, isWanted ? this.signs.grey : this.signs.pale, 1, []);
+      this.stroke(cable.path, isWanted ? this.signs.grey : this.signs.pale, 1, []);
     }
     this.drawStrokes(pen);
   }
@@ -135,7 +134,7 @@ export class Picture {
       pen.strokeStyle = colour;
       pen.lineWidth = width;
       pen.beginPath();
-      for (const [from, to] of ways) { pen.moveTo(from[0], from[1]); pen.lineTo(to[0], to[1]); }
+      for (const [from, ...rest] of ways) { pen.moveTo(from[0], from[1]); for (const to of rest) pen.lineTo(to[0], to[1]); }
       pen.stroke();
     }
     pen.setLineDash([]);
@@ -159,18 +158,34 @@ export class Picture {
     return [x + across * share, y + up * share];
   }
 
+  /** The points of a cable between two boxes: beside those that a straight one would go behind. */
+  pathOf(cable, a, b) {
+    const [width, height] = this.size, within = ([x, y], [u, v]) => Math.abs(x - u) <= width / 2 + 2 && Math.abs(y - v) <= height / 2 + 2;
+    const inner = cable.way.map(([x, y]) => this.spot({x, y})).filter(point => !within(point, a) && !within(point, b));
+    return [this.leaving(a, inner[0] ?? b), ...inner, this.leaving(b, inner.at(-1) ?? a)];
+  }
+
+  /** The point half way along a path. */
+  middleOf(path) {
+    let left = path.slice(1).reduce((sum, [x, y], place) => sum + Math.hypot(x - path[place][0], y - path[place][1]), 0) / 2;
+    for (let place = 1; place < path.length; place++) {
+      const [[x, y], [u, v]] = [path[place - 1], path[place]], length = Math.hypot(u - x, v - y) || 1;
+      if (left <= length || place === path.length - 1) return [x + (u - x) * left / length, y + (v - y) * left / length];
+      left -= length;
+    }
+  }
+
   addCable(run, cable, way) {
-    const {start, end} = cable, lines = this.network.lines;
-    const middle = [(start[0] + end[0]) / 2, (start[1] + end[1]) / 2];
+    const path = cable.path, lines = this.network.lines, middle = this.middleOf(path);
     const isDown = cable.lines.some(line => run.down.has(line));
-    if (isDown) this.stroke(start, end, "#ffffff", 3, [3, 5]);
+    if (isDown) this.stroke(path, "#ffffff", 3, [3, 5]);
     for (const number of cable.lines) {
       const line = lines[number];
-      const [from, to] = line.sender === cable.sender ? [start, end] : [end, start];
-      if (run.closed.has(number)) this.addClosed(from, to, middle, run.closed.get(number));
-      else if (run.input[line.receiver] === number && way.has(number)) this.arrow(from, to, BLUE, this.thick + 1.3);
-      else if (run.input[line.receiver] === number) this.arrow(from, to, this.signs.dark, this.thick);
-      else if (line.priority && this.size[1] > 9) this.arrow(from, to, this.signs.grey, 0.8);
+      const its = line.sender === cable.sender ? path : path.toReversed();
+      if (run.closed.has(number)) this.addClosed(its, middle, run.closed.get(number));
+      else if (run.input[line.receiver] === number && way.has(number)) this.arrow(its, BLUE, this.thick + 1.3);
+      else if (run.input[line.receiver] === number) this.arrow(its, this.signs.dark, this.thick);
+      else if (line.priority && this.size[1] > 9) this.arrow(its, this.signs.grey, 0.8);
     }
     if (isDown) this.words.push([...middle, "✕", 12, this.signs.dark, PAPER]);
     else if (this.size[1] > 22) {
@@ -180,24 +195,25 @@ export class Picture {
     }
   }
 
-  addClosed(from, to, middle, isPair) {
+  addClosed(path, middle, isPair) {
     const colour = isPair ? this.signs.pair : this.signs.loop;
-    this.arrow(from, to, colour, 4);
+    this.arrow(path, colour, 4);
     this.words.push([middle[0], middle[1] - 9, isPair ? "PAIR" : "LOOP", 11, colour, PAPER, true]);
   }
 
   /** Adds a stroke to those of its look. */
-  stroke(from, to, colour, width, dashes) {
+  stroke(path, colour, width, dashes) {
     const key = `${colour} ${width} ${dashes.length}`;
     if (!this.strokes.has(key)) this.strokes.set(key, {colour, width, dashes, ways: []});
-    this.strokes.get(key).ways.push([from, to]);
+    this.strokes.get(key).ways.push(path);
   }
 
   /** Adds an arrow: its stroke where it is thick, and its head. */
-  arrow(from, to, colour, width) {
+  arrow(path, colour, width) {
+    const [from, to] = path.slice(-2);
     const across = to[0] - from[0], up = to[1] - from[1], length = Math.hypot(across, up) || 1;
     const size = Math.min(4 + width * 2, 4 + this.size[1] / 3), x = across / length * size, y = up / length * size;
-    if (width > 1) this.stroke(from, [to[0] - x * 0.7, to[1] - y * 0.7], colour, width, []);
+    if (width > 1) this.stroke([...path.slice(0, -1), [to[0] - x * 0.7, to[1] - y * 0.7]], colour, width, []);
     if (!this.heads.has(colour)) this.heads.set(colour, []);
     const corner = side => [to[0] - x * 0.92 + side * y * 0.39, to[1] - y * 0.92 - side * x * 0.39];
     this.heads.get(colour).push([to, corner(-1), corner(1)]);
@@ -265,7 +281,7 @@ export class Picture {
     const isTaken = run.input[source.at] === this.network.lines.length + number;
     const here = this.spot(source), there = this.spots[source.at];
     const [colour, width] = isTaken ? [this.signs.dark, this.thick] : [this.signs.grey, 0.8];
-    if (source.priority) this.arrow(here, this.leaving(there, here), colour, width);
+    if (source.priority) this.arrow([here, this.leaving(there, here)], colour, width);
   }
 
   drawSource(run, source, number) {

@@ -61,6 +61,7 @@ export class List {
     const count = Math.ceil(this.frame.clientHeight / ROW) + 4;
     const nodes = this.rows.slice(first, first + count).map((row, place) => {
       const node = made("div", "row", `${clock(row.at, this.start)}  ${rowText(this.run, row)}`);
+      node.title = node.textContent;
       node.style.top = `${(first + place) * ROW}px`;
       node.dataset.at = row.at;
       if (row.event) node.classList.add(row.event.why ? "rejected" : "event");
