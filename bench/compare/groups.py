@@ -128,7 +128,7 @@ def found_of(program: str, folder: str) -> dict[str, Any]:
     run = subprocess.run(words, cwd=folder, env=environment, capture_output=True, check=False)
     if run.returncode not in (0, 1):
         raise SystemExit(f"protect --groups ends with {run.returncode}: {run.stderr.decode()}")
-    return dict(json.loads(run.stdout))
+    return dict(json.loads(run.stdout)["answer"])
 
 
 def without_priorities(plan: Plan) -> tuple[object, ...]:

@@ -85,7 +85,7 @@ def rows_of(ran: Ran) -> list[list[str]]:
 
 def frames_of(ran: Ran) -> list[int | None]:
     """The packet of the capture that shows each finding first."""
-    return [finding["frame"] for finding in json.loads(ran.out)["findings"]]
+    return [finding["frame"] for finding in json.loads(ran.out)["answer"]["findings"]]
 
 
 def test_the_file_for_node_is_what_was_received(folder: Path) -> None:
@@ -214,7 +214,7 @@ def test_a_device_that_says_what_nobody_asked(folder: Path) -> None:
         ["6500", "south>tester", "unexpected", "an event message of QL-PRC, where nothing had changed"],
     ]
     assert compared(folder, said, "--from", "6600").status == 0
-    found = json.loads(compared(folder, said, "--json").out)
+    found = json.loads(compared(folder, said, "--json").out)["answer"]
     assert [finding["at"] for finding in found["findings"]] == [4_500, 6_500]
     assert [finding["frame"] is None for finding in found["findings"]] == [False, False]
     assert found["zero"] == ZERO * 10**6
@@ -239,10 +239,10 @@ def test_a_device_that_sends_too_often(folder: Path, every: int, rate: str) -> N
 
 def test_reaction_times_have_thresholds(folder: Path) -> None:
     ran = compared(folder, played(), "--json")
-    told = [one for one in json.loads(ran.out)["reactions"] if one["greatest"] is not None]
+    told = [one for one in json.loads(ran.out)["answer"]["reactions"] if one["greatest"] is not None]
     greatest, middle = max(one["greatest"] for one in told), max(one["middle"] for one in told)
     late = compared(folder, late_by(60), "--json")
-    slow = [one for one in json.loads(late.out)["reactions"] if one["greatest"] is not None]
+    slow = [one for one in json.loads(late.out)["answer"]["reactions"] if one["greatest"] is not None]
     most = max(one["greatest"] for one in slow)
     assert ran.status == late.status == 0 and most == greatest + 60
     assert compared(folder, played(), "--reaction", str(greatest), "--median", str(middle)).status == 0
@@ -250,7 +250,7 @@ def test_reaction_times_have_thresholds(folder: Path) -> None:
     assert ran.status == 1 and ran.out.startswith(b"fail: no differences; ")
     assert f"told changes after {most} ms (greatest), where 50 ms are asked" in ran.out.decode().splitlines()[0]
     ran = compared(folder, late_by(60), "--median", "50", "--json")
-    found = json.loads(ran.out)
+    found = json.loads(ran.out)["answer"]
     assert ran.status == 1 and not found["pass"] and found["slow"] and "(middle)" in found["slow"][0]
 
 

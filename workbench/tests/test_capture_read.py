@@ -90,7 +90,7 @@ def test_a_port_that_was_silent_is_named(folder: Path) -> None:
     ]
     assert "murdjohe: 65 frames carried a VLAN tag: taken off\n" in ran.err
     assert "port 2 (001b1d00a1c3) sends 0.85 information messages a second, where G.8264 asks 1\n" in ran.err
-    found = json.loads(murdjohe("--json", "capture", "read", "night.pcapng", folder=folder).out)
+    found = json.loads(murdjohe("--json", "capture", "read", "night.pcapng", folder=folder).out)["answer"]
     (silence,) = found["silences"]
     assert (silence["port"], silence["length"], silence["is_last"]) == ("port 2", 6_200_000_000, False)
     assert silence["frame"] == 24

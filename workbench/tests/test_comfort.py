@@ -100,7 +100,7 @@ def test_the_first_line_says_who_is_without_a_source_at_the_end(folder: Path) ->
     first, *said = ran.out.decode().splitlines()
     assert first.startswith("still without a source at the end, 00:01:31.000: ") and "B (since 00:01:30.300)" in first
     assert ran.status == 20 and any(line.startswith("losses that go on at 00:01:31.000") for line in said)
-    found = json.loads(murdjohe("rehearse", "plan.toml", "works.csv", "--json", folder=folder).out)
+    found = json.loads(murdjohe("rehearse", "plan.toml", "works.csv", "--json", folder=folder).out)["answer"]
     assert [one["element"] for one in found["without_source_at_end"]] == ["B"]
 
 

@@ -69,7 +69,7 @@ def test_a_link_that_is_new_is_told_with_its_priorities(folder: Path) -> None:
         "topology,link L3,ends,B and C,none",
         "priorities,link L3,priority of L3>C,2,none",
     ]
-    rows = json.loads("\n".join(told(folder, gone, "--json")))
+    rows = json.loads("\n".join(told(folder, gone, "--json")))["answer"]
     assert [list(row.values()) for row in rows] == [
         ["topology", "link L3", "ends", "B and C", "none"],
         ["priorities", "link L3", "priority of L3>C", "2", "none"],

@@ -152,9 +152,11 @@ def test_the_readme_of_the_workbench_runs(folder: Path) -> None:
         ran = started(["/usr/bin/python3", "script.py"], folder, b"", PYTHONPATH=str(WORKBENCH / "src"))
         assert ran.status == 0, ran.err
         said += ran.out.decode().splitlines()
-    elements, refused, night = said
+    elements, refused, night, survey = said
     assert elements == "[]" and refused.startswith('16 element 1 other.toml:2: `name = "M.1"`: ')
     assert night.startswith("True [")
+    # (5 links and 4 elements, and 36 pairs of these but for the 10 of an element and a link of its own)
+    assert survey.startswith("35 [(")
 
 
 def test_what_documents_name_is_there() -> None:

@@ -35,7 +35,7 @@ def test_a_survey_says_that_the_end_alone_is_looked_at_and_what_the_works_mend(f
 def test_whom_nothing_could_save_is_counted_apart(folder: Path) -> None:
     (folder / "plan.toml").write_text(RESERVE.replace("priority_b = 2\n", "") + BEHIND)
     ran = murdjohe("survey", "plan.toml", "--links", "--elements", "--json", folder=folder)
-    found = json.loads(ran.out)
+    found = json.loads(ran.out)["answer"]
     # L1 needn't cut B and D off, nor L3 C, since L2 is there; D is a spur behind L4; an element that fails is gone itself.
     # A has the only clock: whoever else loses it then, no link could serve.
     assert (found["cases"], found["losing"], found["needless"]) == (8, 7, 2)

@@ -52,7 +52,7 @@ def test_failures_of_one_way_plans_are_looked_at_by_the_bound_after_failures(fol
     (folder / "plan.toml").write_text(RESERVE)
     bound = failures_of(folder / "plan.toml")
     ran = surveyed(folder, "plan.toml", "--links", "--sources", "--json")
-    told = json.loads(ran.out)
+    told = json.loads(ran.out)["answer"]
     assert told["until"] == 601_000 and bound < 1_000
     assert told["end_by"].startswith(f"0.{bound} s after the last failure (`failures F` of `agree`), rounded up to")
     assert told["unsettled"] == 0
@@ -68,7 +68,7 @@ def test_what_comes_up_waits_for_the_greater_bound(folder: Path) -> None:
     (folder / "plan.toml").write_text(RESERVE)
     bound = api.agree(folder / "plan.toml").result.bound
     (folder / "cases.csv").write_text(f"{HEAD}a,60s,down,L1,\na,70s,up,L1,\nb,60s,down,L3,\n")
-    told = json.loads(surveyed(folder, "plan.toml", "cases.csv", "--json").out)
+    told = json.loads(surveyed(folder, "plan.toml", "cases.csv", "--json").out)["answer"]
     assert bound is not None and told["until"] == ends.whole(70_000 + bound)
     assert "after the last event (`bound B` of `agree`, which counts wait-to-restore)" in told["end_by"]
 
@@ -77,13 +77,13 @@ def test_what_comes_up_waits_for_the_greater_bound(folder: Path) -> None:
 def test_silence_and_levels_are_no_failures(folder: Path, word: str) -> None:
     (folder / "plan.toml").write_text(RESERVE)
     (folder / "cases.csv").write_text(f"{HEAD}a,60s,{word}\n")
-    assert "`bound B`" in json.loads(surveyed(folder, "plan.toml", "cases.csv", "--json").out)["end_by"]
+    assert "`bound B`" in json.loads(surveyed(folder, "plan.toml", "cases.csv", "--json").out)["answer"]["end_by"]
 
 
 def test_under_a_switch_no_bound_is_told(folder: Path) -> None:
     (folder / "plan.toml").write_text(RESERVE)
     (folder / "cases.csv").write_text(f"{HEAD}a,60s,forced,L2>B,\n")
-    told = json.loads(surveyed(folder, "plan.toml", "cases.csv", "--json").out)
+    told = json.loads(surveyed(folder, "plan.toml", "cases.csv", "--json").out)["answer"]
     assert told["until"] == 1_260_000 and "a switch may be in force" in told["end_by"]
 
 
@@ -112,7 +112,7 @@ def test_cases_that_oscillate_are_named_in_the_first_five_lines(folder: Path) ->
     lines = first_lines(surveyed(folder, "plan.toml", "--elements", "--pairs"))
     assert "priorities may oscillate, so `agree` gives no bound" in lines[1]
     assert lines[4].startswith("1 case is unsettled at the end, still changing then (core), and 1 case has loops")
-    told = json.loads(surveyed(folder, "plan.toml", "--elements", "--pairs", "--json").out)
+    told = json.loads(surveyed(folder, "plan.toml", "--elements", "--pairs", "--json").out)["answer"]
     assert told["until"] < 610_000 and told["unsettled"] == 1 and told["restless"][0]["case"] == "core"
 
 
@@ -136,17 +136,19 @@ def test_what_fails_during_works_is_seen_while_they_stand(folder: Path) -> None:
         "elements without a source at the end although a link could still serve them" in line
         for line in first_lines(ran)
     )
-    told = json.loads(surveyed(folder, str(MESH / "protecting.toml"), "--during", "works.csv", "--json").out)
+    told = json.loads(surveyed(folder, str(MESH / "protecting.toml"), "--during", "works.csv", "--json").out)["answer"]
     assert 120_000 < told["until"] < 360_000 and told["losing"] == 2
     late = ["--at", "10m", "--until", "20m"]
-    told = json.loads(surveyed(folder, str(MESH / "protecting.toml"), "--during", "works.csv", *late, "--json").out)
+    told = json.loads(surveyed(folder, str(MESH / "protecting.toml"), "--during", "works.csv", *late, "--json").out)[
+        "answer"
+    ]
     assert told["losing"] == 0
 
 
 def test_the_end_lies_before_what_mends(folder: Path) -> None:
     (folder / "plan.toml").write_text(RESERVE)
     (folder / "works.csv").write_text("at,what,target,value\n60s,lockout,L2>B,\n120s,up,L1,\n")
-    told = json.loads(surveyed(folder, "plan.toml", "--during", "works.csv", "--at", "119900", "--json").out)
+    told = json.loads(surveyed(folder, "plan.toml", "--during", "works.csv", "--at", "119900", "--json").out)["answer"]
     assert told["until"] == 119_999 and told["end_by"] == "the millisecond before `up L1` of the works"
 
 

@@ -98,7 +98,7 @@ def test_groups_and_common_events(folder: Path) -> None:
     common = ",5,lockout,L1>B,\n,9,level,A-clock,QL-SSU-A\n"
     assert (ran.status, ran.err) == (0, "")
     assert ran.out.decode() == HEAD + common + "duct-7,9,down,L1,\nduct-7,9,down,L2,\nL1,9,down,L1,\n"
-    found = json.loads(murdjohe(*words, "--json", "--links", folder=folder).out)
+    found = json.loads(murdjohe(*words, "--json", "--links", folder=folder).out)["answer"]
     assert found["at"] == 9 and [event["target"] for event in found["during"]] == ["L1>B", "A-clock"]
     # (a link L1 was there before the group of this name)
     assert [case["case"] for case in found["cases"]] == ["L1", "L2", "duct-7", "group-4"]

@@ -44,7 +44,7 @@ def test_lint_tells_what_groups_cut_off_and_whom_they_leave_without_a_way(four: 
     assert "checked: accepted, agreed, 1 gap with these groups" in ran.err and group_remarks.ALONE in ran.err
     plain = murdjohe("lint", "each-other.toml", folder=four)
     assert "group" not in plain.out.decode() + plain.err
-    found = json.loads(murdjohe("lint", "four.toml", "--groups", "ducts.csv", "--json", folder=four).out)
+    found = json.loads(murdjohe("lint", "four.toml", "--groups", "ducts.csv", "--json", folder=four).out)["answer"]
     assert [one["what"][:9] for one in found if one["what"].startswith("group")] == ['group "E"']
     failing = murdjohe("lint", "four.toml", "--groups", "ducts.csv", "--fail-on", "warning", folder=four)
     assert failing.status == 21

@@ -156,3 +156,38 @@ def test_without_the_toolchain_that_is_told(tmp_path: Path) -> None:
     (tmp_path / "sh").symlink_to("/usr/bin/sh")
     ran = started(["/usr/bin/python3", str(build)], None, b"", PATH=str(tmp_path))
     assert ran.status == 1 and ran.err.startswith("There is no command `rt`.")
+
+
+PIP = ["-m", "pip", "--disable-pip-version-check", "install", "--no-build-isolation", "--no-index", "-q", "-e"]
+
+
+def test_a_checkout_installs_into_an_environment(tmp_path: Path, core: str) -> None:
+    """`pip install -e workbench`, of a copy of the checkout, with nothing from outside."""
+    if subprocess.run(
+        ["/usr/bin/python3", "-c", "import ensurepip, setuptools, wheel"], capture_output=True
+    ).returncode:
+        pytest.skip("there is no python3-venv, python3-setuptools or python3-wheel")
+    checkout, room = tmp_path / "checkout", tmp_path / "room"
+    for name in ("pyproject.toml", "README.md"):
+        (checkout / "workbench").mkdir(parents=True, exist_ok=True)
+        shutil.copy(TOP / "workbench" / name, checkout / "workbench" / name)
+    ignored = shutil.ignore_patterns("__pycache__", "*.egg-info")
+    shutil.copytree(TOP / "workbench" / "src", checkout / "workbench" / "src", symlinks=True, ignore=ignored)
+    (checkout / "docs").mkdir()
+    shutil.copy(TOP / "docs" / "refusals.toml", checkout / "docs")
+    subprocess.run(["/usr/bin/python3", "-m", "venv", "--system-site-packages", str(room)], check=True)
+    run = started([str(room / "bin" / "python"), *PIP, str(checkout / "workbench")])
+    assert run.status == 0, run.err
+    script = "import murdjohe; print(murdjohe.__file__, murdjohe.rank('plan.toml').result.ring)"
+    run = started([str(room / "bin" / "python"), "-c", script], RING)
+    assert run.out.decode().startswith(f"{checkout}/workbench/src/murdjohe/__init__.py ('L1>B',"), run.err
+    run = started([str(room / "bin" / "murdjohe"), "check", "certificate.csv", "plan.toml"], RING)
+    assert run.status == 3 and "the two words are swapped" in run.err
+
+
+def test_the_package_declares_what_it_needs() -> None:
+    """What pip is told to need is what Debian's package depends on, but for programs."""
+    wanted = (TOP / "workbench" / "packages").read_text().partition("# tests")[0]
+    debian = {line.split()[0].removeprefix("python3-") for line in wanted.splitlines() if line.startswith("python3-")}
+    (declared,) = re.findall(r"^dependencies = \[(.*)\]$", (TOP / "workbench" / "pyproject.toml").read_text(), re.M)
+    assert {re.match(r"[a-z0-9-]+", one.strip(' "'))[0] for one in declared.split(",")} == debian  # type: ignore[index]

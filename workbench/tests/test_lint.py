@@ -87,7 +87,7 @@ def test_nothing_is_found_in_a_good_plan() -> None:
 def test_each_finding_is_told_with_its_line(old: str, new: str, said: list[tuple[int, str, str]]) -> None:
     assert old in GOOD
     ran = murdjohe("lint", "-", "--json", stdin=GOOD.replace(old, new, 1).encode())
-    found = json.loads(ran.out)
+    found = json.loads(ran.out)["answer"]
     assert [(one["line"], one["kind"]) for one in found] == [(line, kind) for line, kind, _ in said]
     assert all(what in one["what"] and one["remedy"] for one, (_, _, what) in zip(found, said))
     assert ran.status == (1 if any(kind == "error" for _, kind, _ in said) else 0)
@@ -207,7 +207,7 @@ def test_a_chain_that_is_too_long_is_told_at_the_longest() -> None:
 
 
 def test_chains_are_the_programs() -> None:
-    found = json.loads(murdjohe("lint", "-", "--json", stdin=murdjohe("gen", "70").out).out)
+    found = json.loads(murdjohe("lint", "-", "--json", stdin=murdjohe("gen", "70").out).out)["answer"]
     assert [one["what"] for one in found if "chain" in one["what"]] == [
         'element "E69" may come to a chain of 69 lines, where G.803 has 60, and 8 other elements to more than 60',
         'element "E69" may come to a chain of 69 lines since a filter, where G.803 has 20, and 48 other elements to more than 20',

@@ -90,7 +90,7 @@ def test_what_the_works_leave_behind_is_told(folder: Path) -> None:
     said = ran.out.decode()
     assert ran.status == 0 and "nobody who has a source loses it" in said
     assert "\nleft behind at the end, so that the next failure may hurt more: lockout south>middle\n" in said
-    told = json.loads(rehearsed(folder, "--json").out)
+    told = json.loads(rehearsed(folder, "--json").out)["answer"]
     assert told["left_behind"] == ["lockout south>middle"]
 
 
@@ -124,7 +124,7 @@ def test_a_site_that_is_dark_for_good_stands_in_the_first_line(own: Path) -> Non
 def test_a_night_in_which_each_case_is_dark_for_minutes_is_not_told_as_clean(own: Path) -> None:
     (own / "works.csv").write_bytes((OWN / "mended.csv").read_bytes())
     ran = murdjohe("survey", "plan.toml", "--during", "works.csv", "--json", folder=own)
-    told = json.loads(ran.out)
+    told = json.loads(ran.out)["answer"]
     assert 7_500_000 < told["until"] < 9_000_000
     assert told["losing"] == told["cases"] > 0 and "NODE-7" in told["common_alone"]
     rehearsed = murdjohe("rehearse", "plan.toml", "works.csv", "--limit", "1m", folder=own)

@@ -85,7 +85,7 @@ def test_orders_of_a_small_plan(folder: Path) -> None:
     assert murdjohe("orders", "plan.toml", "--csv", folder=folder).out.decode() == TABLE
     table = list(csv.DictReader(TABLE.splitlines()))
     for words in (["orders", "plan.toml", "--json"], ["--json", "orders", "plan.toml"]):
-        assert json.loads(murdjohe(*words, folder=folder).out) == table
+        assert json.loads(murdjohe(*words, folder=folder).out)["answer"] == table
     lines = murdjohe("orders", "plan.toml", "--markdown", folder=folder).out.decode().splitlines()
     assert lines[0] == "| " + " | ".join(TABLE.splitlines()[0].split(",")) + " |" and lines[1].count("---") == 11
     assert lines[2:] == ["| " + " | ".join(row.split(",")) + " |" for row in TABLE.splitlines()[1:]]

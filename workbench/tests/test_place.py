@@ -222,7 +222,7 @@ def test_the_plan_that_is_written_is_what_the_program_says(folder: Path) -> None
     words = ("place", "plan.toml", "sites.csv", "--links", "2", "-o", "placed.toml", "--json")
     ran = murdjohe(*words, folder=folder)
     assert ran.status == 0, ran.err
-    said = json.loads(ran.out)
+    said = json.loads(ran.out)["answer"]
     assert said["holds"] and said["is_least"] and said["verdict"] == "accepted, agreed, protected"
     assert said["links"] <= 2 and said["cases_that_lose"] == 0
     placed = (folder / "placed.toml").read_bytes()
@@ -251,7 +251,7 @@ def test_other_limits_are_told_with_what_they_cost(folder: Path) -> None:
     plan_file_of(ring(12), folder)
     (folder / "sites.csv").write_text(table([(f"N{n}", "1", "QL-PRTC") for n in range(12)]))
     ran = murdjohe("place", "plan.toml", "sites.csv", "--links", "1", "--json", folder=folder)
-    costs = {row["links"]: row["cost"] for row in json.loads(ran.out)["limits"]}
+    costs = {row["links"]: row["cost"] for row in json.loads(ran.out)["answer"]["limits"]}
     assert costs[0] == 12 and costs[1] == 4 and costs[11] == 2
     kept = [costs[limit] for limit in sorted(costs)]
     assert kept == sorted(kept, reverse=True)
@@ -264,10 +264,10 @@ def test_filters_cut_chains(folder: Path) -> None:
     rows = [(f"N{n}", str(1 + n % 2)) for n in range(2, 30)]
     (folder / "filters.csv").write_text(table(rows, "element,cost"))
     words = ("place", "plan.toml", "sites.csv", "-o", "placed.toml", "--json")
-    without = json.loads(murdjohe(*words, folder=folder).out)
+    without = json.loads(murdjohe(*words, folder=folder).out)["answer"]
     assert without["since"] > 20
     ran = murdjohe(*words, "--filters", "filters.csv", "--force", folder=folder)
-    said = json.loads(ran.out)
+    said = json.loads(ran.out)["answer"]
     assert said["since"] <= 20 and said["filters"] and said["holds"]
     placed = (folder / "placed.toml").read_bytes()
     assert max(row.since for row in forms.chains(placed).result.rows or ()) <= 20
@@ -304,7 +304,7 @@ def test_networks_that_were_built(name: str, costs: dict[int, int], folder: Path
     candidates = list(sites.read(str(table_of), plan_of(tables), sites.SITES))
     for links, cost in costs.items():
         ran = murdjohe("place", str(plan), str(table_of), "--anew", "--json", "--links", str(links), folder=folder)
-        said = json.loads(ran.out)
+        said = json.loads(ran.out)["answer"]
         assert (ran.status, said["holds"], said["is_least"], said["cost"]) == (0, True, True, cost)
         assert said["links"] <= links
         cheaper = [

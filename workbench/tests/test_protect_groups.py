@@ -84,7 +84,7 @@ def test_the_plan_goes_to_a_file_and_the_old_form_of_the_table_is_read(files: Pa
 
 def test_json_has_the_plan_and_the_verdicts(files: Path) -> None:
     ran = murdjohe("protect", "narrow.toml", "--groups", "both.csv", "--json", folder=files)
-    told = json.loads(ran.out)
+    told = json.loads(ran.out)["answer"]
     assert (ran.status, ran.err) == (1, "")
     assert told["groups"] == ["north", "south"] and told["none_do_better"] is True
     assert told["checked"] == "accepted, agreed, 1 gap with these groups"

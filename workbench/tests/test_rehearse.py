@@ -243,7 +243,7 @@ def test_what_is_rejected_and_what_loops_is_told(folder: Path) -> None:
 def test_the_list_as_a_table_and_as_json() -> None:
     words = [str(EXAMPLES / "inventory" / name) for name in ("plan.toml", "loss.csv")]
     rows = list(csv.DictReader(io.StringIO(murdjohe("rehearse", *words, "--csv").out.decode())))
-    found = json.loads(murdjohe("--json", "rehearse", *words).out)
+    found = json.loads(murdjohe("--json", "rehearse", *words).out)["answer"]
     report = api.sim(words[0], words[1], found["until"]).result
     changes = [row for row in rows if row["kind"] == "change"]
     assert [(int(row["at"]), row["name"], row["level"]) for row in changes] == [

@@ -83,7 +83,7 @@ def test_a_ring_of_eight_with_two_cores(folder: Path) -> None:
 
 def test_a_repair_as_json(folder: Path) -> None:
     (folder / "naive.toml").write_text(METRO)
-    found = json.loads(murdjohe("repair", "--json", "naive.toml", folder=folder).out)
+    found = json.loads(murdjohe("repair", "--json", "naive.toml", folder=folder).out)["answer"]
     assert found["knots"] == [{"lines": 24, "rings": 36, "all_rings": True}]
     assert (found["least"], found["checked"], len(found["sets"])) == (True, "accepted", 3)
     best = found["sets"][0]
@@ -98,7 +98,7 @@ def test_a_repair_as_json(folder: Path) -> None:
         assert edit["goes"].startswith(f"{edit['link']}>")
     ran = murdjohe("repair", "--json", "-", stdin=murdjohe("gen", "3").out)
     gap = {"kind": "source", "failure": "P0", "elements": 1, "first": "E0"}
-    assert json.loads(ran.out) == {
+    assert json.loads(ran.out)["answer"] == {
         **{"knots": [], "least": True, "set": 1, "checked": "accepted", "clash": None},
         **{"gaps": [gap], "sets": []},
     }

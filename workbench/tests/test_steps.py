@@ -150,7 +150,7 @@ def test_no_difference_is_no_step(tmp_path: Path) -> None:
     (tmp_path / "new").write_text(ring(L1=1))
     shutil.copy(tmp_path / "new", tmp_path / "old")
     ran = murdjohe("orders", str(tmp_path / "new"), "--from", str(tmp_path / "old"), "--steps", "--json")
-    assert (ran.status, json.loads(ran.out)) == (0, []) and "there is no step" in ran.err
+    assert (ran.status, json.loads(ran.out)["answer"]) == (0, []) and "there is no step" in ran.err
 
 
 @pytest.mark.parametrize("name", ["germany", "abilene", "nsfnet", "polska"])
@@ -190,7 +190,7 @@ def test_random_plans_by_both_forms(tmp_path: Path, seed: int) -> None:
 
 def test_json_has_a_row_for_each_change() -> None:
     words = ["orders", str(REAL / "germany-protecting.toml"), "--from", str(REAL / "germany-plan.toml"), "--steps"]
-    rows = json.loads(murdjohe(*words, "--json").out)
+    rows = json.loads(murdjohe(*words, "--json").out)["answer"]
     assert rows[0] == dict(
         zip(step_text.COLUMNS, ("1", "Frankfurt", "all", "Frankfurt-Koeln>Frankfurt", "none", "2", "accepted, agreed"))
     )

@@ -85,7 +85,7 @@ def test_some_cases_of_a_table_and_none(double: Double, capfd: pytest.CaptureFix
 
 def test_the_summary_has_the_worst_first(double: Double, capfd: pytest.CaptureFixture[str]) -> None:
     rows = [studies.case(line) for line in core_double.rows_of(table_of(), UNTIL)]
-    told = json.loads(surveyed(capfd, PLAN, *EACH, "--worst", "4", "--size", "6", "--json").out)
+    told = json.loads(surveyed(capfd, PLAN, *EACH, "--worst", "4", "--size", "6", "--json").out)["answer"]
     assert (told["cases"], told["until"]) == (21, int(UNTIL))
     assert told["losing"] == sum(row.lost > 0 for row in rows)
     assert told["unsettled"] == sum(not row.is_settled for row in rows) > 0

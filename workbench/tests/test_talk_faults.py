@@ -47,7 +47,7 @@ def test_reserved_bits_are_told_with_their_place(folder: Path, frame: bytes, whe
     ran = read(folder, frame, "--fail-on", "reserved-bits")
     assert f"murdjohe: {source} sets reserved bits {where} in 3 frames\n" in ran.err and ran.status == 21
     assert read(folder, frame, "--fail-on", "group-source").status == 0
-    assert where in " ".join(json.loads(read(folder, frame, "--json").out)["said"])
+    assert where in " ".join(json.loads(read(folder, frame, "--json").out)["answer"]["said"])
 
 
 def test_each_place_of_reserved_bits_is_counted_by_itself(folder: Path) -> None:

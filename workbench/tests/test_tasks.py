@@ -26,7 +26,7 @@ def test_what_there_is_can_be_listed() -> None:
 
 def test_findings_are_those_of_the_command() -> None:
     found = tasks.lint(PLAN)
-    told = json.loads(murdjohe("lint", str(PLAN), "--json").out)
+    told = json.loads(murdjohe("lint", str(PLAN), "--json").out)["answer"]
     assert [(one.line, one.kind, one.what, one.remedy) for one in found.findings] == [
         tuple(one.values()) for one in told
     ]
@@ -54,7 +54,7 @@ def test_a_repair_orders_and_steps() -> None:
 def test_a_survey_is_that_of_the_command(tmp_path: Path) -> None:
     found = tasks.survey(PLAN, kinds=["links", "sources"], pairs=True, worst=3, parts=tmp_path / "parts")
     words = ["survey", str(PLAN), "--links", "--sources", "--pairs", "--worst", "3", "--json", "--parts", "other"]
-    told = json.loads(murdjohe(*words, folder=tmp_path).out)
+    told = json.loads(murdjohe(*words, folder=tmp_path).out)["answer"]
     counts = ("until", "cases", "losing", "needless", "unsettled", "looping", "hurting", "still", "first")
     assert {name: getattr(found, name) for name in counts} == {name: told[name] for name in counts}
     for name in ("lost", "worst_needless", "restless", "dark", "chains"):
@@ -79,7 +79,7 @@ def test_a_survey_of_a_table_and_during_works(tmp_path: Path) -> None:
         tasks.survey(PLAN, tmp_path / "cases.csv", pairs=True)
     works = tasks.survey(PLAN, during=WORKS)
     words = ["survey", str(PLAN), "--during", str(WORKS), "--json"]
-    told = json.loads(murdjohe(*words, folder=tmp_path).out)
+    told = json.loads(murdjohe(*words, folder=tmp_path).out)["answer"]
     assert (works.cases, works.until, works.losing) == (told["cases"], told["until"], told["losing"])
     assert list(works.common_alone or ()) == told["common_alone"]
 
@@ -89,7 +89,7 @@ def test_sites_are_those_of_the_command(tmp_path: Path) -> None:
     (tmp_path / "sites.csv").write_text("element,cost,level\nE0,0,QL-PRC\nE5,4,QL-PRTC\nE3,3,QL-PRTC\n")
     found = tasks.place(tmp_path / "plan.toml", tmp_path / "sites.csv", links=3, anew=True)
     ran = murdjohe("place", "plan.toml", "sites.csv", "--links", "3", "--anew", "--json", folder=tmp_path)
-    told = json.loads(ran.out)
+    told = json.loads(ran.out)["answer"]
     assert found.is_good == (ran.status == 0) and len(found.sites) >= 2
     assert list(found.sites) == [site["element"] for site in told["sites"]] and float(found.found.cost) == told["cost"]
     with pytest.raises(tasks.Wrong, match="is less than --links"):

@@ -279,8 +279,8 @@ def test_the_command_on_what_is_stored() -> None:
 
 def test_the_command_as_json_and_in_times_of_day() -> None:
     words = ["why", str(METRO / "plan.toml"), str(METRO / "works.csv"), "north-1", "5m"]
-    found = json.loads(murdjohe(*words, "--json").out)
-    assert found == json.loads(murdjohe("--json", *words).out)
+    found = json.loads(murdjohe(*words, "--json").out)["answer"]
+    assert found == json.loads(murdjohe("--json", *words).out)["answer"]
     assert (found["at"], found["state"], found["is_all"]) == (300_000, "holdover", True)
     ran = murdjohe(*words, "--start", "02:00:00")
     assert ran.status == 0 and ran.out.startswith(b"At 02:05:00.000 north-1 takes nothing since 02:02:00.302: ")

@@ -39,21 +39,18 @@ def answered(words: list[str], output: Output) -> int:
 
 
 def guarded(words: list[str], output: Output) -> int:
-    """Answers the words; whatever goes wrong is told in one line, with a status of its own."""
+    """Answers the words; whatever goes wrong is told in one line, with a status of its own, and as JSON where that is asked."""
     try:
         return answered(words, output)
     except Wrong as wrong:
-        streams.tell(*wrong.lines)
-        return wrong.status
+        return refused(words, output, wrong.status, *wrong.lines)
     except program.NoAnswer as none:
-        streams.tell(str(none))
-        return program.MISTAKE
+        return refused(words, output, program.MISTAKE, str(none))
     except RowFault as fault:
-        streams.tell(f"{program.NAME} gave an answer that isn't known here: {fault}; see `murdjohe help core`")
-        return program.MISTAKE
+        said = f"{program.NAME} gave an answer that isn't known here: {fault}; see `murdjohe help core`"
+        return refused(words, output, program.MISTAKE, said)
     except (program.Absent, program.Ended) as absent:
-        streams.tell(str(absent))
-        return program.UNAVAILABLE
+        return refused(words, output, program.UNAVAILABLE, str(absent))
     except streams.Lost as lost:
         if not lost.is_gone:
             streams.tell(f"standard output: {lost}")
@@ -72,6 +69,20 @@ def guarded(words: list[str], output: Output) -> int:
 
         streams.tell(crash.told(mistake))
         return program.MISTAKE
+
+
+def refused(words: list[str], output: Output, status: int, *said: str) -> int:
+    """Tells why nothing is answered, and prints it too where JSON is asked and nothing was printed yet; the status."""
+    streams.tell(*said)
+    if any(word in JSON for word in words) and not output.is_begun:
+        from murdjohe.answers import envelopes
+
+        name = next((word for word in words if not word.startswith("-")), None)
+        try:
+            output.put(envelopes.refused(name, status, said))
+        except streams.Lost:  # (the status says already that there is no answer)
+            pass
+    return status
 
 
 def ended_by(fault: BaseException | None) -> int | None:

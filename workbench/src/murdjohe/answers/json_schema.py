@@ -92,13 +92,8 @@ def results() -> dict[str, Any]:
     return {form: typing.get_type_hints(reader)["return"] for form, reader in reports.READERS.items()}
 
 
-def schema() -> dict[str, Any]:
-    """The whole schema."""
-    found = results()
-    classes = {name: kind for result in found.values() for name, kind in classes_under(result).items()}
-    forms: list[dict[str, Any]] = [
-        {"properties": {"form": {"const": form}, "answer": of_type(kind)}} for form, kind in found.items()
-    ]
+def head_of(forms: list[str]) -> dict[str, Any]:
+    """What every object has, or may have."""
     texts: dict[str, Any] = {"type": "array", "items": {"type": "string"}}
     refusal: dict[str, Any] = {
         "type": "object",
@@ -109,21 +104,36 @@ def schema() -> dict[str, Any]:
             "sentence": {"type": ["string", "null"]},
         },
     }
-    head: dict[str, Any] = {
+    answer = "of a form, where the status is 0, 1 or 11: what it writes; of other commands what they find"
+    return {
         "json": {"const": row_tables.JSON},
-        "form": {"enum": list(found)},
+        "command": {"type": ["string", "null"], "description": "the command; that of a form is the form"},
+        "form": {"enum": forms, "description": "of a form of the program alone, and so is `name`"},
         "status": {"type": "integer"},
         "name": {"enum": answer_json.NAMES},
-        "answer": {"description": "where the status is 0, 1 or 11: what the form writes"},
+        "answer": {"description": answer},
         "refusal": refusal,
         "said": {**texts, "description": "sentences, which may change with every version"},
     }
+
+
+def schema() -> dict[str, Any]:
+    """The whole schema."""
+    found = results()
+    classes = {name: kind for result in found.values() for name, kind in classes_under(result).items()}
+    forms: list[dict[str, Any]] = [
+        {"properties": {"form": {"const": form}, "answer": of_type(kind)}} for form, kind in found.items()
+    ]
     return {
         "$schema": "https://json-schema.org/draft/2020-12/schema",
-        "title": f"What murdjohe FORM --json prints, version {row_tables.JSON}",
+        "title": f"What murdjohe COMMAND --json prints, version {row_tables.JSON}",
         "type": "object",
-        "properties": head,
-        "required": ["json", "form", "status", "name", "said"],
-        "anyOf": [{"required": ["refusal"]}, *({**form, "required": ["answer"]} for form in forms)],
+        "properties": head_of(list(found)),
+        "required": ["json", "command", "status", "said"],
+        "anyOf": [
+            {"required": ["refusal"]},
+            *({**form, "required": ["form", "name", "answer"]} for form in forms),
+            {"required": ["answer"], "properties": {"command": {"not": {"enum": list(found)}}}},
+        ],
         "$defs": {name: of_class(kind) for name, kind in sorted(classes.items())},
     }

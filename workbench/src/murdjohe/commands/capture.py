@@ -86,9 +86,11 @@ def read(context: click.Context, file: str, option: str, local: bool, what: str 
     # (whoever wants frames or rows sees all of this in them)
     seen = [] if what in ("frames", "rows") else talk_faults.remarks(taken, talk)
     said = [*talk_report.remarks(taken, talk, clock), *seen]
+    if taken.damage and not taken.packets:
+        return ended(context, taken, said)
     if what == "json":
         put(context, output, talk_report.as_json(taken, talk, said).encode())
-    elif what is None and not (taken.damage and not taken.packets):
+    elif what is None:
         put(context, output, talk_report.text(taken, talk, clock, file).encode("utf-8", "backslashreplace"))
     status = ended(context, taken, said)
     return status or (program.FOUND if talk_faults.found(taken, talk, asked["fail_on"]) else program.DONE)

@@ -16,6 +16,10 @@ from murdjohe.core.faults import Wrong
 from murdjohe.core.forms import FORMS, Form
 from murdjohe.core.streams import Output
 
+TYPE_CHECKING = False
+if TYPE_CHECKING:
+    from murdjohe.answers.envelopes import Held
+
 NAME = "murdjohe"
 FILES = "Files and pictures"
 ABOUT = "About"
@@ -42,6 +46,8 @@ OWN = {
     "completion": ("completion", ABOUT, "prints the completion for bash, zsh or fish"),
 }
 GROUPED = "protect"  # the form that takes a list of groups as an option
+GROUPED_COMMANDS = ("capture",)  # commands with commands below them
+BY_LINES = ("capture watch",)  # and those that print a line of JSON for each thing that comes
 # The groups of commands, by the word that `help` takes for each.
 GROUPS = {
     "plans": forms.PLANNING,
@@ -305,6 +311,22 @@ def passed_on(words: list[str], name: str | None, output: Output) -> int:
     return answer.status
 
 
+def name_of(words: list[str], first: str) -> str:
+    """The name of a command, with the one below it where there is one."""
+    behind = words[words.index(first) + 1 :]
+    return f"{first} {behind[0]}" if first in GROUPED_COMMANDS and behind and behind[0][:1] != "-" else first
+
+
+def held_for(words: list[str], first: str | None, output: Output) -> Held | None:
+    """What holds the output of a command of the workbench's own that prints JSON; None where it prints something else, or line by
+    line."""
+    if first not in OWN or not any(word in JSON for word in words) or name_of(words, first) in BY_LINES:
+        return None
+    from murdjohe.answers import envelopes
+
+    return envelopes.Held(output)
+
+
 def run(words: list[str], output: Output) -> int:
     """Answers any words, and gives the exit status."""
     is_completing = f"_{NAME.upper()}_COMPLETE" in os.environ
@@ -313,15 +335,17 @@ def run(words: list[str], output: Output) -> int:
     if not is_completing and (is_bare or first not in (None, *FORMS, *OWN)):
         return passed_on(words, first, output)
     arguments = words if words or is_completing else ["--help"]
+    held = held_for(words, first, output) if not is_completing else None
     try:
-        status = command().main(arguments, NAME, standalone_mode=False, obj=output)
+        status = command().main(arguments, NAME, standalone_mode=False, obj=held or output)
+        if held and first:
+            held.let_go(name_of(words, first), status if isinstance(status, int) else program.DONE)
     except click.exceptions.Abort as abort:
         told = abort.__context__
         raise told if isinstance(told, KeyboardInterrupt) else KeyboardInterrupt() from None
     except click.ClickException as wrong:
         of = f"{NAME} {first}" if first else NAME
-        streams.tell(f"{wrong.format_message().rstrip('.')}; see `{of} --help`")
-        return program.USAGE
+        raise Wrong(f"{wrong.format_message().rstrip('.')}; see `{of} --help`") from None
     except SystemExit as end:
         return end.code if isinstance(end.code, int) else program.MISTAKE
     return status if isinstance(status, int) else program.DONE

@@ -90,8 +90,10 @@ def free(output: str | None, force: bool, *inputs: str | None, more: Iterable[st
 
 
 def put(context: click.Context, output: str | None, data: bytes) -> None:
-    """Writes what a command prints to its file, or to standard output. Raises Wrong."""
-    if output is None or output == STDIN:
+    """Writes what a command prints to its file, or to standard output; it is held where it is JSON. Raises Wrong."""
+    if output is not None and hasattr(context.obj, "put_to"):
+        context.obj.put_to(output, data)
+    elif output is None or output == STDIN:
         context.obj.put(data)
     else:
         files.written(output, data)

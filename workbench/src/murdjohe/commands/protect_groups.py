@@ -2,11 +2,11 @@
 
 from __future__ import annotations
 
-from murdjohe.answers import api
+from murdjohe.answers import api, envelopes
 from murdjohe.commands import form_run
 from murdjohe.commands.form_run import Settings
 from murdjohe.commands.options import one_input
-from murdjohe.core import files, plain_json, program, progress, streams
+from murdjohe.core import files, program, progress, streams
 from murdjohe.core.streams import Output
 from murdjohe.network import groups, plan_file
 from murdjohe.protection import group_protection, promise
@@ -32,11 +32,15 @@ def run(plan: str, path: str, settings: Settings, output: Output) -> int:
         return on_none(answer.text, settings, output)
     with progress.watched("protect --groups"):
         made = group_protection.made_of(answer.text, table)
-    data = plain_json.text(group_protection.as_data(made)) if settings.is_json else made.data
+    status = program.DONE if made.is_good else program.REFUTED
+    data = made.data
+    if settings.is_json:
+        found = {"answer": group_protection.as_data(made)}
+        data = envelopes.text("protect", status, found, group_protection.said(made))
     if settings.path is not None:
         files.written(settings.path, data)
-    elif status := form_run.put(output, data, settings.is_quiet):
-        return status
+    elif lost := form_run.put(output, data, settings.is_quiet):
+        return lost
     if not (settings.is_quiet or settings.is_json):
         streams.tell(*group_protection.said(made), colour="green" if made.is_good else "yellow")
-    return program.DONE if made.is_good else program.REFUTED
+    return status

@@ -13,6 +13,7 @@ if TYPE_CHECKING:
     from collections.abc import Iterable
 
 OUT, ERR = 1, 2
+heard: list[str] | None = None  # what is told, where it is printed as JSON too
 LONGEST_LINE = 1_000  # signs of a sentence that are shown
 COLOURS = {"red": "31", "green": "32", "yellow": "33", "bold": "1"}
 
@@ -44,11 +45,13 @@ class Output:
 
     def __init__(self, was_closed: bool) -> None:
         self.was_closed = was_closed
+        self.is_begun = False
 
     def put(self, data: bytes) -> None:
         """Writes all of it. Raises Lost where that can't be."""
         if self.was_closed and data:
             raise Lost(errno.EBADF)
+        self.is_begun = self.is_begun or bool(data)
         view = memoryview(data)
         while view:
             try:
@@ -79,7 +82,9 @@ def told(lines: Iterable[str], colour: str) -> str:
 
 
 def tell(*lines: str, colour: str = "red") -> None:
-    """Puts lines on standard error; where that can't be, they are left out."""
+    """Puts lines on standard error; where that can't be, they are left out. They are kept where somebody wants to know them."""
+    if heard is not None:
+        heard.extend(lines)
     encoding = getattr(sys.stderr, "encoding", None) or "utf-8"
     view = memoryview(told(lines, colour).encode(encoding, "backslashreplace"))
     try:
