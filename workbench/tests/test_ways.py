@@ -111,7 +111,7 @@ def test_the_summary_of_works() -> None:
     found = rehearsals.rehearsed(plan, file, 2_160_000)
     rows = worst.summary_of(found, 0)
     layout = places.layout_of(plan.network, None, None)
-    data = page_data.data_of(plan, found, layout, 0, "works", False)
+    data = page_data.data_of(plan, found, layout, 0, "works")
     moments = {0, found.until, *data["changes"]["at"], *(event["at"] for event in data["events"])}
     assert data["summary"] == rows and {row["at"] for row in rows} <= moments
     assert rows[0]["text"] == rehearsals.dark_text(found, 0)
