@@ -1,0 +1,197 @@
+"""Verdicts on the states of a desk, by a pool of programs: the newest state first, and what comes late of an older one is dropped.
+
+Each answer has the number of its state. When a state comes, the programs that still work on older ones are ended.
+"""
+
+from __future__ import annotations
+
+import threading
+from collections.abc import Callable
+from concurrent.futures import ThreadPoolExecutor
+from dataclasses import dataclass, field
+from typing import Any
+
+from murdjohe.answers import api, reports
+from murdjohe.core import forms, program
+from murdjohe.core.faults import Wrong
+from murdjohe.core.program import Answer
+from murdjohe.network import oscillation, plan_file
+from murdjohe.plan.model import Plan
+from murdjohe.plan.plan_lines import PlanLines
+from murdjohe.core.documents import Document
+from murdjohe.runs import ends, simulation
+from murdjohe.runs.moments import Event
+
+LOOP, AGREE, PROTECTED, CHAINS, RUN = "loop", "agree", "protected", "chains", "run"
+ALL = (LOOP, AGREE, PROTECTED, CHAINS, RUN)
+WORKERS = 4
+SHOWN = 200  # gaps that are told one by one
+WITHOUT_BOUND = 60_000  # milliseconds after the last event that a run has whose priorities may go round or oscillate
+
+
+@dataclass(frozen=True)
+class Asked:
+    """A state that is judged: its number, the plan's bytes and model, and its events as bytes and rows."""
+
+    number: int
+    data: bytes
+    plan: Plan
+    event_text: bytes
+    events: tuple[Event, ...]
+
+
+@dataclass(frozen=True)
+class Verdict:
+    """A verdict on a state: its number, which one it is, and what it says."""
+
+    number: int
+    name: str
+    said: dict[str, Any]
+
+
+@dataclass
+class Job:
+    """The work on a state: the programs that run for it."""
+
+    asked: Asked
+    running: set[int] = field(default_factory=set)
+
+
+Tell = Callable[[Verdict], None]
+# What a report of a run becomes for the page.
+Reader = Callable[[Asked, reports.Report, int], dict[str, Any]]
+
+
+def no_run(asked: Asked, report: reports.Report, until: int) -> dict[str, Any]:
+    """A run without its changes."""
+    return {"until": until, "settled": report.is_settled, "stopped": report.stopped_at}
+
+
+class Pool:
+    """The programs that judge states; `tell` is called in a thread of the pool with each verdict on the newest state."""
+
+    def __init__(self, tell: Tell, read: Reader = no_run, workers: int = WORKERS) -> None:
+        self.tell = tell
+        self.reader = read
+        self.threads = ThreadPoolExecutor(workers, "verdicts")
+        self.guard = threading.Lock()
+        self.job: Job | None = None
+
+    def ask(self, asked: Asked) -> None:
+        """Has a state judged; work on any other one ends."""
+        job = Job(asked)
+        with self.guard:
+            before, self.job = self.job, job
+        self.stop(before)
+        self.submit(job, self.ranked)
+
+    @staticmethod
+    def stop(job: Job | None) -> None:
+        """Ends the programs that run for a state."""
+        for child in list(job.running) if job else ():
+            program.stop(child)
+
+    def end(self) -> None:
+        """Ends all work."""
+        with self.guard:
+            job, self.job = self.job, None
+        self.stop(job)
+        self.threads.shutdown(wait=True, cancel_futures=True)
+
+    def submit(self, job: Job, work: Callable[[Job], None]) -> None:
+        """Has a part of the work on a state done, where it is the newest one still."""
+        if self.job is job:
+            try:
+                self.threads.submit(self.done, job, work)
+            except RuntimeError:  # (the pool has ended meanwhile)
+                pass
+
+    def done(self, job: Job, work: Callable[[Job], None]) -> None:
+        """Does a part of the work on a state."""
+        if self.job is not job:
+            return
+        try:
+            work(job)
+        except program.Ended as ended:
+            self.say(job, LOOP, {"fault": str(ended)})  # (dropped where it was ended for a newer state)
+        except (Wrong, program.Absent, program.NoAnswer) as fault:
+            self.say(job, LOOP, {"fault": str(fault)})
+
+    def say(self, job: Job, name: str, said: dict[str, Any]) -> None:
+        """Tells a verdict on a state, where it is the newest one still."""
+        with self.guard:
+            if self.job is job:
+                self.tell(Verdict(job.asked.number, name, said))
+
+    def run(self, job: Job, form: str, *sources: bytes | int) -> Answer:
+        """What the program answers to a form."""
+        with api.named([source for source in sources if isinstance(source, bytes)]) as paths:
+            words = [*paths, *(str(source) for source in sources if isinstance(source, int))]
+            return program.run_kept([form, *words], job.running)
+
+    def ranked(self, job: Job) -> None:
+        """Whether a loop is possible; all else is asked after that, since a plan that is refused has no other verdict."""
+        answer = self.run(job, "rank", job.asked.data)
+        if answer.status not in reports.GOOD:
+            plan_file.taken("the plan", job.asked.data)  # (raises Wrong with the sentence)
+            return
+        ranking = reports.ranking(answer)
+        if ranking.ring is not None:
+            self.say(job, LOOP, {"ring": ranking.ring})
+        else:
+            self.submit(job, lambda one: self.checked(one, answer.text))
+        self.submit(job, lambda one: self.agreed(one, ranking.ring is not None))
+        self.submit(job, self.chained)
+        self.submit(job, self.protected)
+
+    def checked(self, job: Job, certificate: bytes) -> None:
+        """Whether `check` takes the ranks that `rank` gave."""
+        verdict = reports.verdict(self.run(job, "check", job.asked.data, certificate))
+        self.say(job, LOOP, {"accepted": verdict.is_accepted, "falls": verdict.falls})
+
+    def agreed(self, job: Job, has_ring: bool) -> None:
+        """By when the network is at rest, or who may oscillate; and the run of the events, whose end is by that."""
+        found = reports.agreement(self.run(job, "agree", job.asked.data))
+        if found.clash is None:
+            self.say(job, AGREE, {"bound": found.bound, "failures": found.failures})
+        elif has_ring:
+            self.say(job, AGREE, {"skipped": "a loop is possible"})
+        else:
+            plan = PlanLines(Document("the plan", job.asked.data))
+            self.say(job, AGREE, {"clash": found.clash, "remedy": oscillation.told(plan, found.clash)})
+        self.submit(job, lambda one: self.ran(one, None if has_ring else found.bound))
+
+    def chained(self, job: Job) -> None:
+        """The longest chain of timing, and where it ends."""
+        rows = reports.chains(self.run(job, "chains", job.asked.data)).rows
+        if rows is None:
+            self.say(job, CHAINS, {"skipped": "a loop is possible"})
+            return
+        longest = max(rows, key=lambda row: row.links, default=None)
+        since = max((row.since for row in rows), default=0)
+        self.say(
+            job,
+            CHAINS,
+            {"links": longest.links if longest else 0, "since": since, "element": longest and longest.element},
+        )
+
+    def protected(self, job: Job) -> None:
+        """The failures that cut somebody off although a path remains."""
+        rows = reports.gaps(self.run(job, "protected", job.asked.data)).rows
+        gaps = [[row.kind, row.failure, row.elements, row.first] for row in rows[:SHOWN]]
+        self.say(job, PROTECTED, {"count": len(rows), "gaps": gaps})
+
+    def ran(self, job: Job, bound: int | None) -> None:
+        """The run of the events, up to the bound after the last of them."""
+        last = max((event.at for event in job.asked.events), default=0)
+        until = min(ends.whole(last + (WITHOUT_BOUND if bound is None else bound)), forms.DAY_MS)
+        answer = self.run(job, "sim", job.asked.data, job.asked.event_text, until)
+        if answer.status not in reports.GOOD:
+            self.say(job, RUN, {"fault": f"`sim` refused the events: {answer.said.strip()}"})
+            return
+        self.say(job, RUN, self.reader(job.asked, reports.report(answer), until))
+
+
+def events_of(data: bytes) -> tuple[Event, ...]:
+    """The rows of an event list that the program took."""
+    return simulation.EventFile("the events", data).events

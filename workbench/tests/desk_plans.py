@@ -1,0 +1,42 @@
+"""Plans for the tests of the desk."""
+
+from __future__ import annotations
+
+# A ring of three, spelled by a hand: comments, blanks and a key in quotes.
+RING = b"""# the core ring, spelled by hand
+version = 2
+
+[[element]]
+name = "A"     # the exchange
+[[element]]
+name = "B"
+holdoff = 500
+[[element]]
+name = "C"
+
+# the fibre along the river
+[[link]]
+name = "L1"
+a = "A"
+b = "B"
+"priority_b" = 1  # first choice
+[[link]]
+name = "L2"
+a = "B"
+b = "C"
+priority_b = 1
+[[link]]
+name = "L3"
+a = "C"
+b = "A"
+priority_a = 2
+
+[[source]]
+name = "S"
+at = "A"
+level = "QL-PRC"
+"""
+INLINE = b"""element = [{ name = "A" }, { name = "B", floor = "QL-SSU-B" }, { name = "C" }]
+link = [{ name = "L1", a = "A", b = "B", priority_b = 1 }, { name = "L2", a = "B", b = "C" }]
+source = [{ name = "S", at = "A", level = "QL-PRC" }]
+"""
