@@ -2,6 +2,7 @@
 
 from __future__ import annotations
 
+import asyncio
 import json
 from pathlib import Path
 
@@ -14,6 +15,7 @@ from murdjohe import main
 from murdjohe.commands import cli
 from murdjohe.core import streams
 from murdjohe.core.forms import FORMS
+from murdjohe.desk import server
 
 FILES = [
     "plan",
@@ -77,9 +79,18 @@ LIKELY = st.builds(
 )
 
 
+def at_once(_: object) -> asyncio.Event:
+    """What ends a desk as soon as it is served."""
+    ended = asyncio.Event()
+    ended.set()
+    return ended
+
+
 @pytest.fixture
-def files(folder: Path) -> Path:
-    """A folder with a file of each kind."""
+def files(folder: Path, monkeypatch: pytest.MonkeyPatch) -> Path:
+    """A folder with a file of each kind, in which a desk ends at once."""
+    monkeypatch.setattr(server.Server, "ending", at_once)
+    monkeypatch.setenv("XDG_STATE_HOME", str(folder / "states"))
     at = {
         "plan": "ring/plan.toml",
         "certificate": "ring/certificate.csv",

@@ -32,6 +32,7 @@ OWN = {
     "place": ("place", forms.PLANNING, "finds the cheapest sites for clocks and filters"),
     "diff": ("diff", forms.PLANNING, "says what differs between two plans"),
     "orders": ("orders", forms.PLANNING, "prints what to set at each element"),
+    "desk": ("desk", forms.PLANNING, "serves a page on which a plan is changed by pointing"),
     "rehearse": ("rehearse", forms.RUNNING, "shows works as they will go: events, changes, what is rejected"),
     "why": ("why", forms.RUNNING, "says why an element takes what it takes, and what led to it"),
     "failures": ("failures", forms.RUNNING, "writes the failures of a plan, and pairs of them, as cases"),

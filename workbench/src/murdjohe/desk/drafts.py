@@ -108,15 +108,20 @@ class Draft:
 
     def lock(self) -> None:
         """Takes the draft for this desk alone. Raises Wrong where another desk has it."""
+        path = self.path.removesuffix(".draft") + ".lock"
         try:
-            os.makedirs(os.path.dirname(self.path), mode=0o700, exist_ok=True)
-            self.guard = open(self.path.removesuffix(".draft") + ".lock", "ab")
-            fcntl.flock(self.guard, fcntl.LOCK_EX | fcntl.LOCK_NB)
+            os.makedirs(os.path.dirname(path), mode=0o700, exist_ok=True)
+            while True:
+                self.guard = open(path, "ab")
+                fcntl.flock(self.guard, fcntl.LOCK_EX | fcntl.LOCK_NB)
+                if os.path.exists(path) and os.path.samestat(os.fstat(self.guard.fileno()), os.stat(path)):
+                    return
+                self.guard.close()  # (a desk that ended meanwhile took it away)
         except BlockingIOError:
             self.guard.close()
             raise Wrong(f"{self.plan}: another desk has it open; end that one first", status=THERE) from None
         except OSError as fault:
-            raise unwritten(self.path, fault) from None
+            raise unwritten(path, fault) from None
 
     def read(self) -> None:
         """Takes what an earlier desk left that ended before it was saved."""
@@ -182,4 +187,5 @@ class Draft:
             self.file = None
         if is_saved and os.path.exists(self.path):
             os.unlink(self.path)
+        os.unlink(self.guard.name)
         self.guard.close()

@@ -1,0 +1,118 @@
+"""Large plans by regions: parts of some hundred elements that hang together, a map of these, and the network of each.
+
+In the network of a region the elements outside to which its links lead are drawn too. Timing that comes over these is shown as
+from a source called `elsewhere`.
+"""
+
+from __future__ import annotations
+
+from collections import Counter, deque
+from typing import Any
+
+from murdjohe.desk import views
+from murdjohe.desk.views import Sheet
+from murdjohe.plan.model import Element, Link, Plan
+
+SIZE = 300  # elements of a region
+LEAST = 40  # a region with fewer is joined with another one beside it
+
+
+class Regions:
+    """The regions of a plan: the number of each element's, and the sheets of those that were looked into."""
+
+    def __init__(self, of: dict[str, int]) -> None:
+        self.of = of
+        self.sheets: dict[int, Sheet] = {}
+        self.map: Sheet | None = None
+
+    def follow(self, plan: Plan) -> None:
+        """Gives elements that came a region, that of a neighbour where they have one; those that went are forgotten."""
+        beside = neighbours_of(plan)
+        for name in beside:
+            if name not in self.of:
+                self.of[name] = next((self.of[other] for other in beside[name] if other in self.of), 0)
+        self.of = {name: self.of[name] for name in beside}
+
+    def part_of(self, plan: Plan, region: int | None) -> Plan:
+        """The plan of a region with the ends of its links outside; the map of regions as a plan without one."""
+        if region is None:
+            return Plan(plan.option, (), (), ())
+        links = tuple(link for link in plan.links if region in (self.of.get(link.a), self.of.get(link.b)))
+        inside = {name for name, number in self.of.items() if number == region}
+        names = inside.union(*((link.a, link.b) for link in links)) if links else inside
+        elements = tuple(element for element in plan.elements if element.name in names)
+        sources = tuple(source for source in plan.sources if source.at in inside)
+        return Plan(plan.option, elements, links, sources)
+
+    def overview(self, plan: Plan) -> Plan:
+        """The map: a region is an element, called after its first one, and all links between two regions are one."""
+        first: dict[int, str] = {}
+        for element in plan.elements:
+            first.setdefault(self.of[element.name], element.name)
+        sizes = Counter(self.of.values())
+        names = {number: f"{name} +{sizes[number] - 1}" for number, name in first.items()}
+        elements = tuple(Element(names[number], "QL-SEC") for number in sorted(names))
+        between = Counter(
+            tuple(sorted((self.of[link.a], self.of[link.b])))
+            for link in plan.links
+            if self.of[link.a] != self.of[link.b]
+        )
+        links = tuple(Link(f"{count} links", names[a], names[b]) for (a, b), count in sorted(between.items()))
+        return Plan(plan.option, elements, links, ())
+
+    def network(self, plan: Plan, region: int | None) -> dict[str, Any]:
+        """The map of regions, or the network of one of them. Raises Wrong."""
+        if region is None:
+            drawn = self.overview(plan)._replace(option="I")
+            self.map = self.map or views.sheet_of(drawn)
+            found = views.network_of(drawn, self.map)
+            sizes = Counter(self.of.values())
+            return {**found, "regions": [[number, sizes[number]] for number in sorted(sizes)]}
+        part = self.part_of(plan, region)
+        if region not in self.sheets:
+            self.sheets[region] = views.sheet_of(part)
+        sheet = self.sheets[region]
+        views.completed(sheet, part, {})
+        found = views.network_of(part, sheet)
+        for element in found["elements"]:
+            element["outside"] = self.of.get(element["name"]) != region
+        return found
+
+
+def neighbours_of(plan: Plan) -> dict[str, list[str]]:
+    """The neighbours of each element."""
+    found: dict[str, list[str]] = {element.name: [] for element in plan.elements}
+    for link in plan.links:
+        found[link.a].append(link.b)
+        found[link.b].append(link.a)
+    return found
+
+
+def grown(start: str, beside: dict[str, list[str]], left: dict[str, None]) -> list[str]:
+    """Elements that are in no region yet, from one on, the nearest first."""
+    found: list[str] = []
+    waiting = deque([start])
+    del left[start]
+    while waiting and len(found) < SIZE:
+        here = waiting.popleft()
+        found.append(here)
+        for other in beside[here]:
+            if other in left and len(found) + len(waiting) < SIZE:
+                del left[other]
+                waiting.append(other)
+    return found + list(waiting)
+
+
+def regions_of(plan: Plan) -> Regions:
+    """The regions of a plan, by its links; the same for the same plan."""
+    beside = neighbours_of(plan)
+    left: dict[str, None] = dict.fromkeys(beside)
+    of: dict[str, int] = {}
+    count = 0
+    while left:
+        part = grown(next(iter(left)), beside, left)
+        joined = Counter(of[other] for name in part for other in beside[name] if other in of)
+        number = joined.most_common(1)[0][0] if len(part) < LEAST and joined else count
+        count += number == count
+        of.update(dict.fromkeys(part, number))
+    return Regions(of)

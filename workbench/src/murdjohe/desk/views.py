@@ -1,0 +1,189 @@
+"""What the page draws of a desk: elements, lines and sources with their places, and the run of its events in columns.
+
+The shape is that of the page of `report`, so that its modules draw both.
+"""
+
+from __future__ import annotations
+
+from dataclasses import dataclass, field
+from typing import Any
+
+from murdjohe.answers.reports import Change, Report
+from murdjohe.network import wiring
+from murdjohe.network.wiring import Wiring
+from murdjohe.picture import page_data, places
+from murdjohe.picture.page_data import Numbers
+from murdjohe.picture.places import BOX, ELEMENT, SOURCE, Key, Layout, Spots
+from murdjohe.plan.model import Plan
+from murdjohe.runs.moments import Event
+
+EMPTY = Layout({}, 6.0, 4.0)  # the sheet of a plan without elements
+LARGEST = 3_000  # elements that are drawn at once; larger plans are drawn by regions
+MOST_CHANGES = 40_000  # changes of a run that the page gets
+STEP = 1.6  # how far from others a new element stands at least, in boxes
+
+
+@dataclass
+class Sheet:
+    """Where things stand, and how large boxes may be; it stays as it is while elements come and go."""
+
+    spots: Spots = field(default_factory=dict)
+    width: float = EMPTY.width
+    height: float = EMPTY.height
+    scale: float = 1.0
+
+
+def sheet_of(plan: Plan) -> Sheet:
+    """The places of a plan, by Graphviz. Raises Wrong where that isn't there."""
+    if not plan.elements:
+        return Sheet()
+    layout = places.layout_of(plan, places.MAP if places.has_rings(plan) else None, None)
+    scale = round(places.room_of(list(layout.spots.values())), 4)
+    return Sheet(dict(layout.spots), max(layout.width, 3.0), max(layout.height, 2.0), scale)
+
+
+def is_free(sheet: Sheet, x: float, y: float) -> bool:
+    """Whether nothing stands too near to a place."""
+    wide, high = STEP * BOX[0] * sheet.scale, STEP * BOX[1] * sheet.scale
+    return all(abs(x - u) >= wide or abs(y - v) >= high for u, v in sheet.spots.values())
+
+
+def free_spot(sheet: Sheet, x: float, y: float) -> tuple[float, float]:
+    """A free place near one, on squares round it."""
+    wide, high = STEP * BOX[0] * sheet.scale, STEP * BOX[1] * sheet.scale * 1.4
+    for ring in range(60):
+        for across in range(-ring, ring + 1):
+            for up in range(-ring, ring + 1):
+                if max(abs(across), abs(up)) == ring and is_free(sheet, x + across * wide, y + up * high):
+                    return x + across * wide, y + up * high
+    return x, y
+
+
+def wish_of(sheet: Sheet, plan: Plan, name: str) -> tuple[float, float]:
+    """Near which place an element stands that has none: amid its neighbours, or in the middle of the sheet."""
+    beside = [link.b if link.a == name else link.a for link in plan.links if name in (link.a, link.b)]
+    known = [sheet.spots[ELEMENT, one] for one in beside if (ELEMENT, one) in sheet.spots]
+    if not known:
+        return sheet.width / 2, sheet.height / 2
+    return sum(x for x, _ in known) / len(known), sum(y for _, y in known) / len(known)
+
+
+def completed(sheet: Sheet, plan: Plan, wishes: dict[str, tuple[float, float]]) -> None:
+    """Gives a place to whatever has none, an element where that is wished; the sheet grows where it has to. Places of what has gone are
+    kept, so that it comes back to where it was."""
+    for element in plan.elements:
+        if (ELEMENT, element.name) not in sheet.spots:
+            wish = wishes.get(element.name) or wish_of(sheet, plan, element.name)
+            sheet.spots[ELEMENT, element.name] = free_spot(sheet, *wish)
+    for source in plan.sources:
+        if (SOURCE, source.name) not in sheet.spots:
+            x, y = sheet.spots[ELEMENT, source.at]
+            sheet.spots[SOURCE, source.name] = free_spot(sheet, x, y + 2.2 * BOX[1] * sheet.scale)
+    low = min((min(x, y) for x, y in sheet.spots.values()), default=0.0)
+    if low < 0:
+        sheet.spots = {key: (x - low, y - low) for key, (x, y) in sheet.spots.items()}
+    sheet.width = max([sheet.width, *(x + BOX[0] / 2 for x, _ in sheet.spots.values())])
+    sheet.height = max([sheet.height, *(y + BOX[1] for _, y in sheet.spots.values())])
+
+
+def spot(sheet: Sheet, key: Key) -> dict[str, float]:
+    """Where a thing stands, to a hundredth of an inch."""
+    x, y = sheet.spots[key]
+    return {"x": round(x, 2), "y": round(y, 2)}
+
+
+def elements_of(plan: Plan, sheet: Sheet, numbers: Numbers) -> list[dict[str, Any]]:
+    """The elements with what is set at them."""
+    return [
+        {
+            "name": row.name,
+            "own": numbers.levels[row.own],
+            "floor": row.floor,
+            "holdoff": row.holdoff,
+            "wtr": row.wtr,
+            **spot(sheet, (ELEMENT, row.name)),
+        }
+        for row in plan.elements
+    ]
+
+
+def lines_of(wired: Wiring, numbers: Numbers) -> list[dict[str, Any]]:
+    """The lines with the key of their priority."""
+    bundles = {bundle: place for place, bundle in enumerate(dict.fromkeys(one.bundle for one in wired.lines.values()))}
+    return [
+        {
+            "name": line.name,
+            "link": line.link,
+            "key": line.key,
+            "sender": numbers.elements[line.sender],
+            "receiver": numbers.elements[line.receiver],
+            "priority": line.priority,
+            "delay": line.delay,
+            "bundle": bundles[line.bundle],
+            "bundleName": line.bundle[1],
+        }
+        for line in wired.lines.values()
+    ]
+
+
+def sources_of(plan: Plan, sheet: Sheet, numbers: Numbers) -> list[dict[str, Any]]:
+    """The sources."""
+    return [
+        {
+            "name": row.name,
+            "at": numbers.elements[row.at],
+            "level": numbers.levels[row.level],
+            "priority": row.priority,
+            **spot(sheet, (SOURCE, row.name)),
+        }
+        for row in plan.sources
+    ]
+
+
+def network_of(plan: Plan, sheet: Sheet) -> dict[str, Any]:
+    """The network as the page draws it."""
+    wired = wiring.wiring_of(plan)
+    numbers = page_data.numbers_of(wired, plan.option)
+    used = {row.level for row in plan.sources} | {row.own for row in plan.elements}
+    return {
+        "option": plan.option,
+        "elements": elements_of(plan, sheet, numbers),
+        "lines": lines_of(wired, numbers),
+        "sources": sources_of(plan, sheet, numbers),
+        "width": round(sheet.width, 2),
+        "height": round(sheet.height, 2),
+        "box": BOX,
+        "scale": sheet.scale,
+        "levels": page_data.levels_of(plan.option, used),
+        "signs": page_data.SIGNS,
+    }
+
+
+def events_of(wired: Wiring, numbers: Numbers, events: tuple[Event, ...]) -> list[dict[str, Any]]:
+    """Events as the page shows them, with the number that each has at the desk."""
+    rows = [
+        (number, event)
+        for number, event in enumerate(events)
+        if event.what == "clear"
+        and event.target in numbers.elements
+        or all(name in numbers.inputs for name in wired.lines_of(event.target) or (event.target,))
+    ]
+    found = page_data.events_of(wired, numbers, tuple(event for _, event in rows), {})
+    return [{**row, "number": number, "target": event.target} for row, (number, event) in zip(found, rows)]
+
+
+def run_of(plan: Plan, events: tuple[Event, ...], report: Report, until: int) -> dict[str, Any]:
+    """A run as the page shows it; of one with very many changes the first of them."""
+    wired = wiring.wiring_of(plan)
+    numbers = page_data.numbers_of(wired, plan.option)
+    kept = tuple(change for change in report.changes if change.element in numbers.elements)
+    changes: tuple[Change, ...] = kept[:MOST_CHANGES]
+    end = changes[-1].at if len(kept) > MOST_CHANGES else until if report.stopped_at is None else report.stopped_at
+    return {
+        "changes": page_data.columns_of(numbers, changes),
+        "events": events_of(wired, numbers, events),
+        "until": end,
+        "settled": report.is_settled,
+        "stopped": report.stopped_at,
+        "left": len(kept) - len(changes),
+    }
