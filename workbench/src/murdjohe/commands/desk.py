@@ -41,7 +41,6 @@ def desk(context: click.Context, plan: str | None, events: str | None, port: int
     its = server.Server(made)
 
     def ready() -> None:
-        made.begin()
         context.obj.put(f"{its.address}\n".encode())
         if not context.find_root().params["quiet"]:
             found = [f"what wasn't saved was found again, {made.draft.found} changes"] if made.draft.found else []

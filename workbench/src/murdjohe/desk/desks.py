@@ -3,6 +3,7 @@
 from __future__ import annotations
 
 import os
+import threading
 from collections.abc import Callable
 from dataclasses import dataclass, field
 from typing import Any
@@ -77,6 +78,7 @@ class Desk:
         self.draft_fault: str | None = None
         self.sheet = Sheet()
         self.parts: regions.Regions | None = None
+        self.is_laid = threading.Event()
         self.pool = Pool(self.judged, self.ran)
 
     @property
@@ -95,9 +97,10 @@ class Desk:
         return (self.states.data, self.states.events) == (self.kept.plan, self.kept.events)
 
     def begin(self) -> None:
-        """Lays the plan out, and has its first state judged. Raises Wrong."""
-        self.lay_out()
+        """Has the first state judged, and lays the plan out, which takes seconds for some thousand elements."""
         self.judge()
+        self.lay_out()
+        self.is_laid.set()
 
     def end(self) -> None:
         """Ends the desk; its draft stays where something isn't saved."""
@@ -198,7 +201,9 @@ class Desk:
         ]
 
     def state(self, region: int | None) -> dict[str, Any]:
-        """All that the page begins with: the network, or a region of it, or the map of regions, and what is known of it."""
+        """All that the page begins with: the network, or a region of it, or the map of regions, and what is known of it. Waits until
+        the plan is laid out."""
+        self.is_laid.wait()
         found = {
             **self.head(),
             "planFile": self.files.plan,

@@ -1,4 +1,4 @@
-"""Drafts: what was done at a desk since its files were read, a line each, on disk before it is answered, and read again after a crash.
+"""Drafts: what was done at a desk since its files were read, a line each, written before it is answered, and read again after a crash.
 
 A draft stands in the user's folder of states, under a name made of the paths of the plan and the events. Its first line has both files as
 they were read; each further one an edit, or that one was undone, redone or saved. A line that isn't whole, as after a loss of power,
@@ -11,6 +11,7 @@ import fcntl
 import hashlib
 import json
 import os
+from concurrent.futures import ThreadPoolExecutor
 from typing import IO, Any, NamedTuple
 
 from murdjohe.core.faults import Wrong, unwritten
@@ -93,6 +94,14 @@ def replayed(states: States, rows: list[dict[str, Any]]) -> int:
     return len(rows)
 
 
+def synced(number: int) -> None:
+    """Has the disk keep what was written, as far as it can: for a loss of power, since a crash of the desk loses nothing that was written."""
+    try:
+        os.fdatasync(number)
+    except OSError:
+        pass
+
+
 class Draft:
     """The draft of a desk. It is made by the first change; `states` is what it has, or what the files have where there is none."""
 
@@ -103,6 +112,7 @@ class Draft:
         self.file: IO[bytes] | None = None
         self.found = 0  # lines of an earlier desk that were done again
         self.states = States(base.plan, plan, base.events)
+        self.disk = ThreadPoolExecutor(1, "draft")
         self.lock()
         self.read()
 
@@ -158,13 +168,13 @@ class Draft:
         self.write(head_of(self.plan, self.base))
 
     def write(self, line: bytes) -> None:
-        """Writes a line to disk. Raises Wrong."""
+        """Writes a line. Raises Wrong."""
         if self.file is None:
             self.begin()
         try:
             if self.file is not None:
                 self.file.write(line)
-                os.fdatasync(self.file.fileno())
+                self.disk.submit(synced, self.file.fileno())
         except OSError as fault:
             raise unwritten(self.path, fault) from None
 
@@ -182,6 +192,7 @@ class Draft:
 
     def end(self, is_saved: bool) -> None:
         """Ends the draft; where all is saved, it goes."""
+        self.disk.shutdown(wait=True)
         if self.file is not None:
             self.file.close()
             self.file = None

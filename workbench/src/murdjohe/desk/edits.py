@@ -8,6 +8,7 @@ from typing import Any
 
 from murdjohe.core import documents, levels
 from murdjohe.core.faults import Wrong
+from murdjohe.core.times import clock
 from murdjohe.core.wording import plural
 from murdjohe.plan import tables
 from murdjohe.plan.model import Plan
@@ -16,6 +17,7 @@ from murdjohe.plan.plan_lines import KEYS, LIMITS, MUST, NUMBER
 LEVEL_KEYS = ("own", "floor", "level")
 FIXED = ("name", "a", "b", "at", "bundle")  # keys that a row is added with, and keeps
 NONE = "none"
+ARTICLES = {"element": "an", "link": "a", "source": "a"}
 WORDS = ("down", "up", "esmc-off", "esmc-on", "level", "lockout", "unlock", "forced", "manual", "clear-wtr", "clear")
 BOTH = ("down", "up")  # words that may be said of a whole link
 OF_LINES = ("esmc-off", "esmc-on")
@@ -151,14 +153,14 @@ def told(edit: Edit) -> str:
         return f"{edit.by} taken"
     if isinstance(edit, AddEvents):
         words = [" ".join(filter(None, row)) for row in edit.rows[:1]]
-        return f"at {edit.at} ms {edit.by or ''.join(words)}"
+        return f"at {clock(edit.at)} {edit.by or ''.join(words)}"
     return "all events dropped" if isinstance(edit, DropEvents) else f"event {edit.number + 1} dropped"
 
 
 def wrong_value(section: str, key: str, value: object, option: str) -> str | None:
     """What is wrong with a value of a key, if anything is."""
     if key not in KEYS[section]:
-        return f"a {section} has no key {key}"
+        return f"{ARTICLES[section]} {section} has no key {key}"
     if KEYS[section][key] == NUMBER:
         wrong = tables.wrong_number(key, str(value)) if type(value) is int or key in LIMITS else None
         return f"{key} {value}, {wrong}" if wrong else None if type(value) is int else f"{key} is a number"
@@ -188,10 +190,10 @@ def may_set(plan: Plan, edit: SetValue) -> None:
     """Raises Wrong where a value can't be set."""
     known(plan, edit.section, edit.name)
     if edit.key in FIXED:
-        raise Wrong(f"the {edit.key} of a {edit.section} stays: take it away and add another")
+        raise Wrong(f"the {edit.key} of {ARTICLES[edit.section]} {edit.section} stays: take it away and add another")
     if edit.value is None:
         if edit.key not in KEYS[edit.section] or edit.key in MUST[edit.section]:
-            raise Wrong(f"the {edit.key} of a {edit.section} can't be left out")
+            raise Wrong(f"the {edit.key} of {ARTICLES[edit.section]} {edit.section} can't be left out")
     elif wrong := wrong_value(edit.section, edit.key, edit.value, plan.option):
         raise Wrong(wrong)
 
@@ -203,14 +205,14 @@ def may_add(plan: Plan, edit: AddRow) -> None:
         raise Wrong(f"a plan has no section {section!r}")
     for key in MUST[section]:
         if key not in row:
-            raise Wrong(f"a {section} has to have its {key}")
+            raise Wrong(f"{ARTICLES[section]} {section} has to have its {key}")
     for key, value in row.items():
         if wrong := wrong_value(section, key, value, plan.option):
             raise Wrong(wrong)
     others = ("link", "source") if section != "element" else ("element",)
     for other in others:
         if row["name"] in names_in(plan, other):
-            raise Wrong(f"there is a {other} {row['name']} already; choose another name")
+            raise Wrong(f"{row['name']} is the name of {ARTICLES[other]} {other} already; choose another name")
     for key in ("a", "b", "at"):
         if key in row:
             known(plan, "element", str(row[key]))

@@ -42,11 +42,12 @@ def pieces_of(data: bytes, name: str) -> list[Piece]:
         for section in SECTIONS
         for number, (start, end) in enumerate(plan.regions[section])
     )
+    rows = {section: plan.rows(section) for section in SECTIONS}
     found, place = [], 0
     for start, end, section, number in regions:
         if start > place:
             found.append(Piece("", plan.text[place:start], {}))
-        found.append(Piece(section, plan.text[start:end], plan.rows(section)[number]))
+        found.append(Piece(section, plan.text[start:end], rows[section][number]))
         place = end
     return [*found, Piece("", plan.text[place:], {})] if place < len(plan.text) else found
 
@@ -63,6 +64,20 @@ def plan_of(pieces: Iterable[Piece], option: str) -> Plan:
         if piece.section:
             rows[piece.section].append(piece.row)
     return model.plan_of({"option": option, **rows})
+
+
+def with_rows(plan: Plan, rows: Iterable[Piece]) -> Plan:
+    """The plan with other rows in the places of those of their names."""
+    made = plan_of(rows, plan.option)
+    elements = {row.name: row for row in made.elements}
+    links = {row.name: row for row in made.links}
+    sources = {row.name: row for row in made.sources}
+    return Plan(
+        plan.option,
+        tuple(elements.get(row.name, row) for row in plan.elements) if elements else plan.elements,
+        tuple(links.get(row.name, row) for row in plan.links) if links else plan.links,
+        tuple(sources.get(row.name, row) for row in plan.sources) if sources else plan.sources,
+    )
 
 
 def spelled(value: Value) -> str:

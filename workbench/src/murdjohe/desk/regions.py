@@ -1,7 +1,7 @@
 """Large plans by regions: parts of some hundred elements that hang together, a map of these, and the network of each.
 
-In the network of a region the elements outside to which its links lead are drawn too. Timing that comes over these is shown as
-from a source called `elsewhere`.
+In the network of a region the elements outside to which its links lead are drawn too. What one of these takes from other elements
+is shown as a source beyond it.
 """
 
 from __future__ import annotations
@@ -10,8 +10,8 @@ from collections import Counter, deque
 from typing import Any
 
 from murdjohe.desk import views
-from murdjohe.desk.views import Sheet
-from murdjohe.plan.model import Element, Link, Plan
+from murdjohe.desk.views import BEYOND, Sheet
+from murdjohe.plan.model import OWN as WORST, Element, Link, Plan, Source
 
 SIZE = 300  # elements of a region
 LEAST = 40  # a region with fewer is joined with another one beside it
@@ -41,8 +41,9 @@ class Regions:
         inside = {name for name, number in self.of.items() if number == region}
         names = inside.union(*((link.a, link.b) for link in links)) if links else inside
         elements = tuple(element for element in plan.elements if element.name in names)
-        sources = tuple(source for source in plan.sources if source.at in inside)
-        return Plan(plan.option, elements, links, sources)
+        sources = [source for source in plan.sources if source.at in names]
+        beyond = [Source(f"{BEYOND}{name}", name, WORST[plan.option], 0) for name in sorted(names - inside)]
+        return Plan(plan.option, elements, links, (*sources, *beyond))
 
     def overview(self, plan: Plan) -> Plan:
         """The map: a region is an element, called after its first one, and all links between two regions are one."""

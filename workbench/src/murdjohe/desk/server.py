@@ -317,7 +317,9 @@ class Server:
             self.desk.news = lambda kind, data: self.hand_over(loop, kind, data)
             ended = self.ending(loop)
             ready()
+            beginning = loop.run_in_executor(None, self.desk.begin)
             await ended.wait()
+            await beginning
         finally:
             for page in self.pages:
                 page.put_nowait(None)

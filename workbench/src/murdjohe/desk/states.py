@@ -83,20 +83,24 @@ class States:
         self.done: list[Step] = []
         self.undone: list[Step] = []
         self.log: list[Change] = []
-        self._plan: tuple[int, Plan] | None = None
+        # (what is made of the pieces, and kept until they change)
+        self._plan: Plan | None = None
+        self._data: bytes | None = None
         self._places: dict[tuple[str, str], int] | None = None
 
     @property
     def data(self) -> bytes:
         """The plan's bytes, as Save writes them."""
-        return self.mark + pieces.text_of(self.pieces).encode()
+        if self._data is None:
+            self._data = self.mark + pieces.text_of(self.pieces).encode()
+        return self._data
 
     @property
     def plan(self) -> Plan:
         """The plan as the field has it."""
-        if self._plan is None or self._plan[0] != self.number:
-            self._plan = (self.number, pieces.plan_of(self.pieces, self.option))
-        return self._plan[1]
+        if self._plan is None:
+            self._plan = pieces.plan_of(self.pieces, self.option)
+        return self._plan
 
     @property
     def event_text(self) -> bytes:
@@ -186,10 +190,13 @@ class States:
         """Makes splices, or takes them back in the order from the last to the first."""
         for place, old, new in reversed(splices) if is_back else splices:
             self.pieces[place : place + len(new if is_back else old)] = old if is_back else new
-        self._places = None if any(self.is_moving(splice) for splice in splices) else self._places
-        self._plan = None
-        if any(not piece.section for splice in splices for piece in (*splice.old, *splice.new)):
+        self._data = None
+        if any(self.is_moving(splice) for splice in splices):
+            self._places = self._plan = None
             self.option = self.option_now()
+        elif self._plan is not None:
+            rows = [piece for splice in splices for piece in (splice.old if is_back else splice.new)]
+            self._plan = pieces.with_rows(self._plan, rows)
 
     @staticmethod
     def is_moving(splice: Splice) -> bool:

@@ -25,7 +25,9 @@ from murdjohe.runs.moments import Event
 LOOP, AGREE, PROTECTED, CHAINS, RUN = "loop", "agree", "protected", "chains", "run"
 ALL = (LOOP, AGREE, PROTECTED, CHAINS, RUN)
 WORKERS = 4
+PATIENCE = 600  # seconds that `agree` waits for `rank` at most
 SHOWN = 200  # gaps that are told one by one
+SKIPPED = {"skipped": "a loop is possible"}
 WITHOUT_BOUND = 60_000  # milliseconds after the last event that a run has whose priorities may go round or oscillate
 
 
@@ -55,6 +57,8 @@ class Job:
 
     asked: Asked
     running: set[int] = field(default_factory=set)
+    ranked: threading.Event = field(default_factory=threading.Event)
+    has_ring: bool = False
 
 
 Tell = Callable[[Verdict], None]
@@ -83,7 +87,8 @@ class Pool:
         with self.guard:
             before, self.job = self.job, job
         self.stop(before)
-        self.submit(job, self.ranked)
+        for work in (self.ranked, self.agreed, self.chained, self.protected):
+            self.submit(job, work)
 
     @staticmethod
     def stop(job: Job | None) -> None:
@@ -116,6 +121,9 @@ class Pool:
             self.say(job, LOOP, {"fault": str(ended)})  # (dropped where it was ended for a newer state)
         except (Wrong, program.Absent, program.NoAnswer) as fault:
             self.say(job, LOOP, {"fault": str(fault)})
+        finally:
+            if work == self.ranked:
+                job.ranked.set()
 
     def say(self, job: Job, name: str, said: dict[str, Any]) -> None:
         """Tells a verdict on a state, where it is the newest one still."""
@@ -129,43 +137,54 @@ class Pool:
             words = [*paths, *(str(source) for source in sources if isinstance(source, int))]
             return program.run_kept([form, *words], job.running)
 
+    def answered(self, job: Job, form: str) -> Answer | None:
+        """What a form answers to the plan; None where the plan is refused, of which `rank` tells."""
+        answer = self.run(job, form, job.asked.data)
+        return answer if answer.status in reports.GOOD else None
+
     def ranked(self, job: Job) -> None:
-        """Whether a loop is possible; all else is asked after that, since a plan that is refused has no other verdict."""
-        answer = self.run(job, "rank", job.asked.data)
-        if answer.status not in reports.GOOD:
+        """Whether a loop is possible; `check` tests the ranks, where there are some."""
+        answer = self.answered(job, "rank")
+        if answer is None:
             plan_file.taken("the plan", job.asked.data)  # (raises Wrong with the sentence)
             return
-        ranking = reports.ranking(answer)
-        if ranking.ring is not None:
-            self.say(job, LOOP, {"ring": ranking.ring})
+        if answer.status == program.REFUTED:
+            job.has_ring = True
+            self.say(job, LOOP, {"ring": reports.ranking(answer).ring})
         else:
-            self.submit(job, lambda one: self.checked(one, answer.text))
-        self.submit(job, lambda one: self.agreed(one, ranking.ring is not None))
-        self.submit(job, self.chained)
-        self.submit(job, self.protected)
+            self.checked(job, answer.text)
 
     def checked(self, job: Job, certificate: bytes) -> None:
         """Whether `check` takes the ranks that `rank` gave."""
         verdict = reports.verdict(self.run(job, "check", job.asked.data, certificate))
         self.say(job, LOOP, {"accepted": verdict.is_accepted, "falls": verdict.falls})
 
-    def agreed(self, job: Job, has_ring: bool) -> None:
+    def agreed(self, job: Job) -> None:
         """By when the network is at rest, or who may oscillate; and the run of the events, whose end is by that."""
-        found = reports.agreement(self.run(job, "agree", job.asked.data))
+        answer = self.answered(job, "agree")
+        if answer is None:
+            return
+        found = reports.agreement(answer)
         if found.clash is None:
             self.say(job, AGREE, {"bound": found.bound, "failures": found.failures})
-        elif has_ring:
-            self.say(job, AGREE, {"skipped": "a loop is possible"})
         else:
-            plan = PlanLines(Document("the plan", job.asked.data))
-            self.say(job, AGREE, {"clash": found.clash, "remedy": oscillation.told(plan, found.clash)})
-        self.submit(job, lambda one: self.ran(one, None if has_ring else found.bound))
+            job.ranked.wait(PATIENCE)
+            self.say(job, AGREE, SKIPPED if job.has_ring else self.clash_of(job, found.clash))
+        self.submit(job, lambda one: self.ran(one, found.bound))
+
+    @staticmethod
+    def clash_of(job: Job, clash: reports.Loop) -> dict[str, Any]:
+        """The lines that clash, and what ends that."""
+        plan = PlanLines(Document("the plan", job.asked.data))
+        return {"clash": clash, "remedy": oscillation.told(plan, clash)}
 
     def chained(self, job: Job) -> None:
         """The longest chain of timing, and where it ends."""
-        rows = reports.chains(self.run(job, "chains", job.asked.data)).rows
+        answer = self.answered(job, "chains")
+        rows = reports.chains(answer).rows if answer else ()
         if rows is None:
-            self.say(job, CHAINS, {"skipped": "a loop is possible"})
+            self.say(job, CHAINS, SKIPPED)
+        if answer is None or rows is None:
             return
         longest = max(rows, key=lambda row: row.links, default=None)
         since = max((row.since for row in rows), default=0)
@@ -177,7 +196,10 @@ class Pool:
 
     def protected(self, job: Job) -> None:
         """The failures that cut somebody off although a path remains."""
-        rows = reports.gaps(self.run(job, "protected", job.asked.data)).rows
+        answer = self.answered(job, "protected")
+        if answer is None:
+            return
+        rows = reports.gaps(answer).rows
         gaps = [[row.kind, row.failure, row.elements, row.first] for row in rows[:SHOWN]]
         self.say(job, PROTECTED, {"count": len(rows), "gaps": gaps})
 

@@ -5,10 +5,12 @@ The shape is that of the page of `report`, so that its modules draw both.
 
 from __future__ import annotations
 
-from dataclasses import dataclass, field
+import math
+from dataclasses import dataclass, field, replace
 from typing import Any
 
 from murdjohe.answers.reports import Change, Report
+from murdjohe.core.faults import Wrong
 from murdjohe.network import wiring
 from murdjohe.network.wiring import Wiring
 from murdjohe.picture import page_data, places
@@ -18,6 +20,7 @@ from murdjohe.plan.model import Plan
 from murdjohe.runs.moments import Event
 
 EMPTY = Layout({}, 6.0, 4.0)  # the sheet of a plan without elements
+BEYOND = "beyond "  # how a source is called that stands for what an element outside of a region takes
 LARGEST = 3_000  # elements that are drawn at once; larger plans are drawn by regions
 MOST_CHANGES = 40_000  # changes of a run that the page gets
 STEP = 1.6  # how far from others a new element stands at least, in boxes
@@ -34,12 +37,30 @@ class Sheet:
 
 
 def sheet_of(plan: Plan) -> Sheet:
-    """The places of a plan, by Graphviz. Raises Wrong where that isn't there."""
+    """The places of a plan, by Graphviz, or on a circle where that isn't there."""
     if not plan.elements:
         return Sheet()
-    layout = places.layout_of(plan, places.MAP if places.has_rings(plan) else None, None)
+    try:
+        layout = places.layout_of(plan, None, None)
+    except Wrong:
+        layout = on_circle(plan)
     scale = round(places.room_of(list(layout.spots.values())), 4)
     return Sheet(dict(layout.spots), max(layout.width, 3.0), max(layout.height, 2.0), scale)
+
+
+def on_circle(plan: Plan) -> Layout:
+    """The elements on a circle in the order of the plan, each source outside beside its element."""
+    count = len(plan.elements)
+    radius = max(2.0, count * BOX[0] / 4)
+    spots: Spots = {}
+    for number, element in enumerate(plan.elements):
+        angle = 2 * math.pi * number / count
+        spots[ELEMENT, element.name] = (radius * (1.4 + math.cos(angle)), radius * (1.4 + math.sin(angle)))
+    middle = 1.4 * radius
+    for source in plan.sources:
+        x, y = spots[ELEMENT, source.at]
+        spots[SOURCE, source.name] = (middle + (x - middle) * 1.3, middle + (y - middle) * 1.3)
+    return Layout(spots, 2 * middle, 2 * middle)
 
 
 def is_free(sheet: Sheet, x: float, y: float) -> bool:
@@ -172,11 +193,18 @@ def events_of(wired: Wiring, numbers: Numbers, events: tuple[Event, ...]) -> lis
     return [{**row, "number": number, "target": event.target} for row, (number, event) in zip(found, rows)]
 
 
+def seen_from(change: Change, numbers: Numbers) -> Change:
+    """A change as a view shows it: an input that the view doesn't have is the source beyond the element."""
+    if change.input is None or change.input in numbers.inputs:
+        return change
+    return replace(change, input=f"{BEYOND}{change.element}")
+
+
 def run_of(plan: Plan, events: tuple[Event, ...], report: Report, until: int) -> dict[str, Any]:
     """A run as the page shows it; of one with very many changes the first of them."""
     wired = wiring.wiring_of(plan)
     numbers = page_data.numbers_of(wired, plan.option)
-    kept = tuple(change for change in report.changes if change.element in numbers.elements)
+    kept = tuple(seen_from(change, numbers) for change in report.changes if change.element in numbers.elements)
     changes: tuple[Change, ...] = kept[:MOST_CHANGES]
     end = changes[-1].at if len(kept) > MOST_CHANGES else until if report.stopped_at is None else report.stopped_at
     return {

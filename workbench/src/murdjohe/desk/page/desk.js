@@ -1,10 +1,10 @@
 // The desk: the plan and its run, verdicts, what is selected, and what the commands would do, for one person.
 import { Run, clock } from "./model.js";
-import { List, drawStrip, made } from "./tables.js";
+import { List, made } from "./tables.js";
 import { DeskPicture } from "./desk_picture.js";
 import { Panel } from "./desk_panel.js";
 import { Dialogs } from "./desk_dialogs.js";
-import { failing, inputsOf, isDown, millisecond, patched, plural, verdictWords } from "./desk_words.js";
+import { failing, gapWords, inputsOf, isDown, millisecond, patched, plural, verdictWords } from "./desk_words.js";
 import { got, listen, posted } from "./desk_talk.js";
 
 /** The place in the document of a name. */
@@ -12,6 +12,7 @@ const part = name => document.getElementById(name);
 
 const NAMES = ["loop", "agree", "protected", "chains"];
 const NO_CHANGES = {at: [], element: [], mode: [], input: [], level: [], state: []};
+const SMALL = 400;  // elements up to which the tables are filled at once
 const MOST_ROWS = 500;  // rows of a table that are made; a filter finds the others
 
 class Desk {
@@ -20,6 +21,7 @@ class Desk {
     this.region = null;
     this.thing = null;
     this.said = {};
+    this.saidOf = -1;
     this.times = [];
     this.panel = new Panel(this, part);
     this.dialogs = new Dialogs(this, part);
@@ -30,6 +32,7 @@ class Desk {
 
   /** Takes all that the server has: the newest plan, what was said of it, and its run. */
   async load() {
+    if (location.search) history.replaceState(null, "", "/");
     const state = await got(`/state${this.region === null ? "" : `?region=${this.region}`}`);
     this.isMap = state.region === -1;
     this.network = state.network;
@@ -42,9 +45,11 @@ class Desk {
     if (view) this.picture.view = view;
     this.colour();
     part("size").textContent = [["elements", "element"], ["links", "link"], ["sources", "source"]].map(([key, one]) => plural(state.size[key], one)).join(", ");
+    this.runOf = -1;
     this.stand(NO_CHANGES, [], 0);
-    this.said = {};
-    for (const verdict of state.said) this.verdict(verdict);
+    this.fillKeys();
+    for (const verdict of state.said) this.keep(verdict);
+    this.judged();
     this.fillTables();
     this.greet(state);
     document.body.dataset.ready = "yes";
@@ -58,6 +63,8 @@ class Desk {
       this.tell(`What wasn't saved was found again: ${plural(state.found, "change")}.${other}`);
     } else if (this.isMap) {
       this.tell(`${plural(state.size.elements, "element")}: each box is a region, called by its first element; a click opens it.`);
+    } else if (this.region !== null) {
+      this.tell("A region with the elements beside it; what these take from elsewhere is shown as a source beyond them. The verdicts are of the whole plan.");
     } else if (!this.network.elements.length && !this.isGreeted) {
       this.tell("The desk is empty: take tables of an inventory, or add elements.");
     }
@@ -90,42 +97,65 @@ class Desk {
     this.head = data;
     if (data.structure || this.isMap) { this.load().then(() => this.tell(data.words)); return; }
     this.take(data);
-    this.said = {};
     for (const row of data.rows) patched(this.network, row);
-    for (const name of NAMES) this.stripe(name);
+    this.judged();
     this.picture.baseKey = null;
     this.propose(null);
-    this.fillTables();
+    this.fillTablesLater();
     this.show();
     this.tell(data.words);
   }
 
-  /** Takes a verdict; one of another state than the newest is dropped. */
-  verdict({number, name, said}) {
-    if (number !== this.number) return;
-    this.said[name] = said;
-    if (NAMES.includes(name)) this.stripe(name);
-    if (name === "run" && !said.fault) this.fetchRun(number);
-    if (name === "run" && said.fault) this.tell(said.fault, true);
+  /** Keeps a verdict on the newest state that was heard of; one of an older state is dropped. Says whether it was kept. */
+  keep({number, name, said}) {
+    if (number > this.saidOf) { this.saidOf = number; this.said = {}; }
+    if (number === this.saidOf) this.said[name] = said;
+    return number === this.saidOf;
+  }
+
+  /** Takes a verdict; one on a state that isn't shown yet waits. */
+  verdict(verdict) {
+    if (!this.keep(verdict) || verdict.number !== this.number) return;
+    this.shown(verdict.name);
     const left = NAMES.filter(one => !this.said[one]);
-    if (!left.length && this.asked) {
-      this.times.push(performance.now() - this.asked);
-      this.asked = null;
+    if (left.length || !this.asked) return;
+    this.times.push(performance.now() - this.asked);
+    this.asked = null;
+  }
+
+  /** Shows all verdicts that there are on the state that is shown. */
+  judged() {
+    if (this.saidOf < this.number) { this.saidOf = this.number; this.said = {}; }
+    for (const name of NAMES) this.stripe(name);
+    for (const name of Object.keys(this.said)) this.shown(name);
+  }
+
+  /** Shows a verdict: in the strip and the picture, or the run. */
+  shown(name) {
+    if (name === "run") {
+      if (this.said.run.fault) this.tell(this.said.run.fault, true); else this.fetchRun(this.number);
+      return;
     }
-    if (this.picture && name !== "run") { this.mark(); this.paint(); }
+    this.stripe(name);
+    if (!this.picture) return;
+    this.mark();
+    this.paint();
   }
 
   stripe(name) {
-    const [state, words] = verdictWords(name, this.said[name]);
+    const [state, words, premise] = verdictWords(name, this.said[name], this.network.elements.length);
     part(name).textContent = words;
     part(name).dataset.state = state;
+    part(name).title = premise ?? "";
   }
 
   async fetchRun(number) {
     if (this.isMap) return;
     try {
       const found = await got(`/run?on=${number}${this.region === null ? "" : `&region=${this.region}`}`);
-      if (found.number === this.number) this.stand(found.changes, found.events, found.until, found);
+      if (found.number !== this.number) return;
+      this.stand(found.changes, found.events, found.until, found);
+      this.runOf = found.number;
     } catch (fault) { if (fault.status !== 404) this.tell(fault.message, true); }
   }
 
@@ -306,6 +336,18 @@ class Desk {
     this.tell("The server doesn't answer. Nothing is lost: what was done is in the draft. Start `murdjohe desk` again, and open the address that it prints.", true);
   }
 
+  /** What the colours of levels mean. */
+  fillKeys() {
+    for (const node of document.querySelectorAll("#keys .level")) node.remove();
+    const keys = this.network.levels.filter(level => level.isUsed && !this.isMap).map(level => {
+      const key = made("span", "key level", level.name);
+      key.style.background = level.colour;
+      key.style.color = level.ink;
+      return key;
+    });
+    part("keys").prepend(...keys);
+  }
+
   fillEvents(events) {
     part("drop-events").hidden = !events.length;
     part("events").replaceChildren(...events.map(event => {
@@ -314,6 +356,12 @@ class Desk {
       drop.addEventListener("click", () => this.edit({kind: "drop-event", number: event.number}));
       return row;
     }));
+  }
+
+  /** Fills the tables: at once, or those of a large plan once nothing changes for a while. */
+  fillTablesLater() {
+    clearTimeout(this.tablesTimer);
+    if (this.network.elements.length <= SMALL) this.fillTables(); else this.tablesTimer = setTimeout(() => this.fillTables(), 600);
   }
 
   /** The tables of elements, links and sources, as far as their names pass the filter. */
@@ -411,9 +459,9 @@ class Desk {
   showGap() {
     const gaps = this.said.protected?.gaps ?? [];
     if (!gaps.length) return;
-    const [kind, name, , first] = gaps[this.gap = ((this.gap ?? -1) + 1) % gaps.length];
-    this.select({kind: "element", name: first});
-    this.tell(`${kind} ${name} cuts ${first} off, though a path remains`);
+    const gap = gaps[this.gap = ((this.gap ?? -1) + 1) % gaps.length];
+    this.select({kind: "element", name: gap[3]});
+    this.tell(gapWords(gap));
   }
 
   /** Selects the first link of the ring. */
@@ -510,4 +558,3 @@ class Desk {
 }
 
 window.desk = new Desk();
-export { drawStrip };

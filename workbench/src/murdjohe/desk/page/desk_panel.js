@@ -1,6 +1,6 @@
 // What is selected, as a form: its values, its inputs with their priorities, and what may happen to it in the run.
 import { made } from "./tables.js";
-import { failing, inputsOf, isDown } from "./desk_words.js";
+import { inputsOf, isDown } from "./desk_words.js";
 
 /** A labelled field of a form. */
 function field(words, input) {
@@ -123,7 +123,7 @@ export class Panel {
   /** What may happen to a thing in the run. */
   commands(thing) {
     const say = (what, target, value = "") => button(`${what}${value ? ` ${value}` : ""}${target === thing.name ? "" : ` ${target}`}`, () => this.desk.happen([[what, target, value]]));
-    const fails = button(isDown(this.desk.run, thing) ? "Mend it" : "Let it fail", () => this.desk.failOrMend(thing));
+    const fails = button(isDown(this.desk.run, thing) ? "Repair it" : "Let it fail", () => this.desk.failOrMend(thing));
     fails.id = "fail";
     if (thing.kind === "element") return [fails, say("clear", thing.name)];
     const lines = thing.kind === "source" ? [thing.name] : this.network.lines.filter(line => line.link === thing.name).map(line => line.name);
@@ -140,5 +140,3 @@ export class Panel {
     return [fails, group];
   }
 }
-
-export { failing };

@@ -22,35 +22,49 @@ const seconds = length => `${(length / 1000).toFixed(3)} s`;
 /** A number with what is counted. */
 export const plural = (number, what) => `${number.toLocaleString("en")} ${what}${number === 1 ? "" : "s"}`;
 
+const LOOP = "Whatever fails, comes back or is commanded. Two elements on a link or bundle that is nominated at both ends may take timing from each other for a short time.";
+const AGREE = "Out of a network at rest, when only parts go down; the second time is for any event, and counts waits to restore. No switch is in force, and a source is better than every own clock.";
+const PROTECTED = "Links, bundles, sources and elements, each alone. Who has no other way to a clock isn't counted.";
+const CHAINS = "Over all faults and commands at once. G.803 allows 60 lines, and 20 since a filter.";
+
 function loopWords(said) {
   if (said.fault) return ["bad", `refused: ${said.fault}`];
   if (said.ring) return ["bad", `a timing loop may form: ${said.ring.join(" → ")} → ${said.ring[0]}`];
-  if (said.accepted) return ["good", "accepted: no timing loop can form"];
+  if (said.accepted) return ["good", "accepted: no timing loop can form", LOOP];
   return ["bad", `not accepted: ranks fall from ${(said.falls ?? []).join(" to ")}`];
 }
 
 function agreeWords(said) {
   if (said.skipped) return ["waits", `agree: not asked, ${said.skipped}`];
-  if (said.clash) return ["bad", `may oscillate: ${said.clash.join(", ")}`];
-  return ["good", `agreed: at rest ${seconds(said.failures)} after a failure, ${seconds(said.bound)} after any event`];
+  if (said.clash) return ["bad", `may oscillate: ${said.clash.join(", ")}`, said.remedy];
+  return ["good", `agreed: at rest ${seconds(said.failures)} after a failure, ${seconds(said.bound)} after any event`, AGREE];
 }
 
 function protectedWords(said) {
-  if (!said.count) return ["good", "protected: no single failure cuts anybody off who has a way left"];
-  const [kind, name, number, first] = said.gaps[0];
-  return ["mind", `${plural(said.count, "failure")} cut${said.count === 1 ? "s" : ""} off: ${kind} ${name} cuts off ${first}${number > 1 ? ` and ${number - 1} more` : ""}${said.count > 1 ? ", .." : ""}`];
+  if (!said.count) return ["good", "protected: no single failure cuts off an element that has a way left", PROTECTED];
+  const rest = said.count > 1 ? `; ${plural(said.count - 1, "failure")} more` : "";
+  return ["mind", `${gapWords(said.gaps[0])}${rest}`, PROTECTED];
+}
+
+/** Who is cut off by a failure, or without any. */
+export function gapWords([kind, name, number, first]) {
+  const all = number > 1 ? `${first} and ${number - 1} more` : first;
+  if (kind === "none") return `even without a failure ${all} ${number > 1 ? "have" : "has"} no nominated way to a clock, though a path is there`;
+  return `${kind} ${name} cuts off ${all}, though a path remains`;
 }
 
 function chainWords(said) {
   if (said.skipped) return ["waits", `chains: not asked, ${said.skipped}`];
   const state = said.links > 60 || said.since > 20 ? "mind" : "good";
-  return [state, `longest chain ${plural(said.links, "link")}${said.element ? ` into ${said.element}` : ""}, ${said.since} since a filter`];
+  return [state, `longest chain ${plural(said.links, "link")}${said.element ? ` into ${said.element}` : ""}, ${said.since} since a filter`, CHAINS];
 }
 
 const WORDS = {loop: loopWords, agree: agreeWords, protected: protectedWords, chains: chainWords};
+const EMPTY = {loop: "no plan yet", agree: "no times", protected: "nothing that could fail", chains: "no chains"};
 
-/** A verdict as the strip shows it: its state and words. */
-export function verdictWords(name, said) {
+/** A verdict as the strip shows it: its state and words, and the premise. Of a plan without elements none is shown. */
+export function verdictWords(name, said, elements) {
+  if (!elements) return ["waits", EMPTY[name]];
   return said ? WORDS[name](said) : ["waits", `${name} ..`];
 }
 
@@ -84,16 +98,25 @@ export function inputsOf(network) {
   return found;
 }
 
-/** Whether a thing is down at the run's moment. */
-export function isDown(run, thing) {
-  const {lines, sources} = run.network;
-  if (thing.kind === "source") return run.down.has(lines.length + sources.findIndex(one => one.name === thing.name));
-  const its = lines.map((line, number) => [line, number]).filter(([line]) => thing.kind === "link" ? line.link === thing.name
-    : network_of(run, thing.name).includes(line.receiver) || network_of(run, thing.name).includes(line.sender));
-  return its.length > 0 && its.every(([, number]) => run.down.has(number));
+/** The lines and sources that a thing takes down with it, by their numbers as inputs. */
+function inputsOfThing(network, thing) {
+  const {lines, sources, elements} = network, found = [];
+  const place = thing.kind === "element" ? elements.findIndex(one => one.name === thing.name) : -1;
+  lines.forEach((line, number) => {
+    const isIts = thing.kind === "element" ? line.sender === place || line.receiver === place : thing.kind === "link" && line.link === thing.name;
+    if (isIts) found.push(number);
+  });
+  sources.forEach((source, number) => {
+    if (thing.kind === "element" ? source.at === place : thing.kind === "source" && source.name === thing.name) found.push(lines.length + number);
+  });
+  return found;
 }
 
-const network_of = (run, name) => [run.network.elements.findIndex(one => one.name === name)];
+/** Whether a thing is down at the run's moment, with all that belongs to it. */
+export function isDown(run, thing) {
+  const its = inputsOfThing(run.network, thing);
+  return its.length > 0 && its.every(input => run.down.has(input));
+}
 
 /** The rows by which a thing fails or comes back: an element with all its links and sources. */
 export function failing(network, thing, what) {
