@@ -117,6 +117,11 @@ class Page:
             chain.send_keys(key)
         chain.perform()
 
+    def control(self, key: str) -> None:
+        """Presses a key with the control key."""
+        chain = actions.ActionChains(self.browser)
+        chain.key_down(keys.Keys.CONTROL).send_keys(key).key_up(keys.Keys.CONTROL).perform()
+
     def tab_to(self, condition: str) -> None:
         """Goes on by the tabulator up to what a condition holds of."""
         for _ in range(250):

@@ -177,7 +177,7 @@ def test_elements_links_and_sources_come_and_go(browser: Any, first: Running, fo
     page.run("[...document.querySelectorAll('#form button')].find(one => one.textContent === 'Take it away').click()")
     page.judged(4)
     assert page.said("size") == "10 elements, 12 links, 2 sources"
-    page.press(keys.Keys.CONTROL + "z")
+    page.control("z")
     page.judged(5)
     assert page.said("size") == "11 elements, 13 links, 3 sources" and page.errors() == []
 
@@ -282,9 +282,13 @@ def test_names_roles_and_requests(browser: Any, first: Running) -> None:
     assert page.run(script) == []
     assert page.run("return document.documentElement.lang") == "en"
     assert page.browser.find_element("id", "said").get_attribute("role") == "status"
-    assert page.run(
-        "return typeof eval === 'function' && (() => { try { eval('1'); return false; } catch { return true; } })()"
+    inline = "const node = document.createElement('script'); node.textContent = 'window.stranger = 1'; document.body.append(node); return window.stranger"
+    assert page.run(inline) is None
+    outside = (
+        "const done = arguments[0]; fetch('http://127.0.0.1:1/').then(() => done('went out'), () => done('stayed'))"
     )
+    assert browser.execute_async_script(outside) == "stayed"
+    assert all("Content Security Policy" in message for message in page.errors())
 
 
 def test_dark_light_and_print(browser: Any, first: Running, folder: Path) -> None:

@@ -46,6 +46,8 @@ class Desk {
     this.colour();
     part("size").textContent = [["elements", "element"], ["links", "link"], ["sources", "source"]].map(([key, one]) => plural(state.size[key], one)).join(", ");
     this.runOf = -1;
+    this.rows = null;
+    if (this.thing && !this.isThere(this.thing)) this.thing = null;
     this.stand(NO_CHANGES, [], 0);
     this.fillKeys();
     for (const verdict of state.said) this.keep(verdict);
@@ -200,6 +202,13 @@ class Desk {
       link: this.thing?.kind === "link" ? this.thing.name : null,
       source: this.thing?.kind === "source" ? this.network.sources.findIndex(one => one.name === this.thing.name) : -1,
     };
+  }
+
+  /** Whether the network that is shown has a thing. */
+  isThere({kind, name}) {
+    const {elements, lines, sources} = this.network;
+    if (kind === "link") return lines.some(one => one.link === name);
+    return (kind === "element" ? elements : sources).some(one => one.name === name);
   }
 
   /** The number of the selected element, or -1. */
@@ -496,7 +505,7 @@ class Desk {
   /** What a click on the picture does. */
   click(x, y) {
     const hit = this.picture.hitAt(x, y);
-    if (this.dialogs.place(this.picture.sheetAt(x, y))) return;
+    if (!hit) this.dialogs.spot = this.picture.sheetAt(x, y);
     if (hit?.kind === "badge" && !this.isFailing) { this.openBadge(hit.number); return; }
     const thing = this.thingOf(hit);
     if (thing && this.isFailing) this.failOrMend(thing);

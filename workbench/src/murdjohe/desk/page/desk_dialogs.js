@@ -76,6 +76,7 @@ export class Dialogs {
     return {name: value("add-name"), at: value("add-at"), level: value("add-level")};
   }
 
+  /** Adds what the dialog says; an element stands where the picture was clicked last, if nothing was there. */
   async add() {
     const section = this.part("add-kind").value, row = this.rowOf(section);
     try {
@@ -90,9 +91,6 @@ export class Dialogs {
       else this.wrong("add", fault.message);
     }
   }
-
-  /** Whether a click on the sheet only says where the next element stands. */
-  place() { return false; }
 
   openSave() {
     const name = this.desk.name, base = name.split("/").pop().replace(/\.toml$/, "");
