@@ -346,6 +346,17 @@ def test_a_saved_draft_goes_and_a_changed_file_is_told(folder: Path, states_fold
     assert other.states.data == data and other.has_other_base
 
 
+def test_what_the_desk_saved_itself_is_no_change_of_others(folder: Path) -> None:
+    draft = made_draft(SetValue("link", "L1", "priority_b", 2))
+    saved = draft.states.data
+    draft.saved(saved)
+    draft.states.undo(1)
+    draft.did(drafts.UNDO)
+    draft.end(False)
+    again = Draft("plan.toml", None, Base(saved, ()))
+    assert (again.states.data, again.has_other_base) == (RING, False)
+
+
 def test_one_desk_at_a_time(folder: Path) -> None:
     draft = made_draft()
     with pytest.raises(Wrong, match="another desk has it open"):

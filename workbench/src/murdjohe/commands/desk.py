@@ -18,9 +18,8 @@ PORTS = 65_535
 @click.argument("plan", required=False, type=click.Path())
 @click.argument("events", required=False, type=click.Path())
 @click.option("--port", type=click.IntRange(1, PORTS), help="the port; a free one without it")
-@click.option("--browser", is_flag=True, help="opens the page in the browser")
 @click.pass_context
-def desk(context: click.Context, plan: str | None, events: str | None, port: int | None, browser: bool) -> int:
+def desk(context: click.Context, plan: str | None, events: str | None, port: int | None) -> int:
     """Serves a page on which a plan is changed by pointing, with the program's verdicts on each change at once.
 
     It prints the address, which only this user knows, and serves it until Ctrl-C. Priorities stand at the ends of links; elements,
@@ -45,8 +44,6 @@ def desk(context: click.Context, plan: str | None, events: str | None, port: int
         if not context.find_root().params["quiet"]:
             found = [f"what wasn't saved was found again, {made.draft.found} changes"] if made.draft.found else []
             streams.tell("open this address in a browser on this machine; Ctrl-C ends the desk", *found)
-        if browser:
-            click.launch(its.address)
 
     try:
         asyncio.run(its.serve(port or 0, ready))

@@ -70,7 +70,7 @@ class Desk:
         self.draft = Draft(files.plan or os.path.join(files.folder, UNTITLED), files.events, files.base)
         self.first = States(files.base.plan, files.plan or UNTITLED).plan
         self.kept = Kept(files.base.plan, files.base.events)
-        if files.plan is not None:
+        if files.plan is not None and not self.draft.has_other_base:
             self.kept.written[os.path.realpath(files.plan)] = files.base.plan
         self.news: News = lambda kind, data: None
         self.said: dict[str, Verdict] = {}
@@ -255,6 +255,7 @@ class Desk:
         self.kept.written[path] = data
         if kind == saving.PLAN:
             self.kept.plan = data
+            self.drafted(lambda: self.draft.saved(data))
         if kind == saving.EVENTS or (kind == saving.PLAN and not states.events):
             self.kept.events = states.events
         self.news(SAVED, {"saved": self.is_saved, "word": word})

@@ -94,6 +94,11 @@ def replayed(states: States, rows: list[dict[str, Any]]) -> int:
     return len(rows)
 
 
+def digest(plan: bytes) -> str:
+    """What tells whether a file is one that the desk has written."""
+    return hashlib.sha256(plan).hexdigest()
+
+
 def synced(number: int) -> None:
     """Has the disk keep what was written, as far as it can: for a loss of power, since a crash of the desk loses nothing that was written."""
     try:
@@ -150,7 +155,8 @@ class Draft:
         if (states.data, states.events) == (self.base.plan, self.base.events):
             return  # (all of it was saved)
         self.states, self.found = states, followed
-        self.has_other_base = (base.plan, base.events) != (self.base.plan, self.base.events)
+        saved = {row.get("plan") for row in rows if row.get("did") == SAVED}
+        self.has_other_base = base.plan != self.base.plan and digest(self.base.plan) not in saved
         self.base = base
         self.begin()
         for row in rows[1 : 1 + followed]:
@@ -187,8 +193,13 @@ class Draft:
         self.put({"edit": edits.as_data(edit)})
 
     def did(self, what: str) -> None:
-        """Keeps that an edit was undone or redone, or all was saved."""
+        """Keeps that an edit was undone or redone."""
         self.put({"did": what})
+
+    def saved(self, plan: bytes) -> None:
+        """Keeps that the plan was saved, so that the file is known as the desk's own after a crash."""
+        if self.file is not None:
+            self.put({"did": SAVED, "plan": digest(plan)})
 
     def end(self, is_saved: bool) -> None:
         """Ends the draft; where all is saved, it goes."""

@@ -94,6 +94,8 @@ export class DeskPicture extends Picture {
   addCable(run, cable, way) {
     const {start, end} = cable;
     if (this.isOutside(start, end)) return;
+    const halo = `${this.tones.blue} 7 0`;
+    if (!this.strokes.has(halo)) this.strokes.set(halo, {colour: this.tones.blue, width: 7, dashes: [], ways: []});  // (under all else)
     const isChosen = this.marks.link !== null && cable.lines.some(line => this.network.lines[line].link === this.marks.link);
     if (isChosen) this.stroke(start, end, this.tones.blue, 7, []);
     super.addCable(run, cable, way);
@@ -102,7 +104,7 @@ export class DeskPicture extends Picture {
       const [from, to] = line.sender === cable.sender ? [start, end] : [end, start];
       if (this.marks.ring.has(number)) {
         this.arrow(from, to, this.signs.loop, 4);
-        if (this.size[1] > 9) this.words.push([(from[0] + to[0]) / 2, (from[1] + to[1]) / 2 - 11, "may LOOP", 11, this.signs.loop, VEIL, true]);
+        if (number === this.labelled && this.size[1] > 9) this.words.push([(from[0] + to[0]) / 2, (from[1] + to[1]) / 2 - 11, "may LOOP", 11, this.signs.loop, VEIL, true]);
       }
       if (this.hasBadges) this.addBadge(number);
     }
@@ -141,10 +143,22 @@ export class DeskPicture extends Picture {
 
   draw(run, selected) {
     this.badges = [];
+    this.labelled = this.longestOf(this.marks.ring);
     super.draw(run, selected);
     for (const badge of this.badges) this.drawBadge(badge);
     this.network.sources.forEach((source, number) => this.drawSourceBadge(source, number));
     for (const number of this.marks.cut) this.drawCut(number);
+  }
+
+  /** The line of a ring between the two elements that are furthest apart, beside which there is room for words; -1 for none. */
+  longestOf(ring) {
+    let best = 0, found = -1;
+    for (const number of ring) {
+      const line = this.network.lines[number], a = this.spot(this.network.elements[line.sender]), b = this.spot(this.network.elements[line.receiver]);
+      const length = Math.hypot(a[0] - b[0], a[1] - b[1]);
+      if (length > best) { best = length; found = number; }
+    }
+    return found;
   }
 
   drawBadge({x, y, words, isNew, priority}) {
