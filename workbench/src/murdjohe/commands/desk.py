@@ -4,6 +4,7 @@ from __future__ import annotations
 
 import asyncio
 import os
+import sys
 
 import click
 
@@ -12,6 +13,7 @@ from murdjohe.core.faults import Wrong
 from murdjohe.core.inputs import STDIN
 
 PORTS = 65_535
+SWITCH = 0.0005  # seconds for which a thread of the pool may keep the server waiting
 
 
 @click.command("desk")
@@ -36,6 +38,7 @@ def desk(context: click.Context, plan: str | None, events: str | None, port: int
         raise Wrong("desk: it writes plan and events where they were read, so name files")
     from murdjohe.desk import desks, server
 
+    sys.setswitchinterval(SWITCH)
     made = desks.Desk(desks.opened(plan, events, os.getcwd()))
     its = server.Server(made)
 

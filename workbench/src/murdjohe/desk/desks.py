@@ -165,10 +165,10 @@ class Desk:
             self.parts.follow(self.states.plan)
         elif change.is_structure:
             views.completed(self.sheet, self.states.plan, wishes)
-        self.judge()
         self.news(
             CHANGE, {**self.head(), "words": change.words, "structure": change.is_structure, "rows": self.rows(change)}
         )
+        self.judge()
         return change
 
     def rows(self, change: Change) -> list[dict[str, Any]]:

@@ -59,6 +59,10 @@ class Job:
     running: set[int] = field(default_factory=set)
     ranked: threading.Event = field(default_factory=threading.Event)
     has_ring: bool = False
+    bound: int | None = None
+    left: set[str] = field(
+        default_factory=lambda: {LOOP, AGREE, CHAINS}
+    )  # the verdicts before which the run doesn't begin
 
 
 Tell = Callable[[Verdict], None]
@@ -124,6 +128,17 @@ class Pool:
         finally:
             if work == self.ranked:
                 job.ranked.set()
+            self.ended(job, work)
+
+    def ended(self, job: Job, work: Callable[[Job], None]) -> None:
+        """Begins the run of a state once the verdicts are told that don't take long."""
+        names: dict[Callable[[Job], None], str] = {self.ranked: LOOP, self.agreed: AGREE, self.chained: CHAINS}
+        name = names.get(work)
+        with self.guard:
+            is_last = job.left == {name}
+            job.left.discard(name or "")
+        if is_last:
+            self.submit(job, self.ran)
 
     def say(self, job: Job, name: str, said: dict[str, Any]) -> None:
         """Tells a verdict on a state, where it is the newest one still."""
@@ -170,7 +185,7 @@ class Pool:
         else:
             job.ranked.wait(PATIENCE)
             self.say(job, AGREE, SKIPPED if job.has_ring else self.clash_of(job, found.clash))
-        self.submit(job, lambda one: self.ran(one, found.bound))
+        job.bound = found.bound
 
     @staticmethod
     def clash_of(job: Job, clash: reports.Loop) -> dict[str, Any]:
@@ -181,18 +196,15 @@ class Pool:
     def chained(self, job: Job) -> None:
         """The longest chain of timing, and where it ends."""
         answer = self.answered(job, "chains")
-        rows = reports.chains(answer).rows if answer else ()
-        if rows is None:
-            self.say(job, CHAINS, SKIPPED)
-        if answer is None or rows is None:
+        if answer is None:
             return
-        longest = max(rows, key=lambda row: row.links, default=None)
-        since = max((row.since for row in rows), default=0)
-        self.say(
-            job,
-            CHAINS,
-            {"links": longest.links if longest else 0, "since": since, "element": longest and longest.element},
-        )
+        if answer.status == program.REFUTED:
+            self.say(job, CHAINS, SKIPPED)
+            return
+        rows = [line.split(",") for line in answer.said.splitlines()[1:]]
+        longest = max(rows, key=lambda row: int(row[1]), default=["", "0"])
+        since = max((int(row[2]) for row in rows), default=0)
+        self.say(job, CHAINS, {"links": int(longest[1]), "since": since, "element": longest[0] or None})
 
     def protected(self, job: Job) -> None:
         """The failures that cut somebody off although a path remains."""
@@ -203,10 +215,10 @@ class Pool:
         gaps = [[row.kind, row.failure, row.elements, row.first] for row in rows[:SHOWN]]
         self.say(job, PROTECTED, {"count": len(rows), "gaps": gaps})
 
-    def ran(self, job: Job, bound: int | None) -> None:
+    def ran(self, job: Job) -> None:
         """The run of the events, up to the bound after the last of them."""
         last = max((event.at for event in job.asked.events), default=0)
-        until = min(ends.whole(last + (WITHOUT_BOUND if bound is None else bound)), forms.DAY_MS)
+        until = min(ends.whole(last + (WITHOUT_BOUND if job.bound is None else job.bound)), forms.DAY_MS)
         answer = self.run(job, "sim", job.asked.data, job.asked.event_text, until)
         if answer.status not in reports.GOOD:
             self.say(job, RUN, {"fault": f"`sim` refused the events: {answer.said.strip()}"})

@@ -36,6 +36,8 @@ class Desk {
     const state = await got(`/state${this.region === null ? "" : `?region=${this.region}`}`);
     this.isMap = state.region === -1;
     this.network = state.network;
+    this.lineNumbers = new Map(this.network.lines.map((line, number) => [line.name, number]));
+    this.elementNumbers = new Map(this.network.elements.map((element, number) => [element.name, number]));
     this.eventFile = state.eventFile;
     this.head = state;
     this.take(state);
@@ -139,9 +141,7 @@ class Desk {
       return;
     }
     this.stripe(name);
-    if (!this.picture) return;
-    this.mark();
-    this.paint();
+    if (this.picture) this.paint();
   }
 
   stripe(name) {
@@ -181,7 +181,6 @@ class Desk {
     part("slider").setAttribute("aria-valuetext", text);
     part("time").textContent = text;
     if (document.activeElement !== part("at")) part("at").value = text;
-    this.mark();
     this.paint();
     this.list.follow();
     this.updateRows();
@@ -191,8 +190,7 @@ class Desk {
 
   /** What the picture shows besides the run. */
   mark() {
-    const names = new Map(this.network.lines.map((line, number) => [line.name, number]));
-    const place = new Map(this.network.elements.map((element, number) => [element.name, number]));
+    const names = this.lineNumbers, place = this.elementNumbers;
     const numbers = (list, map) => new Set(list.map(name => map.get(name)).filter(number => number !== undefined));
     const gaps = this.said.protected?.gaps ?? [];
     this.picture.marks = {
@@ -213,7 +211,7 @@ class Desk {
 
   /** The number of the selected element, or -1. */
   get selected() {
-    return this.thing?.kind === "element" ? this.network.elements.findIndex(one => one.name === this.thing.name) : -1;
+    return this.thing?.kind === "element" ? this.elementNumbers.get(this.thing.name) ?? -1 : -1;
   }
 
   /** Paints with the next frame, however often it is asked. */
@@ -223,6 +221,7 @@ class Desk {
     requestAnimationFrame(() => {
       this.isPainting = false;
       const start = performance.now();
+      this.mark();
       this.picture.draw(this.run, this.selected);
       this.frame = performance.now() - start;
     });
@@ -230,7 +229,6 @@ class Desk {
 
   show() {
     this.panel.show(this.thing);
-    this.mark();
     this.paint();
   }
 
@@ -454,6 +452,7 @@ class Desk {
 
   printed(isLight) {
     this.colour(isLight);
+    this.mark();
     this.picture.draw(this.run, this.selected);
   }
 

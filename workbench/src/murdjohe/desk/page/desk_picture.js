@@ -94,11 +94,9 @@ export class DeskPicture extends Picture {
   addCable(run, cable, way) {
     const {start, end} = cable;
     if (this.isOutside(start, end)) return;
-    const halo = `${this.tones.blue} 7 0`;
-    if (!this.strokes.has(halo)) this.strokes.set(halo, {colour: this.tones.blue, width: 7, dashes: [], ways: []});  // (under all else)
-    const isChosen = this.marks.link !== null && cable.lines.some(line => this.network.lines[line].link === this.marks.link);
-    if (isChosen) this.stroke(start, end, this.tones.blue, 7, []);
+    if (!this.strokes.size) this.addHalo();
     super.addCable(run, cable, way);
+    if (!this.marks.ring.size && !this.hasBadges) return;
     for (const number of cable.lines) {
       const line = this.network.lines[number];
       const [from, to] = line.sender === cable.sender ? [start, end] : [end, start];
@@ -107,6 +105,14 @@ export class DeskPicture extends Picture {
         if (number === this.labelled && this.size[1] > 9) this.words.push([(from[0] + to[0]) / 2, (from[1] + to[1]) / 2 - 11, "may LOOP", 11, this.signs.loop, VEIL, true]);
       }
       if (this.hasBadges) this.addBadge(number);
+    }
+  }
+
+  /** The selected link, under all else that is drawn. */
+  addHalo() {
+    const {link} = this.marks;
+    for (const cable of link === null ? [] : this.cables) {
+      if (cable.lines.some(line => this.network.lines[line].link === link)) this.stroke(cable.start, cable.end, this.tones.blue, 7, []);
     }
   }
 
