@@ -97,6 +97,9 @@ def test_the_page_of_each_group_has_its_commands_and_no_others() -> None:
             assert f".Xr {other} 1" in page
 
 
+NAMED_OTHERWISE = {"elftools": "pyelftools"}  # modules whose Debian package has another name
+
+
 def imported(path: Path) -> set[str]:
     """The packages that a module imports, anywhere in it."""
     found = set()
@@ -105,7 +108,7 @@ def imported(path: Path) -> set[str]:
             found |= {name.name.partition(".")[0] for name in node.names}
         elif isinstance(node, ast.ImportFrom):
             found.add((node.module or "").partition(".")[0])
-    return found - set(sys.stdlib_module_names) - {"murdjohe"}
+    return {NAMED_OTHERWISE.get(name, name) for name in found - set(sys.stdlib_module_names) - {"murdjohe"}}
 
 
 def test_only_declared_packages_are_imported() -> None:

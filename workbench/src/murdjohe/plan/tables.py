@@ -106,8 +106,7 @@ def new_names(names: list[str]) -> dict[str, str]:
 
 def looks_like(kind: str, table: Table) -> str:
     """The kind of table whose columns this one has, of several the kind that needs most; `kind` where it is none."""
-    columns = {*table.headers, *map(table_reader.plain, table.extra)}
-    fits = [one for one in TABLES if set(TABLES[one].needed) <= columns]
+    fits = [one for one in TABLES if {*TABLES[one].needed} <= {*table.headers, *map(table_reader.plain, table.extra)}]
     return max(fits, key=lambda one: len(TABLES[one].needed), default=kind)
 
 
@@ -200,12 +199,10 @@ class Reading:
     def swapped(self) -> None:
         """Raises Wrong where the tables have one another's columns: words that were swapped."""
         looks = {kind: looks_like(kind, table) for kind, table in self.tables.items()}
-        wrong = {kind: like for kind, like in looks.items() if like != kind}
-        if wrong and sorted(looks) == sorted(looks.values()):
+        if any(like != kind for kind, like in looks.items()) and sorted(looks) == sorted(looks.values()):
+            said = "it has the columns of a table of {}s, and is named where one of {}s is read"
             lines = (
-                f"{self.tables[kind].path}: it has the columns of a table of {like}s, "
-                f"and is named where one of {kind}s is read"
-                for kind, like in wrong.items()
+                f"{self.tables[kind].path}: {said.format(like, kind)}" for kind, like in looks.items() if like != kind
             )
             raise unusable(*lines, "are the tables swapped? Their order is ELEMENTS LINKS SOURCES")
 
