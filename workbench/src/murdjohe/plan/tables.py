@@ -19,12 +19,11 @@ from murdjohe.plan.model import Plan
 from murdjohe.plan.side_table import Cell
 from murdjohe.plan.table_reader import Columns, Row, Table
 
+LINK_NUMBERS = ("priority_a", "priority_b", "delay_a", "delay_b")
 # For each table the columns that it must have, and those that may be missing.
 TABLES = {
     "element": Columns(("name",), ("own", "holdoff", "wtr", "floor")),
-    "link": Columns(
-        ("name", "a", "b"), ("priority_a", "priority_b", "delay_a", "delay_b", "bundle", "duct", "port_a", "port_b")
-    ),
+    "link": Columns(("name", "a", "b"), (*LINK_NUMBERS, "bundle", "duct", "port_a", "port_b")),
     "source": Columns(("name", "at", "level"), ("priority", "port")),
 }
 NUMBERS = frozenset(plan_lines.LIMITS)
@@ -199,11 +198,10 @@ class Reading:
     def swapped(self) -> None:
         """Raises Wrong where the tables have one another's columns: words that were swapped."""
         looks = {kind: looks_like(kind, table) for kind, table in self.tables.items()}
-        if any(like != kind for kind, like in looks.items()) and sorted(looks) == sorted(looks.values()):
+        wrong = {self.tables[kind].path: (like, kind) for kind, like in looks.items() if like != kind}
+        if wrong and sorted(looks) == sorted(looks.values()):
             said = "it has the columns of a table of {}s, and is named where one of {}s is read"
-            lines = (
-                f"{self.tables[kind].path}: {said.format(like, kind)}" for kind, like in looks.items() if like != kind
-            )
+            lines = (f"{path}: {said.format(*kinds)}" for path, kinds in wrong.items())
             raise unusable(*lines, "are the tables swapped? Their order is ELEMENTS LINKS SOURCES")
 
     def wrong(self, table: Table, row: Row, column: str, what: str) -> None:
