@@ -158,6 +158,17 @@ def test_the_keyboard_is_enough(browser: Any, works: str) -> None:
     assert first == "00:01:00.000" and browser.get_log("browser") == []
 
 
+def test_the_summary_goes_to_its_moments(browser: Any, works: str) -> None:
+    browser.get(works)
+    rows = browser.find_elements("css selector", "#worst li")
+    assert rows and rows[0].text.partition(" ")[2].startswith("nobody is without a source at the end")
+    for row in rows:
+        button = row.find_element("css selector", "button")
+        button.click()
+        assert said(browser, "time") == button.text
+    assert browser.get_log("browser") == []
+
+
 def test_a_screen_reader_has_names_and_a_status(browser: Any, works: str) -> None:
     browser.get(works)
     script = """return [...document.querySelectorAll('button, input, canvas#picture, [tabindex="0"]')].filter(
@@ -190,7 +201,12 @@ def test_it_prints_on_a4(browser: Any, works: str, folder: Path) -> None:
     assert all(abs(width - 595) < 2 and abs(height - 842) < 2 for width, height in sizes) and len(sizes) == 1
     if shutil.which("pdftotext"):
         text = started(["pdftotext", str(folder / "page.pdf"), "-"]).out.decode()
-        assert "redundant.toml, works.csv" in text and "accepted: ranks rise over every hop" in text
+        assert "redundant.toml, works.csv" in text and "accepted: no loop is possible" in text
+        # (no value is cut: level, state, line and time of each element stand whole on the paper)
+        words = text.split()
+        assert "…" not in text and "Summary," in words
+        for _, shows, takes in shown(browser):
+            assert all(word in text.replace("\n", "") for word in (*shows.split(), takes)), takes
 
 
 def large_page(folder: Path) -> str:

@@ -97,7 +97,7 @@ class Page {
   /** The worst moments of the works, each with a button that goes there. */
   fillSummary() {
     part("worst").replaceChildren(...this.data.summary.map(one => {
-      const row = made("li", one.isBad ? "bad" : ""), button = row.appendChild(made("button", "name", one.time));
+      const row = made("li", one.isBad ? "bad" : ""), button = row.appendChild(made("button", "name moment", one.time));
       button.addEventListener("click", () => this.show(this.main, this.data.title, this.main.moments.indexOf(one.at)));
       row.append(` ${one.text}`);
       return row;
