@@ -13,6 +13,7 @@ from elftools.elf.elffile import ELFFile
 from conftest import EXAMPLES, TOP, started
 
 from murdjohe.core.forms import FORMS
+from murdjohe.main import LIBRARIES
 
 RING = EXAMPLES / "ring"
 
@@ -191,3 +192,37 @@ def test_the_package_declares_what_it_needs() -> None:
     debian = {line.split()[0].removeprefix("python3-") for line in wanted.splitlines() if line.startswith("python3-")}
     (declared,) = re.findall(r"^dependencies = \[(.*)\]$", (TOP / "workbench" / "pyproject.toml").read_text(), re.M)
     assert {re.match(r"[a-z0-9-]+", one.strip(' "'))[0] for one in declared.split(",")} == debian  # type: ignore[index]
+
+
+def test_a_missing_package_is_told_with_what_installs_it(folder: Path) -> None:
+    """Libraries that can't be imported, one or all: a sentence, by whatever needs them."""
+    for gone, words in (
+        (LIBRARIES, ["lint", "plan.toml"]),
+        (LIBRARIES, ["rank", "--help"]),
+        (("matplotlib",), ["draw", "plan.toml", "-o", "plan.svg"]),
+        (("jinja2",), ["orders", "plan.toml", "--template", "t.j2", "-o", "out"]),
+    ):
+        (folder / "plan.toml").write_bytes((RING / "plan.toml").read_bytes())
+        (folder / "t.j2").write_text("{{ element.name }}\n")
+        hidden = f"sys.meta_path.insert(0, type('Gone', (), {{'find_spec': staticmethod(gone)}}))"
+        script = f"""import sys
+def gone(name, path=None, target=None):
+    if name.partition('.')[0] in {gone}:
+        raise ModuleNotFoundError(f'No module named {{name!r}}', name=name)
+{hidden}
+import importlib.util
+real = importlib.util.find_spec
+importlib.util.find_spec = lambda name: None if name in {gone} else real(name)
+sys.argv = ['murdjohe', *{words}]
+from murdjohe.main import start
+start()
+"""
+        ran = started(["/usr/bin/python3", "-c", script], folder, b"", PYTHONPATH=str(TOP / "workbench" / "src"))
+        packages = [f"python3-{name}" for name in gone]
+        said = f"{', '.join(packages)} {'is' if len(gone) == 1 else 'are'} not installed"
+        assert (ran.status, ran.err) == (69, f"murdjohe: {said}: sudo apt-get install {' '.join(packages)}\n")
+
+
+def test_the_libraries_are_those_of_the_package() -> None:
+    wanted = (TOP / "workbench" / "packages").read_text().partition("# tests")[0]
+    assert sorted(LIBRARIES) == sorted(re.findall(r"^python3-(\S+)", wanted, re.M))

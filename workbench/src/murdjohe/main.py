@@ -14,6 +14,8 @@ from murdjohe.core.row_columns import RowFault
 from murdjohe.core.streams import Output
 
 ENDING = (1, 15)  # SIGHUP and SIGTERM (the module `signal` takes long to import)
+# The libraries that commands import; Debian's package of each is called python3- and its name.
+LIBRARIES = ("click", "rich", "matplotlib", "dpkt", "networkx", "jinja2", "numpy", "scipy", "distributed")
 INTERRUPTED = 130  # as a shell says of a command that Ctrl-C ended
 
 
@@ -65,10 +67,23 @@ def guarded(words: list[str], output: Output) -> int:
     except Exception as mistake:
         if (status := ended_by(mistake)) is not None:
             return status
+        if isinstance(mistake, ModuleNotFoundError) and (lacking := missing(mistake.name or "")):
+            return refused(words, output, program.UNAVAILABLE, lacking)
         from murdjohe.core import crash
 
         streams.tell(crash.told(mistake))
         return program.MISTAKE
+
+
+def missing(name: str) -> str | None:
+    """What is told where a library isn't installed, with all that are missing; None of what is no such library."""
+    if name.partition(".")[0] not in LIBRARIES:
+        return None
+    from importlib.util import find_spec
+
+    packages = [f"python3-{library}" for library in LIBRARIES if find_spec(library) is None]
+    verb = "is" if len(packages) == 1 else "are"
+    return f"{', '.join(packages)} {verb} not installed: sudo apt-get install {' '.join(packages)}"
 
 
 def refused(words: list[str], output: Output, status: int, *said: str) -> int:

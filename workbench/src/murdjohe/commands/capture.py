@@ -9,7 +9,7 @@ from typing import Any
 import click
 
 from murdjohe.capture import talk_faults
-from murdjohe.commands import capture_compare, capture_watch
+from murdjohe.commands import capture_compare, capture_watch, widths
 from murdjohe.commands.capture_options import EVENTS, LINE, LOCAL, OPTION, ended
 from murdjohe.commands.options import Milliseconds, free, output_options, put
 from murdjohe.core import program, streams
@@ -34,7 +34,7 @@ def capture(context: click.Context) -> None:
     counts. Each ESMC frame is decoded by the proved program.
     """
     if context.invoked_subcommand is None:
-        context.obj.put((context.get_help().rstrip("\n") + "\n").encode())
+        context.obj.put((widths.fitted(context.get_help()).rstrip("\n") + "\n").encode())
 
 
 capture.add_command(capture_watch.watch)

@@ -9,7 +9,7 @@ import textwrap
 import click
 from click.shell_completion import CompletionItem
 
-from murdjohe.commands import form_run, topics
+from murdjohe.commands import form_run, topics, widths
 from murdjohe.commands.form_run import JSON, QUIET, Settings
 from murdjohe.core import documents, forms, inputs, program, streams, times
 from murdjohe.core.faults import Wrong
@@ -74,7 +74,7 @@ LAST = f"""\
 def shown_help(context: click.Context, _: click.Parameter, is_asked: bool) -> None:
     """Prints the help of a command and ends it."""
     if is_asked and not context.resilient_parsing:
-        context.obj.put((context.get_help().rstrip("\n") + "\n").encode())
+        context.obj.put((widths.fitted(context.get_help()).rstrip("\n") + "\n").encode())
         context.exit()
 
 

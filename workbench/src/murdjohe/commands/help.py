@@ -4,9 +4,12 @@ from __future__ import annotations
 
 import click
 
-from murdjohe.commands import topics
+from murdjohe.commands import topics, widths
 from murdjohe.core import documents, program, streams
 from murdjohe.core.forms import FORMS
+
+
+JSON = "json"  # the topic that is no text
 
 
 def begun(context: click.Context, parameter: click.Parameter, incomplete: str) -> list[str]:
@@ -40,7 +43,8 @@ def help_command(context: click.Context, topic: str | None) -> int:
         known = f"the topics are {', '.join(topics.TOPICS)}, the groups {', '.join(cli.GROUPS)}"
         streams.tell(f'unknown command or topic "{topic}"{hint}; {known}')
         return program.USAGE
-    context.obj.put((text.rstrip("\n") + "\n").encode())
+    shown = text if topic == JSON else widths.fitted(text)  # (a schema is for programs)
+    context.obj.put((shown.rstrip("\n") + "\n").encode())
     return program.DONE
 
 
