@@ -232,7 +232,8 @@ def test_the_plan_that_is_written_is_what_the_program_says(folder: Path) -> None
     assert at == {site["element"] for site in said["sites"]}
     assert max(row.hops or 0 for row in forms.hops(placed).result.rows) == said["links"]
     again = murdjohe(*words, folder=folder)
-    assert (again.status, again.out) == (20 + 2, b"")  # it is there already
+    refusal = json.loads(again.out)["refusal"]["sentence"]
+    assert (again.status, refusal) == (22, "placed.toml is there already; --force writes over it")
 
 
 def test_a_clock_that_stands_costs_nothing_and_stays(folder: Path) -> None:
