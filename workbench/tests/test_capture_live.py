@@ -6,7 +6,7 @@ import shutil
 from pathlib import Path
 
 import pytest
-from conftest import EXAMPLES, murdjohe, started
+from conftest import EXAMPLES, LAUNCHER, murdjohe, started
 
 from bench import captures as made
 from murdjohe.capture import encapsulation
@@ -25,6 +25,22 @@ timeout 20 tcpdump -i "$interface" --immediate-mode -s 2000 -U -c "$count" -w ca
 catcher=$!
 until grep -q 'listening on' said; do
     kill -0 "$catcher" 2> /dev/null || { cat said >&2; exit 1; }
+    sleep 0.1
+done
+tcpreplay -q -i v0 --topspeed to-send > sent 2>&1 || { cat sent >&2; exit 1; }
+wait "$catcher"
+"""
+# usage: sh -c WATCHED sh COMMAND COUNT: watches so many packets on v1 while they are sent, and ends by itself
+WATCHED = """\
+set -e
+command=$1 count=$2
+ip link set lo up
+ip link add v0 type veth peer name v1
+ip link set v0 up
+ip link set v1 up
+timeout 30 tcpdump -i v1 --immediate-mode -U -c "$count" -w - ether proto 0x8809 2> said | "$command" capture watch --rows > rows &
+catcher=$!
+until grep -q 'listening on' said; do
     sleep 0.1
 done
 tcpreplay -q -i v0 --topspeed to-send > sent 2>&1 || { cat sent >&2; exit 1; }
@@ -83,3 +99,13 @@ def test_a_live_capture_on_any(folder: Path) -> None:
         assert its == [row.split(",", 2)[2] for row in made.ROWS]
     ran = murdjohe("capture", "read", "caught", folder=folder)
     assert f"murdjohe: 16 frames {encapsulation.COOKED_HEAD}\n" in ran.err
+
+
+def test_a_wire_is_watched(folder: Path) -> None:
+    stimulus = EXAMPLES / "lab" / "stimulus.rows"
+    rows = [line.split(",", 2)[2] for line in stimulus.read_text().splitlines()]
+    (folder / "to-send").write_bytes(murdjohe("capture", "write", str(stimulus)).out)
+    ran = started(["unshare", "-n", "sh", "-c", WATCHED, "sh", str(LAUNCHER), str(len(rows))], folder)
+    assert ran.status == 0, ran.err
+    assert [line.split(",", 2)[2] for line in (folder / "rows").read_text().splitlines()] == rows
+    assert "is heard, with " in ran.err
