@@ -197,8 +197,8 @@ def test_the_package_declares_what_it_needs() -> None:
 def test_a_missing_package_is_told_with_what_installs_it(folder: Path) -> None:
     """Libraries that can't be imported, one or all: a sentence, by whatever needs them."""
     for gone, words in (
-        (LIBRARIES, ["lint", "plan.toml"]),
-        (LIBRARIES, ["rank", "--help"]),
+        (tuple(LIBRARIES), ["lint", "plan.toml"]),
+        (tuple(LIBRARIES), ["rank", "--help"]),
         (("matplotlib",), ["draw", "plan.toml", "-o", "plan.svg"]),
         (("jinja2",), ["orders", "plan.toml", "--template", "t.j2", "-o", "out"]),
     ):
@@ -218,11 +218,11 @@ from murdjohe.main import start
 start()
 """
         ran = started(["/usr/bin/python3", "-c", script], folder, b"", PYTHONPATH=str(TOP / "workbench" / "src"))
-        packages = [f"python3-{name}" for name in gone]
+        packages = [f"python3-{LIBRARIES[name]}" for name in gone]
         said = f"{', '.join(packages)} {'is' if len(gone) == 1 else 'are'} not installed"
         assert (ran.status, ran.err) == (69, f"murdjohe: {said}: sudo apt-get install {' '.join(packages)}\n")
 
 
 def test_the_libraries_are_those_of_the_package() -> None:
     wanted = (TOP / "workbench" / "packages").read_text().partition("# tests")[0]
-    assert sorted(LIBRARIES) == sorted(re.findall(r"^python3-(\S+)", wanted, re.M))
+    assert sorted(LIBRARIES.values()) == sorted(re.findall(r"^python3-(\S+)", wanted, re.M))

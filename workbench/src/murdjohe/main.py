@@ -15,7 +15,9 @@ from murdjohe.core.streams import Output
 
 ENDING = (1, 15)  # SIGHUP and SIGTERM (the module `signal` takes long to import)
 # The libraries that commands import; Debian's package of each is called python3- and its name.
-LIBRARIES = ("click", "rich", "matplotlib", "dpkt", "networkx", "jinja2", "numpy", "scipy", "distributed")
+# The libraries that commands import, by the name of a module, with Debian's name of the package behind python3-.
+LIBRARIES = {name: name for name in ("click", "rich", "matplotlib", "dpkt", "networkx", "jinja2", "numpy", "scipy")}
+LIBRARIES |= {"distributed": "distributed", "elftools": "pyelftools", "aiohttp": "aiohttp"}
 INTERRUPTED = 130  # as a shell says of a command that Ctrl-C ended
 
 
@@ -81,7 +83,7 @@ def missing(name: str) -> str | None:
         return None
     from importlib.util import find_spec
 
-    packages = [f"python3-{library}" for library in LIBRARIES if find_spec(library) is None]
+    packages = [f"python3-{package}" for library, package in LIBRARIES.items() if find_spec(library) is None]
     verb = "is" if len(packages) == 1 else "are"
     return f"{', '.join(packages)} {verb} not installed: sudo apt-get install {' '.join(packages)}"
 
