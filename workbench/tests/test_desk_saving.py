@@ -72,6 +72,30 @@ def test_tables_become_the_plan(folder: Path) -> None:
     assert b"<title>untitled.toml" in (folder / "page.html").read_bytes()
 
 
+def table(text: str, name: str) -> dict[str, str]:
+    """A table of a text as the page sends it."""
+    return {"name": name, "data": base64.b64encode(text.encode()).decode()}
+
+
+def test_ports_stay_beside_the_plan(folder: Path) -> None:
+    links = "name,a,b,port_a,port_b,duct\nL1,A,B,ge-1,ge-2,river\nL2,B,A,,ge-9,\n"
+    given = {"element": table("name\nA\nB\n", "e.csv"), "link": table(links, "l.csv")}
+    with running(folder=folder) as desk:
+        said = posted(desk, "/tables", on=0, tables=given)[1]["said"]
+        assert any("duct" in one for one in said) and "3 ports: Save writes them beside the plan" in said
+        assert state_of(desk)["ports"] == {"L1>A": "ge-1", "L1>B": "ge-2", "L2>A": "ge-9"}
+        assert posted(desk, "/edit", on=1, edit={"kind": "take-away", "section": "link", "name": "L2"})[0] == 200
+        desk.ended(signal.SIGKILL)
+    with running(folder=folder) as desk:
+        assert posted(desk, "/save", on=2, what="plan", word="plan.toml")[0] == 200
+        assert posted(desk, "/save", on=2, what="ports", word="plan.ports.csv")[0] == 200
+        assert posted(desk, "/undo", on=2)[0] == 200 and len(state_of(desk)["ports"]) == 3
+    beside = b"kind,name,column,value\nlink,L1,port_a,ge-1\nlink,L1,port_b,ge-2\n"
+    assert (folder / "plan.ports.csv").read_bytes() == beside
+    with running("plan.toml", folder=folder) as desk:
+        assert state_of(desk)["ports"] == {"L1>A": "ge-1", "L1>B": "ge-2"}
+
+
 def test_save_writes_below_the_folder_alone(folder: Path) -> None:
     top = folder / "top"
     (top / "sub").mkdir(parents=True)

@@ -19,7 +19,9 @@ from murdjohe.desk.views import Sheet
 from murdjohe.network import plan_file, wiring
 from murdjohe.picture import page_data
 from murdjohe.picture.places import Layout
+from murdjohe.plan import side_table
 from murdjohe.plan.model import Plan
+from murdjohe.plan.side_table import Cell, Side
 from murdjohe.runs import simulation
 from murdjohe.runs.moments import Event
 
@@ -38,6 +40,7 @@ class Files:
     events: str | None
     folder: str
     base: Base
+    cells: tuple[Cell, ...] = ()
 
 
 def opened(plan: str | None, events: str | None, folder: str) -> Files:
@@ -50,7 +53,9 @@ def opened(plan: str | None, events: str | None, folder: str) -> Files:
         file = simulation.read_events(events)
         simulation.report_of(taken, file, 0)  # (told here where it is refused)
         rows = file.events
-    return Files(plan, events, folder, Base(taken.data, rows))
+    side = side_table.beside(plan, None, taken.network)
+    cells = tuple((*key, column, value) for key, columns in side.items() for column, value in columns.items())
+    return Files(plan, events, folder, Base(taken.data, rows), cells)
 
 
 @dataclass
@@ -193,6 +198,19 @@ class Desk:
             "events": self.event_rows(),
         }
 
+    def cells(self) -> tuple[Cell, ...]:
+        """The table beside the plan, as it is here, as far as its rows are still there."""
+        names = side_table.names_of(self.states.plan)
+        found = self.files.cells if self.states.cells is None else self.states.cells
+        return tuple(cell for cell in found if cell[1] in names[cell[0]])
+
+    def ports(self) -> dict[str, str]:
+        """The port into which each line leads, where it is known."""
+        side: Side = {}
+        for kind, name, column, value in self.cells():
+            side.setdefault((kind, name), {})[column] = value
+        return side_table.ports_of(side, self.states.plan)
+
     def event_rows(self) -> list[dict[str, Any]]:
         """The events in their order."""
         return [
@@ -211,6 +229,7 @@ class Desk:
             "found": self.draft.found,
             "otherBase": self.draft.has_other_base,
             "size": self.size(),
+            "ports": self.ports(),
             "said": [{"number": one.number, "name": one.name, "said": one.said} for one in self.said.values()],
         }
         if self.parts is None:
@@ -268,6 +287,8 @@ class Desk:
             return states.data
         if kind == saving.EVENTS:
             return states.event_text
+        if kind == saving.PORTS:
+            return side_table.text_of(self.cells())
         if kind == saving.ORDERS:
             return saving.orders_of(states.plan, self.first, os.path.splitext(word)[1])
         until = self.report[2] if self.report else 0

@@ -12,6 +12,7 @@ from murdjohe.core.times import clock
 from murdjohe.core.wording import plural
 from murdjohe.plan import tables
 from murdjohe.plan.model import Plan
+from murdjohe.plan.side_table import Cell
 from murdjohe.plan.plan_lines import KEYS, LIMITS, MUST, NUMBER
 
 LEVEL_KEYS = ("own", "floor", "level")
@@ -59,10 +60,11 @@ class TakeOver:
 
 @dataclass(frozen=True)
 class TakeText:
-    """Another plan as a whole; `by` says what it was made of."""
+    """Another plan as a whole; `by` says what it was made of. `cells` are of the table beside it: ports and other columns."""
 
     by: str
     text: str
+    cells: tuple[Cell, ...] = ()
 
 
 @dataclass(frozen=True)
@@ -115,9 +117,10 @@ def is_fitting(key: str, value: object) -> bool:
         return isinstance(value, dict) and all(isinstance(part, (int, str)) for part in value.values())
     if key == "priorities":
         return isinstance(value, dict) and all(type(part) is int for part in value.values())
-    if key == "rows":
+    if key in ("rows", "cells"):
+        long = 3 if key == "rows" else 4
         is_list = isinstance(value, (list, tuple)) and all(isinstance(row, (list, tuple)) for row in value)
-        return is_list and all(len(row) == 3 and all(isinstance(part, str) for part in row) for row in value)  # type: ignore[attr-defined]
+        return is_list and all(len(row) == long and all(isinstance(part, str) for part in row) for row in value)  # type: ignore[attr-defined]
     return isinstance(value, str)
 
 
@@ -129,8 +132,8 @@ def of_data(data: object) -> Edit:
     given = {key: value for key, value in data.items() if key != "kind"}
     if any(key not in kind.__dataclass_fields__ or not is_fitting(key, value) for key, value in given.items()):
         raise Wrong(f"that is no edit of the kind {data['kind']}")
-    if kind is AddEvents and "rows" in given:
-        given["rows"] = tuple(tuple(row) for row in given["rows"])
+    for key in {"rows", "cells"} & given.keys():
+        given[key] = tuple(tuple(row) for row in given[key])
     try:
         return kind(**given)
     except TypeError:

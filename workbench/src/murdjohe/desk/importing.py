@@ -6,9 +6,11 @@ import os
 import tempfile
 
 from murdjohe.core.faults import Wrong
+from murdjohe.core.wording import plural
+from murdjohe.desk.edits import TakeText
 from murdjohe.network import plan_file
 from murdjohe.plan import tables
-from murdjohe.plan.tables import Made, Settings
+from murdjohe.plan.tables import PORTS, Made, Settings
 
 KINDS = ("element", "link", "source")
 
@@ -37,8 +39,9 @@ def without(text: str, folder: str) -> str:
     return text
 
 
-def plan_of(given: dict[str, tuple[str, bytes]], option: str) -> tuple[str, list[str]]:
-    """The plan of tables of elements, links and perhaps sources, each with its name, and what is to be known beside it. Raises Wrong."""
+def plan_of(given: dict[str, tuple[str, bytes]], option: str) -> tuple[TakeText, list[str]]:
+    """The edit that takes tables of elements, links and perhaps sources, each with its name, and what is to be known beside it. Raises
+    Wrong."""
     if "element" not in given or "link" not in given:
         raise Wrong("choose a table of elements and one of links; one of sources may follow")
     if option not in ("I", "II"):
@@ -53,4 +56,11 @@ def plan_of(given: dict[str, tuple[str, bytes]], option: str) -> tuple[str, list
     said += [f"{without(one, folder)}: no columns of a plan, and ignored" for one in made.ignored]
     if "source" not in given:
         said.append("there is no table of sources: nothing in the plan is a clock yet")
-    return made.plan, said
+    if made.ducts:
+        said.append(
+            f"{plural(len(made.ducts), 'duct')}: the desk has no place for these; `import` writes them as groups"
+        )
+    ports = tuple(cell for cell in made.cells if cell[2] in PORTS)
+    if ports:
+        said.append(f"{plural(len(ports), 'port')}: Save writes them beside the plan")
+    return TakeText(f"{len(given)} tables", made.plan, ports), said

@@ -17,8 +17,8 @@ from murdjohe.plan.model import Plan
 from murdjohe.runs import rehearsals
 from murdjohe.runs.simulation import EventFile
 
-PLAN, EVENTS, ORDERS, PAGE = "plan", "events", "orders", "page"
-KINDS = {PLAN: (".toml",), EVENTS: (".csv",), ORDERS: (".csv", ".txt", ".md"), PAGE: (".html",)}
+PLAN, EVENTS, ORDERS, PAGE, PORTS = "plan", "events", "orders", "page", "ports"
+KINDS = {PLAN: (".toml",), EVENTS: (".csv",), ORDERS: (".csv", ".txt", ".md"), PAGE: (".html",), PORTS: (".ports.csv",)}
 
 
 def place_of(word: str, named: str | None, folder: str) -> str:

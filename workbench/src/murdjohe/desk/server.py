@@ -278,8 +278,7 @@ class Server:
         for kind, table in its.items() if isinstance(its, dict) else ():
             if kind in importing.KINDS and isinstance(table, dict):
                 found[kind] = (str(table.get("name")), base64.b64decode(str(table.get("data")), validate=True))
-        text, said = await self.worked(lambda: importing.plan_of(found, str(given.get("option", "I"))))
-        edit = edits.TakeText(f"{len(found)} tables", text)
+        edit, said = await self.worked(lambda: importing.plan_of(found, str(given.get("option", "I"))))
         return {**self.done(self.desk.edit(edit, self.on(given)).number), "said": said}
 
     async def orders(self, given: dict[str, Any]) -> Any:

@@ -24,6 +24,7 @@ from murdjohe.desk.edits import (
 from murdjohe.desk.pieces import Piece, Value
 from murdjohe.plan.edits import MARK
 from murdjohe.plan.model import Plan
+from murdjohe.plan.side_table import Cell
 from murdjohe.runs import failures, simulation
 from murdjohe.runs.moments import Event
 
@@ -107,6 +108,12 @@ class States:
         """The event list as `sim` reads it, with times in milliseconds."""
         rows = failures.lines_of((event.at, event.what, event.target, event.value) for event in self.events)
         return simulation.NO_EVENTS + rows.encode()
+
+    @property
+    def cells(self) -> tuple[Cell, ...] | None:
+        """The table beside the plan, where the plan was made of tables here; None where it is the one on disk."""
+        taken = [step.edit for step in self.done if isinstance(step.edit, TakeText)]
+        return taken[-1].cells if taken else None
 
     def option_now(self) -> str:
         """The option of the plan."""

@@ -39,6 +39,7 @@ class Desk {
     this.lineNumbers = new Map(this.network.lines.map((line, number) => [line.name, number]));
     this.elementNumbers = new Map(this.network.elements.map((element, number) => [element.name, number]));
     this.eventFile = state.eventFile;
+    this.ports = state.ports;
     this.head = state;
     this.take(state);
     const view = this.picture && this.drawn === `${this.region}` ? this.picture.view : null;
@@ -69,8 +70,8 @@ class Desk {
       this.tell(`${plural(state.size.elements, "element")}: each box is a region, called by its first element; a click opens it.`);
     } else if (this.region !== null) {
       this.tell("A region with the elements beside it; what these take from elsewhere is shown as a source beyond them. The verdicts are of the whole plan.");
-    } else if (!this.network.elements.length && !this.isGreeted) {
-      this.tell("The desk is empty: take tables of an inventory, or add elements.");
+    } else if (!this.isGreeted) {
+      this.tell(this.network.elements.length ? "" : "The desk is empty: take tables of an inventory, or add elements.");
     }
     this.isGreeted = true;
   }

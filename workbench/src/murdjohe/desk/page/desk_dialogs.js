@@ -94,7 +94,8 @@ export class Dialogs {
 
   openSave() {
     const name = this.desk.name, base = name.split("/").pop().replace(/\.toml$/, "");
-    const values = {plan: name, events: this.desk.eventFile ?? `${base}-events.csv`, orders: `${base}-orders.csv`, page: `${base}.html`};
+    const values = {plan: name, events: this.desk.eventFile ?? `${base}-events.csv`, orders: `${base}-orders.csv`, page: `${base}.html`, ports: `${base}.ports.csv`};
+    this.part("save-ports-part").hidden = !Object.keys(this.desk.ports).length;
     for (const [kind, value] of Object.entries(values)) if (!this.part(`save-${kind}`).value) this.part(`save-${kind}`).value = value;
     this.part("save-said").textContent = "";
     this.open("save");

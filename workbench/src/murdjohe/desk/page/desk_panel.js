@@ -103,7 +103,8 @@ export class Panel {
       const into = this.network.elements[line.receiver].name;
       const box = number(line.priority, 0, 255, value => this.set("link", name, line.key, value));
       const delay = number(line.delay, 1, 2000, value => this.set("link", name, line.key.replace("priority", "delay"), value));
-      found.push(field(`priority at ${into}`, this.keyed(line.name, box)));
+      const port = this.desk.ports[line.name] ? `, port ${this.desk.ports[line.name]}` : "";
+      found.push(field(`priority at ${into}${port}`, this.keyed(line.name, box)));
       found.push(field(`delay into ${into}, ms`, this.keyed(`delay ${line.name}`, delay)));
     }
     return found.length ? [...found, this.goes("link", name)] : [];
