@@ -250,20 +250,23 @@ def test_two_pages_on_one_desk(browser: Any, first: Running) -> None:
     mine = browser.current_window_handle
     one.judged(0)
     browser.switch_to.new_window("tab")
+    theirs = browser.current_window_handle
     try:
         other = Page(browser, first.address)
         other.judged(0)
         other.run("desk.edit({kind: 'value', section: 'link', name: 'R6', key: 'priority_a', value: 9})")
         other.judged(1)
-        theirs = browser.current_window_handle
         browser.switch_to.window(mine)
         one.judged(1)  # (it is told)
-        one.run("desk.number = 0; desk.edit({kind: 'value', section: 'link', name: 'R6', key: 'priority_a', value: 1})")
+        one.run("desk.number = 0; desk.edit({kind: 'value', section: 'link', name: 'R6', key: 'priority_a', value: 4})")
         one.until("document.getElementById('conflict').open")
         assert one.said("conflict-since") == "priority_a of link R6: 9"
-        one.until("desk.number === 1")
-        browser.switch_to.window(theirs)
+        one.judged(1)
+        one.click("again")
+        one.judged(2)
+        assert one.run("return desk.network.lines.find(one => one.name === 'R6>agg-4').priority") == 4
     finally:
+        browser.switch_to.window(theirs)
         browser.close()
         browser.switch_to.window(mine)
 

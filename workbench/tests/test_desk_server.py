@@ -222,9 +222,10 @@ def test_two_pages_on_one_desk(ring: Running) -> None:
 
 def test_commands_propose_and_are_taken_as_one_edit(ring: Running) -> None:
     status, found = posted(ring, "/propose", on=0, by="protect")
+    (found,) = found["sets"]
     assert status == 200 and found["said"][0].endswith("would change; checked: accepted, agreed, protected"), found
     assert posted(ring, "/edit", on=0, edit=found["edit"]) == (200, {"number": 1})
-    assert posted(ring, "/propose", on=1, by="repair")[1]["rows"] == []
+    assert [one["rows"] for one in posted(ring, "/propose", on=1, by="repair")[1]["sets"]] == [[]]
     assert posted(ring, "/propose", on=1, by="survey")[0] == 422
     assert posted(ring, "/undo", on=1)[0] == 200
 

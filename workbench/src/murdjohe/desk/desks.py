@@ -104,8 +104,10 @@ class Desk:
     def begin(self) -> None:
         """Has the first state judged, and lays the plan out, which takes seconds for some thousand elements."""
         self.judge()
-        self.lay_out()
-        self.is_laid.set()
+        try:
+            self.lay_out()
+        finally:
+            self.is_laid.set()
 
     def end(self) -> None:
         """Ends the desk; its draft stays where something isn't saved."""

@@ -35,10 +35,10 @@ class Proposal:
         return TakeOver(self.by, {name: new for name, _, new in self.rows})
 
 
-def written_by(command: str, taken: PlanFile) -> bytes:
-    """The plan that a command writes. Raises Wrong where it finds none."""
+def written_by(command: str, taken: PlanFile) -> list[bytes]:
+    """The plan that a command writes; by `repair` one for each of its sets, the best first. Raises Wrong where it finds none."""
     if command == NOMINATE:
-        return api.nominate(taken.data).text
+        return [api.nominate(taken.data).text]
     if command == PROTECT:
         found = api.protect(taken.data).result
         if found.text is None:
@@ -46,23 +46,28 @@ def written_by(command: str, taken: PlanFile) -> bytes:
             raise Wrong(
                 f"protect finds no priorities: {number} would cut elements off; an element's sources use all priorities"
             )
-        return found.text.encode()
+        return [found.text.encode()]
     kept = promise.lines_kept(taken.data) if taken.ranking.ring else ()
     repair = repairs.agreeing_sets(taken.plan, taken.data, repairs.repair_of(taken.network, kept=kept))
-    return repairs.mended(taken.plan, repair.sets[0]) if repair.sets else taken.data
+    return [repairs.mended(taken.plan, one) for one in repair.sets] or [taken.data]
 
 
-def proposed(command: str, data: bytes) -> Proposal:
-    """What a command would change of a plan. Raises Wrong."""
+def proposed(command: str, data: bytes) -> list[Proposal]:
+    """What a command would change of a plan; `repair` may find several sets. Raises Wrong."""
     if command not in COMMANDS:
         raise Wrong(f"{command!r} proposes nothing: it has to be {', '.join(COMMANDS)}")
     taken = plan_file.taken("the plan", data)
     try:
-        written = PlanLines(Document("the plan", written_by(command, taken)))
+        written = written_by(command, taken)
     except api.Refused as refused:
         raise Wrong(refused.sentence, status=refused.status) from None
     before = priorities.priorities_of(taken.network)
-    after = priorities.priorities_of(written.network)
+    return [proposal_of(command, data, before, one) for one in written]
+
+
+def proposal_of(command: str, data: bytes, before: dict[str, int], written: bytes) -> Proposal:
+    """What differs in a plan that a command wrote, and what the program says of it."""
+    after = priorities.priorities_of(PlanLines(Document("the plan", written)).network)
     rows = tuple((name, before[name], after[name]) for name in before if before[name] != after[name])
     return Proposal(command, rows, said_of(command, data, rows))
 

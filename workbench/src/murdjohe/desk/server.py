@@ -243,7 +243,8 @@ class Server:
         self.desk.states.meant_for(self.on(given))
         command, data = str(given.get("by")), self.desk.states.data
         found = await self.worked(lambda: proposals.proposed(command, data))
-        return {"on": self.on(given), "rows": found.rows, "said": found.said, "edit": edits.as_data(found.edit)}
+        sets = [{"rows": one.rows, "said": one.said, "edit": edits.as_data(one.edit)} for one in found]
+        return {"on": self.on(given), "sets": sets}
 
     async def why(self, given: dict[str, Any]) -> Any:
         """Why an element takes what it takes in a millisecond of the run."""

@@ -272,7 +272,7 @@ class Desk {
     try {
       return await posted(path, {on: this.number, ...data});
     } catch (fault) {
-      if (fault.status === 409) this.dialogs.conflict(fault.since);
+      if (fault.status === 409) this.dialogs.conflict(fault.since, () => this.ask(path, data));
       this.tell(fault.message, true);
       this.show();
       return null;
@@ -303,13 +303,19 @@ class Desk {
     this.tell(`${by} works ..`);
     const found = await this.ask("/propose", {by});
     this.asked = null;
-    if (!found || found.on !== this.number) return;
-    this.proposal = found;
-    part("proposal-head").textContent = `What ${by} would change`;
+    if (found && found.on === this.number) this.showProposal(by, found.sets, 0);
+  }
+
+  /** Shows one of the sets of priorities that a command found. */
+  showProposal(by, sets, place) {
+    const found = this.proposal = sets[place], many = sets.length > 1 ? ` (${place + 1} of ${sets.length})` : "";
+    part("proposal-head").textContent = `What ${by} would change${many}`;
     part("proposal-said").replaceChildren(...found.said.map(words => made("p", "", words)));
     const row = ([name, old, value]) => made("li", "", `${name}: ${value || "none"}, which was ${old || "none"}`);
     part("proposal-rows").replaceChildren(...found.rows.map(row));
     part("take").disabled = !found.rows.length;
+    part("other").hidden = sets.length < 2;
+    part("other").onclick = () => this.showProposal(by, sets, (place + 1) % sets.length);
     part("proposal").hidden = false;
     part("proposal").focus();
     this.tell(found.said[0]);

@@ -87,7 +87,7 @@ export class Dialogs {
       this.part("add-name").focus();
       this.desk.thing = {kind: section, name: row.name};
     } catch (fault) {
-      if (fault.since) { this.part("add").close(); this.conflict(fault.since); }
+      if (fault.since) { this.part("add").close(); this.conflict(fault.since, () => this.desk.edit({kind: "add", section, row}, this.spot)); }
       else this.wrong("add", fault.message);
     }
   }
@@ -147,10 +147,11 @@ export class Dialogs {
     return row;
   }
 
-  /** Says that an edit wasn't made, since the plan has changed. */
-  conflict(since) {
+  /** Says that an edit wasn't made, since the plan has changed; it is made by wish on the newest one. */
+  async conflict(since, again) {
     this.part("conflict-since").replaceChildren(...(since ?? []).map(words => made("li", "", words)));
+    await this.desk.load();
     this.open("conflict");
-    this.desk.load();
+    this.part("again").onclick = () => { this.part("conflict").close(); again(); };
   }
 }
