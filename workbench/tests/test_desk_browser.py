@@ -208,6 +208,19 @@ def test_a_night_of_works_with_why_beside_it(browser: Any, night: Running, folde
     assert page.errors() == []
 
 
+def test_times_of_day(browser: Any, folder: Path) -> None:
+    (folder / "plan.toml").write_bytes((INVENTORY / "plan.toml").read_bytes())
+    (folder / "works.csv").write_text("at,what,target,value\n23:10,down,R3,\n00:30,up,R3,\n")
+    with running("plan.toml", "works.csv", "--start", "23:00", folder=folder) as desk:
+        page = Page(browser, desk.address)
+        page.judged(0)
+        assert page.said("events") == "23:10:00.000 down R3 drop00:30:00.000 up R3 drop"
+        page.run("document.getElementById('at').value = '23:20'; desk.happen([['down', 'gnss-a', '']])")
+        page.judged(1)
+        assert page.said("said") == "at 23:20:00.000 down gnss-a"
+        assert page.run("return desk.run.events.map(event => event.at)") == [600_000, 1_200_000, 5_400_000]
+
+
 def test_all_failures_as_a_map(browser: Any, night: Running) -> None:
     page = Page(browser, night.address)
     page.judged(0)

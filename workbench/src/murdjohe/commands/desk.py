@@ -8,6 +8,7 @@ import sys
 
 import click
 
+from murdjohe.commands.options import START
 from murdjohe.core import program, streams
 from murdjohe.core.faults import Wrong
 from murdjohe.core.inputs import STDIN
@@ -20,8 +21,9 @@ SWITCH = 0.0005  # seconds for which a thread of the pool may keep the server wa
 @click.argument("plan", required=False, type=click.Path())
 @click.argument("events", required=False, type=click.Path())
 @click.option("--port", type=click.IntRange(1, PORTS), help="the port; a free one without it")
+@START
 @click.pass_context
-def desk(context: click.Context, plan: str | None, events: str | None, port: int | None) -> int:
+def desk(context: click.Context, plan: str | None, events: str | None, port: int | None, start: int | None) -> int:
     """Serves a page on which a plan is changed by pointing, with the program's verdicts on each change at once.
 
     It prints the address, which only this user knows, and serves it until Ctrl-C. Priorities stand at the ends of links; elements,
@@ -39,7 +41,7 @@ def desk(context: click.Context, plan: str | None, events: str | None, port: int
     from murdjohe.desk import desks, server
 
     sys.setswitchinterval(SWITCH)
-    made = desks.Desk(desks.opened(plan, events, os.getcwd()))
+    made = desks.Desk(desks.opened(plan, events, os.getcwd(), start))
     its = server.Server(made)
 
     def ready() -> None:

@@ -41,21 +41,22 @@ class Files:
     folder: str
     base: Base
     cells: tuple[Cell, ...] = ()
+    start: int = 0
 
 
-def opened(plan: str | None, events: str | None, folder: str) -> Files:
-    """Reads the files of a desk. Raises Wrong where the program refuses one."""
+def opened(plan: str | None, events: str | None, folder: str, start: int | None = None) -> Files:
+    """Reads the files of a desk, whose run may begin at a time of day. Raises Wrong where the program refuses one."""
     if plan is None:
-        return Files(None, None, folder, Base(pieces.EMPTY, ()))
+        return Files(None, None, folder, Base(pieces.EMPTY, ()), (), start or 0)
     taken = plan_file.read(plan)
     rows: tuple[Event, ...] = ()
     if events is not None:
-        file = simulation.read_events(events)
+        file = simulation.read_events(events, start)
         simulation.report_of(taken, file, 0)  # (told here where it is refused)
         rows = file.events
     side = side_table.beside(plan, None, taken.network)
     cells = tuple((*key, column, value) for key, columns in side.items() for column, value in columns.items())
-    return Files(plan, events, folder, Base(taken.data, rows), cells)
+    return Files(plan, events, folder, Base(taken.data, rows), cells, start or 0)
 
 
 @dataclass
@@ -72,7 +73,7 @@ class Desk:
 
     def __init__(self, files: Files) -> None:
         self.files = files
-        self.draft = Draft(files.plan or os.path.join(files.folder, UNTITLED), files.events, files.base)
+        self.draft = Draft(files.plan or os.path.join(files.folder, UNTITLED), files.events, files.base, files.start)
         self.first = States(files.base.plan, files.plan or UNTITLED).plan
         self.kept = Kept(files.base.plan, files.base.events)
         if files.plan is not None and not self.draft.has_other_base:
@@ -232,6 +233,7 @@ class Desk:
             "otherBase": self.draft.has_other_base,
             "size": self.size(),
             "ports": self.ports(),
+            "start": self.files.start,
             "said": [{"number": one.number, "name": one.name, "said": one.said} for one in self.said.values()],
         }
         if self.parts is None:
@@ -294,7 +296,7 @@ class Desk:
         if kind == saving.ORDERS:
             return saving.orders_of(states.plan, self.first, os.path.splitext(word)[1])
         until = self.report[2] if self.report else 0
-        return saving.page_of(self.name, states.data, states.event_text, until, self.layout())
+        return saving.page_of(self.name, states.data, states.event_text, until, self.layout(), self.files.start)
 
     def numbers(self) -> page_data.Numbers:
         """The numbers of the elements, inputs and levels."""

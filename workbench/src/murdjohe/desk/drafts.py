@@ -110,13 +110,14 @@ def synced(number: int) -> None:
 class Draft:
     """The draft of a desk. It is made by the first change; `states` is what it has, or what the files have where there is none."""
 
-    def __init__(self, plan: str, events: str | None, base: Base) -> None:
+    def __init__(self, plan: str, events: str | None, base: Base, start: int = 0) -> None:
         self.plan = plan
+        self.start = start
         self.path = path_of(plan, events)
         self.base = base
         self.file: IO[bytes] | None = None
         self.found = 0  # lines of an earlier desk that were done again
-        self.states = States(base.plan, plan, base.events)
+        self.states = States(base.plan, plan, base.events, start)
         self.disk = ThreadPoolExecutor(1, "draft")
         self.lock()
         self.read()
@@ -150,7 +151,7 @@ class Draft:
         base = base_of(rows[0]) if rows else None
         if base is None or len(rows) == 1:
             return
-        states = States(base.plan, self.plan, base.events)
+        states = States(base.plan, self.plan, base.events, self.start)
         followed = replayed(states, rows[1:])
         if (states.data, states.events) == (self.base.plan, self.base.events):
             return  # (all of it was saved)

@@ -140,8 +140,8 @@ def of_data(data: object) -> Edit:
         raise Wrong(f"that is no edit of the kind {data['kind']}") from None
 
 
-def told(edit: Edit) -> str:
-    """An edit in words, for the list of what changed."""
+def told(edit: Edit, start: int = 0) -> str:
+    """An edit in words, for the list of what changed, in a run that begins at a time of day."""
     if isinstance(edit, SetValue):
         value = NONE if edit.value is None else edit.value
         return f"{edit.key} of {edit.section} {edit.name}: {value}"
@@ -156,7 +156,7 @@ def told(edit: Edit) -> str:
         return f"{edit.by} taken"
     if isinstance(edit, AddEvents):
         words = [" ".join(filter(None, row)) for row in edit.rows[:1]]
-        return f"at {clock(edit.at)} {edit.by or ''.join(words)}"
+        return f"at {clock(edit.at, start)} {edit.by or ''.join(words)}"
     return "all events dropped" if isinstance(edit, DropEvents) else f"event {edit.number + 1} dropped"
 
 

@@ -82,9 +82,11 @@ def joined(lines: list[str]) -> bytes:
     return "".join(f"{line}\n" for line in lines).encode()
 
 
-def page_of(name: str, data: bytes, events: bytes, until: int, layout: Layout) -> bytes:
+def page_of(name: str, data: bytes, events: bytes, until: int, layout: Layout, start: int) -> bytes:
     """The page of `report` for the run of the desk. Raises Wrong."""
     taken, file = plan_file.taken(name, data), EventFile("the events of the desk", events)
     found = rehearsals.rehearsed(taken, file, until)
     title = f"{os.path.basename(name)}, {file.name}"
-    return pages.page(title, page_data.data_of(taken, found, layout, 0, title), pages.facts(taken, file, found))
+    return pages.page(
+        title, page_data.data_of(taken, found, layout, start, title), pages.facts(taken, file, found)
+    )

@@ -258,7 +258,7 @@ class Server:
 
         def work() -> list[str]:
             found = choices.answered(plan_file.taken(states.name, data), EventFile("the events", text), asked)
-            return choice_text.text_of(found, 0)
+            return choice_text.text_of(found, self.desk.files.start)
 
         return {"text": await self.worked(work)}
 

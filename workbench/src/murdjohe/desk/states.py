@@ -74,8 +74,9 @@ class States:
     `number` rises with each change, undoing and redoing too. No state has the number of another one.
     """
 
-    def __init__(self, data: bytes, name: str, events: Events = ()) -> None:
+    def __init__(self, data: bytes, name: str, events: Events = (), start: int = 0) -> None:
         self.name = name
+        self.start = start
         self.mark = MARK if data.startswith(MARK) else b""
         self.pieces = pieces.pieces_of(data, name)
         self.events = events
@@ -146,7 +147,7 @@ class States:
         """Makes an edit that was made on a state. Raises Wrong where it can't be made, and nothing is changed then."""
         self.meant_for(on)
         edits.may_be(self.plan, len(self.events), edit)
-        words = edits.told(edit)
+        words = edits.told(edit, self.start)
         splices = self.splices_of(edit)
         step = Step(edit, words, splices, self.events, self.events)
         self.moved(splices, False)

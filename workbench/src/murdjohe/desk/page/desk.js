@@ -40,6 +40,7 @@ class Desk {
     this.elementNumbers = new Map(this.network.elements.map((element, number) => [element.name, number]));
     this.eventFile = state.eventFile;
     this.ports = state.ports;
+    this.start = state.start;
     this.head = state;
     this.take(state);
     const view = this.picture && this.drawn === `${this.region}` ? this.picture.view : null;
@@ -167,7 +168,7 @@ class Desk {
     const before = this.run, isAtEnd = !before || before.moment === before.moments.length - 1;
     this.run = new Run(this.network, changes, events, until);
     part("slider").max = this.run.moments.length - 1;
-    this.list.fill(this.run, 0);
+    this.list.fill(this.run, this.start);
     const rest = !found ? "" : found.stopped !== null ? "stopped: more than 200,000 changes" : found.settled ? "settled" : "not settled";
     part("rest").textContent = found?.left ? `${rest}; ${plural(found.left, "later change")} not shown` : rest;
     const same = isAtEnd ? -1 : this.run.moments.findLastIndex(at => at <= before.at);
@@ -177,7 +178,7 @@ class Desk {
 
   goTo(moment) {
     this.run.goTo(moment);
-    const text = clock(this.run.at);
+    const text = clock(this.run.at, this.start);
     part("slider").value = this.run.moment;
     part("slider").setAttribute("aria-valuetext", text);
     part("time").textContent = text;
@@ -283,8 +284,8 @@ class Desk {
 
   /** Lets something happen at the time that is asked for. */
   happen(rows, by = "") {
-    const at = millisecond(part("at").value);
-    if (at === null) { this.tell("at: it is no time, as 60000, 20m or 00:05:00", true); return null; }
+    const at = millisecond(part("at").value, this.start);
+    if (at === null) { this.tell("at: it is no time of the run, as 60000, 20m or 00:05:00", true); return null; }
     return this.edit({kind: "events", at, rows, by});
   }
 
@@ -365,7 +366,7 @@ class Desk {
   fillEvents(events) {
     part("drop-events").hidden = !events.length;
     part("events").replaceChildren(...events.map(event => {
-      const row = made("li", "", `${clock(event.at)} ${event.text} `), drop = row.appendChild(made("button", "", "drop"));
+      const row = made("li", "", `${clock(event.at, this.start)} ${event.text} `), drop = row.appendChild(made("button", "", "drop"));
       drop.setAttribute("aria-label", `drop ${event.text}`);
       drop.addEventListener("click", () => this.edit({kind: "drop-event", number: event.number}));
       return row;

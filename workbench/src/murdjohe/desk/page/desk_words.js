@@ -3,14 +3,19 @@ import { clock } from "./model.js";
 
 const UNITS = {h: 3600000, m: 60000, s: 1000, ms: 1};
 
-/** The milliseconds of a time, as 60000, 20m, 1h30m, 00:05 or 00:05:00.250; null for any other word. */
-export function millisecond(word) {
+const DAY = 86400000;
+
+/** The milliseconds of a time, as 60000, 20m, 1h30m, 00:05 or 00:05:00.250; null for any other word. With colons it is a time of day
+ * where the run begins at one. */
+export function millisecond(word, start = 0) {
   const text = word.trim();
   if (/^\d{1,8}$/.test(text)) return Number(text);
   const parts = /^(\d+):(\d\d)(?::(\d\d)(?:\.(\d{3}))?)?$/.exec(text);
   if (parts) {
     const [, hours, minutes, seconds = "0", rest = "0"] = parts;
-    return ((Number(hours) * 60 + Number(minutes)) * 60 + Number(seconds)) * 1000 + Number(rest);
+    const time = ((Number(hours) * 60 + Number(minutes)) * 60 + Number(seconds)) * 1000 + Number(rest);
+    const length = start ? (time - start + DAY) % DAY : time;
+    return start && length > DAY / 2 ? null : length;  // (that is before the start)
   }
   if (!/^(\d+(h|ms|m|s))+$/.test(text)) return null;
   return [...text.matchAll(/(\d+)(h|ms|m|s)/g)].reduce((sum, [, number, unit]) => sum + Number(number) * UNITS[unit], 0);
