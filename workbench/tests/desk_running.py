@@ -53,7 +53,7 @@ def running(*words: str, folder: Path) -> Iterator[Running]:
     try:
         yield desk
     finally:
-        desk.ended(signal.SIGKILL)
+        desk.ended()
 
 
 def talked(desk: Running, talk: Talk, is_known: bool = True) -> Any:

@@ -74,7 +74,6 @@ class Desk:
     def __init__(self, files: Files) -> None:
         self.files = files
         self.draft = Draft(files.plan or os.path.join(files.folder, UNTITLED), files.events, files.base, files.start)
-        self.first = States(files.base.plan, files.plan or UNTITLED).plan
         self.kept = Kept(files.base.plan, files.base.events)
         if files.plan is not None and not self.draft.has_other_base:
             self.kept.written[os.path.realpath(files.plan)] = files.base.plan
@@ -294,7 +293,7 @@ class Desk:
         if kind == saving.PORTS:
             return side_table.text_of(self.cells())
         if kind == saving.ORDERS:
-            return saving.orders_of(states.plan, self.first, os.path.splitext(word)[1])
+            return saving.orders_of(states.plan, self.draft.first, os.path.splitext(word)[1])
         until = self.report[2] if self.report else 0
         return saving.page_of(self.name, states.data, states.event_text, until, self.layout(), self.files.start)
 

@@ -118,6 +118,7 @@ class Draft:
         self.file: IO[bytes] | None = None
         self.found = 0  # lines of an earlier desk that were done again
         self.states = States(base.plan, plan, base.events, start)
+        self.first = self.states.plan  # as it was read
         self.disk = ThreadPoolExecutor(1, "draft")
         self.lock()
         self.read()

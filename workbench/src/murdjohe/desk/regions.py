@@ -109,11 +109,14 @@ def regions_of(plan: Plan) -> Regions:
     beside = neighbours_of(plan)
     left: dict[str, None] = dict.fromkeys(beside)
     of: dict[str, int] = {}
-    count = 0
+    count, rest = 0, None  # (the region of small parts that hang together with no other)
     while left:
         part = grown(next(iter(left)), beside, left)
         joined = Counter(of[other] for name in part for other in beside[name] if other in of)
-        number = joined.most_common(1)[0][0] if len(part) < LEAST and joined else count
+        number = count
+        if len(part) < LEAST:
+            rest = count if rest is None and not joined else rest
+            number = joined.most_common(1)[0][0] if joined else rest or 0
         count += number == count
         of.update(dict.fromkeys(part, number))
     return Regions(of)

@@ -100,9 +100,10 @@ def completed(sheet: Sheet, plan: Plan, wishes: dict[str, tuple[float, float]]) 
         if (SOURCE, source.name) not in sheet.spots:
             x, y = sheet.spots[ELEMENT, source.at]
             sheet.spots[SOURCE, source.name] = free_spot(sheet, x, y + 2.2 * BOX[1] * sheet.scale)
-    low = min((min(x, y) for x, y in sheet.spots.values()), default=0.0)
-    if low < 0:
-        sheet.spots = {key: (x - low, y - low) for key, (x, y) in sheet.spots.items()}
+    left = min([0.0, *(x for x, _ in sheet.spots.values())])
+    low = min([0.0, *(y for _, y in sheet.spots.values())])
+    if left < 0 or low < 0:
+        sheet.spots = {key: (x - left, y - low) for key, (x, y) in sheet.spots.items()}
     sheet.width = max([sheet.width, *(x + BOX[0] / 2 for x, _ in sheet.spots.values())])
     sheet.height = max([sheet.height, *(y + BOX[1] for _, y in sheet.spots.values())])
 
