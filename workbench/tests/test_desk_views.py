@@ -75,3 +75,12 @@ def test_a_plan_is_laid_out_without_graphviz() -> None:
     layout = views.on_circle(row_of(40))
     assert len(set(layout.spots.values())) == 41
     assert all(0 <= x <= layout.width and 0 <= y <= layout.height for x, y in layout.spots.values())
+
+
+def test_the_map_has_a_box_for_each_region_and_a_link_between_neighbours() -> None:
+    plan = row_of(1000)
+    drawn = regions.regions_of(plan).network(plan, None)
+    assert [element["name"] for element in drawn["elements"]] == ["E0 ..", "E300 ..", "E600 ..", "E900 .."]
+    assert [level["name"] for level in drawn["levels"]] == ["300 elements"] * 3 + ["100 elements"]
+    assert [(line["sender"], line["receiver"]) for line in drawn["lines"][::2]] == [(0, 1), (1, 2), (2, 3)]
+    assert drawn["regions"] == [[0, 300], [1, 300], [2, 300], [3, 100]]

@@ -9,10 +9,13 @@ from __future__ import annotations
 from collections import Counter, deque
 from typing import Any
 
+from murdjohe.core.wording import plural
 from murdjohe.desk import views
 from murdjohe.desk.views import BEYOND, Sheet
+from murdjohe.picture import page_data
 from murdjohe.plan.model import OWN as WORST, Element, Link, Plan, Source
 
+PLAIN: dict[str, Any] = {"colour": "#FFFFFF", "ink": "#000000", "isUsed": False}  # how the map draws a region
 SIZE = 300  # elements of a region
 LEAST = 40  # a region with fewer is joined with another one beside it
 
@@ -50,15 +53,14 @@ class Regions:
         first: dict[int, str] = {}
         for element in plan.elements:
             first.setdefault(self.of[element.name], element.name)
-        sizes = Counter(self.of.values())
-        names = {number: f"{name} +{sizes[number] - 1}" for number, name in first.items()}
+        names = {number: f"{name} .." for number, name in first.items()}
         elements = tuple(Element(names[number], "QL-SEC") for number in sorted(names))
-        between = Counter(
-            tuple(sorted((self.of[link.a], self.of[link.b])))
+        between = {
+            (min(self.of[link.a], self.of[link.b]), max(self.of[link.a], self.of[link.b]))
             for link in plan.links
             if self.of[link.a] != self.of[link.b]
-        )
-        links = tuple(Link(f"{count} links", names[a], names[b]) for (a, b), count in sorted(between.items()))
+        }
+        links = tuple(Link(f"{a}-{b}", names[a], names[b]) for a, b in sorted(between))
         return Plan(plan.option, elements, links, ())
 
     def network(self, plan: Plan, region: int | None) -> dict[str, Any]:
@@ -66,18 +68,20 @@ class Regions:
         if region is None:
             drawn = self.overview(plan)._replace(option="I")
             self.map = self.map or views.sheet_of(drawn)
+            views.completed(self.map, drawn, {})
             found = views.network_of(drawn, self.map)
             sizes = Counter(self.of.values())
-            return {**found, "regions": [[number, sizes[number]] for number in sorted(sizes)]}
+            for place, element in enumerate(found["elements"]):
+                element["own"] = place
+            levels = [{"name": plural(sizes[number], "element"), **PLAIN} for number in sorted(sizes)]
+            return {**found, "levels": levels, "regions": [[number, sizes[number]] for number in sorted(sizes)]}
         part = self.part_of(plan, region)
         if region not in self.sheets:
             self.sheets[region] = views.sheet_of(part)
         sheet = self.sheets[region]
         views.completed(sheet, part, {})
         found = views.network_of(part, sheet)
-        for element in found["elements"]:
-            element["outside"] = self.of.get(element["name"]) != region
-        return found
+        return {**found, "levels": page_data.levels_of(plan.option, views.levels_in(plan))}
 
 
 def neighbours_of(plan: Plan) -> dict[str, list[str]]:

@@ -162,11 +162,15 @@ def sources_of(plan: Plan, sheet: Sheet, numbers: Numbers) -> list[dict[str, Any
     ]
 
 
+def levels_in(plan: Plan) -> set[str]:
+    """The levels that a plan names."""
+    return {row.level for row in plan.sources} | {row.own for row in plan.elements}
+
+
 def network_of(plan: Plan, sheet: Sheet) -> dict[str, Any]:
     """The network as the page draws it."""
     wired = wiring.wiring_of(plan)
     numbers = page_data.numbers_of(wired, plan.option)
-    used = {row.level for row in plan.sources} | {row.own for row in plan.elements}
     return {
         "option": plan.option,
         "elements": elements_of(plan, sheet, numbers),
@@ -176,7 +180,7 @@ def network_of(plan: Plan, sheet: Sheet) -> dict[str, Any]:
         "height": round(sheet.height, 2),
         "box": BOX,
         "scale": sheet.scale,
-        "levels": page_data.levels_of(plan.option, used),
+        "levels": page_data.levels_of(plan.option, levels_in(plan)),
         "signs": page_data.SIGNS,
     }
 

@@ -167,6 +167,7 @@ class Desk {
   stand(changes, events, until, found) {
     const before = this.run, isAtEnd = !before || before.moment === before.moments.length - 1;
     this.run = new Run(this.network, changes, events, until);
+    if (this.isMap) this.run.isFed = () => true;
     part("slider").max = this.run.moments.length - 1;
     this.list.fill(this.run, this.start);
     const rest = !found ? "" : found.stopped !== null ? "stopped: more than 200,000 changes" : found.settled ? "settled" : "not settled";

@@ -123,7 +123,7 @@ export class DeskPicture extends Picture {
   }
 
   /** Whether priorities are drawn: not where boxes are too small. */
-  get hasBadges() { return this.size[1] > 13; }
+  get hasBadges() { return !this.network.regions && this.size[1] > 13; }
 
   /** Where the priority of a line stands: near its end, those of a bundle one behind the other. */
   badgeSpot(number) {
