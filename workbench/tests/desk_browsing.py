@@ -39,6 +39,7 @@ class Page:
 
     def __init__(self, browser: Any, address: str) -> None:
         self.browser = browser
+        self.base = address.partition("?")[0]
         browser.get("about:blank")
         browser.get_log("browser")  # (of the page before)
         browser.get(address)
@@ -141,5 +142,6 @@ class Page:
         return count
 
     def errors(self) -> list[str]:
-        """The errors that the console tells."""
-        return [row["message"] for row in self.browser.get_log("browser") if row["level"] == "SEVERE"]
+        """The errors that the console tells of this page; those of a desk before, which has ended, may come late."""
+        rows = [row["message"] for row in self.browser.get_log("browser") if row["level"] == "SEVERE"]
+        return [row for row in rows if row.startswith(self.base) or not row.startswith("http://127.0.0.1:")]

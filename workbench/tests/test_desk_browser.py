@@ -304,7 +304,8 @@ def test_names_roles_and_requests(browser: Any, first: Running) -> None:
         "const done = arguments[0]; fetch('http://127.0.0.1:1/').then(() => done('went out'), () => done('stayed'))"
     )
     assert browser.execute_async_script(outside) == "stayed"
-    assert all("Content Security Policy" in message for message in page.errors())
+    said = page.errors()
+    assert all("Content Security Policy" in message for message in said), said
 
 
 def test_dark_light_and_print(browser: Any, first: Running, folder: Path) -> None:
