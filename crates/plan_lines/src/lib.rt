@@ -7,6 +7,7 @@
 #![tactic(auto)]
 
 mod entry;
+mod glance;
 mod plain;
 mod tokens;
 

@@ -1,7 +1,7 @@
 // The rows of a plain text, line by line and with no document between. What isn't plain isn't
 // refused here: it is left to the document.
 
-ghost use Rattle.std.specs.Prelude.{◌≡◌, ◌≢◌, ◌<◌, ◌∷◌, ◌++◌, ℕ, [], suc, true, length, slice_index, codes, IfOk, OnOk, IsTrue, Some};
+ghost use Rattle.std.specs.Prelude.{◌≡◌, ◌==◌, ◌<◌, ◌∷◌, ◌++◌, ℕ, [], suc, true, length, slice_index, codes, IfOk, OnOk, IsTrue, Some};
 ghost use Rattle.toml.specs.Data.{no_items};
 ghost use Rattle.toml.specs.Tables.{Document, no_nodes, close};
 ghost use Rattle.toml.specs.Parse.{val, expression, line, items, parse_document};
@@ -10,6 +10,7 @@ ghost use Rattle.plan_lines.specs.private.Lines.{key_of, given_in, Follows, Take
 ghost use Rattle.plan_lines.specs.Plain.{ArePlainRows};
 
 use crate::entry::{Entry, EntryKind, SectionRows};
+use crate::glance::looks_plain;
 use crate::tokens::{Stop, after_element, key_equals, line_end, plain_value};
 use plan_rows::{HeadValues, Version, fits_option, fits_version, keep, option_in, version_in};
 use std::alloc::Global;
@@ -280,6 +281,13 @@ impl LinesRead {
     }
 }
 
+/// The text begins with the first byte of a byte order mark.
+fn may_begin_with_mark(text: &str) -> bool
+    ensures { result ≡ (slice_index text.now 0 == 0xEF) }
+{
+    first(text) == 0xEF
+}
+
 /// The rows of a text whose lines are all plain.
 ///
 /// Plain are headers `[[element]]`, `[[link]]` and `[[source]]`, bare keys with strings and integers, each once
@@ -289,7 +297,7 @@ impl LinesRead {
 pub fn plain_rows(alloc: Global, text: &str) -> Result<PlanRows, Stop>
     ensures { IfOk result (ArePlainRows (parse_document text.now)) }
 {
-    if first(text) == 0xEF {
+    if may_begin_with_mark(text) || !looks_plain(text) {
         return Err(Stop::NotPlain);
     }
     let mut read = LinesRead::new(alloc);

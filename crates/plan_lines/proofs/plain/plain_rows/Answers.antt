@@ -1,6 +1,5 @@
-use Rattle.std.proofs.Common.{◌≡◌, ◌==◌, ◌≤◌, ◌<◌, false, length, Option, Some, Result, Ok, Err, rules, sym, subst, arith}
+use Rattle.std.proofs.Common.{◌≡◌, ◌∙◌, ◌==◌, ◌≤◌, ◌<◌, false, length, Option, Some, Result, Ok, Err, rules, sym, subst, arith}
 use Rattle.std.specs.Prelude.{IfOk}
-use Rattle.std.proofs.lemmas.Bool.Decides.{nat_tests}
 use Rattle.std.proofs.lemmas.Grind.{common_steps}
 use Rattle.toml_parser.specs.Lexical.{first, skip_blank}
 use Rattle.toml.specs.Data.{Members}
@@ -22,7 +21,7 @@ pub returns-then-is_empty : goal.returns-then-is_empty
 returns-then-is_empty c =
     let so_far = c.lines.invariant.2 in
     let start = c.skip_blank-start.ensures.rest in
-    let no_mark : (first c.args.text.now == 0xEF) ≡ false = grind (arith, nat_tests, c.first.ensures, c.if-first-eq239.false) in
+    let no_mark : (first c.args.text.now == 0xEF) ≡ false = sym c.may_begin_with_mark.ensures ∙ c.if-may_begin_with_mark.false in
     let none : length (skip_blank c.lines.rest.now) ≡ 0 = grind (arith, common_steps) in
     rows_are_plain c.finish.result c.lines.read so_far.doc (parse_document c.args.text.now) c.finish.ensures so_far.follows (all_read c.args.text.now c.lines.rest.now c.lines.read so_far no_mark none)
 
