@@ -8,7 +8,17 @@ import pytest
 
 from bench.compare.protected import cut_off, failures_of
 from bench.reference import clearing
-from bench.reference.clearing import Orders, Trial, differences, edges_of, orders_of, root_of, tree_of, trial_of
+from bench.reference.clearing import (
+    Orders,
+    Trial,
+    both_of,
+    differences,
+    edges_of,
+    orders_of,
+    root_of,
+    tree_of,
+    trial_of,
+)
 from bench.reference.plan import Link, Plan, PlanElement, Source
 from bench.reference.protect import random_topology
 
@@ -38,6 +48,15 @@ def cleared(plan: Plan) -> list[str]:
     return [f"{failure.kind} {failure.name}".strip() for failure, vertex in pairs if trial.clears(vertex)]
 
 
+def rows(plan: Plan) -> dict[str, list[int]]:
+    """Whom failures cut off by both orders, by their kinds and names; nobody is cut off by the others."""
+    both = both_of(plan)
+    assert both.exact
+    pairs = zip(failures_of(plan), clearing.vertices_of(plan), strict=True)
+    told = {f"{failure.kind} {failure.name}".strip(): both.cut_by(vertex) for failure, vertex in pairs}
+    return {failure: cut for failure, cut in told.items() if cut}
+
+
 @pytest.mark.parametrize("name", TREES)
 def test_trees_by_hand(name: str) -> None:
     second, wanted = TREES[name]
@@ -59,6 +78,26 @@ def test_a_ring_that_is_nominated_one_way() -> None:
     # L0 and L1 carry timing from E0 over E1 to E2; over L2 E2 and E1 would still be in reach.
     plan = plan_of([(0, 1, 0, 1), (1, 2, 0, 1), (2, 0, 0, 0)], [0])
     assert cleared(plan) == ["none", "link L2", "source S0", "element E0", "element E2"]
+
+
+def test_rows_of_a_ring_that_is_nominated_one_way() -> None:
+    plan = plan_of([(0, 1, 0, 1), (1, 2, 0, 1), (2, 0, 0, 0)], [0])
+    assert rows(plan) == {"link L0": [1, 2], "link L1": [2], "element E1": [2]}
+
+
+def test_who_is_out_of_reach_is_in_no_row() -> None:
+    # Without L0 or E1 nobody reaches E2 either; L1 and L2 lead from E1 to E2, and L1 alone is nominated.
+    assert rows(plan_of([(0, 1, 0, 1), (1, 2, 0, 1), (1, 2, 0, 0)], [0])) == {"link L1": [2]}
+
+
+def test_rows_of_two_clocks() -> None:
+    # E1 takes timing from E0 alone, E2 from E1, and E2 has a clock of its own: it needs neither link.
+    plan = plan_of([(0, 1, 0, 1), (1, 2, 0, 1)], [0, 2])
+    assert rows(plan) == {"link L0": [1], "source S0": [0, 1], "element E0": [1]}
+
+
+def test_no_rows_where_somebody_is_cut_off_anyway() -> None:
+    assert not both_of(plan_of([(0, 1, 0, 0)], [0])).exact
 
 
 def test_a_ring_that_is_nominated_both_ways() -> None:

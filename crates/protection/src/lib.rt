@@ -8,9 +8,9 @@
 //!
 //! [`protected_with`] looks at groups of parts too, each after all of them fail together.
 //!
-//! Of most failures the crate clearing shows at once that they cut nobody off. For each other one search
-//! over nominated lines finds those who are served, and one look at all lines tells whether anybody is
-//! cut off; only then a second search finds those who are in reach. Marks and lists are made once.
+//! Of most failures the crate clearing tells at once whom they cut off. For each other one search over
+//! nominated lines finds those who are served, and one look at all lines tells whether anybody is cut
+//! off; only then a second search finds those who are in reach. Marks and lists are made once.
 //!
 //! [`protect`] gives a plan other priorities, by which no failure cuts anybody off. The search of
 //! the crate ears proposes them, of which nothing is promised; what it finds is tried, and what the

@@ -9,7 +9,7 @@ ghost use Rattle.reach_rules.specs.Protection.{IsProtectedFrom};
 use crate::closed::is_closed;
 use crate::gone::Gone;
 use crate::marks::Marks;
-use crate::ways::Ways;
+use clearing::Ways;
 use reach_rules::Failure;
 use std::alloc::Global;
 use sync_text::NoMemory;
