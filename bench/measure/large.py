@@ -8,9 +8,8 @@ word `large` before its words: `check` with the certificate of `rank`, `sim` and
 thousand, `study` of a hundred cases, `sweep` of every link where the network has settled, and so on. A line says its
 processor time, its peak memory and its status, and the last column the power of the number of elements with which the
 processor time grows from the least number to the greatest. With --instructions callgrind counts instead, which is exact,
-wants valgrind, and takes fifty times as long. `protected` is left out above 5,000 elements: in a plan by `nominate` many
-failures cut somebody off, and it looks at the network anew for each of them. `protecting` is `protected` of the plan that
-`protect` writes, in which none does. It needs Python 3.11 alone.
+wants valgrind, and takes fifty times as long. In a plan by `nominate`, of which `protected` is, many failures cut somebody
+off; `protecting` is `protected` of the plan that `protect` writes, in which none does. It needs Python 3.11 alone.
 """
 
 import os
@@ -27,8 +26,6 @@ from bench.program import octets, program_words, put_files
 from bench.reference.plan import Plan, plan_text, read_plan
 
 SETTLED = 400_000  # milliseconds after which every such network has settled
-SLOW = ("protected",)  # which looks at the whole network for each failure that cuts somebody off
-SLOW_ABOVE = 5_000
 FORMS = (
     "check",
     "rank",
@@ -134,8 +131,7 @@ def measured(
         with tempfile.TemporaryDirectory() as folder:
             make_files(program, folder, kind, count)
             for form in forms:
-                if form not in SLOW or count <= SLOW_ABOVE:
-                    costs[form][count] = cost(program, folder, ["large", *words_of(form)])
+                costs[form][count] = cost(program, folder, ["large", *words_of(form)])
     for form, by_count in costs.items():
         if by_count:
             told = "  ".join(

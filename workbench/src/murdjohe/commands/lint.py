@@ -16,8 +16,8 @@ from murdjohe.network.findings import ERROR, KINDS, NOTE, WARNING, Finding, Said
 from murdjohe.network.plan_file import Judgement, PlanFile
 from murdjohe.protection import promise
 
-LARGE = 10_000  # elements from which on single failures take long
-LONG = "whom single failures cut off may take minutes to find in a plan of this size; --no-gaps leaves it out"
+LARGE = 10_000  # elements from which on groups take long
+LONG = "groups are looked at one by one, a fifth of a second or more each in a plan of this size"
 LEFT_OUT = "whom single failures cut off isn't looked at: `murdjohe protected` says it, or `lint` without --no-gaps"
 
 
@@ -63,9 +63,7 @@ def status_of(found: list[Finding], fail_on: str | None) -> int:
 @click.option(
     "--fail-on", type=click.Choice([WARNING, NOTE]), help="also warnings, or notes, or what is worse, have a status: 21"
 )
-@click.option(
-    "--no-gaps", is_flag=True, help="leaves out whom single failures cut off: on large plans that takes longest"
-)
+@click.option("--no-gaps", is_flag=True, help="leaves out whom single failures cut off")
 @click.option("--accept", type=click.Path(), help="leaves out the findings in this file, as `lint` printed them before")
 @GROUPS
 @output_options
@@ -89,7 +87,7 @@ def lint(context: click.Context, plan: str, as_json: bool, fail_on: str | None, 
     one_input(plan, path)
     free(asked["output"], asked["force"], plan, path, asked["accept"])
     taken, root = plan_file.read(plan), context.find_root().params
-    if not (root["quiet"] or no_gaps) and len(taken.network.elements) > LARGE:
+    if path and not root["quiet"] and len(taken.network.elements) > LARGE:
         streams.tell(LONG, colour="yellow")
     judgement, said = judged(taken, path, not no_gaps)
     found, left_out = accepted.parted(findings.findings_of(taken.plan, said), asked["accept"])
