@@ -74,17 +74,17 @@ export class DeskPicture extends Picture {
     this.strokes = new Map();
     this.heads = new Map();
     for (const cable of this.cables) {
-      [cable.start, cable.end] = this.wayOf(cable);
-      if (cable.lines.length > 2) this.stroke(cable.start, cable.end, this.signs.pale, 8, []);
+      [cable.start, cable.end] = cable.path = this.wayOf(cable);
+      if (cable.lines.length > 2) this.stroke(cable.path, this.signs.pale, 8, []);
       const isWanted = cable.lines.some(line => this.network.lines[line].priority);
-      this.stroke(cable.start, cable.end, isWanted ? this.signs.grey : this.signs.pale, 1, []);
+      this.stroke(cable.path, isWanted ? this.signs.grey : this.signs.pale, 1, []);
     }
     this.drawStrokes(pen);
   }
 
-  stroke(from, to, colour, width, dashes) {
+  stroke(path, colour, width, dashes) {
     const tone = colour === WHITE ? this.tones.paper : colour === BLUE ? this.tones.blue : colour;
-    super.stroke(from, to, tone, width, dashes);
+    super.stroke(path, tone, width, dashes);
   }
 
   text(x, y, words, size, colour, paper, isBold) {
@@ -101,7 +101,7 @@ export class DeskPicture extends Picture {
       const line = this.network.lines[number];
       const [from, to] = line.sender === cable.sender ? [start, end] : [end, start];
       if (this.marks.ring.has(number)) {
-        this.arrow(from, to, this.signs.loop, 4);
+        this.arrow([from, to], this.signs.loop, 4);
         if (number === this.labelled && this.size[1] > 9) this.words.push([(from[0] + to[0]) / 2, (from[1] + to[1]) / 2 - 11, "may LOOP", 11, this.signs.loop, VEIL, true]);
       }
       if (this.hasBadges) this.addBadge(number);
@@ -112,7 +112,7 @@ export class DeskPicture extends Picture {
   addHalo() {
     const {link} = this.marks;
     for (const cable of link === null ? [] : this.cables) {
-      if (cable.lines.some(line => this.network.lines[line].link === link)) this.stroke(cable.start, cable.end, this.tones.blue, 7, []);
+      if (cable.lines.some(line => this.network.lines[line].link === link)) this.stroke(cable.path, this.tones.blue, 7, []);
     }
   }
 
