@@ -1,4 +1,7 @@
-// A look at the spelling of a text, before its lines are read.
+// A look at the spelling of the end of a text, before its lines are read.
+
+/// How many bytes are looked at.
+const LAST: usize = 1_024;
 
 /// Where a byte stands in its line.
 #[derive(Clone, Copy)]
@@ -30,15 +33,19 @@ fn is_other_spelling(standing: Standing, byte: u8) -> bool {
     }
 }
 
-/// No line begins as one of a plain text can't. It only saves work: a text whose last key alone isn't
-/// plain is so left to the document before it was read, and what it lets through is read with care.
+/// No line of the last ones begins as one of a plain text can't. It only saves work: to a text whose other
+/// lines are plain somebody may have added rows in a spelling of his own, and such a text is so left to
+/// the document before it was read. What it lets through is read with care.
 pub(crate) fn looks_plain(text: &str) -> bool {
-    let mut standing = Standing::First;
-    for byte in text.as_bytes() {
-        if is_other_spelling(standing, *byte) {
+    let bytes = text.as_bytes();
+    let from = bytes.len().saturating_sub(LAST);
+    let mut standing = Standing::Within;
+    for place in from..bytes.len() {
+        let byte = bytes[place];
+        if is_other_spelling(standing, byte) {
             return false;
         }
-        standing = behind(standing, *byte);
+        standing = behind(standing, byte);
     }
     true
 }
