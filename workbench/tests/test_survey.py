@@ -65,7 +65,11 @@ def test_a_table_has_the_rows_of_its_failures(double: Double, capfd: pytest.Capt
 def test_the_end_is_a_bound_after_the_last_event(double: Double, capfd: pytest.CaptureFixture[str]) -> None:
     Path("cases.csv").write_text(f"{HEAD},90000,lockout,L1>B,\na,7,down,L1,\nb,3,down,L2,\nb,61000,up,L2,\n")
     ran = surveyed(capfd, PLAN, "cases.csv")
-    assert ran.status == 0 and b"\nthe end is chosen: 0.005 s after the last event (`bound B` of `agree`, which counts wait-to-restore)" in ran.out
+    assert (
+        ran.status == 0
+        and b"\nthe end is chosen: 0.005 s after the last event (`bound B` of `agree`, which counts wait-to-restore)"
+        in ran.out
+    )
     Path("late.csv").write_text(f"{HEAD}a,86399999,down,L1,\n")
     ran = surveyed(capfd, PLAN, "late.csv")
     assert (
