@@ -1,6 +1,6 @@
 """Tries edits in a clone: what the prover says of each.
 
-An edit is tried first on the module that it changes, which takes seconds: a function that isn't proved there isn't in the whole crate
+An edit is tried first on the function that it changes, then on its module: a function that isn't proved there isn't in the whole crate
 either. What passes so, or changes a definition, is tried on the whole crate, as the gate does it.
 """
 
@@ -61,6 +61,20 @@ def verdicts(said: str) -> dict[str, tuple[str, str]]:
     return {f"{m['crate']}/{m['name']}": (verdict_of(m["told"]), reason_of(m["told"])) for m in found}
 
 
+# The head of a function, and that of the block that gives a type its functions.
+FUNCTION = re.compile(r"^(?P<indent> *)(?:pub(?:\(\w+\))? )?(?:const )?fn (?P<name>\w+)", re.MULTILINE)
+OWNER = re.compile(r"^impl\b(?:.* for |<.*?> | )(?P<owner>\w+)", re.MULTILINE)
+
+
+def function_of(text: str, module: str, place: int) -> str:
+    """The function around a place of a module's text, as `rt check --only` names it; the module where no function begins before it."""
+    heads = list(FUNCTION.finditer(text, 0, place))
+    if not heads:
+        return module
+    owners = list(OWNER.finditer(text, 0, heads[-1].start())) if heads[-1]["indent"] else []
+    return "::".join([module, *(found["owner"] for found in owners[-1:]), heads[-1]["name"]])
+
+
 # What a check of one module says at its end, of a function that isn't proved, and of a place.
 COUNT = re.compile(r"^only=(?P<all>\d+) proved=(?P<proved>\d+)$", re.MULTILINE)
 NOT_PROVED = re.compile(r"^fn (?P<function>\S+): (?:not proved|no proof: (?!it calls)(?P<open>.*))$", re.MULTILINE)
@@ -98,7 +112,7 @@ def said_by(words: list[str], there: pathlib.Path, jobs: int) -> tuple[int, str]
 
 
 def refused_alone(crate: pathlib.Path, edit: Edit, jobs: int) -> str | None:
-    """Why the module that an edit changes isn't proved with it, or nothing where that doesn't tell."""
+    """Why the function or the module that an edit changes isn't proved with it, or nothing where that doesn't tell."""
     module, path = module_of(edit.file), crate / edit.file
     if module is None:
         return None
@@ -108,7 +122,9 @@ def refused_alone(crate: pathlib.Path, edit: Edit, jobs: int) -> str | None:
         return None
     path.write_text(after, encoding="utf-8")
     try:
-        return refusal_of(said_by(["rt", "check", "--jobs", str(jobs), "--only", module], crate, jobs)[1])
+        parts = dict.fromkeys((function_of(before, module, before.index(edit.pairs[0][0])), module))
+        said = (said_by(["rt", "check", "--jobs", str(jobs), "--only", part], crate, jobs)[1] for part in parts)
+        return next((reason for reason in map(refusal_of, said) if reason is not None), None)
     finally:
         path.write_text(before, encoding="utf-8")
 

@@ -5,7 +5,7 @@ import pathlib
 
 from bench.mutants import __main__ as command
 from bench.mutants.edits import applies, edited, edits_of, read_edit, twice
-from bench.mutants.trying import module_of, refusal_of, standing_on, verdicts
+from bench.mutants.trying import function_of, module_of, refusal_of, standing_on, verdicts
 from bench.program import TOP
 
 EDIT = "# Says less; refused by `all`.\nfile: src/lib.rt\nold: a < b\nnew: a <= b\nold: end\nnew:\n"
@@ -96,3 +96,30 @@ def test_what_a_check_of_one_module_says_is_read() -> None:
 def test_a_module_is_named_by_its_file() -> None:
     files = ["src/choice.rt", "src/running/ends.rt", "src/lib.rt", "specs/Choice.antt", "src/main.rt"]
     assert [module_of(file) for file in files] == ["choice", "running::ends", None, None, None]
+
+
+FUNCTIONS = """const LEAST: u64 = 1;
+
+pub(crate) fn first(a: u64) -> u64
+    requires a > 0
+{
+    a - 1
+}
+
+impl<'a> Model for Lines<'a> {
+    fn model(&self) -> u64 {
+        2
+    }
+}
+
+impl Tree {
+    pub fn height(&self) -> u64 {
+        3
+    }
+}
+"""
+
+
+def test_a_function_is_named_by_its_module_and_its_type() -> None:
+    places = {"LEAST": "trees", "a - 1": "trees::first", " 2\n": "trees::Lines::model", " 3\n": "trees::Tree::height"}
+    assert {text: function_of(FUNCTIONS, "trees", FUNCTIONS.index(text)) for text in places} == places
