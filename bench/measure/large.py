@@ -9,7 +9,9 @@ thousand, `study` of a hundred cases, `sweep` of every link where the network ha
 processor time, its peak memory and its status, and the last column the power of the number of elements with which the
 processor time grows from the least number to the greatest. With --instructions callgrind counts instead, which is exact,
 wants valgrind, and takes fifty times as long. In a plan by `nominate`, of which `protected` is, many failures cut somebody
-off; `protecting` is `protected` of the plan that `protect` writes, in which none does. It needs Python 3.11 alone.
+off; `protecting` is `protected` of the plan that `protect` writes, in which none does, and `groups` the same with a hundred groups. `node` is one element
+of the plan for a minute. The peak is at least that of this script, by which a run is started. It needs Python 3.11
+alone.
 """
 
 import os
@@ -36,14 +38,18 @@ FORMS = (
     "protected",
     "protect",
     "protecting",
+    "groups",
     "sim",
     "sim-1000",
     "inspect",
+    "node",
     "study",
     "sweep",
     "prio-check",
     "prio-rank",
     "prio-sim",
+    "gen",
+    "trial",
 )
 
 
@@ -69,8 +75,19 @@ def cases(plan: Plan, count: int) -> str:
     return "case,at,what,target,value\n" + "".join(f"C{n},{SETTLED},down,{name},\n" for n, name in enumerate(names))
 
 
-def words_of(form: str) -> list[str]:
-    """The words of a form, over the files of a folder."""
+def groups(plan: Plan, count: int) -> str:
+    """So many groups of two links and an element each, all of whose parts fail together."""
+    apart = max(1, len(plan.links) // (2 * count))
+    names = [plan.links[k].name for k in range(0, len(plan.links), apart)]
+    rows = (
+        f"G{n},link,{one}\nG{n},link,{other}\nG{n},element,{plan.elements[n % len(plan.elements)].name}\n"
+        for n, (one, other) in enumerate(zip(names[: 2 * count : 2], names[1 : 2 * count : 2]))
+    )
+    return "group,kind,part\n" + "".join(rows)
+
+
+def words_of(form: str, count: int, receiver: str) -> list[str]:
+    """The words of a form, over the files of a folder with so many elements, one of which receives a line."""
     until = str(SETTLED + 1_200_000)
     return {
         "check": ["check", "plan", "certificate"],
@@ -82,25 +99,32 @@ def words_of(form: str) -> list[str]:
         "sweep": ["sweep", "plan", str(SETTLED), str(SETTLED + 60_000)],
         "prio-sim": ["prio-sim", "plan", "one", until],
         "protecting": ["protected", "protecting"],
+        "groups": ["protected", "protecting", "groups"],
+        "node": ["node", "plan", receiver, "received", "60000"],
+        "gen": ["gen", str(count)],
+        "trial": ["trial", str(count)],
     }.get(form, [form, "plan"])
 
 
-def make_files(program: str, folder: str, kind: str, count: int) -> None:
-    """The plan with its priorities, its certificate, events and cases."""
+def make_files(program: str, folder: str, kind: str, count: int) -> str:
+    """The plan with its priorities, its certificate, events, cases and groups, and what an element receives, which is
+    told.
+    """
     if kind == "ladder":
         _, text = octets(program, ["large", "gen", str(count)])
-        plan = None
     else:
-        plan = networks.network(kind, count)
-        put_files(folder, {"topology": plan_text(plan)})
+        put_files(folder, {"topology": plan_text(networks.network(kind, count))})
         _, text = octets(program, ["large", "nominate", "topology"], folder)
     put_files(folder, {"plan": text})
     _, protecting = octets(program, ["large", "protect", "plan"], folder)
     put_files(folder, {"protecting": protecting})
-    named = plan or read_plan(text.decode("ascii"))
+    named = read_plan(text.decode("ascii"))
     _, certificate = octets(program, ["large", "rank", "plan"], folder)
     put_files(folder, {"certificate": certificate, "one": events(named, 1), "thousand": events(named, 1000)})
-    put_files(folder, {"cases": cases(named, 100)})
+    line = named.nominated_lines[0]
+    received = f"30000,down,{named.input_name(line)},\n"
+    put_files(folder, {"cases": cases(named, 100), "groups": groups(named, 100), "received": received})
+    return named.elements[named.receiver_of[line]].name
 
 
 def timed(program: str, folder: str, words: list[str]) -> Cost:
@@ -129,9 +153,9 @@ def measured(
     costs: dict[str, dict[int, Cost]] = {form: {} for form in forms}
     for count in counts:
         with tempfile.TemporaryDirectory() as folder:
-            make_files(program, folder, kind, count)
+            receiver = make_files(program, folder, kind, count)
             for form in forms:
-                costs[form][count] = cost(program, folder, ["large", *words_of(form)])
+                costs[form][count] = cost(program, folder, ["large", *words_of(form, count, receiver)])
     for form, by_count in costs.items():
         if by_count:
             told = "  ".join(

@@ -1,9 +1,10 @@
 """Files at each limit and one past it: what the program answers, and the time and memory that it takes.
 
-usage: python3 -m bench.measure.limits PROGRAM [--only WORD]
+usage: python3 -m bench.measure.limits PROGRAM [--large] [--only WORD]
 
 Each case has its answer, or how that begins and ends, worked out by hand. A line of a Markdown table is printed for
-each: processor time and peak memory, by GNU time (Debian: time). --only takes the cases in whose names the word
+each: processor time and peak memory, by GNU time (Debian: time). --large takes the limits of large plans in place of
+those of standard ones: files of 1 GiB, two minutes and 3 GB of memory. --only takes the cases in whose names the word
 stands. It needs Python 3.11.
 """
 
@@ -18,6 +19,7 @@ from typing import NamedTuple
 from bench.program import program_words
 
 LONGEST = 8_388_608
+LARGE_LONGEST = 2**30
 DAY = 86_400_000
 
 
@@ -203,6 +205,79 @@ def other_cases() -> Iterator[Case]:
         yield Case(f"gen {n}", ["gen", str(n)], {}, status, text)
 
 
+# A pair that swings each millisecond, whose every change is a row.
+PAIR = '[[link]]\nname = "L"\na = "E0"\nb = "E1"\npriority_a = 1\npriority_b = 1\n'
+
+
+def large_rank_case(name: str, plan: str, status: int = 0, begins: str = "line,rank\n", ends: str = "") -> Case:
+    """A large plan that `rank` reads."""
+    return Case(name, ["large", "rank", "plan"], {"plan": plan}, status, begins, ends)
+
+
+def large_plan_cases() -> Iterator[Case]:
+    """Large plans at each limit of their rows, and with one more."""
+    for section, most, make in (
+        ("element", 100_000, elements),
+        ("link", 200_000, lambda n: elements(2) + links(n)),
+        ("source", 100_000, lambda n: elements(1) + sources(n, "priority = 0\n")),
+    ):
+        yield large_rank_case(f"large: {most} {section}s", make(most))
+        yield large_rank_case(
+            f"large: {most + 1} {section}s", make(most + 1), 3, f"bad plan 25 15 {section} {most + 1}\n"
+        )
+    yield large_rank_case("large: 64 lines into an element", elements(2) + nominated(64), ends="L63>E1,0\n")
+    yield large_rank_case("large: 65 lines", elements(2) + nominated(65), 3, "bad plan 25 15 link 65\n")
+    plan = elements(2) + nominated(1)
+    yield large_rank_case("large: a plan of 1 GiB", padded(plan, LARGE_LONGEST, "#"), ends="L0>E1,0\n")
+    yield large_rank_case("large: a plan of 1 GiB and one octet", padded(plan, LARGE_LONGEST + 1, "#"), 9, "too long\n")
+    for n, status, text in ((100_000, 0, 'option = "I"\n'), (100_001, 2, "usage\n")):
+        yield Case(f"large gen {n}", ["large", "gen", str(n)], {}, status, text)
+    yield Case("large trial 100000", ["large", "trial", "100000"], {}, 0, "")
+    yield Case("large trial 100001", ["large", "trial", "100001"], {}, 2, "usage\n")
+
+
+def large_row_cases() -> Iterator[Case]:
+    """As many events and changes as there may be beside a plan of 2,001 elements, and one more."""
+    plan = elements(2001) + PAIR
+
+    def case(name: str, rows: str, until: int, status: int, begins: str, ends: str = "") -> Case:
+        files = {"plan": plan, "events": rows}
+        return Case(f"large: {name}", ["large", "sim", "plan", "events", str(until)], files, status, begins, ends)
+
+    row = "0,clear,E0,\n"
+    yield case("5,000,000 events", EVENTS + row * 5_000_000, 0, 0, "changes\n", "settled no\n")
+    yield case("5,000,001 events", EVENTS + row * 5_000_001, 0, 5, "bad events 33\n")
+    yield case("events of 1 GiB", padded(EVENTS, LARGE_LONGEST), 0, 0, "changes\n")
+    yield case("events of 1 GiB and one octet", padded(EVENTS, LARGE_LONGEST + 1), 0, 9, "too long\n")
+    yield case("10,000,000 changes of a pair", EVENTS, DAY, 11, "changes\n1,E0,auto,L>E0,", "stopped,5000000\n")
+
+
+def large_group_cases() -> Iterator[Case]:
+    """Fifty groups of a hundred thousand elements each, which are as many rows as there may be, and one row more."""
+    rows = "".join(f"G{group},element,E{n}\n" for group in range(50) for n in range(100_000))
+    files = {"plan": elements(100_000), "groups": "group,kind,part\n" + rows}
+    words = ["large", "protected", "plan", "groups"]
+    yield Case("large: 5,000,000 rows of groups", words, files, 0, "protected\n")
+    more = files | {"groups": files["groups"] + "G50,element,E0\n"}
+    yield Case("large: 5,000,001 rows of groups", words, more, 5, "bad groups 33\n")
+
+
+def standard_cases() -> Iterator[Case]:
+    """All cases for the words as they are."""
+    yield from plan_cases()
+    yield from event_cases()
+    yield from certificate_cases()
+    yield from length_cases()
+    yield from other_cases()
+
+
+def large_cases() -> Iterator[Case]:
+    """All cases for the words with `large` before them."""
+    yield from large_plan_cases()
+    yield from large_row_cases()
+    yield from large_group_cases()
+
+
 def run(program: str, case: Case, folder: str) -> tuple[int, bytes, float, int]:
     """The status, the text, the processor time in milliseconds and the peak of memory in kilobytes."""
     for name, data in case.files.items():
@@ -219,12 +294,12 @@ def run(program: str, case: Case, folder: str) -> tuple[int, bytes, float, int]:
 
 def main() -> int:
     words = program_words(__doc__)
+    words.add_argument("--large", action="store_true")
     words.add_argument("--only", default="")
     given = words.parse_args()
     program, wrong = given.program, 0
     print("| what | answer | time | peak memory |\n|---|---|---|---|")
-    cases = [*plan_cases(), *event_cases(), *certificate_cases(), *length_cases(), *other_cases()]
-    for case in (case for case in cases if given.only in case.name):
+    for case in (case for case in (large_cases() if given.large else standard_cases()) if given.only in case.name):
         with tempfile.TemporaryDirectory() as folder:
             status, text, milliseconds, memory = run(program, case, folder)
         right = (

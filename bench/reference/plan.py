@@ -64,8 +64,10 @@ class Plan:
         self.lines = 2 * len(links)
         self.nominated = [i for i, priority in enumerate(self.priority_of) if priority > 0]
         self.nominated_lines = [i for i in self.nominated if i < self.lines]
-        self.inputs_of = [[i for i in self.nominated if self.receiver_of[i] == e] for e in range(len(elements))]
-        self.bundle_of = [bundle_number(links, line // 2) for line in range(self.lines)]
+        self.inputs_of: list[list[int]] = [[] for _ in elements]
+        for i in self.nominated:
+            self.inputs_of[self.receiver_of[i]].append(i)
+        self.bundle_of = [number for number in bundle_numbers(links) for _ in range(2)]
 
     def is_line(self, i: int) -> bool:
         """An input number is a line's."""
@@ -153,11 +155,10 @@ class Plan:
         return any(self.receiver_of[i] == e and (self.is_line(i) or self.priority_of[i] > 0) for i in inputs)
 
 
-def bundle_number(links: list[Link], k: int) -> int:
-    """The lowest-numbered link of a link's bundle: those that name it, or the link alone."""
-    if links[k].bundle is None:
-        return k
-    return next(number for number, link in enumerate(links) if link.bundle == links[k].bundle)
+def bundle_numbers(links: list[Link]) -> list[int]:
+    """For each link the lowest-numbered link of its bundle: those that name it, or the link alone."""
+    first: dict[str, int] = {}
+    return [k if link.bundle is None else first.setdefault(link.bundle, k) for k, link in enumerate(links)]
 
 
 def read_plan(text: str) -> Plan:
