@@ -34,6 +34,10 @@ PAIR = (
     '[[element]]\nname = "A"\n[[element]]\nname = "B"\n'
     '[[link]]\nname = "L1"\na = "A"\nb = "B"\npriority_a = 1\npriority_b = 1\n' + DELAYS
 )
+# Three elements in a ring, whose first has the source.
+RING = CHAIN + '[[link]]\nname = "L3"\na = "C"\nb = "A"\n'
+CASES = "case,at,what,target,value\none,2000,down,L1,\ntwo,2000,down,L2,\ntwo,3000,up,L2,\n"
+GROUPS = "group,kind,part\nD,link,L1\nD,link,L3\nE,element,B\n"
 CERTIFICATE = "line,rank\nL1>B,0\nL2>C,1\n"
 NO_EVENTS = "at,what,target,value\n"
 ROWS = "020000000001,info,QL-PRC\n020000000002,event,QL-PRTC,0011223344556677,00,1,0\n"
@@ -56,6 +60,9 @@ def works() -> dict[str, tuple[list[str], dict[str, str]]]:
         "encode": (["encode", "I", "rows"], {"rows": ROWS}),
         "pcap-encode": (["pcap-encode", "I", "rows"], {"rows": TIMED_ROWS}),
         "nominate": (["nominate", "chain"], {"chain": CHAIN}),
+        "protect": (["protect", "ring"], {"ring": RING}),
+        "protected": (["protected", "ring", "groups"], {"ring": RING, "groups": GROUPS}),
+        "study": (["study", "chain", "cases", "10000"], {"chain": CHAIN, "cases": CASES}),
         "sweep": (["sweep", "chain", "1000", "10000"], {"chain": CHAIN}),
         "trial": (["trial", "10"], {}),
         "sim": (["sim", "chain", "events", "100"], {"chain": CHAIN, "events": NO_EVENTS}),
