@@ -146,6 +146,22 @@ def test_who_needs_no_source_after_a_cut_is_apart_from_whom_no_link_could_serve(
     )
 
 
+def test_what_cuts_cost_on_the_way_is_told_beside_their_end() -> None:
+    cases = cases_of("mesh")
+    table = "case,at,what,target,value\n" + "".join(
+        f"{case['name']},{cases.times.at},down,{case['name']},\n" for case in cases.rows
+    )
+    rows = api.study(EXAMPLES / "mesh" / "plan.toml", table.encode(), cases.times.until).result.rows
+    hurting, longest = [row for row in rows if row.hurt], max(rows, key=lambda row: row.dark)
+    assert [row.case for row in hurting] == ["N1", "A1", "A4"] and [row.still > 0 for row in hurting] == [True] * 3
+    # (from the end of the hold-off time on, 300 ms after 600,000, to 601,000, both counted)
+    assert (cases.times.until, longest.dark) == (601_000, 701)
+    assert (
+        "3 cases make levels worse than before on the way, and 3 still at the end; up to the end for 0.701 s at most, hub-north in N1"
+        in pages.cuts_text(cases)
+    )
+
+
 def test_cases_are_looked_at_by_the_bound_after_failures() -> None:
     times = cases_of("ring-of-rings").times
     assert (times.at, times.until) == (600_000, 606_000) and "`failures F` of `agree`" in times.why

@@ -76,7 +76,7 @@ def cuts_text(cases: Cases) -> str:
     return (
         f"each link alone, down at {down} without the events of this run: {plural(needless, 'link')} {leaves} elements without a "
         f"source although another link could still serve them, {others:,} only elements that none could; the table and the map show "
-        f"the end, {end}: what is lost and back by then isn't counted; the end is chosen: {cases.times.why}"
+        f"the end, {end}: what is lost and back by then isn't counted; {cases.way}; the end is chosen: {cases.times.why}"
     )
 
 

@@ -175,20 +175,19 @@ def unsettled_text(tally: Tally) -> str:
     return f"{unsettled}, and {of_cases(tally.looping, 'has', 'have')} loops"
 
 
-def way_text(tally: Tally) -> list[str]:
+def way_text(tally: Tally) -> str:
     """How many cases make levels worse on the way to the end, for how long at most, and how many do yet."""
     if not tally.hurting:
-        return []
+        return "no case makes levels worse than before on the way"
     worst = tally.dark.outcomes()[0]
-    longest = f"up to the end for {seconds(worst.dark)} at most, {worst.darkest} in {worst.case}"
-    return [
-        f"{of_cases(tally.hurting, 'makes', 'make')} levels worse than before on the way, and {tally.still:,} still at the end; {longest}"
-    ]
+    longest = f"for {seconds(worst.dark)} at most, {worst.darkest} in {worst.case}"
+    makes = f"{of_cases(tally.hurting, 'makes', 'make')} levels worse than before on the way"
+    return f"{makes}, and {tally.still:,} still at the end; {'up to the end ' if tally.still else ''}{longest}"
 
 
 def text_of(tally: Tally, most: int, ends: Ends) -> list[str]:
     """The summary as a person reads it."""
-    said = [*end_text(tally, ends), *losing_text(tally, ends.losses), unsettled_text(tally), *way_text(tally)]
+    said = [*end_text(tally, ends), *losing_text(tally, ends.losses), unsettled_text(tally), way_text(tally)]
     said += alone_text(ends)
     if needless := ends.losses.outcomes():
         said += [
