@@ -4,12 +4,17 @@ trap, and so had the two nights of a planner's own network."""
 from __future__ import annotations
 
 import json
+import re
+import time
 from pathlib import Path
 
 import night_plans
 import pytest
 from conftest import Ran, murdjohe
 from night_plans import Night
+
+from murdjohe.network import plan_file
+from murdjohe.plan import edits, priorities
 
 OWN = Path(__file__).resolve().parent / "nights"
 START = ["--start", "23:00"]
@@ -177,3 +182,30 @@ def test_a_night_in_which_each_case_is_dark_for_minutes_is_not_told_as_clean(own
     assert told["losing"] == told["cases"] > 0 and "NODE-7" in told["common_alone"]
     rehearsed = murdjohe("rehearse", "plan.toml", "works.csv", "--limit", "1m", folder=own)
     assert rehearsed.status == 20 and "NODE-7: " in rehearsed.out.decode()
+
+
+# that planner's network of 59 elements, with priorities that oscillate where one of its two sites loses its links
+GONE = ("C005>CR-N1", "C005>CR-N2", "C018>CR-N2", "C024>CR-S2", "C044>AG-202", "C048>AG-203")
+
+
+def test_a_survey_of_pairs_in_a_plan_that_oscillates_takes_seconds_and_says_so_at_once(folder: Path) -> None:
+    knot = plan_file.read(str(OWN / "knot.toml"))
+    numbers = priorities.priorities_of(knot.network) | dict.fromkeys(GONE, 0)
+    (folder / "plan.toml").write_bytes(edits.changed(knot.plan, priorities.wanted(knot.plan, numbers)))
+    assert "may oscillate" in accepted(folder)  # (no loop is possible in it)
+    words = ["survey", "plan.toml", "--links", "--sources", "--elements", "--pairs", "--worst", "3"]
+    began = time.monotonic()
+    lines = murdjohe(*words, "--cases", "5001-7000", folder=folder).out.decode().splitlines()
+    assert (
+        time.monotonic() - began < 60
+    )  # (two or three seconds; some oscillate up to the end, which lies six seconds after the failures)
+    assert lines[0].startswith("2,000 cases, each looked at in its last millisecond, 00:10:06.000 ")
+    assert lines[1].endswith("priorities may oscillate, so `agree` gives no bound")
+    assert "although a link could still serve them" in lines[2]
+    assert lines[3].split(" leave without one only ")[1].startswith("whom nothing could save: ")
+    told = re.fullmatch(
+        r"(\d+) cases are unsettled at the end, still changing then \((.+)\), and \d+ cases have loops", lines[4]
+    )
+    assert (
+        told and int(told[1]) > 0 and all("SSU-S" in name.split("--") for name in told[2].split(" and ")[0].split(", "))
+    )
