@@ -62,3 +62,13 @@ LEFT = Night(
     ),
     f"{HEAD}23:05,lockout,south>middle,\n23:10,down,outer,\n23:30,up,outer,\n",
 )
+# A ring in which north is forced to one side for works on the other; the switch is left behind, and then that side is cut: north takes
+# nothing although the other side is up. Whoever looks while the first works stand sees nobody without a source.
+FORCED = Night(
+    plan_of(
+        "hub mill north park",
+        ("F1 hub mill 0 1", "F2 mill north 2 1", "F3 north park 2 2", "F5 park hub 1 0"),
+        ("clock hub QL-PRC 1",),
+    ),
+    f"{HEAD}23:00,forced,F2>north,\n23:15,down,F3,\n01:00,up,F3,\n01:30,down,F2,\n",
+)

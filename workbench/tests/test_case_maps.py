@@ -3,6 +3,7 @@
 from __future__ import annotations
 
 import gzip
+from dataclasses import replace
 from pathlib import Path
 
 import pytest
@@ -146,6 +147,13 @@ def test_what_is_said_above() -> None:
     assert map_of(tally, [first]).about == f"1 of the 2 cases that leave {rest}; 3 in all"
     together = "a column is up to 17 elements that follow one another, called by the first"
     assert case_maps.about(tally, 2, 17) == f"2 of 3 cases leave {rest}; {together}"
+    # the way to the end is told in a line of its own
+    assert map_of(tally, [first]).way == "no case makes levels worse than before on the way"
+    tally.add(replace(outcome("z"), hurt=2, dark=1_500, darkest="B", still=0))
+    tally.add(replace(outcome("v", 1, "A"), hurt=1, dark=700, darkest="A", still=1))
+    assert map_of(tally, [first]).way == (
+        "2 cases make levels worse than before on the way, and 1 still at the end; up to the end for 1.500 s at most, B in z"
+    )
 
 
 def test_fields_have_colours_and_shades() -> None:

@@ -4,12 +4,17 @@ trap, and so had the two nights of a planner's own network."""
 from __future__ import annotations
 
 import json
+import re
+import time
 from pathlib import Path
 
 import night_plans
 import pytest
 from conftest import Ran, murdjohe
 from night_plans import Night
+
+from murdjohe.network import plan_file
+from murdjohe.plan import edits, priorities
 
 OWN = Path(__file__).resolve().parent / "nights"
 START = ["--start", "23:00"]
@@ -103,6 +108,54 @@ def test_a_failure_while_the_works_stand_is_seen(folder: Path) -> None:
     assert murdjohe("survey", "plan.toml", "--links", "--fail-on", "lost", folder=folder).status == 0
 
 
+# the fourth: works that go on after a survey has looked, and end worse
+
+
+def test_a_survey_tells_which_works_come_after_it_has_looked(folder: Path) -> None:
+    put(folder, night_plans.FORCED)
+    ran = surveyed(folder, "--links")
+    said = ran.out.decode().splitlines()
+    # (F3 goes down at 23:15 and comes up at 01:00; F2, to which north is forced, goes down at 01:30 and stays so)
+    assert said[0].startswith("4 cases, each looked at in its last millisecond, 23:35:01.000 ")
+    (alone,) = [line for line in said if line.startswith("the common events alone ")]
+    assert alone.startswith("the common events alone leave nobody without a source at the end; ")
+    (later,) = [line for line in said if "come after the end" in line]
+    assert later == (
+        "2 of the common events come after the end and aren't run, the first `up F3` at 01:00:00.000: `rehearse` runs all of them"
+    )
+    assert "bring up again" not in ran.err  # (what comes after the end brings nothing up that these cases look at)
+    told = json.loads(surveyed(folder, "--links", "--json").out)["answer"]
+    assert (told["common_alone"], told["common_settled"], told["common_later"]) == ([], True, 2)
+    # where all of them are looked at nothing of the kind is said, and north is dark
+    said = surveyed(folder, "--links", "--at", "01:40", "--until", "02:10").out.decode().splitlines()
+    assert any(
+        line.startswith("the common events alone leave 1 element without a source at the end (north); ")
+        for line in said
+    )
+    assert not any("come after the end" in line for line in said)
+    ran = rehearsed(folder)
+    assert ran.status == 20 and ran.out.startswith(
+        b"still without a source at the end, 01:50:00.000: 1 element: north (since 01:30:00.300)\n"
+    )
+
+
+def test_a_time_on_the_way_is_told_as_one_up_to_the_end(folder: Path) -> None:
+    put(folder, night_plans.FORCED)
+    said = surveyed(folder, "--links").out.decode().splitlines()
+    # (F1 is the only way of mill and north, which lose it after the hold-off time, at 23:15:01.300, and have none in 23:35:01.000)
+    (way,) = [line for line in said if "on the way, and" in line]
+    assert way == (
+        "3 cases make levels worse than before on the way, and 3 still at the end; up to the end for 1199.701 s at most, mill in F1"
+    )
+
+
+def test_a_survey_during_works_that_oscillate_says_so_of_them(folder: Path) -> None:
+    put(folder, night_plans.SWINGING)
+    said = surveyed(folder, "--sources").out.decode().splitlines()
+    (alone,) = [line for line in said if line.startswith("the common events alone ")]
+    assert "without a source at the end (station, harbour), and it isn't settled then; " in alone
+
+
 # a planner's own two nights
 
 
@@ -129,3 +182,30 @@ def test_a_night_in_which_each_case_is_dark_for_minutes_is_not_told_as_clean(own
     assert told["losing"] == told["cases"] > 0 and "NODE-7" in told["common_alone"]
     rehearsed = murdjohe("rehearse", "plan.toml", "works.csv", "--limit", "1m", folder=own)
     assert rehearsed.status == 20 and "NODE-7: " in rehearsed.out.decode()
+
+
+# that planner's network of 59 elements, with priorities that oscillate where one of its two sites loses its links
+GONE = ("C005>CR-N1", "C005>CR-N2", "C018>CR-N2", "C024>CR-S2", "C044>AG-202", "C048>AG-203")
+
+
+def test_a_survey_of_pairs_in_a_plan_that_oscillates_takes_seconds_and_says_so_at_once(folder: Path) -> None:
+    knot = plan_file.read(str(OWN / "knot.toml"))
+    numbers = priorities.priorities_of(knot.network) | dict.fromkeys(GONE, 0)
+    (folder / "plan.toml").write_bytes(edits.changed(knot.plan, priorities.wanted(knot.plan, numbers)))
+    assert "may oscillate" in accepted(folder)  # (no loop is possible in it)
+    words = ["survey", "plan.toml", "--links", "--sources", "--elements", "--pairs", "--worst", "3"]
+    began = time.monotonic()
+    lines = murdjohe(*words, "--cases", "5001-7000", folder=folder).out.decode().splitlines()
+    assert (
+        time.monotonic() - began < 60
+    )  # (two or three seconds; some oscillate up to the end, which lies six seconds after the failures)
+    assert lines[0].startswith("2,000 cases, each looked at in its last millisecond, 00:10:06.000 ")
+    assert lines[1].endswith("priorities may oscillate, so `agree` gives no bound")
+    assert "although a link could still serve them" in lines[2]
+    assert lines[3].split(" leave without one only ")[1].startswith("whom nothing could save: ")
+    told = re.fullmatch(
+        r"(\d+) cases are unsettled at the end, still changing then \((.+)\), and \d+ cases have loops", lines[4]
+    )
+    assert (
+        told and int(told[1]) > 0 and all("SSU-S" in name.split("--") for name in told[2].split(" and ")[0].split(", "))
+    )

@@ -32,6 +32,30 @@ def test_nothing_and_another_programs_answer_are_none(folder: Path, words: str) 
         assert (ran.status, ran.out) == (70, b"") and " gave no answer to `" in ran.err, (script, ran)
 
 
+FRAME = "0180c200000202000000000188090a0019a70001100000000100040002" + "00" * 31
+
+
+@pytest.mark.parametrize("words", ["decode I frames", "encode I rows", "node plan.toml B received 999"])
+def test_rows_of_frames_that_are_none_or_too_few(folder: Path, core: str, words: str) -> None:
+    (folder / "plan.toml").write_text(RESERVE)
+    (folder / "frames").write_text(f"{FRAME}\n\n{FRAME}\r\n")
+    (folder / "rows").write_text("020000000001,info,QL-PRC\n020000000002,info,QL-DNU\n")
+    (folder / "received").write_text("")
+    whole = murdjohe(*words.split(), folder=folder)
+    assert whole.status == 0 and whole.out.count(b"\n") == 2  # (B sends on both its lines once in that second)
+    scripts = ["echo hello", "printf 020"]
+    if not words.startswith("node"):
+        scripts += ["exit 0", f'"{core}" "$@" | head -n 1', f'"{core}" "$@"; "{core}" "$@"']
+    for script in scripts:
+        ran = murdjohe(*words.split(), folder=folder, MURDJOHE_CORE=played(folder, script))
+        assert (ran.status, ran.out) == (70, b"") and " gave no answer to `" in ran.err, (script, ran)
+    for name in ("frames", "rows"):
+        (folder / name).write_text("")
+    if not words.startswith("node"):
+        ran = murdjohe(*words.split(), folder=folder)
+        assert (ran.status, ran.out) == (0, b"")
+
+
 @pytest.mark.parametrize("words", FORMS[:14])
 def test_a_text_that_was_cut_off_is_none(folder: Path, core: str, words: str) -> None:
     (folder / "plan.toml").write_text(RESERVE)

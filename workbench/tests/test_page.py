@@ -146,6 +146,22 @@ def test_who_needs_no_source_after_a_cut_is_apart_from_whom_no_link_could_serve(
     )
 
 
+def test_what_cuts_cost_on_the_way_is_told_beside_their_end() -> None:
+    cases = cases_of("mesh")
+    table = "case,at,what,target,value\n" + "".join(
+        f"{case['name']},{cases.times.at},down,{case['name']},\n" for case in cases.rows
+    )
+    rows = api.study(EXAMPLES / "mesh" / "plan.toml", table.encode(), cases.times.until).result.rows
+    hurting, longest = [row for row in rows if row.hurt], max(rows, key=lambda row: row.dark)
+    assert [row.case for row in hurting] == ["N1", "A1", "A4"] and [row.still > 0 for row in hurting] == [True] * 3
+    # (from the end of the hold-off time on, 300 ms after 600,000, to 601,000, both counted)
+    assert (cases.times.until, longest.dark) == (601_000, 701)
+    assert (
+        "3 cases make levels worse than before on the way, and 3 still at the end; up to the end for 0.701 s at most, hub-north in N1"
+        in pages.cuts_text(cases)
+    )
+
+
 def test_cases_are_looked_at_by_the_bound_after_failures() -> None:
     times = cases_of("ring-of-rings").times
     assert (times.at, times.until) == (600_000, 606_000) and "`failures F` of `agree`" in times.why
@@ -168,6 +184,27 @@ def test_the_command_writes_a_page_and_says_what_the_program_says(folder: Path) 
     before = (folder / "page.html").read_bytes()
     assert murdjohe(*words, "--force", folder=folder).status == 0
     assert (folder / "page.html").read_bytes() == before
+
+
+def test_the_facts_have_times_of_day_where_the_run_begins_at_one(folder: Path) -> None:
+    at = EXAMPLES / "ring"
+    words = [
+        "report",
+        str(at / "plan.toml"),
+        str(at / "events.csv"),
+        "--until",
+        "2m",
+        "--start",
+        "23:59",
+        "-o",
+        "page.html",
+    ]
+    ran = murdjohe(*words, folder=folder)
+    first = "still without a source at the end, 00:01:00.000: 3 elements: A (since 23:59:00.003, and no link could serve it), "
+    assert ran.err.startswith(f"murdjohe: {first}")
+    text = (folder / "page.html").read_text()
+    assert f"<dt>at the end</dt><dd>{first}" in text and f'"text":"{first}' in text
+    assert "<dt>sim: settled</dt><dd>yes, from 00:00:" in text and " after the start on" not in text
 
 
 @pytest.mark.parametrize(

@@ -221,7 +221,7 @@ def test_a_study_names_the_cases_that_the_sweep_has_as_cuts() -> None:
         "no case of 4 leaves anybody without a source at the end",
     ]
     assert said("study", "mesh/plan.toml", "-", "59999", stdin=cases)[:-1] == none
-    way = "1 of 4 cases makes levels worse than before on the way, and 0 still at the end (for which element longest, and for how long): A1 (cell-1, 2 ms)"
+    way = "1 of 4 cases makes levels worse than before on the way, and 0 still at the end (for which element longest, and for how long up to the end): A1 (cell-1, 2 ms)"
     assert said("study", "mesh/redundant.toml", "-", "400s", stdin=cases)[:-1] == [*none[1:], way]
 
 

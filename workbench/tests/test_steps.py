@@ -170,6 +170,31 @@ def test_out_of_a_plan_that_loops_the_rings_go_first() -> None:
     assert step_text.last_bad(found) < len(found)
 
 
+def test_out_of_a_planners_own_network_with_two_groups_of_loops(tmp_path: Path) -> None:
+    # (59 elements, 36 interlocked inputs, 298 possible loops)
+    old, new = TOP / "workbench" / "tests" / "nights" / "knot.toml", tmp_path / "new.toml"
+    ran = murdjohe("repair", str(old), "-o", str(new))
+    assert ran.out.startswith(
+        b"a group of 36 interlocked inputs, 298 possible loops\ntake away 6 nominations (least): "
+    )
+    assert b"\nchecked: accepted, agreed, 1 gap\n" in ran.out
+    found = walked(old, new)
+    # the old plan loops, so the first plans on the way do; each step takes some away and adds none, and the last one is accepted
+    assert [step.is_good for step in found] == [False, False, False, True]
+    changes = [change for step in found for change in step.changes]
+    assert len(changes) == 6 and all(now == 0 for _, _, now in changes)
+    ran = murdjohe("orders", str(new), "--from", str(old), "--steps")
+    assert ran.status == 0 and ran.out.decode().count("\nstep ") == 3
+    assert (
+        "the old plan can loop or oscillate, and so can those up to step 3: work these off without a pause" in ran.err
+    )
+    # from the repaired plan to that of `protect`, and back, every plan is accepted and agrees
+    protecting = tmp_path / "protecting.toml"
+    assert murdjohe("protect", str(old), "-o", str(protecting)).status in (0, 1)
+    for way in (walked(new, protecting), walked(protecting, new)):
+        assert len(way) == 12 and all(step.is_good for step in way)
+
+
 @pytest.mark.parametrize("seed", range(12))
 def test_random_plans_by_both_forms(tmp_path: Path, seed: int) -> None:
     data = random_plan(random.Random(seed)).text()[0].encode()

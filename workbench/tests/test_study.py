@@ -124,7 +124,7 @@ def test_json_has_the_columns_in_order(folder: Path) -> None:
 def test_cases_that_leave_somebody_without_a_source_are_told_worst_first(folder: Path) -> None:
     some = "3 of 4 cases leave elements without a source at the end (how many, most first): all (3), cut (2), last (1)"
     end = "only the end, 00:01:30.000, is looked at: a source lost and back by then isn't counted, a level worse on the way is"
-    way = "3 of 4 cases make levels worse than before on the way, and 3 still at the end (for which element longest, and for how long): cut (B, 8,701 ms), last (C, 8,701 ms), all (A, 8,701 ms)"
+    way = "3 of 4 cases make levels worse than before on the way, and 3 still at the end (for which element longest, and for how long up to the end): cut (B, 8,701 ms), last (C, 8,701 ms), all (A, 8,701 ms)"
     assert said(folder, TABLE, until="90000") == [some, way, end]
     one = "\n".join(TABLE.splitlines()[:3]) + "\n"
     assert (
@@ -153,7 +153,7 @@ def test_rows_that_are_not_settled_and_loops_are_told(folder: Path) -> None:
         "2 rows not settled, run longer, to a later UNTIL: x, y",
         "loops stand in 1 case: y",
         "traces of more than G.803's 60 lines in 1 case: y (61)",
-        "1 of 3 cases makes levels worse than before on the way, and 0 still at the end (for which element longest, and for how long): z (B, 700 ms)",
+        "1 of 3 cases makes levels worse than before on the way, and 0 still at the end (for which element longest, and for how long up to the end): z (B, 700 ms)",
         "only the end, 00:00:10.000, is looked at: a source lost and back by then isn't counted, a level worse on the way is",
     ]
 
@@ -345,7 +345,7 @@ def test_the_command_has_the_rows_and_says_what_they_are(folder: Path) -> None:
     assert ran.err.splitlines() == [
         "murdjohe: 3 of 4 cases leave elements without a source at the end (how many, most first): all (3), cut (2), last (1)",
         "murdjohe: 1 row not settled, run longer, to a later UNTIL: late",
-        "murdjohe: 3 of 4 cases make levels worse than before on the way, and 3 still at the end (for which element longest, and for how long): cut (B, 88,701 ms), last (C, 88,701 ms), all (A, 88,701 ms)",
+        "murdjohe: 3 of 4 cases make levels worse than before on the way, and 3 still at the end (for which element longest, and for how long up to the end): cut (B, 88,701 ms), last (C, 88,701 ms), all (A, 88,701 ms)",
         "murdjohe: only the end, 00:01:30.000, is looked at: a source lost and back by then isn't counted, a level worse on the way is",
     ]
     told = json.loads(murdjohe("study", "plan.toml", "cases.csv", "10s", "--json", folder=folder).out)

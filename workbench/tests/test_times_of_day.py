@@ -52,6 +52,9 @@ def test_a_time_of_day_counts_from_the_start(folder: Path) -> None:
     ran = murdjohe("rehearse", "plan.toml", "early.csv", "--start", "23:00", folder=folder)
     assert ran.status == 5 and "early.csv:2: `22:50,down,L1,`: 22:50:00 is before the start" in ran.err
     assert murdjohe("draw", "plan.toml", "--start", "23:00", "-o", "plan.svg", folder=folder).status == 0
+    (folder / "run").write_bytes(plain.out)
+    ran = murdjohe("timeline", "run", "--plan", "plan.toml", "--start", "23:00", "-o", "run.svg", folder=folder)
+    assert ran.status == 0 and "23:05" in (folder / "run.svg").read_text()
 
 
 def test_seconds_that_were_typed_for_milliseconds_are_told(folder: Path) -> None:

@@ -82,10 +82,12 @@ def clock(asked: dict[str, Any], at: int) -> str:
     return f"{times.clock(at, asked['start'] or 0)} ({at:,} ms)"
 
 
-def mended(found: list[Failure], common: tuple[Event, ...], at: int) -> list[Event]:
-    """The events common to all cases that mend something which a case has taken down before."""
+def mended(found: list[Failure], common: tuple[Event, ...], at: int, until: int) -> list[Event]:
+    """The events common to all cases that mend, by the end of the runs, something which a case has taken down before."""
     down = {part for one in found for part in one.down}
-    return [event for event in common if event.what == "up" and event.at >= at and parts_of(event.target) & down]
+    return [
+        event for event in common if event.what == "up" and at <= event.at <= until and parts_of(event.target) & down
+    ]
 
 
 def parts_of(target: str) -> set[str]:
@@ -93,12 +95,14 @@ def parts_of(target: str) -> set[str]:
     return {target, target.partition(">")[0]}
 
 
-def remarks(found: list[Failure], common: tuple[Event, ...], asked: dict[str, Any]) -> list[str]:
-    """When what fails goes down, and which works mend it again."""
+def remarks(
+    found: list[Failure], common: tuple[Event, ...], asked: dict[str, Any], until: int = forms.DAY_MS
+) -> list[str]:
+    """When what fails goes down, and which works mend it again, up to the end of the runs where that is known."""
     at = asked["at"]
     why = f", {asked['why_then']}" if asked["why_then"] else ""
     said = [f"what fails goes down at {clock(asked, at)}{why}"]
-    again = mended(found, common, at)
+    again = mended(found, common, at, until)
     if again:
         names = [f"{event.target} at {times.clock(event.at, asked['start'] or 0)}" for event in again]
         cases = {one.name for one in found for event in again if parts_of(event.target) & set(one.down)}

@@ -84,7 +84,7 @@ def made(
     said += [found.oscillation] if found.oscillation else []
     said += [pages.cuts_text(cases)] if cases and cases.rows else []
     return (
-        pages.page(title, data, pages.facts(taken, file, found, cases)),
+        pages.page(title, data, pages.facts(taken, file, found, start or 0, cases)),
         status,
         said + simulation.likely_seconds(file, until),
     )

@@ -61,7 +61,7 @@ def cases_of(
     found = failure_options.asked_of(taken, asked)
     common = failure_options.common_of(taken, asked)
     end = failure_options.placed(taken, common, asked, until)
-    asked["remarks"] = failure_options.remarks(found, common, asked)
+    asked["remarks"] = failure_options.remarks(found, common, asked, end.until)
     asked["common"] = common
     return case_lists.of_failures(taken.network, found, asked["pairs"], asked["at"], common, span), end
 
@@ -94,7 +94,7 @@ def worked(
     """The summary of the cases, and what was worked for it."""
     alone = surveys.works_alone(taken, settings["common"], until)
     wired = wiring.wiring_of(taken.network)
-    losses = Losses(wired, until, settings["worst"], None if alone is None else len(alone))
+    losses = Losses(wired, until, settings["worst"], surveys.lost_alone(alone))
     settings["alone"], settings["losses"] = alone, losses
     crew = crew_of(settings["scheduler"], settings["jobs"], taken.data, until)
     finished = Finished(settings["parts"], taken.data, until, study_runs.core_sum())
@@ -215,7 +215,8 @@ def survey(
 
     Only the end is looked at, the millisecond of --until: what is lost before and has come back by then isn't counted. Elements
     that are taken away themselves, or that no link could still serve, are counted apart from those that needn't have lost their
-    source. With --during it is said what the common events do alone, and which of them mend what a case took down.
+    source. With --during it is said what the common events do alone, and which of them bring up again what a case
+    took down.
 
     The cases are those that `failures` would write by the same options, or those of the table CASES, of any length. The program
     works them by `study`, --size of them at once, on all processors or on a cluster. A survey that was stopped goes on where it

@@ -69,8 +69,8 @@ duct-7,link,L5
 roof,source,GPS1
 roof,source,GPS2
 
-`murdjohe protected PLAN GROUPS` says whom each group cuts off who needn't be, and `murdjohe protect PLAN --groups GROUPS` gives
-priorities under which none does. `lint`, `diff`, `draw`, `failures` and `survey` take the same list with --groups, and `import`
+`murdjohe protected PLAN GROUPS` says whom each group cuts off although a path remains, and `murdjohe protect PLAN --groups GROUPS`
+gives priorities under which none does. `lint`, `diff`, `draw`, `failures` and `survey` take the same list with --groups, and `import`
 makes it of a column `duct` of the links' table. These commands read a table of the columns name and links too, with the names
 of a group's links between blanks.
 """

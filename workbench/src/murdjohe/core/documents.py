@@ -121,7 +121,7 @@ def kind_of(document: Document) -> str | None:
         if data.startswith(beginning):
             return kind
     if data.startswith(REFUSALS) and data.count(b"\n") <= 1:
-        return f"the refusal `{document.line(1)}` of an earlier command, whose own file has to be mended first"
+        return f"the refusal `{document.line(1)}` of an earlier command, whose own file has to be corrected first"
     if PLAN_ROW.search(document.text):
         return "a plan"
     if FRAME.match(document.text):

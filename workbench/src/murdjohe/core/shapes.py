@@ -44,6 +44,8 @@ PLANS = ("gen", "nominate", "protect")
 CHECKS = ("check", "prio-check")
 # The forms that write rows without a header, with their table; `encode` writes a frame a line.
 ROWS = {"decode": row_tables.FRAMES, "pcap-decode": row_tables.FRAMES, "node": row_tables.SENT, "encode": None}
+SINGLE = ("decode", "encode")  # that write a row for each row of their file
+DIGITS = b"0123456789abcdef"
 LASTS = {"pcap-decode": b"passed,", "node": b"stopped,"}  # how the line begins that ends some rows
 PCAP = (b"\xd4\xc3\xb2\xa1", b"\xa1\xb2\xc3\xd4")
 REFUSED = {
@@ -106,6 +108,16 @@ def is_short(path: str | bytes, section: bytes, found: int) -> int | None:
     except (OSError, ValueError, RecursionError):
         return None
     return wanted if wanted != found else None
+
+
+def single_fault(path: str | bytes, found: int) -> str | None:
+    """What is wrong with so many rows, where each row of a file gives one; blank lines are none."""
+    try:
+        with open(path, "rb") as file:
+            wanted = sum(not line.isspace() for line in file)
+    except (OSError, ValueError):
+        return None
+    return None if wanted == found else f"it has {found:,} rows where the file has {wanted:,}"
 
 
 def words_fault(lines: list[bytes], first: bytes, least: int) -> str | None:
@@ -171,7 +183,7 @@ def done_fault(form: str, data: bytes, status: int, words: Sequence[str | bytes]
         return plan_fault(form, data, path)
     if form in ("sim", "prio-sim"):
         return report_fault(form, lines, status)
-    return other_fault(form, data, lines)
+    return other_fault(form, data, lines, words[-1])
 
 
 def plan_fault(form: str, data: bytes, path: str | bytes) -> str | None:
@@ -186,7 +198,7 @@ def plan_fault(form: str, data: bytes, path: str | bytes) -> str | None:
     return None
 
 
-def other_fault(form: str, data: bytes, lines: list[bytes]) -> str | None:
+def other_fault(form: str, data: bytes, lines: list[bytes], path: str | bytes = "") -> str | None:
     """What is wrong with an inspection, a trial, rows or a capture."""
     if form == "inspect":
         return parts_fault(form, lines)
@@ -196,7 +208,8 @@ def other_fault(form: str, data: bytes, lines: list[bytes]) -> str | None:
     if form == "pcap-encode":
         return None if data.startswith(PCAP) else "it is no capture"
     if form in ROWS:
-        return plain_rows_fault(form, lines)
+        single = single_fault(path, len(lines)) if form in SINGLE else None
+        return plain_rows_fault(form, lines) or single
     return None if data else "it is empty"
 
 
@@ -209,7 +222,7 @@ def plain_rows_fault(form: str, lines: list[bytes]) -> str | None:
     rows = lines[:-1] if has_last else lines
     if table is not None:
         return rows_fault(rows, table, form)
-    bad = next((line for line in rows if b"," in line), None)
+    bad = next((line for line in rows if line.strip(DIGITS)), None)
     return None if bad is None else f"`{bad[:60].decode('utf-8', 'replace')}` is no row"
 
 
@@ -226,7 +239,9 @@ def fault_of(words: Sequence[str | bytes], answer: Answer) -> str | None:
         return f"its status, {status}, is none of the program's"
     if form == "pcap-encode":
         return other_fault(form, data, [])
-    if not data and form in ("encode", "decode", "node"):
+    if not data and form in SINGLE:
+        return single_fault(words[-1], 0)
+    if not data and form == "node":
         return None
     if not data:
         return "it is empty"

@@ -20,7 +20,7 @@ from murdjohe.network import plan_file, wiring
 from murdjohe.picture import page_data
 from murdjohe.picture.places import Layout
 from murdjohe.plan import side_table
-from murdjohe.plan.model import Plan
+from murdjohe.plan.model import Plan, Row
 from murdjohe.plan.side_table import Cell, Side
 from murdjohe.runs import simulation
 from murdjohe.runs.moments import Event
@@ -178,12 +178,13 @@ class Desk:
         self.judge()
         return change
 
-    def rows(self, change: Change) -> list[dict[str, Any]]:
+    def rows(self, change: Change) -> list[Row]:
         """What rows say that got other values."""
         found = []
         for section, name in change.rows:
             row = self.states.pieces[self.states.place(section, name)].row
-            found.append({"section": section, **row})
+            its: Row = {"section": section, **row}
+            found.append(its)
         return found
 
     def head(self) -> dict[str, Any]:

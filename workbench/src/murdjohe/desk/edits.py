@@ -2,7 +2,7 @@
 
 from __future__ import annotations
 
-from collections.abc import Mapping
+from collections.abc import Mapping, Sequence
 from dataclasses import asdict, dataclass
 from typing import Any
 
@@ -11,7 +11,7 @@ from murdjohe.core.faults import Wrong
 from murdjohe.core.times import clock
 from murdjohe.core.wording import plural
 from murdjohe.plan import tables
-from murdjohe.plan.model import Plan
+from murdjohe.plan.model import Element, Link, Plan, Row, Source
 from murdjohe.plan.side_table import Cell
 from murdjohe.plan.plan_lines import KEYS, LIMITS, MUST, NUMBER
 
@@ -39,7 +39,7 @@ class AddRow:
     """An element, a link or a source is added."""
 
     section: str
-    row: dict[str, Any]
+    row: Row
 
 
 @dataclass(frozen=True)
@@ -178,7 +178,11 @@ def wrong_value(section: str, key: str, value: object, option: str) -> str | Non
 
 def names_in(plan: Plan, section: str) -> list[str]:
     """The names of a section of a plan."""
-    rows: dict[str, Any] = {"element": plan.elements, "link": plan.links, "source": plan.sources}
+    rows: dict[str, Sequence[Element | Link | Source]] = {
+        "element": plan.elements,
+        "link": plan.links,
+        "source": plan.sources,
+    }
     return [row.name for row in rows[section]]
 
 

@@ -11,7 +11,7 @@ from murdjohe.core.documents import Document
 from murdjohe.core.faults import Wrong
 from murdjohe.plan import edits, model
 from murdjohe.plan.edits import Edit
-from murdjohe.plan.model import Plan
+from murdjohe.plan.model import Plan, Row
 from murdjohe.plan.plan_lines import KEYS, SECTIONS, PlanLines
 
 Value = int | str | None
@@ -24,7 +24,7 @@ class Piece(NamedTuple):
 
     section: str
     text: str
-    row: dict[str, Any]
+    row: Row
 
     @property
     def name(self) -> str:
@@ -59,7 +59,7 @@ def text_of(pieces: Iterable[Piece]) -> str:
 
 def plan_of(pieces: Iterable[Piece], option: str) -> Plan:
     """The plan as the field has it."""
-    rows: dict[str, list[dict[str, Any]]] = {section: [] for section in SECTIONS}
+    rows: dict[str, list[Row]] = {section: [] for section in SECTIONS}
     for piece in pieces:
         if piece.section:
             rows[piece.section].append(piece.row)
@@ -131,7 +131,8 @@ def with_values(piece: Piece, values: dict[str, Value]) -> Piece:
         else:
             made.append(taken_out(plan, piece.section, key, span) if value is None else Edit(*span, spelled(value)))
     text = edits.after(plan, made)
-    meant = {key: value for key, value in {**piece.row, **values}.items() if value is not None}
+    every: dict[str, Value] = {**piece.row, **values}
+    meant = {key: value for key, value in every.items() if value is not None}
     if tables_in(text) != {piece.section: [meant]}:
         raise Wrong(
             f"{piece.section} {piece.name}: its row is spelled in a way that can't be edited; change it in the file"
@@ -147,7 +148,7 @@ def tables_in(text: str) -> dict[str, Any] | None:
         return None
 
 
-def new_row(section: str, row: dict[str, Any], feed: str) -> Piece:
+def new_row(section: str, row: Row, feed: str) -> Piece:
     """A new row under a head of its own."""
     keys = [f"{key} = {spelled(row[key])}" for key in KEYS[section] if key in row]
     return Piece(section, feed.join(["", f"[[{section}]]", *keys, ""]), row)
@@ -165,7 +166,7 @@ def place_of_new(pieces: list[Piece], section: str) -> tuple[int, bool]:
     return last + 1, False
 
 
-def with_row(pieces: list[Piece], section: str, row: dict[str, Any]) -> tuple[int, list[Piece], list[Piece]]:
+def with_row(pieces: list[Piece], section: str, row: Row) -> tuple[int, list[Piece], list[Piece]]:
     """Where a row is added, the pieces that stood there, and those that stand there then."""
     place, is_inline = place_of_new(pieces, section)
     if is_inline:

@@ -87,4 +87,6 @@ def page_of(name: str, data: bytes, events: bytes, until: int, layout: Layout, s
     taken, file = plan_file.taken(name, data), EventFile("the events of the desk", events)
     found = rehearsals.rehearsed(taken, file, until)
     title = f"{os.path.basename(name)}, {file.name}"
-    return pages.page(title, page_data.data_of(taken, found, layout, start, title), pages.facts(taken, file, found))
+    return pages.page(
+        title, page_data.data_of(taken, found, layout, start, title), pages.facts(taken, file, found, start)
+    )

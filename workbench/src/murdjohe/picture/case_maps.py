@@ -13,6 +13,7 @@ from murdjohe.network.wiring import Wiring
 from murdjohe.picture import views
 from murdjohe.picture.views import LOOP, PAIR
 from murdjohe.runs import moments, spans
+from murdjohe.survey import survey_report
 from murdjohe.survey.tallies import Tally
 
 MOST_CASES, MOST_COLUMNS = 60, 100  # that are legible
@@ -52,12 +53,13 @@ class Row:
 
 @dataclass(frozen=True)
 class CaseMap:
-    """What is drawn: two lines of words above, the columns in the order of the plan, and a row for each case, the worst first."""
+    """What is drawn: three lines of words above, the columns in the order of the plan, and a row for each case, the worst first."""
 
     title: str
     about: str
     columns: list[Column]
     rows: list[Row]
+    way: str = ""
 
     @property
     def widest(self) -> int:
@@ -130,4 +132,4 @@ def map_of(title: str, wired: Wiring, tally: Tally, rows: list[Row]) -> CaseMap:
     """The map of the rows of the chosen cases."""
     columns = columns_of(elements_of(wired, rows), MOST_COLUMNS)
     widest = max(map(len, columns), default=0)
-    return CaseMap(title, about(tally, len(rows), widest), columns, rows)
+    return CaseMap(title, about(tally, len(rows), widest), columns, rows, survey_report.way_text(tally))

@@ -3,6 +3,7 @@
 from __future__ import annotations
 
 import os
+from collections.abc import Iterable
 from concurrent.futures import ThreadPoolExecutor
 from dataclasses import dataclass
 from typing import Any
@@ -18,11 +19,13 @@ from murdjohe.network.reachability import Reach
 from murdjohe.network.wiring import Wiring
 from murdjohe.picture import colours, places, worst
 from murdjohe.picture.places import ELEMENT, SOURCE, Layout
-from murdjohe.runs import ends, failure_times, moments, simulation
+from murdjohe.runs import ends, failure_times, failures, moments, simulation
 from murdjohe.runs.moments import Event
 from murdjohe.runs.rehearsals import Rehearsal, event_text, reasons
 from murdjohe.runs.simulation import EventFile
 from murdjohe.runs.spans import Loss
+from murdjohe.survey import survey_report
+from murdjohe.survey.tallies import Tally
 
 MODES = {word: place for place, word in enumerate(row_tables.CHANGES.column("mode").words)}
 STATES = {word: place for place, word in enumerate(row_tables.CHANGES.column("state").words)}
@@ -48,10 +51,11 @@ class CutTimes:
 
 @dataclass(frozen=True)
 class Cases:
-    """Each link down alone, and when."""
+    """Each link down alone, when, and what that costs on the way to the end."""
 
     times: CutTimes
     rows: list[dict[str, Any]]
+    way: str
 
 
 @dataclass(frozen=True)
@@ -198,6 +202,15 @@ def case_of(plan: PlanFile, wired: Wiring, reach: Reach, times: CutTimes, cut: C
     }
 
 
+def way_of_cuts(plan: PlanFile, times: CutTimes, links: Iterable[str]) -> str:
+    """In how many cuts levels are worse on the way to the end, and for how long at most."""
+    table = failures.lines_of([failures.COLUMNS, *((link, times.at, "down", link, "") for link in links)])
+    tally = Tally(1)
+    for row in api.study(plan.data, table.encode(), times.until).result.rows:
+        tally.add(row)
+    return survey_report.way_text(tally)
+
+
 def cases_of(plan: PlanFile) -> Cases:
     """Each link down alone, worked at once on all processors. Raises Wrong where these are too many for a page."""
     wired, links = wiring.wiring_of(plan.network), len(plan.network.links)
@@ -210,7 +223,7 @@ def cases_of(plan: PlanFile) -> Cases:
     reach = Reach(wired)
     with ThreadPoolExecutor(os.cpu_count() or 1) as workers:
         rows = workers.map(lambda cut: case_of(plan, wired, reach, times, cut), sweep.rows)
-        return Cases(times, list(rows))
+        return Cases(times, list(rows), way_of_cuts(plan, times, [cut.link for cut in sweep.rows]))
 
 
 def losing_cases(cases: list[dict[str, Any]]) -> tuple[int, int]:

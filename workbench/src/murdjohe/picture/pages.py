@@ -49,13 +49,13 @@ def digest(data: bytes) -> str:
     return hashlib.sha256(data).hexdigest()
 
 
-def settled_text(found: Rehearsal) -> str:
+def settled_text(found: Rehearsal, start: int) -> str:
     """What `sim` says of the end of the run."""
     if found.report.stopped_at is not None:
-        return f"stopped at {clock(found.until)}: more than 200,000 changes"
+        return f"stopped at {clock(found.until, start)}: more than 200,000 changes"
     if found.settled_at is None:
-        return f"no at {clock(found.until)}: something would still change by itself"
-    return f"yes, from {clock(found.settled_at)} after the start on: nothing changes any more by itself"
+        return f"no at {clock(found.until, start)}: something would still change by itself"
+    return f"yes, from {clock(found.settled_at, start)} on: nothing changes any more by itself"
 
 
 def agreement_text(judgement: Judgement) -> str:
@@ -76,11 +76,13 @@ def cuts_text(cases: Cases) -> str:
     return (
         f"each link alone, down at {down} without the events of this run: {plural(needless, 'link')} {leaves} elements without a "
         f"source although another link could still serve them, {others:,} only elements that none could; the table and the map show "
-        f"the end, {end}: what is lost and back by then isn't counted; the end is chosen: {cases.times.why}"
+        f"the end, {end}: what is lost and back by then isn't counted; {cases.way}; the end is chosen: {cases.times.why}"
     )
 
 
-def facts(plan: PlanFile, events: EventFile, found: Rehearsal, cases: Cases | None = None) -> list[tuple[str, str]]:
+def facts(
+    plan: PlanFile, events: EventFile, found: Rehearsal, start: int, cases: Cases | None = None
+) -> list[tuple[str, str]]:
     """The verdicts with what they promise, the versions, and the checksums."""
     with open(program.find(), "rb") as file:
         checksum = hashlib.file_digest(file, "sha256").hexdigest()
@@ -94,11 +96,11 @@ def facts(plan: PlanFile, events: EventFile, found: Rehearsal, cases: Cases | No
             verdict + (f": {PROMISE}" if verdict == "accepted" else ": timing may go round over these lines"),
         ),
         ("agree", agreement_text(judgement)),
-        ("sim: settled", settled_text(found)),
+        ("sim: settled", settled_text(found, start)),
         ("sim: closed walks at the end", loops),
         ("commands", f"{rejected} rejected, by the table of commands"),
         ("between", "traces and walks before the end follow from what each element takes, by the rule of the report"),
-        ("at the end", dark_text(found, 0)),
+        ("at the end", dark_text(found, start)),
         *([("cuts", cuts_text(cases))] if cases else []),
         ("plan", f"{plan.name}, sha256 {digest(plan.data)}"),
         ("events", f"{events.name}, sha256 {digest(events.data)}"),

@@ -29,7 +29,7 @@ HATCH = "////"  # of what follows a closed walk, where there is no room for its 
 STROKE = 0.6  # points of a hatch
 FONT, SIGN = 8, 0.07  # points of a name, and inches that each of its signs takes at most
 NARROWEST, WIDEST, HIGH = 0.13, 0.8, 0.26  # inches of a column and of a line
-WIDTH, HEAD, MARGIN, KEY = 11.5, 0.75, 0.3, 2.5  # inches: of all columns, above for the title, round all, of a key
+WIDTH, HEAD, MARGIN, KEY = 11.5, 0.95, 0.3, 2.5  # inches: of all columns, above for the title, round all, of a key
 
 
 class Tiles:
@@ -47,7 +47,7 @@ class Tiles:
         self.is_upright = longest > self.column - 0.05
         above = HEAD + (longest if self.is_upright else 0.15) + 0.15
         left = MARGIN + SIGN * max(map(len, self.cases), default=0) + 0.1
-        said = 0.085 * max(len(its.title) * 1.2, len(its.about)) + 2 * MARGIN
+        said = 0.085 * max(len(its.title) * 1.2, len(its.about), len(its.way)) + 2 * MARGIN
         width = max(left + across * self.column + MARGIN, said, 6.0)
         keys = keys_of(its)
         self.keys_across = max(1, min(len(keys), int((width - MARGIN) / KEY)))
@@ -102,6 +102,7 @@ class Tiles:
         for text, below, how in (
             (self.its.title, 0.15, {"fontsize": 10, "weight": "bold"}),
             (self.its.about, 0.4, {"fontsize": 9, "color": colours.DARK}),
+            (self.its.way, 0.6, {"fontsize": 9, "color": colours.DARK}),
         ):
             self.figure.text(MARGIN / width, 1 - below / height, text, va="top", **how)
 

@@ -102,7 +102,7 @@ def on_added(found: Placed) -> list[str]:
         worst = too_long[0]
         said.append(
             f"{plural(len(too_long), 'case')} {'has' if len(too_long) == 1 else 'have'} more lines than asked for, "
-            f"{worst.longest} {on_run(worst)}: no further site was found that mends it"
+            f"{worst.longest} {on_run(worst)}: no further site was found that shortens them"
         )
     return said
 

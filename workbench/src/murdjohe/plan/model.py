@@ -12,6 +12,7 @@ from typing import Any, NamedTuple
 OWN = {"I": "QL-SEC", "II": "QL-ST3"}  # the level of an element's own clock where a plan names none
 HOLDOFF, WTR = 300, 5  # milliseconds and minutes where a plan says nothing else
 LOWEST = 255  # the lowest priority
+Row = dict[str, int | str]  # a row as a file spells it: the keys that stand there
 ENDS = (("b", "a"), ("a", "b"))  # the ends into which the lines of a link lead, in their order, each with the other one
 
 

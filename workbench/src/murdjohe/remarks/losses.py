@@ -119,7 +119,7 @@ def on_way(rows: Sequence[Case]) -> list[str]:
     still = sum(row.still > 0 for row in hurting)
     return [
         f"{len(hurting):,} of {plural(len(rows), 'case')} {verb} levels worse than before on the way, and {still:,} still at the end "
-        f"(for which element longest, and for how long): {names}"
+        f"(for which element longest, and for how long up to the end): {names}"
     ]
 
 

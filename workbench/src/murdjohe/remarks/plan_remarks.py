@@ -161,7 +161,7 @@ def on_prio_accepted(words: Words) -> list[str]:
 
 def on_prio_ranks(words: Words, text: str) -> list[str]:
     """What `prio-rank` ranked."""
-    return ["no loop can form: " + (on_plan(words, greatest_rank(text)) or ["ranks rise over every hop"])[0]]
+    return [": ".join(["no loop can form", *on_plan(words, greatest_rank(text))[:1]])]
 
 
 def on_protected(words: Words, answer: Answer) -> list[str]:

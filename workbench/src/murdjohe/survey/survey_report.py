@@ -9,6 +9,8 @@ from murdjohe.answers.studies import Case
 from murdjohe.core import times
 from murdjohe.core.columns import table
 from murdjohe.core.wording import NAMED, listed, plural
+from murdjohe.runs.ends import seconds
+from murdjohe.runs.moments import Event
 from murdjohe.survey.lost_names import Names
 from murdjohe.survey.needless_losses import Loss, Losses
 from murdjohe.survey.tallies import Tally
@@ -39,14 +41,24 @@ def section(head: str, outcomes: list[Case]) -> list[str]:
 
 
 @dataclasses.dataclass(frozen=True)
+class Alone:
+    """What the events common to all cases do by themselves: who has no source at the end, none known where the program stopped this
+    run, whether it is settled then, and the events that come later."""
+
+    lost: list[str] | None
+    is_settled: bool
+    later: tuple[Event, ...]
+
+
+@dataclasses.dataclass(frozen=True)
 class Ends:
-    """The end of each run, the time of day at which runs begin, if one is said, who has no source at the end of the common events
-    alone, if there are any, the losses by why they came, by what the end was chosen, where nobody gave it, and who has no source in
-    cases whose names are asked for."""
+    """The end of each run, the time of day at which runs begin, if one is said, what the common events do alone, if there are any,
+    the losses by why they came, by what the end was chosen, where nobody gave it, and who has no source in cases whose names are
+    asked for."""
 
     until: int
     start: int | None
-    alone: list[str] | None
+    alone: Alone | None
     losses: Losses
     why: str | None = None
     names: list[Names] = dataclasses.field(default_factory=list)
@@ -54,7 +66,11 @@ class Ends:
     @property
     def time(self) -> str:
         """The end as it is told."""
-        return f"{times.clock(self.until, self.start or 0)} ({self.until:,} ms)"
+        return f"{self.clock(self.until)} ({self.until:,} ms)"
+
+    def clock(self, at: int) -> str:
+        """A millisecond as a time of day, or from the start of the run on."""
+        return times.clock(at, self.start or 0)
 
 
 def losing_text(tally: Tally, losses: Losses) -> list[str]:
@@ -71,14 +87,35 @@ def losing_text(tally: Tally, losses: Losses) -> list[str]:
 
 def alone_text(ends: Ends) -> list[str]:
     """What the common events do by themselves, and how many cases come to more."""
-    if ends.alone is None:
+    alone = ends.alone
+    if alone is None:
         return []
-    alone = f"{plural(len(ends.alone), 'element')} without a source at the end ({listed(ends.alone)})"
+    if alone.lost is None:
+        return [
+            "the program stopped the run of the common events alone: more than 200,000 changes",
+            *later_text(ends, alone),
+        ]
+    who = f"{plural(len(alone.lost), 'element')} without a source at the end ({listed(alone.lost)})"
+    left = who if alone.lost else "nobody without a source at the end"
+    restless = "" if alone.is_settled else ", and it isn't settled then"
     more = f"{of_cases(ends.losses.more, 'leaves', 'leave')} more elements without one than they do"
-    look = f"what they do before {times.clock(ends.until, ends.start or 0)} isn't looked at: --at and --until say another time"
-    return [
-        f"the common events alone leave {alone if ends.alone else 'nobody without a source at the end'}; {more}; {look}"
-    ]
+    look = f"what they do before {ends.clock(ends.until)} isn't looked at: --at and --until say another time"
+    return [f"the common events alone leave {left}{restless}; {more}; {look}", *later_text(ends, alone)]
+
+
+def later_text(ends: Ends, alone: Alone) -> list[str]:
+    """Which common events come after the end."""
+    if not alone.later:
+        return []
+    first, count = alone.later[0], len(alone.later)
+    run = f"comes after the end and isn't run, `{named(first)}` at {ends.clock(first.at)}: `rehearse` runs it too"
+    runs = f"come after the end and aren't run, the first `{named(first)}` at {ends.clock(first.at)}: `rehearse` runs all of them"
+    return [f"{count:,} of the common events {run if count == 1 else runs}"]
+
+
+def named(event: Event) -> str:
+    """The word and the target of an event."""
+    return f"{event.what} {event.target}"
 
 
 def loss_rows(losses: list[Loss]) -> list[str]:
@@ -138,20 +175,19 @@ def unsettled_text(tally: Tally) -> str:
     return f"{unsettled}, and {of_cases(tally.looping, 'has', 'have')} loops"
 
 
-def way_text(tally: Tally) -> list[str]:
+def way_text(tally: Tally) -> str:
     """How many cases make levels worse on the way to the end, for how long at most, and how many do yet."""
     if not tally.hurting:
-        return []
+        return "no case makes levels worse than before on the way"
     worst = tally.dark.outcomes()[0]
-    longest = f"for {worst.dark:,} ms at most, {worst.darkest} in {worst.case}"
-    return [
-        f"{of_cases(tally.hurting, 'makes', 'make')} levels worse than before on the way, and {tally.still:,} still at the end; {longest}"
-    ]
+    longest = f"for {seconds(worst.dark)} at most, {worst.darkest} in {worst.case}"
+    makes = f"{of_cases(tally.hurting, 'makes', 'make')} levels worse than before on the way"
+    return f"{makes}, and {tally.still:,} still at the end; {'up to the end ' if tally.still else ''}{longest}"
 
 
 def text_of(tally: Tally, most: int, ends: Ends) -> list[str]:
     """The summary as a person reads it."""
-    said = [*end_text(tally, ends), *losing_text(tally, ends.losses), unsettled_text(tally), *way_text(tally)]
+    said = [*end_text(tally, ends), *losing_text(tally, ends.losses), unsettled_text(tally), way_text(tally)]
     said += alone_text(ends)
     if needless := ends.losses.outcomes():
         said += [
@@ -189,8 +225,10 @@ def as_data(tally: Tally, ends: Ends) -> dict[str, Any]:
         "needless": losses.cases,
         "taken_away": losses.themselves,
         "beyond": losses.beyond,
-        "common_alone": ends.alone,
-        "more_than_common": losses.more if ends.alone is not None else None,
+        "common_alone": ends.alone and ends.alone.lost,
+        "common_settled": ends.alone and ends.alone.lost is not None and ends.alone.is_settled,
+        "common_later": ends.alone and len(ends.alone.later),
+        "more_than_common": losses.more if ends.alone and ends.alone.lost is not None else None,
         "unsettled": tally.unsettled,
         "looping": tally.looping,
         "hurting": tally.hurting,

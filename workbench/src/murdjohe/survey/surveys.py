@@ -23,7 +23,7 @@ from murdjohe.survey import case_files, case_lists, case_refusals, portions, stu
 from murdjohe.survey.case_lists import CaseList
 from murdjohe.survey.needless_losses import Loss, Losses
 from murdjohe.survey.part_store import Finished
-from murdjohe.survey.survey_report import Ends
+from murdjohe.survey.survey_report import Alone, Ends
 from murdjohe.survey.tallies import Tally
 from murdjohe.survey.workers import Here, Survey
 
@@ -57,7 +57,8 @@ class Wish:
 class Surveyed:
     """What a network has come to in each of many cases: how many there are, how many leave elements without a source, which of these
     needn't be, are unsettled, have loops or make levels worse on the way or still at the end; the worst by each measure; and in how
-    many cases an element is the first without a source. `at` is when what fails goes down, of failures that were asked for.
+    many cases an element is the first without a source. `at` is when what fails goes down, of failures that were asked for;
+    `common_later` is how many of the events common to all cases come after the end, and aren't run.
     """
 
     at: int | None
@@ -71,6 +72,7 @@ class Surveyed:
     hurting: int
     still: int
     common_alone: tuple[str, ...] | None
+    common_later: int
     lost: tuple[Case, ...]
     worst_needless: tuple[Loss, ...]
     restless: tuple[Case, ...]
@@ -101,16 +103,23 @@ def gone_through(
     return tally
 
 
-def works_alone(taken: PlanFile, common: tuple[Event, ...], until: int) -> list[str] | None:
-    """Who has no source at the end where only the events common to all cases happen; None where there are none, or the program
-    stopped."""
+def works_alone(taken: PlanFile, common: tuple[Event, ...], until: int) -> Alone | None:
+    """What the events common to all cases do alone; None where there are none."""
     if not common:
         return None
+    later = tuple(event for event in common if event.at > until)
     rows = failures.lines_of((event.at, event.what, event.target, event.value) for event in common)
     report = simulation.report_of(taken, EventFile("the common events", simulation.NO_EVENTS + rows.encode()), until)
     if report.stopped_at is not None:
-        return None
-    return [trace.element for trace in report.traces if trace.kind != moments.SOURCE]
+        return Alone(None, False, later)
+    return Alone(
+        [trace.element for trace in report.traces if trace.kind != moments.SOURCE], report.is_settled is True, later
+    )
+
+
+def lost_alone(alone: Alone | None) -> int | None:
+    """How many elements the common events alone leave without a source, where that is known."""
+    return None if alone is None or alone.lost is None else len(alone.lost)
 
 
 @dataclass(frozen=True)
@@ -157,7 +166,7 @@ def surveyed(taken: PlanFile, wish: Wish, timeout: float | None = None) -> Surve
     asked = of_table(taken, wish, wish.table) if wish.table is not None else of_failures(taken, wish)
     until, wired = asked.end.until, wiring.wiring_of(taken.network)
     alone = works_alone(taken, asked.common, until)
-    losses = Losses(wired, until, wish.worst, None if alone is None else len(alone))
+    losses = Losses(wired, until, wish.worst, lost_alone(alone))
     stop = None if timeout is None else time.monotonic() + timeout
     with tempfile.TemporaryDirectory(prefix="murdjohe-parts-") as folder:
         finished = Finished(wish.parts or folder, taken.data, until, study_runs.core_sum())
@@ -181,7 +190,8 @@ def of_tally(at: int | None, tally: Tally, its: Ends) -> Surveyed:
         looping=tally.looping,
         hurting=tally.hurting,
         still=tally.still,
-        common_alone=None if its.alone is None else tuple(its.alone),
+        common_alone=None if its.alone is None or its.alone.lost is None else tuple(its.alone.lost),
+        common_later=len(its.alone.later) if its.alone else 0,
         lost=tuple(tally.lost.outcomes()),
         worst_needless=tuple(its.losses.outcomes()),
         restless=tuple(tally.restless.outcomes()),
