@@ -78,7 +78,10 @@ def test_of_very_many_failures_the_largest_are_looked_at(monkeypatch: pytest.Mon
     monkeypatch.setattr(cut_off, "CHUNK_BITS", 4)  # (one failure of four elements at once)
     assert found(ROUND, rows) == CutOff(("B", "C", "D"), 5)
     monkeypatch.setattr(cut_off, "MOST_BITS", 8)
-    assert found(ROUND, rows[::-1]) == CutOff(("B", "C", "D"), 2)
+    # (two of the three failures that cut off more than one element, and those two that cut off one)
+    assert found(ROUND, rows[::-1]) == CutOff(("B", "C", "D"), 4)
+    monkeypatch.setattr(cut_off, "MOST_BITS", 1)
+    assert found(ROUND, rows[1:2] + rows[2:3]) == CutOff(("C", "D"), 2)
 
 
 def test_the_map_of_a_large_plan_marks_the_regions(folder: Path, monkeypatch: pytest.MonkeyPatch) -> None:

@@ -37,7 +37,8 @@ class Marks:
         for source in plan.nominated_sources():
             gone = self.masks.gone("source", source.name) | self.masks.gone("element", source.at)
             self.clocks[self.at[source.at]] |= self.all & ~gone
-        reach, served = self.served(plan.lines()), self.served(plan.nominated_lines())
+        lines = list(plan.lines())
+        reach, served = self.served(lines), self.served([line for line in lines if line.priority])
         self.missing = [mask & ~other for mask, other in zip(reach, served)]
 
     def served(self, lines: Iterable[Line]) -> list[int]:
@@ -88,12 +89,12 @@ def cut_by(plan: Plan, falls: list[Fall], rows: Sequence[Gap]) -> set[str]:
 
 def cut_off(plan: Plan, rows: Sequence[Gap]) -> CutOff:
     """The elements that the failures of some rows of `protected` cut off."""
+    several = sorted((row for row in rows if row.elements > 1), key=lambda row: -row.elements)
     count = max(1, len(plan.elements))
-    largest = sorted(rows, key=lambda row: -row.elements)[: max(1, MOST_BITS // count)]
-    known = {(fall.kind, fall.name): fall for fall in singles_of(plan)} if rows else {}
-    size = max(1, CHUNK_BITS // count)
-    found: set[str] = set()
+    largest, size = several[: max(1, MOST_BITS // count)], max(1, CHUNK_BITS // count)
+    known = {(fall.kind, fall.name): fall for fall in singles_of(plan)} if largest else {}
+    found = {row.first for row in rows}
     for start in range(0, len(largest), size):
         chunk = largest[start : start + size]
         found |= cut_by(plan, [known[row.kind, row.failure or ""] for row in chunk], chunk)
-    return CutOff(tuple(name for name in plan.names() if name in found), len(largest))
+    return CutOff(tuple(name for name in plan.names() if name in found), len(rows) - len(several) + len(largest))

@@ -27,6 +27,7 @@ LOOP, AGREE, PROTECTED, CHAINS, RUN, CUT = "loop", "agree", "protected", "chains
 STRIP = frozenset((LOOP, AGREE, PROTECTED, CHAINS))  # the verdicts for which a planner waits
 ALL = (LOOP, AGREE, PROTECTED, CHAINS, RUN, CUT)
 WORKERS = 4
+PAUSE = 0.1  # seconds after the strip before the elements are looked for that failures cut off
 PATIENCE = 600  # seconds that `agree` waits for `rank` at most
 SHOWN = 200  # gaps that are told one by one
 SKIPPED = {"skipped": "a loop is possible"}
@@ -60,6 +61,7 @@ class Job:
     asked: Asked
     running: set[int] = field(default_factory=set)
     ranked: threading.Event = field(default_factory=threading.Event)
+    over: threading.Event = field(default_factory=threading.Event)  # (there is a newer state)
     has_ring: bool = False
     bound: int | None = None
     gaps: tuple[reports.Gap, ...] | None = None
@@ -97,7 +99,9 @@ class Pool:
 
     @staticmethod
     def stop(job: Job | None) -> None:
-        """Ends the programs that run for a state."""
+        """Ends the work on a state."""
+        if job:
+            job.over.set()
         for child in list(job.running) if job else ():
             program.stop(child)
 
@@ -229,6 +233,8 @@ class Pool:
 
     def cut(self, job: Job) -> None:
         """All elements that failures cut off although a path remains, of which `protected` names the first of each failure."""
+        if job.over.wait(PAUSE):
+            return
         found = cut_off.cut_off(job.asked.plan, job.gaps or ())
         self.say(job, CUT, {"elements": found.elements, "failures": found.failures})
 
