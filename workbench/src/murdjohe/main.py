@@ -14,7 +14,6 @@ from murdjohe.core.row_columns import RowFault
 from murdjohe.core.streams import Output
 
 ENDING = (1, 15)  # SIGHUP and SIGTERM (the module `signal` takes long to import)
-# The libraries that commands import; Debian's package of each is called python3- and its name.
 # The libraries that commands import, by the name of a module, with Debian's name of the package behind python3-.
 LIBRARIES = {name: name for name in ("click", "rich", "matplotlib", "dpkt", "networkx", "jinja2", "numpy", "scipy")}
 LIBRARIES |= {"distributed": "distributed", "elftools": "pyelftools", "aiohttp": "aiohttp"}
