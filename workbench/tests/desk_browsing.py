@@ -141,6 +141,18 @@ class Page:
         count: int = self.run(script)
         return count
 
+    def framed(self, name: str) -> int:
+        """How many dots at the box of an element have the colour of those that a failure cuts off."""
+        script = """const picture = desk.picture, [x, y] = picture.spot(desk.network.elements.find(one => one.name === arguments[0]));
+          desk.mark(); picture.draw(desk.run, desk.selected);
+          const [wide, high] = picture.size.map(side => side + 14);
+          const dots = picture.context.getImageData(...[x - wide / 2, y - high / 2, wide, high].map(side => Math.round(side * picture.dots))).data;
+          let count = 0;
+          for (let place = 0; place < dots.length; place += 4) if (dots[place] > 215 && Math.abs(dots[place + 1] - 112) < 12 && dots[place + 2] < 20) count++;
+          return count"""
+        count: int = self.run(script, name)
+        return count
+
     def errors(self) -> list[str]:
         """The errors that the console tells of this page; those of a desk before, which has ended, may come late."""
         rows = [row["message"] for row in self.browser.get_log("browser") if row["level"] == "SEVERE"]

@@ -2,12 +2,14 @@
 
 from __future__ import annotations
 
+import fcntl
 import json
 import os
 import pty
 import select
 import signal
 import subprocess
+import termios
 import time
 from collections.abc import Iterator
 from contextlib import contextmanager
@@ -94,6 +96,23 @@ def test_frames_come_at_once_and_the_interrupt_sums_up() -> None:
     summary = out[out.index("standard input: ") :].splitlines()
     assert summary[0].startswith("standard input: 3 packets, 3 ESMC frames from 1 source, 2025-11-28 00:00:00.103 to ")
     assert summary[-1].split()[:2] == ["3", "00:00:02.703988"]
+
+
+def test_capture_read_sums_up_what_came_before_the_interrupt() -> None:
+    pipe = subprocess.PIPE
+    with subprocess.Popen([str(LAUNCHER), "capture", "read", "-"], stdin=pipe, stdout=pipe, stderr=pipe) as process:
+        assert process.stdin is not None
+        process.stdin.write(HEAD + record(0) + record(1) + record(3)[:20])
+        process.stdin.flush()
+        end, unread = time.monotonic() + 20, b"more"
+        while unread != bytes(4) and time.monotonic() < end:  # (until all of it is read)
+            unread = fcntl.ioctl(process.stdin, termios.FIONREAD, bytes(4))
+            time.sleep(0.3)
+        process.send_signal(signal.SIGINT)
+        out, err = (text.decode() for text in process.communicate(timeout=20))
+    assert process.returncode == 130 and "Traceback" not in err
+    assert out.startswith("-: 2 packets, 2 ESMC frames from 1 source, 2025-11-28 00:00:00.103 to ")
+    assert "ended by Ctrl-C, and summed up to there; `murdjohe capture watch` tells a capture as it comes" in err
 
 
 def test_a_silence_is_told_while_it_lasts() -> None:

@@ -15,6 +15,7 @@ import pytest
 from conftest import EXAMPLES, murdjohe, started
 from desk_browsing import Page, keys, opened_browser
 from desk_running import Running, running
+from test_cut_off import ROUND
 
 from murdjohe.answers import api
 from murdjohe.network import plan_file, wiring
@@ -233,6 +234,38 @@ def test_all_failures_as_a_map(browser: Any, night: Running) -> None:
     page.browser.find_element("xpath", "//tbody[@id='cases']//button[text()='M3']").click()
     page.judged(1)
     assert "down M3" in page.said("events") and "link M3 fails" in page.said("log")
+
+
+def test_all_that_failures_cut_off_are_drawn(browser: Any, folder: Path) -> None:
+    """A ring of four that takes its timing in one direction: without L1 nobody but A is served, without L3 D alone isn't."""
+    (folder / "round.toml").write_text(ROUND)
+    with running("round.toml", folder=folder) as desk:
+        page = Page(browser, desk.address)
+        page.judged(0)
+        page.until("desk.said.cut")
+        assert page.strip()[2] == "mind link L1 cuts off B and 2 more, though a path remains; 4 failures more"
+        dashed = {name: page.framed(name) for name in "ABCD"}
+        assert dashed["A"] == 0 and min(dashed[name] for name in "BCD") > 50
+        page.click("protected")
+        page.until("desk.gapShown")
+        assert page.said("said") == "link L1 cuts off B, C and D, though a path remains"
+        assert all(page.framed(name) > dashed[name] * 1.2 for name in "BCD")
+        assert page.framed("A") < 50  # (the link that fails, which is drawn broad, begins there)
+        page.click("protected")
+        page.until("desk.gapShown && desk.gapShown.name === 'L2'")
+        assert page.said("said") == "link L2 cuts off C and D, though a path remains"
+        assert page.run("return [...desk.picture.marks.now].map(place => desk.network.elements[place].name)") == [
+            "C",
+            "D",
+        ]
+        # (D takes A as well, and whoever lost the way round one side has the other)
+        for number, (link, key) in enumerate((("L4", "priority_a"), ("L3", "priority_a"), ("L2", "priority_a")), 1):
+            row = {"kind": "value", "section": "link", "name": link, "key": key, "value": 2}
+            page.run("desk.edit(arguments[0])", row)
+            page.judged(number)
+        page.until("desk.said.cut && desk.saidOf === 3")
+        assert page.strip()[2].startswith("good protected") and {page.framed(name) for name in "ABCD"} == {0}
+        assert page.errors() == []
 
 
 def test_nothing_is_lost_when_browser_and_server_are_gone(browser: Any, first: Running, folder: Path) -> None:

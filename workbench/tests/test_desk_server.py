@@ -7,6 +7,7 @@ import json
 import os
 import signal
 import socket
+import time
 from collections.abc import AsyncIterator
 from pathlib import Path
 from typing import Any
@@ -176,7 +177,7 @@ def test_a_body_of_a_gigabyte_gets_nothing(watched: Running) -> None:
 def test_nonsense_changes_nothing(watched: Running, data: bytes) -> None:
     async def talk(session: aiohttp.ClientSession) -> Any:
         found = []
-        for path in ("/edit", "/undo", "/propose", "/why", "/tables", "/save", "/find"):
+        for path in ("/edit", "/undo", "/propose", "/why", "/tables", "/save", "/find", "/gap"):
             async with session.post(path, data=data, headers={"Content-Type": "application/json"}) as answer:
                 found.append((answer.status, "said" in await answer.json()))
         return found
@@ -192,7 +193,7 @@ def test_an_edit_is_made_judged_told_and_saved(ring: Running, folder: Path) -> N
             async with session.post("/edit", json={"on": 0, "edit": SET}) as answer:
                 made = await answer.json()
             told: dict[str, Any] = {}
-            while set(told) != {"change", "loop", "agree", "protected", "chains", "run"}:
+            while set(told) != {"change", "loop", "agree", "protected", "chains", "run", "cut"}:
                 lines = [(await asyncio.wait_for(news.content.readline(), 20)).decode().strip() for _ in range(3)]
                 data = json.loads(lines[1].removeprefix("data: "))
                 if data["number"] == 1:  # (verdicts on the first state may come before)
@@ -246,6 +247,21 @@ def test_why_cases_and_orders(ring: Running) -> None:
         ("element", "C", 1),
     ]
     assert posted(ring, "/orders", on=1)[1]["text"].startswith("A\n  1st  source S (priority 1)\n")
+
+
+def test_all_that_a_failure_cuts_off(ring: Running) -> None:
+    """A takes S, B takes A, and C takes B: without L1 both go without, though L3 leads to them."""
+    assert posted(ring, "/edit", on=0, edit={**SET, "value": 0})[0] == 200
+    deadline = time.monotonic() + 20
+    said: dict[str, Any] = {}
+    while "cut" not in said and time.monotonic() < deadline:
+        said = {one["name"]: one for one in state_of(ring)["said"]}
+    assert said["cut"] == {"number": 1, "name": "cut", "said": {"elements": ["B", "C"], "failures": 3}}
+    assert said["protected"]["said"]["gaps"][0] == ["link", "L1", 2, "B"]
+    assert posted(ring, "/gap", on=1, place=0) == (200, {"on": 1, "elements": ["B", "C"]})
+    assert posted(ring, "/gap", on=1, place=1) == (200, {"on": 1, "elements": ["C"]})
+    assert [posted(ring, "/gap", on=1, place=place)[0] for place in (-1, 3, "0", None)] == [422] * 4
+    assert posted(ring, "/gap", on=0, place=0)[0] == 409
 
 
 def test_no_word_of_the_token_is_logged(ring: Running) -> None:

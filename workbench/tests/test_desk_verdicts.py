@@ -51,6 +51,7 @@ def test_the_ring_of_three_looping_and_repaired(told: "queue.Queue[Verdict]") ->
     assert found["chains"].said == {"links": 2, "since": 2, "element": "C"}
     assert found["protected"].said["count"] == 3  # (of L1, of L2 and of B, as the program's rows say)
     assert found["protected"].said["gaps"] == [["link", "L1", 2, "B"], ["link", "L2", 1, "C"], ["element", "B", 1, "C"]]
+    assert found["cut"].said == {"elements": ("B", "C"), "failures": 3}
     assert found["run"].said["settled"] is True
     pool.end()
 
@@ -89,6 +90,15 @@ def test_events_are_run(told: "queue.Queue[Verdict]") -> None:
     bound = api.agree(states.data).result.bound
     assert bound is not None and all_of(pool, told, states)["run"].number == 1
     assert seen == [(1, -(-(1500 + bound) // 1000) * 1000)]
+    pool.end()
+
+
+def test_who_is_cut_off_is_told_after_the_strip(told: "queue.Queue[Verdict]") -> None:
+    pool, states = Pool(told.put), States(RING, "plan.toml")
+    states.apply(SetValue("link", "L3", "priority_a", 0), 0)
+    pool.ask(asked(states))
+    names = [told.get(timeout=20).name for _ in verdicts.ALL]
+    assert set(names[: names.index("cut")]) >= {"loop", "agree", "protected", "chains"}
     pool.end()
 
 

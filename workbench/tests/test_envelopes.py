@@ -65,6 +65,23 @@ def test_a_refusal(folder: Path, words: list[str], status: int, sentence: str | 
     assert found["said"] and found["said"][0] == found["refusal"]["sentence"]
 
 
+@pytest.mark.parametrize(
+    ("words", "command", "sentence"),
+    [
+        (["chek", MESH], "chek", 'unknown command "chek" (nearest: "check"); `murdjohe --help` lists them'),
+        ([], None, "no command is given; `murdjohe --help` lists them"),
+        (["--loud", "lint", MESH], "lint", "No such option: --loud"),
+    ],
+)
+def test_words_of_no_command_are_refused_so_too(words: list[str], command: str | None, sentence: str) -> None:
+    ran = murdjohe("--json", *words)
+    found = json.loads(ran.out)
+    assert is_of(SCHEMA, found) and (ran.status, found["status"], found["command"]) == (2, 2, command)
+    assert found["refusal"]["sentence"].startswith(sentence) and found["said"][0].startswith(sentence)
+    quiet = murdjohe("--json", "-q", *words)
+    assert (quiet.status, json.loads(quiet.out)["command"]) == (2, command)
+
+
 def test_a_file_has_the_same_object(folder: Path) -> None:
     ran = murdjohe("orders", MESH, "--json", "-o", "orders.json", folder=folder)
     if ran.status == 2:  # (where the command has no such option, the one before all does)

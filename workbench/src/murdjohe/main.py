@@ -14,11 +14,9 @@ from murdjohe.core.row_columns import RowFault
 from murdjohe.core.streams import Output
 
 ENDING = (1, 15)  # SIGHUP and SIGTERM (the module `signal` takes long to import)
-# The libraries that commands import; Debian's package of each is called python3- and its name.
 # The libraries that commands import, by the name of a module, with Debian's name of the package behind python3-.
 LIBRARIES = {name: name for name in ("click", "rich", "matplotlib", "dpkt", "networkx", "jinja2", "numpy", "scipy")}
 LIBRARIES |= {"distributed": "distributed", "elftools": "pyelftools", "aiohttp": "aiohttp"}
-INTERRUPTED = 130  # as a shell says of a command that Ctrl-C ended
 
 
 def plain(words: list[str]) -> tuple[forms.Form, list[str], Settings] | None:
@@ -62,7 +60,7 @@ def guarded(words: list[str], output: Output) -> int:
     except Told as told:
         return 128 + told.number
     except KeyboardInterrupt:
-        return INTERRUPTED
+        return program.INTERRUPTED
     except MemoryError:
         streams.tell("out of memory; free some, and run again")
         return program.NO_MEMORY
@@ -108,7 +106,7 @@ def ended_by(fault: BaseException | None) -> int | None:
         if isinstance(fault, Told):
             return 128 + fault.number
         if isinstance(fault, KeyboardInterrupt):
-            return INTERRUPTED
+            return program.INTERRUPTED
         fault = fault.__cause__ or fault.__context__
     return None
 

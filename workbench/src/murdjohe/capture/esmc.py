@@ -74,6 +74,8 @@ class Capture:
         self.unknown = 0  # frames of a code that the option doesn't know
         self.known_elsewhere = 0  # and those of them that the other option knows
         self.damage: str | None = None
+        self.may_end = False  # whether Ctrl-C ends the capture, and not the command
+        self.was_ended = False
         self._reasons: dict[bytes, str] = {}
 
     def heard(self) -> Iterator[Heard]:
@@ -82,11 +84,17 @@ class Capture:
             yield from self.decoded(piece)
 
     def _packets(self) -> Iterator[capture_files.Packet]:
-        """The packets of the file; where it is damaged that is kept."""
+        """The packets of the file; where it is damaged that is kept, and so is that Ctrl-C ended it."""
         try:
             yield from capture_files.packets(self.path)
         except capture_files.Damaged as damage:
             self.damage = str(damage)
+        except KeyboardInterrupt as interrupt:
+            self.was_ended = (
+                self.may_end and type(interrupt) is KeyboardInterrupt
+            )  # (others are signals to end at once)
+            if not self.was_ended:
+                raise
 
     def pieces(self, packets: Iterable[capture_files.Packet]) -> Iterator[list[Waiting]]:
         """The frames of the slow protocols in packets, in pieces that the program can take; all other packets are counted."""

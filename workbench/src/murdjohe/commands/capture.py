@@ -65,7 +65,7 @@ def read(context: click.Context, file: str, option: str, local: bool, what: str 
     FILE is a capture, or - for standard input. A rate that is off the one information message a second by more than a tenth
     is marked. What counters an extended TLV has, bits that are reserved and set, codes that the option doesn't know, and group
     addresses as sources are told beside it. The status is 0, 6 where the capture is damaged, and 21 where what --fail-on names
-    is found.
+    is found. Ctrl-C sums up what was read.
 
     \b
       $ echo 1,5,020000000001,info,QL-PRC > rows
@@ -78,6 +78,7 @@ def read(context: click.Context, file: str, option: str, local: bool, what: str 
     output = asked["output"]
     free(output, asked["force"], file)
     taken, talk, clock = esmc.Capture(file, option), talkers.Talk(), clock_times.Clock(local)
+    taken.may_end = True
     what = what or ("json" if context.find_root().params["json"] else None)
     clock.has_days = what == "frames"
     with progress.watched("capture read"), printed(context, output) as sink:

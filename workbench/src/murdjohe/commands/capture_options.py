@@ -10,6 +10,7 @@ TYPE_CHECKING = False
 if TYPE_CHECKING:
     from murdjohe.capture import esmc
 
+ENDED = "ended by Ctrl-C, and summed up to there; `murdjohe capture watch` tells a capture as it comes"
 OPTION = click.option(
     "--option", type=click.Choice(["I", "II"]), default="I", help="the network option; I where none is given"
 )
@@ -32,9 +33,13 @@ def is_quiet(context: click.Context) -> bool:
 
 
 def ended(context: click.Context, taken: esmc.Capture, said: list[str]) -> int:
-    """Tells what there is to say, and that the capture is damaged where it is; the status."""
+    """Tells what there is to say, and that the capture is damaged or was ended where it is so; the status."""
     if not is_quiet(context):
         streams.tell(*said, colour="yellow")
+    if taken.was_ended:
+        if not is_quiet(context):
+            streams.tell(ENDED, colour="yellow")
+        return program.INTERRUPTED
     if taken.damage is None:
         return program.DONE
     name = "standard input" if taken.path == "-" else taken.path

@@ -304,11 +304,16 @@ def no_command(words: list[str], name: str | None) -> str:
 
 def passed_on(words: list[str], name: str | None, output: Output) -> int:
     """Answers words that begin with no command: by the program, which may know a form that the workbench doesn't."""
-    is_quiet = any(word in QUIET for word in words)
-    answer = program.run([word for word in words if word not in QUIET + JSON])
-    output.put(answer.text)
-    if answer.status == program.USAGE and not is_quiet:
-        streams.tell(f"{no_command(words, name)}; `{NAME} --help` lists them")
+    answer, printed = program.run([word for word in words if word not in QUIET + JSON]), None
+    if answer.status == program.USAGE:
+        said = f"{no_command(words, name)}; `{NAME} --help` lists them"
+        if not any(word in QUIET for word in words):
+            streams.tell(said)
+        if any(word in JSON for word in words):
+            from murdjohe.answers import envelopes
+
+            printed = envelopes.refused(name, answer.status, [said])
+    output.put(answer.text if printed is None else printed)
     return answer.status
 
 

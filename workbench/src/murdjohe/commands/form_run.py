@@ -55,7 +55,11 @@ def said_of(words: Words, answer: Answer) -> list[str]:
     from murdjohe.sentences import answers
 
     sentence = answers.sentence(words, answer)
-    return [sentence] if sentence else []
+    if answer.status != program.BAD_EVENTS:
+        return [sentence] if sentence else []
+    from murdjohe.sentences import others
+
+    return ([sentence] if sentence else []) + others.sentences(words, answer)
 
 
 def answered(form: Form, given: list[str], start: int | None = None) -> tuple[Words, Answer]:

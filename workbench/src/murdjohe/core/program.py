@@ -29,10 +29,11 @@ BUILT = os.path.join("crates", "sync_main", "out", "sync_main")
 DONE, REFUTED, USAGE, BAD_PLAN, BAD_CERTIFICATE, BAD_EVENTS, BAD_FRAMES = range(7)
 READ_FAULT, WRITE_FAULT, TOO_LONG, NO_MEMORY, STOPPED = range(7, 12)
 # Statuses of the workbench alone: works leave somebody worse, `--fail-on` found something, a file is there already, the disk is
-# full, a file of the workbench's own commands has mistakes; the program isn't there; and a mistake of the workbench, or an
-# answer that isn't one.
+# full, a file of the workbench's own commands has mistakes; the program isn't there; a mistake of the workbench, or an answer
+# that isn't one; and that Ctrl-C ended the command, as a shell says it.
 LOSS, FOUND, THERE, NO_SPACE, BAD_INPUT = range(20, 25)
 UNAVAILABLE, MISTAKE = 69, 70
+INTERRUPTED = 130
 
 LONGEST_FILE = 1_073_741_824  # octets that the program reads of a file, and of one beside a plan of standard size
 LONGEST_BESIDE = 8_388_608

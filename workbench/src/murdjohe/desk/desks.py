@@ -5,12 +5,12 @@ from __future__ import annotations
 import os
 import threading
 from collections.abc import Callable
-from dataclasses import dataclass, field
+from dataclasses import dataclass, field, replace
 from typing import Any
 
-from murdjohe.answers.reports import Report
+from murdjohe.answers.reports import Gap, Report
 from murdjohe.core.faults import Wrong
-from murdjohe.desk import drafts, edits, pieces, regions, saving, verdicts, views
+from murdjohe.desk import cut_off, drafts, edits, pieces, regions, saving, verdicts, views
 from murdjohe.desk.drafts import Base, Draft
 from murdjohe.desk.edits import Edit
 from murdjohe.desk.states import Change, States
@@ -128,9 +128,21 @@ class Desk:
 
     def judged(self, verdict: Verdict) -> None:
         """Keeps a verdict on the newest state, and tells it."""
-        if verdict.number == self.states.number:
-            self.said[verdict.name] = verdict
-            self.news(VERDICT, {"number": verdict.number, "name": verdict.name, "said": verdict.said})
+        if verdict.number != self.states.number:
+            return
+        if verdict.name == verdicts.CUT and self.parts is not None:
+            regions_cut = {self.parts.of[name] for name in verdict.said["elements"] if name in self.parts.of}
+            verdict = replace(verdict, said={**verdict.said, "regions": sorted(regions_cut)})
+        self.said[verdict.name] = verdict
+        self.news(VERDICT, {"number": verdict.number, "name": verdict.name, "said": verdict.said})
+
+    def gap(self, place: int) -> tuple[str, ...]:
+        """The elements that a failure cuts off, by its place in the verdict on the newest state. Raises Wrong."""
+        verdict = self.said.get(verdicts.PROTECTED)
+        gaps = verdict.said["gaps"] if verdict is not None else []
+        if not 0 <= place < len(gaps):
+            raise Wrong("there is no such failure in the verdict on this state")
+        return cut_off.cut_off(self.states.plan, [Gap(*gaps[place])]).elements
 
     def ran(self, asked: Asked, report: Report, until: int) -> dict[str, Any]:
         """Keeps the run of a state, of which the page asks for what it shows."""

@@ -89,6 +89,7 @@ class Server:
             "/propose": self.propose,
             "/why": self.why,
             "/cases": self.cases,
+            "/gap": self.gap,
             "/tables": self.tables,
             "/orders": self.orders,
             "/find": self.find,
@@ -270,6 +271,13 @@ class Server:
             "on": self.on(given),
             "cases": await self.worked(lambda: failing.cases_of(plan_file.taken("the plan", data))),
         }
+
+    async def gap(self, given: dict[str, Any]) -> Any:
+        """The elements that a failure of the verdict cuts off."""
+        self.desk.states.meant_for(self.on(given))
+        word = given.get("place")
+        place = word if isinstance(word, int) else -1
+        return {"on": self.on(given), "elements": await self.worked(lambda: self.desk.gap(place))}
 
     async def tables(self, given: dict[str, Any]) -> Any:
         """Makes a plan of tables, and takes it."""

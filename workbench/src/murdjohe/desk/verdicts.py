@@ -15,6 +15,7 @@ from murdjohe.answers import api, reports
 from murdjohe.core import forms, program
 from murdjohe.core.faults import Wrong
 from murdjohe.core.program import Answer
+from murdjohe.desk import cut_off
 from murdjohe.network import oscillation, plan_file
 from murdjohe.plan.model import Plan
 from murdjohe.plan.plan_lines import PlanLines
@@ -22,9 +23,11 @@ from murdjohe.core.documents import Document
 from murdjohe.runs import ends, simulation
 from murdjohe.runs.moments import Event
 
-LOOP, AGREE, PROTECTED, CHAINS, RUN = "loop", "agree", "protected", "chains", "run"
-ALL = (LOOP, AGREE, PROTECTED, CHAINS, RUN)
+LOOP, AGREE, PROTECTED, CHAINS, RUN, CUT = "loop", "agree", "protected", "chains", "run", "cut"
+STRIP = frozenset((LOOP, AGREE, PROTECTED, CHAINS))  # the verdicts for which a planner waits
+ALL = (LOOP, AGREE, PROTECTED, CHAINS, RUN, CUT)
 WORKERS = 4
+PAUSE = 0.1  # seconds after the strip before the elements are looked for that failures cut off
 PATIENCE = 600  # seconds that `agree` waits for `rank` at most
 SHOWN = 200  # gaps that are told one by one
 SKIPPED = {"skipped": "a loop is possible"}
@@ -58,11 +61,11 @@ class Job:
     asked: Asked
     running: set[int] = field(default_factory=set)
     ranked: threading.Event = field(default_factory=threading.Event)
+    over: threading.Event = field(default_factory=threading.Event)  # (there is a newer state)
     has_ring: bool = False
     bound: int | None = None
-    left: set[str] = field(
-        default_factory=lambda: {LOOP, AGREE, CHAINS}
-    )  # the verdicts before which the run doesn't begin
+    gaps: tuple[reports.Gap, ...] | None = None
+    left: set[str] = field(default_factory=lambda: set(STRIP))  # the verdicts of the strip that aren't told yet
 
 
 Tell = Callable[[Verdict], None]
@@ -96,7 +99,9 @@ class Pool:
 
     @staticmethod
     def stop(job: Job | None) -> None:
-        """Ends the programs that run for a state."""
+        """Ends the work on a state."""
+        if job:
+            job.over.set()
         for child in list(job.running) if job else ():
             program.stop(child)
 
@@ -131,14 +136,25 @@ class Pool:
             self.ended(job, work)
 
     def ended(self, job: Job, work: Callable[[Job], None]) -> None:
-        """Begins the run of a state once the verdicts are told that don't take long."""
-        names: dict[Callable[[Job], None], str] = {self.ranked: LOOP, self.agreed: AGREE, self.chained: CHAINS}
+        """Begins the run of a state once the verdicts are told that don't take long, and the search for all elements that failures
+        cut off after the whole strip, so that it makes no verdict late."""
+        names: dict[Callable[[Job], None], str] = {
+            self.ranked: LOOP,
+            self.agreed: AGREE,
+            self.chained: CHAINS,
+            self.protected: PROTECTED,
+        }
         name = names.get(work)
+        if name is None:
+            return
         with self.guard:
-            is_last = job.left == {name}
-            job.left.discard(name or "")
-        if is_last:
+            job.left.discard(name)
+            runs = name != PROTECTED and not job.left - {PROTECTED}
+            is_last = not job.left
+        if runs:
             self.submit(job, self.ran)
+        if is_last and job.gaps is not None:
+            self.submit(job, self.cut)
 
     def say(self, job: Job, name: str, said: dict[str, Any]) -> None:
         """Tells a verdict on a state, where it is the newest one still."""
@@ -211,9 +227,16 @@ class Pool:
         answer = self.answered(job, "protected")
         if answer is None:
             return
-        rows = reports.gaps(answer).rows
+        rows = job.gaps = reports.gaps(answer).rows
         gaps = [[row.kind, row.failure, row.elements, row.first] for row in rows[:SHOWN]]
         self.say(job, PROTECTED, {"count": len(rows), "gaps": gaps})
+
+    def cut(self, job: Job) -> None:
+        """All elements that failures cut off although a path remains, of which `protected` names the first of each failure."""
+        if job.over.wait(PAUSE):
+            return
+        found = cut_off.cut_off(job.asked.plan, job.gaps or ())
+        self.say(job, CUT, {"elements": found.elements, "failures": found.failures})
 
     def ran(self, job: Job) -> None:
         """The run of the events, up to the bound after the last of them."""

@@ -59,10 +59,10 @@ def answer_of(name: str, plan: PlanFile, events: EventFile, at: int, running: se
         given = [form.name, plan_path, events_path, str(at)]
         answer = program.run(given) if running is None else program.run_kept(given, running)
         if answer.status not in reports.GOOD:
-            from murdjohe.sentences import answers
+            from murdjohe.sentences import answers, others
 
             said = answers.sentence(words, answer) or f"{name}: status {answer.status}"
-            raise Wrong(said, status=answer.status)
+            raise Wrong(said, *others.sentences(words, answer), status=answer.status)
     return answer
 
 

@@ -124,7 +124,7 @@ class Desk {
     if (!this.keep(verdict) || verdict.number !== this.number) return;
     this.shown(verdict.name);
     const left = NAMES.filter(one => !this.said[one]);
-    if (left.length || !this.asked) return;
+    if (left.length || !this.asked || !NAMES.includes(verdict.name)) return;
     this.times.push(performance.now() - this.asked);
     this.asked = null;
   }
@@ -136,13 +136,13 @@ class Desk {
     for (const name of Object.keys(this.said)) this.shown(name);
   }
 
-  /** Shows a verdict: in the strip and the picture, or the run. */
+  /** Shows a verdict: in the strip and the picture, the run, or the elements that failures cut off. */
   shown(name) {
     if (name === "run") {
       if (this.said.run.fault) this.tell(this.said.run.fault, true); else this.fetchRun(this.number);
       return;
     }
-    this.stripe(name);
+    if (NAMES.includes(name)) this.stripe(name);
     if (this.picture) this.paint();
   }
 
@@ -195,14 +195,27 @@ class Desk {
   mark() {
     const names = this.lineNumbers, place = this.elementNumbers;
     const numbers = (list, map) => new Set(list.map(name => map.get(name)).filter(number => number !== undefined));
-    const gaps = this.said.protected?.gaps ?? [];
+    const gap = this.gapShown?.on === this.number ? this.gapShown : null;
     this.picture.marks = {
       ring: numbers(this.said.loop?.ring ?? this.said.agree?.clash ?? [], names),
-      cut: numbers(gaps.map(([, , , first]) => first), place),
+      cut: this.isMap ? this.cutRegions() : numbers(this.cutNames(), place),
+      now: this.isMap ? new Set() : numbers(gap?.elements ?? [], place),
+      failed: gap ? {kind: gap.kind, name: gap.name} : null,
       changes: new Map((this.proposal?.rows ?? []).map(([name, , value]) => [name, value])),
       link: this.thing?.kind === "link" ? this.thing.name : null,
       source: this.thing?.kind === "source" ? this.network.sources.findIndex(one => one.name === this.thing.name) : -1,
     };
+  }
+
+  /** The elements that failures cut off: all of them, and the first of each failure until the server has found all. */
+  cutNames() {
+    return this.said.cut?.elements ?? (this.said.protected?.gaps ?? []).map(([, , , first]) => first);
+  }
+
+  /** The boxes of the map whose regions have elements that failures cut off. */
+  cutRegions() {
+    const cut = new Set(this.said.cut?.regions ?? []);
+    return new Set(this.network.regions.map(([region], place) => cut.has(region) ? place : -1).filter(place => place >= 0));
   }
 
   /** Whether the network that is shown has a thing. */
@@ -239,6 +252,7 @@ class Desk {
   select(thing) {
     if (this.isMap && thing) { this.open(thing); return; }
     this.thing = thing;
+    this.gapShown = null;
     if (thing?.kind === "element" && this.selected >= 0) this.picture.reveal(this.selected);
     for (const row of document.querySelectorAll("tr[data-name]")) row.classList.toggle("selected", thing !== null && row.dataset.name === `${thing.kind} ${thing.name}`);
     this.show();
@@ -472,13 +486,20 @@ class Desk {
     } else this.fillTables();
   }
 
-  /** Selects what the first gap cuts off. */
-  showGap() {
-    const gaps = this.said.protected?.gaps ?? [];
+  /** Shows the next failure that cuts elements off, and all of these; the first of them is selected. */
+  async showGap() {
+    const gaps = this.said.protected?.gaps ?? [], on = this.number;
     if (!gaps.length) return;
-    const gap = gaps[this.gap = ((this.gap ?? -1) + 1) % gaps.length];
-    this.select({kind: "element", name: gap[3]});
+    const place = this.gap = ((this.gap ?? -1) + 1) % gaps.length, gap = gaps[place], [kind, name, , first] = gap;
+    if (!this.isMap && this.elementNumbers.has(first)) this.select({kind: "element", name: first});
     this.tell(gapWords(gap));
+    try {
+      const {elements} = await posted("/gap", {on, place});
+      if (on !== this.number || place !== this.gap) return;
+      this.gapShown = {on, kind, name, elements};
+      this.tell(gapWords(gap, elements));
+      this.paint();
+    } catch (fault) { if (on === this.number) this.tell(fault.message, true); }
   }
 
   /** Selects the first link of the ring. */

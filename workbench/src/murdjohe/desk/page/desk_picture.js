@@ -19,7 +19,7 @@ export class DeskPicture extends Picture {
   constructor(canvas, network) {
     super(canvas, network);
     this.light = network.signs;
-    this.marks = {ring: new Set(), cut: new Set(), changes: new Map(), link: null, source: -1};
+    this.marks = {ring: new Set(), cut: new Set(), now: new Set(), failed: null, changes: new Map(), link: null, source: -1};
     this.colour(false);
     this.shiftCables();
   }
@@ -108,11 +108,12 @@ export class DeskPicture extends Picture {
     }
   }
 
-  /** The selected link, under all else that is drawn. */
+  /** The selected link, and the link or bundle whose failure is looked at, under all else that is drawn. */
   addHalo() {
-    const {link} = this.marks;
-    for (const cable of link === null ? [] : this.cables) {
-      if (cable.lines.some(line => this.network.lines[line].link === link)) this.stroke(cable.path, this.tones.blue, 7, []);
+    const {link, failed} = this.marks, lines = this.network.lines;
+    for (const cable of link === null && !failed ? [] : this.cables) {
+      if (link !== null && cable.lines.some(line => lines[line].link === link)) this.stroke(cable.path, this.tones.blue, 7, []);
+      if (failed && cable.lines.some(line => failed.name === {link: lines[line].link, bundle: lines[line].bundleName}[failed.kind])) this.stroke(cable.path, this.tones.cut, 9, []);
     }
   }
 
@@ -153,7 +154,8 @@ export class DeskPicture extends Picture {
     super.draw(run, selected);
     for (const badge of this.badges) this.drawBadge(badge);
     this.network.sources.forEach((source, number) => this.drawSourceBadge(source, number));
-    for (const number of this.marks.cut) this.drawCut(number);
+    for (const number of this.marks.cut) this.drawCut(number, this.marks.now.has(number));
+    this.drawFailed();
   }
 
   /** The line of a ring between the two elements that are furthest apart, beside which there is room for words; -1 for none. */
@@ -179,29 +181,55 @@ export class DeskPicture extends Picture {
     this.text(x, y + 0.5, words, 11, isNew ? this.tones.paper : priority ? this.signs.dark : this.signs.grey, null, true);
   }
 
+  /** Draws a ring round a source. */
+  drawRound(source, colour) {
+    const [x, y] = this.spot(source), [width, height] = this.size, pen = this.context;
+    pen.strokeStyle = colour;
+    pen.lineWidth = 3;
+    pen.beginPath();
+    pen.ellipse(x, y, width / 2 + 2, height / 2 + 2, 0, 0, Math.PI * 2);
+    pen.stroke();
+  }
+
   drawSourceBadge(source, number) {
     const [x, y] = this.spot(source), [width, height] = this.size;
-    if (this.marks.source === number) {
-      this.context.strokeStyle = this.tones.blue;
-      this.context.lineWidth = 3;
-      this.context.beginPath();
-      this.context.ellipse(x, y, width / 2 + 2, height / 2 + 2, 0, 0, Math.PI * 2);
-      this.context.stroke();
-    }
+    if (this.marks.source === number) this.drawRound(source, this.tones.blue);
     if (!this.hasBadges) return;
     const change = this.marks.changes.get(source.name);
     const words = change === undefined ? String(source.priority || "·") : `${source.priority || "·"}→${change || "·"}`;
     this.drawBadge({x: x + width / 2, y: y - height / 2, words, isNew: change !== undefined, priority: source.priority});
   }
 
-  /** Draws that a failure cuts an element off. */
-  drawCut(number) {
+  /** Draws that a failure cuts an element off: dashed, and whole by the failure that is looked at. */
+  drawCut(number, isNow) {
+    this.drawFrame(number, isNow ? [] : [5, 4], isNow ? 4 : 3);
+  }
+
+  drawFrame(number, dashes, thick) {
     const [x, y] = this.spots[number], [width, height] = this.size, pen = this.context;
-    pen.setLineDash([5, 4]);
+    pen.setLineDash(dashes);
     pen.strokeStyle = this.tones.cut;
-    pen.lineWidth = 3;
+    pen.lineWidth = thick;
     pen.strokeRect(x - width / 2 - 4, y - height / 2 - 4, width + 8, height + 8);
     pen.setLineDash([]);
+  }
+
+  /** Draws the element or the source whose failure is looked at; a link or a bundle has its halo. */
+  drawFailed() {
+    const {kind, name} = this.marks.failed ?? {}, {elements, sources} = this.network;
+    const source = kind === "source" ? sources.find(one => one.name === name) : undefined;
+    if (source) this.drawRound(source, this.tones.cut);
+    const place = kind === "element" ? elements.findIndex(one => one.name === name) : -1;
+    if (place < 0) return;
+    const [x, y] = this.spots[place], [width, height] = this.size, pen = this.context;
+    pen.strokeStyle = this.tones.cut;
+    pen.lineWidth = 4;
+    for (const side of [1, -1]) {
+      pen.beginPath();
+      pen.moveTo(x - width / 2, y - side * height / 2);
+      pen.lineTo(x + width / 2, y + side * height / 2);
+      pen.stroke();
+    }
   }
 
   /** What stands at a point of the canvas: a priority, an element, a source, a link, or nothing. */

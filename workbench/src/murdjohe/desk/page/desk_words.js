@@ -4,6 +4,7 @@ import { clock } from "./model.js";
 const UNITS = {h: 3600000, m: 60000, s: 1000, ms: 1};
 
 const DAY = 86400000;
+const MOST_NAMES = 20;  // elements that a sentence names
 
 /** The milliseconds of a time, as 60000, 20m, 1h30m, 00:05 or 00:05:00.250; null for any other word. With colons it is a time of day
  * where the run begins at one. */
@@ -51,9 +52,10 @@ function protectedWords(said) {
   return ["mind", `${gapWords(said.gaps[0])}${rest}`, PROTECTED];
 }
 
-/** Who is cut off by a failure, or without any. */
-export function gapWords([kind, name, number, first]) {
-  const all = number > 1 ? `${first} and ${number - 1} more` : first;
+/** Who is cut off by a failure, or without any: the first, or the names of all where they are known. */
+export function gapWords([kind, name, number, first], elements = [first]) {
+  const shown = elements.slice(0, MOST_NAMES), left = number - shown.length;
+  const all = left > 0 ? `${shown.join(", ")} and ${left.toLocaleString("en")} more` : [shown.slice(0, -1).join(", "), shown.at(-1)].filter(Boolean).join(" and ");
   if (kind === "none") return `even without a failure ${all} ${number > 1 ? "have" : "has"} no nominated way to a clock, though a path is there`;
   return `${kind} ${name} cuts off ${all}, though a path remains`;
 }
