@@ -28,7 +28,7 @@ class Chain:
 
 @dataclass(frozen=True)
 class Gap:
-    """A failure, or a group, that cuts somebody off who needn't be."""
+    """A failure, or a group, that cuts elements off although a path remains."""
 
     kind: str
     failure: str | None

@@ -24,7 +24,7 @@ CHAINS = Table(
     ),
 )
 GAPS = Table(
-    "gaps", ("protected", "protect"), "a failure, or a group, that cuts somebody off who needn't be", is_headed=True, columns=(
+    "gaps", ("protected", "protect"), "a failure, or a group, that cuts elements off although a path remains", is_headed=True, columns=(
         Column("kind", "kind", "word", words=("none", "link", "bundle", "source", "element", "group"), says="none, link, bundle, source, element or group"),
         Column("failure", "failure", "name", none="", says="its name; nothing for none"),
         Column("elements", "elements", "number", unit="elements", says="how many elements are in reach and not served"),
