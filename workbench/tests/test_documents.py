@@ -195,3 +195,36 @@ def test_commands_that_documents_name_and_that_are_nowhere_are_told(tmp_path: Pa
     ran = started([str(TOP / "docs" / "check_names"), str(document)])
     told = [line.rpartition(":1: ")[2].removesuffix(" isn't there") for line in ran.out.decode().splitlines()]
     assert (ran.status, told) == (1, [*wrong.values(), "11 names, 3 not there"])
+
+
+def counted_documents(folder: Path, guide: str, readme: str) -> tuple[int, list[str]]:
+    """What docs/check_words says of a folder with these two documents."""
+    (folder / "docs" / "use").mkdir(parents=True)
+    (folder / "docs" / "use" / "guide.md").write_text(guide, encoding="utf-8")
+    (folder / "README.md").write_text(readme, encoding="utf-8")
+    ran = started([str(TOP / "docs" / "check_words"), str(folder)])
+    return ran.status, ran.out.decode().splitlines()
+
+
+def test_words_of_documents_are_counted_apart(tmp_path: Path) -> None:
+    # by hand: # A guide / $ run / one two / the end, with the marks of the block: 3 + 6 + 2; generated: marks 4 and 3, and | x |
+    block = "```console\n$ run\none two\n```\n"
+    guide = f"# A guide\n{block}<!-- rows: cuts -->\n| x |\n<!-- end -->\nthe end\n"
+    status, said = counted_documents(tmp_path, guide, "three words here\n")
+    assert status == 0
+    assert said == [
+        "docs/use/guide.md: 21 words: 11 by hand (6 in blocks), 10 generated",
+        "docs/: 21 words: 11 by hand (6 in blocks), 10 generated; at most 40,000",
+        "README.md: 3 words: 3 by hand (0 in blocks), 0 generated; at most 900",
+    ]
+
+
+def test_too_many_words_are_told(tmp_path: Path) -> None:
+    for name, of_docs, of_readme, wanted in (
+        ("most", 40_000, 900, (0, "at most", "at most")),
+        ("docs", 40_001, 900, (1, "too many: at most", "at most")),
+        ("readme", 40_000, 901, (1, "at most", "too many: at most")),
+    ):
+        status, said = counted_documents(tmp_path / name, "word " * of_docs, "word " * of_readme)
+        ends = [line.rpartition("; ")[2].rpartition(" ")[0] for line in said[1:]]
+        assert (status, *ends) == wanted
