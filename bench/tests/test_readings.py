@@ -2,11 +2,16 @@
 
 import random
 import struct
+import sys
+from importlib.machinery import ModuleSpec, SourceFileLoader
+from importlib.util import module_from_spec
+from pathlib import Path
 
 import pytest
 
-from bench.compare import frames, plans, plans_by_hand, ranks
+from bench.compare import frames, plans, ranks
 from bench.levels import CODES, LEVELS
+from bench.program import TOP
 from bench.readings.captures import pcap_answer, pcap_bytes
 from bench.readings.frames import Wrong, expected, frame_of, row_of
 from bench.readings.plans import plan_of, rank_answer
@@ -18,28 +23,37 @@ DEEP = b"[" * 100  # the program refuses lists in lists of this depth, which TOM
 ROW = b"020000000001,event,QL-PRTC,0011223344556677,00,1,0"
 
 
-def by_hand() -> list[tuple[bytes, str]]:
-    return [case for case in plans_by_hand.plans() if len(case[0]) < SHORT and DEEP not in case[0]]
+def by_hand(name: str, place: Path) -> list[tuple[list[bytes | None], tuple[int, str]]]:
+    """The files of each row of a table of cases/, made as cases/run makes them, with the status and the answer by hand."""
+    loader = SourceFileLoader("cases_run", str(TOP / "cases" / "run"))
+    module = sys.modules[loader.name] = module_from_spec(ModuleSpec(loader.name, loader, origin=loader.path))
+    module.__file__ = loader.path
+    loader.exec_module(module)
+    rows, wrong = module.prepared("no program", TOP / "cases" / name, place)
+    assert not wrong
+    files = [[place / name / word for word in row.words[1:]] for row in rows]
+    read = [[path.read_bytes() if path.exists() else None for path in its] for its in files]
+    return [(data, (row.status, row.text.decode("ascii"))) for row, data in zip(rows, read)]
 
 
-def test_plans_by_hand_are_answered_as_by_hand() -> None:
+def test_plans_by_hand_are_answered_as_by_hand(tmp_path: Path) -> None:
     seen = 0
-    for plan, answer in by_hand():
+    for (plan,), wanted in by_hand("plans-by-hand", tmp_path):
+        if plan is None or len(plan) >= SHORT or DEEP in plan:
+            continue
         try:
-            assert rank_answer(plan) == (plans_by_hand.status_of(answer), answer), plan
+            assert rank_answer(plan) == wanted, plan
         except Unsure:
             continue  # Python's reader is of an older TOML
         seen += 1
     assert seen > 500
 
 
-def test_certificates_by_hand_are_answered_as_by_hand() -> None:
+def test_certificates_by_hand_are_answered_as_by_hand(tmp_path: Path) -> None:
     seen = 0
-    for plan, certificate, answer in plans_by_hand.certificates():
-        data = certificate.encode() if isinstance(certificate, str) else certificate
-        if data is not None and len(data) < SHORT and len(plan) < SHORT:
-            wanted = plans_by_hand.status_of(answer), answer + "\n"
-            assert check_answer(plan_of(plan.encode()), data) == wanted, (plan, certificate)
+    for (plan, certificate), wanted in by_hand("certificates-by-hand", tmp_path):
+        if plan is not None and certificate is not None and max(len(plan), len(certificate)) < SHORT:
+            assert check_answer(plan_of(plan), certificate) == wanted, (plan, certificate)
             seen += 1
     assert seen > 80
 
