@@ -14,6 +14,7 @@ from typing import Any
 import pytest
 from conftest import EXAMPLES, murdjohe, started
 from desk_browsing import Page, keys, opened_browser
+from desk_plans import PAIR
 from desk_running import Running, running
 from test_cut_off import ROUND
 
@@ -153,6 +154,20 @@ def test_a_priority_is_changed_where_it_stands(browser: Any, first: Running) -> 
     page.judged(2)
     assert page.strip()[0] == "good accepted: no timing loop can form"
     assert page.strip()[2].startswith("good protected") and "link R4" == page.said("chosen-head")
+
+
+def test_who_may_oscillate_is_drawn_and_is_no_loop(browser: Any, folder: Path) -> None:
+    (folder / "pair.toml").write_bytes(PAIR)
+    with running("pair.toml", folder=folder) as desk:
+        page = Page(browser, desk.address)
+        page.judged(0)
+        assert page.strip()[:2] == ["good accepted: no timing loop can form", "bad may oscillate: L>B, L>A"]
+        assert page.red() > 200
+        words = "desk.picture.draw(desk.run, -1); return desk.picture.words.map(([, , word]) => word)"
+        assert "may oscillate" in page.run(words) and "may LOOP" not in page.run(words)
+        page.click("agree")
+        assert page.said("chosen-head") == "link L"
+        assert page.said("said") == page.run("return document.getElementById('agree').title") != ""
 
 
 def test_elements_links_and_sources_come_and_go(browser: Any, first: Running, folder: Path) -> None:
