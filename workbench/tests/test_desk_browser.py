@@ -224,6 +224,32 @@ def test_a_night_of_works_with_why_beside_it(browser: Any, night: Running, folde
     assert page.errors() == []
 
 
+def test_values_and_commands_of_what_is_selected(browser: Any, night: Running) -> None:
+    page = Page(browser, night.address)
+    page.judged(0)
+    page.run("desk.edit({kind: 'drop-events'})")
+    page.judged(1)
+    page.point(page.element("agg-2"))
+    field = page.browser.find_element("css selector", "#form [data-key=holdoff]")
+    field.clear()
+    field.send_keys("700", keys.Keys.TAB)
+    page.judged(2)
+    page.browser.find_element("css selector", "#form [data-key=floor] option[value=QL-SSU-A]").click()
+    page.judged(3)
+    found = page.run("return desk.network.elements.find(one => one.name === 'agg-2')")
+    assert (found["holdoff"], found["floor"]) == (700, "QL-SSU-A")
+    page.point(page.link("R3"))
+    page.browser.find_element("css selector", "#commands summary").click()
+    page.browser.find_element("xpath", "//div[@id='commands']//button[text()='lockout R3>agg-2']").click()
+    page.judged(4)
+    assert page.said("events").endswith(" lockout R3>agg-2 drop")
+    place = "desk.network.elements.findIndex(one => one.name === 'agg-2')"
+    page.run("desk.goTo(desk.run.moments.length - 1)")
+    assert page.run(f"return desk.run.inputName(desk.run.input[{place}])") == "R2>agg-2"
+    page.run("desk.goTo(0)")
+    assert page.run(f"return desk.run.inputName(desk.run.input[{place}])") != "R2>agg-2" and page.errors() == []
+
+
 def test_times_of_day(browser: Any, folder: Path) -> None:
     (folder / "plan.toml").write_bytes((INVENTORY / "plan.toml").read_bytes())
     (folder / "works.csv").write_text("at,what,target,value\n23:10,down,R3,\n00:30,up,R3,\n")
