@@ -289,12 +289,12 @@ def test_all_that_failures_cut_off_are_drawn(browser: Any, folder: Path) -> None
         assert dashed["A"] == 0 and min(dashed[name] for name in "BCD") > 50
         page.click("protected")
         page.until("desk.gapShown")
-        assert page.said("said") == "link L1 cuts off B, C and D, though a path remains"
+        assert page.said("said") == "link L1 cuts off B, C and D, though a path remains (1 of 5)"
         assert all(page.framed(name) > dashed[name] * 1.2 for name in "BCD")
         assert page.framed("A") < 50  # (the link that fails, which is drawn broad, begins there)
         page.click("protected")
         page.until("desk.gapShown && desk.gapShown.name === 'L2'")
-        assert page.said("said") == "link L2 cuts off C and D, though a path remains"
+        assert page.said("said") == "link L2 cuts off C and D, though a path remains (2 of 5)"
         assert page.run("return [...desk.picture.marks.now].map(place => desk.network.elements[place].name)") == [
             "C",
             "D",

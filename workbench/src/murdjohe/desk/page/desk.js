@@ -490,16 +490,17 @@ class Desk {
 
   /** Shows the next failure that cuts elements off, and all of these; the first of them is selected. */
   async showGap() {
-    const gaps = this.said.protected?.gaps ?? [], on = this.number;
+    const {gaps = [], count} = this.said.protected ?? {}, on = this.number;
     if (!gaps.length) return;
     const place = this.gap = ((this.gap ?? -1) + 1) % gaps.length, gap = gaps[place], [kind, name, , first] = gap;
     if (!this.isMap && this.elementNumbers.has(first)) this.select({kind: "element", name: first});
-    this.tell(gapWords(gap));
+    const which = ` (${place + 1} of ${gaps.length < count ? `the first ${gaps.length} of ` : ""}${count.toLocaleString("en")})`;
+    this.tell(gapWords(gap) + which);
     try {
       const {elements} = await posted("/gap", {on, place});
       if (on !== this.number || place !== this.gap) return;
       this.gapShown = {on, kind, name, elements};
-      this.tell(gapWords(gap, elements));
+      this.tell(gapWords(gap, elements) + which);
       this.paint();
     } catch (fault) { if (on === this.number) this.tell(fault.message, true); }
   }
