@@ -13,7 +13,7 @@ from typing import Any
 
 import pytest
 from conftest import EXAMPLES, murdjohe, started
-from desk_browsing import Page, keys, opened_browser
+from desk_browsing import Page, keys, killed, opened_browser
 from desk_plans import PAIR
 from desk_running import Running, running
 from test_cut_off import ROUND
@@ -310,11 +310,14 @@ def test_all_that_failures_cut_off_are_drawn(browser: Any, folder: Path) -> None
 
 
 def test_nothing_is_lost_when_browser_and_server_are_gone(browser: Any, first: Running, folder: Path) -> None:
-    page = Page(browser, first.address)
-    page.point(page.badge("R6>core-a"))
-    page.press("0", keys.Keys.ENTER)
-    page.judged(1)
-    browser.get("about:blank")  # (the page is gone, without a word)
+    other = next(opened_browser())
+    try:
+        page = Page(other, first.address)
+        page.point(page.badge("R6>core-a"))
+        page.press("0", keys.Keys.ENTER)
+        page.judged(1)
+    finally:
+        killed(other)  # (the page is gone, without a word)
     page = Page(browser, first.address)
     page.judged(1)
     assert page.said("title") == "first.toml (not saved)" and not page.run(
