@@ -2,9 +2,12 @@
 
 from __future__ import annotations
 
+import os
 import shutil
+import signal
 import time
 from collections.abc import Iterator
+from pathlib import Path
 from typing import Any
 
 import pytest
@@ -32,6 +35,30 @@ def opened_browser() -> Iterator[Any]:
     driver.set_script_timeout(PATIENCE)
     yield driver
     driver.quit()
+
+
+def started_by(top: int) -> list[int]:
+    """A process, and all that it and those started."""
+    children: dict[int, list[int]] = {}
+    for path in Path("/proc").glob("[0-9]*/stat"):
+        try:
+            children.setdefault(int(path.read_text().rpartition(") ")[2].split()[1]), []).append(int(path.parent.name))
+        except OSError:  # (it has ended meanwhile)
+            continue
+    found = [top]
+    for number in found:
+        found += children.get(number, [])
+    return found
+
+
+def killed(driver: Any) -> None:
+    """Kills a browser and its driver, as a machine does that goes down."""
+    for number in started_by(driver.service.process.pid):
+        try:
+            os.kill(number, signal.SIGKILL)
+        except ProcessLookupError:
+            continue
+    driver.service.process.wait(timeout=20)
 
 
 class Page:

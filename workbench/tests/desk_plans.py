@@ -40,3 +40,9 @@ INLINE = b"""element = [{ name = "A" }, { name = "B", floor = "QL-SSU-B" }, { na
 link = [{ name = "L1", a = "A", b = "B", priority_b = 1 }, { name = "L2", a = "B", b = "C" }]
 source = [{ name = "S", at = "A", level = "QL-PRC" }]
 """
+# Two elements that each prefer the other to a source of their own: they oscillate.
+PAIR = b"".join(b'[[element]]\nname = "%s"\n' % name for name in (b"A", b"B"))
+PAIR += b'[[link]]\nname = "L"\na = "A"\nb = "B"\npriority_a = 1\npriority_b = 1\ndelay_a = 10\ndelay_b = 10\n'
+PAIR += b"".join(
+    b'[[source]]\nname = "S%s"\nat = "%s"\nlevel = "QL-PRC"\npriority = 2\n' % (name, name) for name in (b"A", b"B")
+)

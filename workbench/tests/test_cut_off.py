@@ -84,6 +84,15 @@ def test_of_very_many_failures_the_largest_are_looked_at(monkeypatch: pytest.Mon
     assert found(ROUND, rows[1:2] + rows[2:3]) == CutOff(("C", "D"), 2)
 
 
+def test_it_ends_where_nobody_wants_to_know_it_any_more(monkeypatch: pytest.MonkeyPatch) -> None:
+    monkeypatch.setattr(cut_off, "CHUNK_BITS", 4)  # (one failure at once)
+    answers = iter([False, True])
+    plan, rows = plan_of(tables_of(ROUND)), told(ROUND)
+    # (of L2, which cuts off C and D, the row has the first; L1 is looked at before others, and cuts off all)
+    assert cut_off.cut_off(plan, rows[1:2], lambda: True).elements == ("C",)
+    assert cut_off.cut_off(plan, rows, lambda: next(answers)).elements == ("B", "C", "D")
+
+
 def test_the_map_of_a_large_plan_marks_the_regions(folder: Path, monkeypatch: pytest.MonkeyPatch) -> None:
     """A chain whose last link has another beside it that nobody nominates: the last element alone is cut off, in the last region."""
     chain = [f"L{number} E{number} 0 E{number + 1} 1" for number in range(699)]

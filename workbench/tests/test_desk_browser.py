@@ -13,7 +13,8 @@ from typing import Any
 
 import pytest
 from conftest import EXAMPLES, murdjohe, started
-from desk_browsing import Page, keys, opened_browser
+from desk_browsing import Page, keys, killed, opened_browser
+from desk_plans import PAIR
 from desk_running import Running, running
 from test_cut_off import ROUND
 
@@ -155,6 +156,20 @@ def test_a_priority_is_changed_where_it_stands(browser: Any, first: Running) -> 
     assert page.strip()[2].startswith("good protected") and "link R4" == page.said("chosen-head")
 
 
+def test_who_may_oscillate_is_drawn_and_is_no_loop(browser: Any, folder: Path) -> None:
+    (folder / "pair.toml").write_bytes(PAIR)
+    with running("pair.toml", folder=folder) as desk:
+        page = Page(browser, desk.address)
+        page.judged(0)
+        assert page.strip()[:2] == ["good accepted: no timing loop can form", "bad may oscillate: L>B, L>A"]
+        assert page.red() > 200
+        words = "desk.picture.draw(desk.run, -1); return desk.picture.words.map(([, , word]) => word)"
+        assert "may oscillate" in page.run(words) and "may LOOP" not in page.run(words)
+        page.click("agree")
+        assert page.said("chosen-head") == "link L"
+        assert page.said("said") == page.run("return document.getElementById('agree').title") != ""
+
+
 def test_elements_links_and_sources_come_and_go(browser: Any, first: Running, folder: Path) -> None:
     page = Page(browser, first.address)
     page.judged(0)
@@ -209,6 +224,32 @@ def test_a_night_of_works_with_why_beside_it(browser: Any, night: Running, folde
     assert page.errors() == []
 
 
+def test_values_and_commands_of_what_is_selected(browser: Any, night: Running) -> None:
+    page = Page(browser, night.address)
+    page.judged(0)
+    page.run("desk.edit({kind: 'drop-events'})")
+    page.judged(1)
+    page.point(page.element("agg-2"))
+    field = page.browser.find_element("css selector", "#form [data-key=holdoff]")
+    field.clear()
+    field.send_keys("700", keys.Keys.TAB)
+    page.judged(2)
+    page.browser.find_element("css selector", "#form [data-key=floor] option[value=QL-SSU-A]").click()
+    page.judged(3)
+    found = page.run("return desk.network.elements.find(one => one.name === 'agg-2')")
+    assert (found["holdoff"], found["floor"]) == (700, "QL-SSU-A")
+    page.point(page.link("R3"))
+    page.browser.find_element("css selector", "#commands summary").click()
+    page.browser.find_element("xpath", "//div[@id='commands']//button[text()='lockout R3>agg-2']").click()
+    page.judged(4)
+    assert page.said("events").endswith(" lockout R3>agg-2 drop")
+    place = "desk.network.elements.findIndex(one => one.name === 'agg-2')"
+    page.run("desk.goTo(desk.run.moments.length - 1)")
+    assert page.run(f"return desk.run.inputName(desk.run.input[{place}])") == "R2>agg-2"
+    page.run("desk.goTo(0)")
+    assert page.run(f"return desk.run.inputName(desk.run.input[{place}])") != "R2>agg-2" and page.errors() == []
+
+
 def test_times_of_day(browser: Any, folder: Path) -> None:
     (folder / "plan.toml").write_bytes((INVENTORY / "plan.toml").read_bytes())
     (folder / "works.csv").write_text("at,what,target,value\n23:10,down,R3,\n00:30,up,R3,\n")
@@ -248,12 +289,12 @@ def test_all_that_failures_cut_off_are_drawn(browser: Any, folder: Path) -> None
         assert dashed["A"] == 0 and min(dashed[name] for name in "BCD") > 50
         page.click("protected")
         page.until("desk.gapShown")
-        assert page.said("said") == "link L1 cuts off B, C and D, though a path remains"
+        assert page.said("said") == "link L1 cuts off B, C and D, though a path remains (1 of 5)"
         assert all(page.framed(name) > dashed[name] * 1.2 for name in "BCD")
         assert page.framed("A") < 50  # (the link that fails, which is drawn broad, begins there)
         page.click("protected")
         page.until("desk.gapShown && desk.gapShown.name === 'L2'")
-        assert page.said("said") == "link L2 cuts off C and D, though a path remains"
+        assert page.said("said") == "link L2 cuts off C and D, though a path remains (2 of 5)"
         assert page.run("return [...desk.picture.marks.now].map(place => desk.network.elements[place].name)") == [
             "C",
             "D",
@@ -269,11 +310,14 @@ def test_all_that_failures_cut_off_are_drawn(browser: Any, folder: Path) -> None
 
 
 def test_nothing_is_lost_when_browser_and_server_are_gone(browser: Any, first: Running, folder: Path) -> None:
-    page = Page(browser, first.address)
-    page.point(page.badge("R6>core-a"))
-    page.press("0", keys.Keys.ENTER)
-    page.judged(1)
-    browser.get("about:blank")  # (the page is gone, without a word)
+    other = next(opened_browser())
+    try:
+        page = Page(other, first.address)
+        page.point(page.badge("R6>core-a"))
+        page.press("0", keys.Keys.ENTER)
+        page.judged(1)
+    finally:
+        killed(other)  # (the page is gone, without a word)
     page = Page(browser, first.address)
     page.judged(1)
     assert page.said("title") == "first.toml (not saved)" and not page.run(

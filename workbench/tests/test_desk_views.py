@@ -2,6 +2,7 @@
 
 from __future__ import annotations
 
+import math
 from collections import Counter
 
 from murdjohe.answers.reports import Change
@@ -84,3 +85,27 @@ def test_the_map_has_a_box_for_each_region_and_a_link_between_neighbours() -> No
     assert [level["name"] for level in drawn["levels"]] == ["300 elements"] * 3 + ["100 elements"]
     assert [(line["sender"], line["receiver"]) for line in drawn["lines"][::2]] == [(0, 1), (1, 2), (2, 3)]
     assert drawn["regions"] == [[0, 300], [1, 300], [2, 300], [3, 100]]
+
+
+def test_regions_like_a_chain_are_drawn_in_rows() -> None:
+    """Twelve of them: a place is 1.6 by 0.9408 inches, so four columns and three rows are nearest to twice as wide as high."""
+    plan = row_of(12)._replace(sources=())
+    wide, high = BOX[0] * views.STEP, BOX[1] * views.STEP * 1.4
+    columns = math.ceil(math.sqrt(24 * high / wide))
+    sheet = views.in_rows(plan)
+    at = {name: (round(x / wide - 0.5), round(y / high - 0.5)) for (_, name), (x, y) in sheet.spots.items()}
+    rows = -(-12 // columns)
+    assert at["E0"] == (0, rows - 1) and at[f"E{columns - 1}"] == (columns - 1, rows - 1)
+    assert at[f"E{columns}"] == (columns - 1, rows - 2) and at[f"E{columns + 1}"] == (columns - 2, rows - 2)
+    assert (sheet.width, sheet.height) == (columns * wide, rows * high)
+    # (neighbours in the chain are neighbours on the sheet, and no two stand in one place)
+    steps = [abs(at[f"E{n}"][0] - at[f"E{n + 1}"][0]) + abs(at[f"E{n}"][1] - at[f"E{n + 1}"][1]) for n in range(11)]
+    assert set(steps) == {1} and len(set(at.values())) == 12
+
+
+def test_only_a_long_map_is_drawn_in_rows() -> None:
+    chain, ring = row_of(67)._replace(sources=()), row_of(8)._replace(sources=())
+    assert views.map_of(chain).spots == views.in_rows(chain).spots
+    ring = ring._replace(links=(*ring.links, Link("X", "E7", "E0")))
+    assert views.map_of(ring).spots == views.sheet_of(ring).spots
+    assert views.map_of(Plan("I", (), (), ())).spots == {}

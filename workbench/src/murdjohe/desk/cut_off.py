@@ -7,7 +7,7 @@ same first one; otherwise the row's first element alone counts. Failures are bit
 from __future__ import annotations
 
 from collections import deque
-from collections.abc import Iterable, Sequence
+from collections.abc import Callable, Iterable, Sequence
 from typing import NamedTuple
 
 from murdjohe.answers.row_types import Gap
@@ -15,7 +15,7 @@ from murdjohe.network.ways import Fall, Masks, bits_of, singles_of
 from murdjohe.plan.model import Line, Plan
 
 MOST_BITS = 1_000_000_000  # failures times elements that are looked at; of more failures the largest
-CHUNK_BITS = 100_000_000  # and of those at once
+CHUNK_BITS = 20_000_000  # and of those at once
 
 
 class CutOff(NamedTuple):
@@ -87,14 +87,16 @@ def cut_by(plan: Plan, falls: list[Fall], rows: Sequence[Gap]) -> set[str]:
     return firsts | {name for name, mask in zip(marks.names, marks.missing) if mask & agreed}
 
 
-def cut_off(plan: Plan, rows: Sequence[Gap]) -> CutOff:
-    """The elements that the failures of some rows of `protected` cut off."""
+def cut_off(plan: Plan, rows: Sequence[Gap], is_over: Callable[[], bool] = lambda: False) -> CutOff:
+    """The elements that the failures of some rows of `protected` cut off; fewer of them where nobody wants to know it any more."""
     several = sorted((row for row in rows if row.elements > 1), key=lambda row: -row.elements)
     count = max(1, len(plan.elements))
     largest, size = several[: max(1, MOST_BITS // count)], max(1, CHUNK_BITS // count)
     known = {(fall.kind, fall.name): fall for fall in singles_of(plan)} if largest else {}
     found = {row.first for row in rows}
     for start in range(0, len(largest), size):
+        if is_over():
+            break
         chunk = largest[start : start + size]
         found |= cut_by(plan, [known[row.kind, row.failure or ""] for row in chunk], chunk)
     return CutOff(tuple(name for name in plan.names() if name in found), len(rows) - len(several) + len(largest))

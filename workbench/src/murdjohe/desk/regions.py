@@ -67,7 +67,7 @@ class Regions:
         """The map of regions, or the network of one of them. Raises Wrong."""
         if region is None:
             drawn = self.overview(plan)._replace(option="I")
-            self.map = self.map or views.sheet_of(drawn)
+            self.map = self.map or views.map_of(drawn)
             views.completed(self.map, drawn, {})
             found = views.network_of(drawn, self.map)
             sizes = Counter(self.of.values())

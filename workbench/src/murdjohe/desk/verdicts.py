@@ -235,7 +235,7 @@ class Pool:
         """All elements that failures cut off although a path remains, of which `protected` names the first of each failure."""
         if job.over.wait(PAUSE):
             return
-        found = cut_off.cut_off(job.asked.plan, job.gaps or ())
+        found = cut_off.cut_off(job.asked.plan, job.gaps or (), job.over.is_set)
         self.say(job, CUT, {"elements": found.elements, "failures": found.failures})
 
     def ran(self, job: Job) -> None:

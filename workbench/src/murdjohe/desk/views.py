@@ -23,6 +23,7 @@ EMPTY = Layout({}, 6.0, 4.0)  # the sheet of a plan without elements
 BEYOND = "beyond "  # how a source is called that stands for what an element outside of a region takes
 LARGEST = 3_000  # elements that are drawn at once; larger plans are drawn by regions
 MOST_CHANGES = 40_000  # changes of a run that the page gets
+LONG = 5  # how many times longer than wide a map of regions is that is drawn in rows
 STEP = 1.6  # how far from others a new element stands at least, in boxes
 
 
@@ -61,6 +62,28 @@ def on_circle(plan: Plan) -> Layout:
         x, y = spots[ELEMENT, source.at]
         spots[SOURCE, source.name] = (middle + (x - middle) * 1.3, middle + (y - middle) * 1.3)
     return Layout(spots, 2 * middle, 2 * middle)
+
+
+def in_rows(plan: Plan) -> Sheet:
+    """The elements in rows in the order of the plan, each row in the direction against the one above, on a sheet twice as wide as
+    high; without sources."""
+    count = len(plan.elements)
+    wide, high = BOX[0] * STEP, BOX[1] * STEP * 1.4
+    columns = min(count, math.ceil(math.sqrt(2 * count * high / wide)))
+    rows = -(-count // columns)
+    spots: Spots = {}
+    for number, element in enumerate(plan.elements):
+        row, place = divmod(number, columns)
+        column = columns - 1 - place if row % 2 else place
+        spots[ELEMENT, element.name] = ((column + 0.5) * wide, (rows - row - 0.5) * high)
+    return Sheet(spots, columns * wide, rows * high, round(places.room_of(list(spots.values())), 4))
+
+
+def map_of(plan: Plan) -> Sheet:
+    """The places of a map of regions: in rows where these hang together like a chain, which would be drawn as a long line."""
+    sheet = sheet_of(plan)
+    sides = sorted((sheet.width, sheet.height))
+    return in_rows(plan) if plan.elements and sides[1] > LONG * sides[0] else sheet
 
 
 def is_free(sheet: Sheet, x: float, y: float) -> bool:

@@ -198,6 +198,7 @@ class Desk {
     const gap = this.gapShown?.on === this.number ? this.gapShown : null;
     this.picture.marks = {
       ring: numbers(this.said.loop?.ring ?? this.said.agree?.clash ?? [], names),
+      words: this.said.loop?.ring ? "may LOOP" : "may oscillate",
       cut: this.isMap ? this.cutRegions() : numbers(this.cutNames(), place),
       now: this.isMap ? new Set() : numbers(gap?.elements ?? [], place),
       failed: gap ? {kind: gap.kind, name: gap.name} : null,
@@ -460,6 +461,7 @@ class Desk {
     part("filter").addEventListener("change", () => this.filtered());
     part("protected").addEventListener("click", () => this.showGap());
     part("loop").addEventListener("click", () => this.showRing());
+    part("agree").addEventListener("click", () => this.showClash());
     part("slider").addEventListener("input", event => this.goTo(Number(event.target.value)));
     part("earlier").addEventListener("click", () => this.goTo(this.run.moment - 1));
     part("later").addEventListener("click", () => this.goTo(this.run.moment + 1));
@@ -488,16 +490,17 @@ class Desk {
 
   /** Shows the next failure that cuts elements off, and all of these; the first of them is selected. */
   async showGap() {
-    const gaps = this.said.protected?.gaps ?? [], on = this.number;
+    const {gaps = [], count} = this.said.protected ?? {}, on = this.number;
     if (!gaps.length) return;
     const place = this.gap = ((this.gap ?? -1) + 1) % gaps.length, gap = gaps[place], [kind, name, , first] = gap;
     if (!this.isMap && this.elementNumbers.has(first)) this.select({kind: "element", name: first});
-    this.tell(gapWords(gap));
+    const which = ` (${place + 1} of ${gaps.length < count ? `the first ${gaps.length} of ` : ""}${count.toLocaleString("en")})`;
+    this.tell(gapWords(gap) + which);
     try {
       const {elements} = await posted("/gap", {on, place});
       if (on !== this.number || place !== this.gap) return;
       this.gapShown = {on, kind, name, elements};
-      this.tell(gapWords(gap, elements));
+      this.tell(gapWords(gap, elements) + which);
       this.paint();
     } catch (fault) { if (on === this.number) this.tell(fault.message, true); }
   }
@@ -506,6 +509,14 @@ class Desk {
   showRing() {
     const [line] = this.said.loop?.ring ?? [];
     if (line) this.select({kind: "link", name: line.split(">")[0]});
+  }
+
+  /** Selects the first link of those that may oscillate, and says what ends it. */
+  showClash() {
+    const {clash, remedy} = this.said.agree ?? {};
+    if (!clash) return;
+    this.select({kind: "link", name: clash[0].split(">")[0]});
+    this.tell(remedy);
   }
 
   get isFailing() { return document.querySelector("[name=clicks]:checked").value === "fail"; }

@@ -1,4 +1,5 @@
-// The plan on a canvas: what the page of a run draws, and besides the priorities at the ends of links, possible loops and cut-off elements.
+// The plan on a canvas: what the page of a run draws, and besides the priorities at the ends of links, possible loops, inputs that may
+// oscillate and cut-off elements.
 import { Picture } from "./picture.js";
 
 const WHITE = "#ffffff", VEIL = "#ffffffd0", BLUE = "#0050d0";
@@ -19,7 +20,7 @@ export class DeskPicture extends Picture {
   constructor(canvas, network) {
     super(canvas, network);
     this.light = network.signs;
-    this.marks = {ring: new Set(), cut: new Set(), now: new Set(), failed: null, changes: new Map(), link: null, source: -1};
+    this.marks = {ring: new Set(), words: "", cut: new Set(), now: new Set(), failed: null, changes: new Map(), link: null, source: -1};
     this.colour(false);
     this.shiftCables();
   }
@@ -102,7 +103,7 @@ export class DeskPicture extends Picture {
       const [from, to] = line.sender === cable.sender ? [start, end] : [end, start];
       if (this.marks.ring.has(number)) {
         this.arrow([from, to], this.signs.loop, 4);
-        if (number === this.labelled && this.size[1] > 9) this.words.push([(from[0] + to[0]) / 2, (from[1] + to[1]) / 2 - 11, "may LOOP", 11, this.signs.loop, VEIL, true]);
+        if (number === this.labelled && this.size[1] > 9) this.words.push([(from[0] + to[0]) / 2, (from[1] + to[1]) / 2 - 11, this.marks.words, 11, this.signs.loop, VEIL, true]);
       }
       if (this.hasBadges) this.addBadge(number);
     }
