@@ -6,8 +6,8 @@ usage: python3 -m bench.measure.headline CRATE.FILE.NAME [CRATE.FILE.NAME ..]
 As `sync_top.LoopFree.IsCheckedLoopFree`: a definition counts with the lines of its signature and body, without
 comments, and each once. Words of the toolchain's library aren't counted. With --document the numbers in
 docs/verify/headline.md are compared, or written: a section says by `<!-- rests on: NAME .. -->` of which words it is, and each
-row which files it counts; each definition counts in the first section that rests on it. The status is 1 where a number differs
-or a file has no row. It needs Python 3.11.
+row which files it counts; each definition counts in the first section that rests on it. Two of the numbers stand in README.md too.
+The status is 1 where a number differs or a file has no row. It needs Python 3.11.
 """
 
 from __future__ import annotations
@@ -99,12 +99,21 @@ def counted_section(specs: Specs, text: str, seen: set[Key]) -> tuple[str, list[
     return made, [f"{crate} `{file}` has no row" for crate, file in counts]
 
 
+def lost_in_readme(readme: str, headline: str) -> list[str]:
+    """What README.md should say of how much has to be read, where it has other numbers than headline.md."""
+    numbers = dict(re.findall(r"^## .*\(`(\w+)`\): (\d+) lines", headline, re.M))
+    first, more = numbers["IsLoopFree"], numbers["IsCheckedLoopFree"]
+    wanted = f"read {first} lines of definitions; that it is the plan in your file, {more} more"
+    return [] if wanted in readme else [f"README.md should say: {wanted}"]
+
+
 def document(is_written: bool) -> int:
     """Compares the numbers of docs/verify/headline.md with what stands in specs/, or writes them."""
     path, specs, seen = TOP / "docs" / "verify" / "headline.md", read_specs(TOP / "crates"), set[Key]()
     text = path.read_text(encoding="utf-8")
     made = [counted_section(specs, part, seen) for part in re.split(r"(?m)^(?=## )", text)]
     lost, whole = [line for _, lines in made for line in lines], "".join(part for part, _ in made)
+    lost += lost_in_readme((TOP / "README.md").read_text(encoding="utf-8"), whole)
     if is_written:
         path.write_text(whole, encoding="utf-8")
     elif whole != text:

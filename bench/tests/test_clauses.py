@@ -8,7 +8,7 @@ import pathlib
 
 from bench.clauses import Call, Clause, clauses_at, comment_above, filled, first_sentence, whole
 from bench.definitions import rust_items
-from bench.measure.headline import counted_row, files_of
+from bench.measure.headline import counted_row, files_of, lost_in_readme
 
 TOP = pathlib.Path(__file__).resolve().parent.parent.parent
 SOURCE = """\
@@ -79,6 +79,14 @@ def test_a_row_counts_the_files_that_it_names() -> None:
     counts = {("sync_topo", "Hops"): 5, ("sync_ql", "Level"): 7, ("sync_ql", "Table"): 1}
     assert counted_row(f"|{cell}| 0 | what |", counts) == f"|{cell}| 12 | what |"
     assert counts == {("sync_ql", "Table"): 1}
+
+
+def test_the_readme_has_the_numbers_of_the_headline() -> None:
+    headline = "## No loop (`IsLoopFree`): 12 lines\n\n## Which plan (`IsCheckedLoopFree`): 7 lines more\n"
+    said = "To trust that, read 12 lines of definitions; that it is the plan in your file, 7 more."
+    assert lost_in_readme(said, headline) == []
+    wanted = "read 12 lines of definitions; that it is the plan in your file, 7 more"
+    assert lost_in_readme(said.replace("7", "8"), headline) == [f"README.md should say: {wanted}"]
 
 
 def test_style_finds_words_and_long_sentences() -> None:

@@ -19,7 +19,7 @@ CHAINS = Table(
     "chains", ("chains",), "the longest chains into an element", is_headed=True, columns=(
         Column("element", "element", "name", says="the element"),
         Column("links", "links", "number", unit="lines", limit=60, says="of all chains that lead into it, the most lines"),
-        Column("since", "since", "number", unit="lines", limit=20, says="of all of them, the most lines since the last filter: from the last line that begins at a filter, this one included, or all lines where none does"),
+        Column("since", "since", "number", unit="lines", limit=20, says="of all of them, the most lines since the last filter: from the last line that begins at a filter, this one included, or all lines if none does"),
         Column("clocks", "clocks", "number", unit="lines", limit=10, says="of all of them, the most lines that begin at a filter"),
     ),
 )
@@ -34,8 +34,8 @@ GAPS = Table(
 HOPS = Table(
     "hops", ("hops",), "how many links an element is from a clock", is_headed=True, columns=(
         Column("element", "element", "name", says="the element"),
-        Column("hops", "hops", "number", none="none", unit="links", says="the least number of links from an element with a nominated source, over links in either direction, nominated or not; none where there is no way"),
-        Column("via", "from", "name", none="none", says="where that is 0 its lowest-numbered nominated source, else the lowest-numbered line into it from an element with one less; none where there is no way"),
+        Column("hops", "hops", "number", none="none", unit="links", says="the least number of links from an element with a nominated source, over links in either direction, nominated or not; none if there is no way"),
+        Column("via", "from", "name", none="none", says="if that is 0, its lowest-numbered nominated source; otherwise the lowest-numbered line into it from an element with one less; none if there is no way"),
     ),
 )
 CHANGES = Table(
@@ -53,7 +53,7 @@ INPUTS = Table(
         Column("element", "element", "name", says="the element"),
         Column("input", "input", "name", says="the input"),
         Column("condition", "condition", "word", words=("good", "holdoff", "failed", "restoring"), says="good (up and not failed), holdoff (down, and not failed yet), failed (down and failed) or restoring (up again, and not good yet)"),
-        Column("left", "left", "number", unit="milliseconds", says="for holdoff and restoring in how many milliseconds that ends, if nothing happens; else 0"),
+        Column("left", "left", "number", unit="milliseconds", says="for holdoff and restoring in how many milliseconds that ends, if nothing happens; otherwise 0"),
     ),
 )
 TRACES = Table(
@@ -77,8 +77,8 @@ ELEMENTS = Table(
     "elements", ("inspect",), "what an element chose", part="elements", columns=(
         Column("element", "element", "name", says="the element"),
         Column("mode", "mode", "word", words=("auto", "forced", "manual"), says="how its input is chosen: auto, forced or manual"),
-        Column("switched", "switched", "name", none="none", says="the input that is forced or else switched to by hand, or none"),
-        Column("input", "input", "name", none="none", says="the input that it takes, or none: a forced input is taken only where it could be"),
+        Column("switched", "switched", "name", none="none", says="the input of the forced or manual switch, or none"),
+        Column("input", "input", "name", none="none", says="the input that it takes, or none: a forced input is taken only if it may be"),
         Column("level", "level", "level", says="its quality level"),
         Column("state", "state", "word", words=("locked", "holdover", "freerun"), says="what its clock follows: locked (an input), holdover (nothing, and there was an input) or freerun (nothing, and there never was an input)"),
     ),
@@ -88,21 +88,21 @@ REASONS = Table(
         Column("element", "element", "name", says="the element"),
         Column("input", "input", "name", says="the input"),
         Column("condition", "condition", "word", words=("good", "holdoff", "failed", "restoring"), says="good (up and not failed), holdoff (down, and not failed yet), failed (down and failed) or restoring (up again, and not good yet)"),
-        Column("left", "left", "number", unit="milliseconds", says="for holdoff and restoring in how many milliseconds that ends, if nothing happens; else 0"),
-        Column("level", "level", "level", none="none", says="the level that is heard on the line, which is not always the one that the element at its other end has, or that the source has; none where nothing is heard"),
+        Column("left", "left", "number", unit="milliseconds", says="for holdoff and restoring in how many milliseconds that ends, if nothing happens; otherwise 0"),
+        Column("level", "level", "level", none="none", says="the level that is heard on the line, which may differ from that of the element at its other end, or that the source has; none if nothing is heard"),
         Column("verdict", "verdict", "word", words=("taken", "locked-out", "failed", "silent", "do-not-use", "below-floor", "reserve"), says="why it is taken or isn't, the first of these that holds: taken, locked-out (by the operator), failed (also while it is restoring), silent (without a level), do-not-use (its level is no better), below-floor (the element's floor is better) or reserve (it could be taken, and isn't)"),
     ),
 )
 CUTS = Table(
     "cuts", ("sweep",), "what the network is at the end where one link failed", is_headed=True, columns=(
         Column("link", "link", "name", says="the link"),
-        Column("is_settled", "settled", "is", words=("yes", "no"), says="yes where no time of an input runs and nothing is on its way that would still change anything, else no: then run to a later UNTIL before you judge by the row"),
+        Column("is_settled", "settled", "is", words=("yes", "no"), says="yes if no timer of an input runs and no message on its way would still change anything; otherwise no: then run to a later UNTIL before you judge by the row"),
         Column("locked", "locked", "number", unit="elements", says="how many elements take an input"),
         Column("holdover", "holdover", "number", unit="elements", says="how many are left without an input by this cut"),
         Column("freerun", "freerun", "number", unit="elements", says="how many never had one"),
         Column("loops", "loops", "number", unit="closed walks", says="how many closed walks there are, as in the part loops of [the report](#the-report); anything but 0 in a settled row is a timing loop"),
         Column("worst", "worst", "level", says="the worst quality level that an element has"),
-        Column("bound", "bound", "number", none="none", unit="milliseconds", says="the settling bound after AT: from this millisecond on the network is settled, for sure; none where the plan has none"),
+        Column("bound", "bound", "number", none="none", unit="milliseconds", says="the settling bound after AT: from this millisecond on the network is settled for sure; none if the plan has no bound"),
     ),
 )
 CASES = Table(
@@ -114,13 +114,13 @@ CASES = Table(
         Column("freerun", "freerun", "number", unit="elements", says="how many never had one"),
         Column("loops", "loops", "number", unit="closed walks", says="how many closed walks there are"),
         Column("worst", "worst", "level", says="the worst quality level that an element has"),
-        Column("bound", "bound", "number", none="none", unit="milliseconds", says="the settling bound after the last event of the run up to UNTIL, and after 0 where there is none; none where the plan has none"),
+        Column("bound", "bound", "number", none="none", unit="milliseconds", says="the settling bound after the last event of the run up to UNTIL, or after 0 if there is no event; none if the plan has no bound"),
         Column("lost", "lost", "number", unit="elements", says="how many elements have a trace, as in the part traces of [the report](#the-report), that doesn't end at a source: those on an own clock, and those that come to a loop"),
-        Column("first", "first", "name", none="", says="the first of these in the order of the plan; nothing where there is none"),
-        Column("longest", "longest", "number", unit="lines", says="the greatest number of lines of a trace that ends at a source or at an own clock: how far the timing comes"),
+        Column("first", "first", "name", none="", says="the first of these in the order of the plan; nothing if there is none"),
+        Column("longest", "longest", "number", unit="lines", says="the greatest number of lines of a trace that ends at a source or at an own clock"),
         Column("hurt", "hurt", "number", unit="elements", says="on the way: how many elements are worse than before in at least one millisecond"),
-        Column("dark", "dark", "number", unit="milliseconds", says="on the way: in how many milliseconds the element is worse that is so for longest, all together and not in one piece; 0 where none is"),
-        Column("darkest", "darkest", "name", none="", says="the first element in the order of the plan that is worse for so long; nothing where none is"),
+        Column("dark", "dark", "number", unit="milliseconds", says="on the way: the most milliseconds in which one element is worse, all together and not in one piece; 0 if none is"),
+        Column("darkest", "darkest", "name", none="", says="the first element in the order of the plan that is worse for so long; nothing if none is"),
         Column("still", "still", "number", unit="elements", says="how many elements are worse in the millisecond UNTIL"),
     ),
 )
@@ -138,7 +138,7 @@ FRAMES = Table(
         Column("microseconds", "microseconds", "number", unit="microseconds", only_in="pcap-decode", says="the microseconds of that"),
         Column("source", "source", "digits", says="the source address, twelve lower case hexadecimal digits"),
         Column("kind", "kind", "word", words=("info", "event"), says="info or event"),
-        Column("level", "level", "level", is_any_code=True, says="the name of the level that the frame's codes name, or code-N with N from 0 to 15 where the option's table has no such four-bit code"),
+        Column("level", "level", "level", is_any_code=True, says="the name of the level that the frame's codes name, or code-N with N from 0 to 15 if the option's table has no such four-bit code"),
         Column("clock", "clock", "digits", may_lack=True, says="the clock's identity, sixteen lower case hexadecimal digits"),
         Column("flags", "flags", "digits", may_lack=True, says="two lower case hexadecimal digits"),
         Column("eeecs", "eeecs", "number", unit="clocks", may_lack=True, says="how many enhanced EECs are cascaded, a number from 0 to 255"),
