@@ -214,9 +214,9 @@ def survey(
     """Says what a network has come to at the end of each of many cases, and prints the worst.
 
     Only the end is looked at, the millisecond of --until: what is lost before and has come back by then isn't counted. Elements
-    that are taken away themselves, or that no link could still serve, are counted apart from those that needn't have lost their
-    source. With --during it is said what the common events do alone, and which of them bring up again what a case
-    took down.
+    that are taken away themselves, or that no link could still serve, are counted apart from those that one could. With --during
+    it is said what the common events do alone, which of them bring up again what a case took down, and which come after the end
+    and aren't run.
 
     The cases are those that `failures` would write by the same options, or those of the table CASES, of any length. The program
     works them by `study`, --size of them at once, on all processors or on a cluster. A survey that was stopped goes on where it
