@@ -14,9 +14,7 @@ from typing import Any
 import pytest
 from conftest import EXAMPLES, murdjohe, started
 from desk_browsing import Page, keys, killed, opened_browser
-from desk_plans import PAIR
 from desk_running import Running, running
-from test_cut_off import ROUND
 
 from murdjohe.answers import api
 from murdjohe.network import plan_file, wiring
@@ -156,20 +154,6 @@ def test_a_priority_is_changed_where_it_stands(browser: Any, first: Running) -> 
     assert page.strip()[2].startswith("good protected") and "link R4" == page.said("chosen-head")
 
 
-def test_who_may_oscillate_is_drawn_and_is_no_loop(browser: Any, folder: Path) -> None:
-    (folder / "pair.toml").write_bytes(PAIR)
-    with running("pair.toml", folder=folder) as desk:
-        page = Page(browser, desk.address)
-        page.judged(0)
-        assert page.strip()[:2] == ["good accepted: no timing loop can form", "bad may oscillate: L>B, L>A"]
-        assert page.red() > 200
-        words = "desk.picture.draw(desk.run, -1); return desk.picture.words.map(([, , word]) => word)"
-        assert "may oscillate" in page.run(words) and "may LOOP" not in page.run(words)
-        page.click("agree")
-        assert page.said("chosen-head") == "link L"
-        assert page.said("said") == page.run("return document.getElementById('agree').title") != ""
-
-
 def test_elements_links_and_sources_come_and_go(browser: Any, first: Running, folder: Path) -> None:
     page = Page(browser, first.address)
     page.judged(0)
@@ -224,32 +208,6 @@ def test_a_night_of_works_with_why_beside_it(browser: Any, night: Running, folde
     assert page.errors() == []
 
 
-def test_values_and_commands_of_what_is_selected(browser: Any, night: Running) -> None:
-    page = Page(browser, night.address)
-    page.judged(0)
-    page.run("desk.edit({kind: 'drop-events'})")
-    page.judged(1)
-    page.point(page.element("agg-2"))
-    field = page.browser.find_element("css selector", "#form [data-key=holdoff]")
-    field.clear()
-    field.send_keys("700", keys.Keys.TAB)
-    page.judged(2)
-    page.browser.find_element("css selector", "#form [data-key=floor] option[value=QL-SSU-A]").click()
-    page.judged(3)
-    found = page.run("return desk.network.elements.find(one => one.name === 'agg-2')")
-    assert (found["holdoff"], found["floor"]) == (700, "QL-SSU-A")
-    page.point(page.link("R3"))
-    page.browser.find_element("css selector", "#commands summary").click()
-    page.browser.find_element("xpath", "//div[@id='commands']//button[text()='lockout R3>agg-2']").click()
-    page.judged(4)
-    assert page.said("events").endswith(" lockout R3>agg-2 drop")
-    place = "desk.network.elements.findIndex(one => one.name === 'agg-2')"
-    page.run("desk.goTo(desk.run.moments.length - 1)")
-    assert page.run(f"return desk.run.inputName(desk.run.input[{place}])") == "R2>agg-2"
-    page.run("desk.goTo(0)")
-    assert page.run(f"return desk.run.inputName(desk.run.input[{place}])") != "R2>agg-2" and page.errors() == []
-
-
 def test_times_of_day(browser: Any, folder: Path) -> None:
     (folder / "plan.toml").write_bytes((INVENTORY / "plan.toml").read_bytes())
     (folder / "works.csv").write_text("at,what,target,value\n23:10,down,R3,\n00:30,up,R3,\n")
@@ -275,38 +233,6 @@ def test_all_failures_as_a_map(browser: Any, night: Running) -> None:
     page.browser.find_element("xpath", "//tbody[@id='cases']//button[text()='M3']").click()
     page.judged(1)
     assert "down M3" in page.said("events") and "link M3 fails" in page.said("log")
-
-
-def test_all_that_failures_cut_off_are_drawn(browser: Any, folder: Path) -> None:
-    """A ring of four that takes its timing in one direction: without L1 nobody but A is served, without L3 D alone isn't."""
-    (folder / "round.toml").write_text(ROUND)
-    with running("round.toml", folder=folder) as desk:
-        page = Page(browser, desk.address)
-        page.judged(0)
-        page.until("desk.said.cut")
-        assert page.strip()[2] == "mind link L1 cuts off B and 2 more, though a path remains; 4 failures more"
-        dashed = {name: page.framed(name) for name in "ABCD"}
-        assert dashed["A"] == 0 and min(dashed[name] for name in "BCD") > 50
-        page.click("protected")
-        page.until("desk.gapShown")
-        assert page.said("said") == "link L1 cuts off B, C and D, though a path remains (1 of 5)"
-        assert all(page.framed(name) > dashed[name] * 1.2 for name in "BCD")
-        assert page.framed("A") < 50  # (the link that fails, which is drawn broad, begins there)
-        page.click("protected")
-        page.until("desk.gapShown && desk.gapShown.name === 'L2'")
-        assert page.said("said") == "link L2 cuts off C and D, though a path remains (2 of 5)"
-        assert page.run("return [...desk.picture.marks.now].map(place => desk.network.elements[place].name)") == [
-            "C",
-            "D",
-        ]
-        # (D takes A as well, and whoever lost the way round one side has the other)
-        for number, (link, key) in enumerate((("L4", "priority_a"), ("L3", "priority_a"), ("L2", "priority_a")), 1):
-            row = {"kind": "value", "section": "link", "name": link, "key": key, "value": 2}
-            page.run("desk.edit(arguments[0])", row)
-            page.judged(number)
-        page.until("desk.said.cut && desk.saidOf === 3")
-        assert page.strip()[2].startswith("good protected") and {page.framed(name) for name in "ABCD"} == {0}
-        assert page.errors() == []
 
 
 def test_nothing_is_lost_when_browser_and_server_are_gone(browser: Any, first: Running, folder: Path) -> None:
