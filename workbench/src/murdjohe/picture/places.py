@@ -96,12 +96,13 @@ def has_rings(network: Plan) -> bool:
 
 
 def graph_of(network: Plan, keys: list[Key]) -> str:
-    """The plan as Graphviz reads it for a layout: boxes of one size, an edge for each pair, and one to each source."""
+    """The plan as Graphviz reads it for a layout: boxes of one size, an edge for each pair, and one to each source. It finds no ways for
+    the edges, which would take nearly all of its time: places don't depend on them."""
     number = {key: place for place, key in enumerate(keys)}
     width, height = BOX
     lines = [
         "graph plan {",
-        f'overlap=prism; sep="+10"; rankdir=TB; start=7; node [shape=box, fixedsize=true, width={width}, height={height}, label=""];',
+        f'overlap=prism; splines=false; sep="+10"; rankdir=TB; start=7; node [shape=box, fixedsize=true, width={width}, height={height}, label=""];',
         *(f"{place};" for place in range(len(keys))),
     ]
     lines += [f"{number[ELEMENT, a]} -- {number[ELEMENT, b]};" for a, b in pairs_of(network)]
