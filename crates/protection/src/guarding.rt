@@ -50,9 +50,10 @@ pub fn protect(alloc: Global, plan: &Plan) -> Result<Protected, NoMemory>
     ensures found { IfPlan result (IsFound plan.now) }
     ensures protected { IfPlan result IsProtected }
 
-    // So no timing loop can form, but two elements that face each other on one link or bundle, and
-    // where just one failure stands and the network is settled, nobody in reach of a clock has a
-    // worse level than the worst of the sources that are left.
+    // So no timing loop can form, but two elements that face each other on one link or bundle. And
+    // where just one failure stands, the network is settled and no command was given, each source
+    // that is left is better than do-not-use and no floor is better than the worst of them, nobody in
+    // reach of a clock has a level worse than that worst one.
     ensures loop_free { IfPlan result IsLoopFree }
     ensures holds { IfPlan result HoldsOut }
 

@@ -100,15 +100,15 @@ fn reply_to<R: Threads + Sync, F: Folder, G: Gate + Sync>(
 /// The words are those after the program's name. `check PLAN CERT` tests the ranks of a certificate
 /// on a plan, and `rank PLAN` gives the least ranks as a certificate, or the first cycle. `chains
 /// PLAN` gives the longest chains of timing into each element, or the first cycle. `protected PLAN`
-/// tells whom each single failure cuts off that needn't be, and `protected PLAN GROUPS` whom groups of
-/// parts that fail together cut off as well. `protect PLAN` gives the plan with priorities by which
-/// none does, or whom failures cut off in the plan that it found. `agree PLAN` tells whether
-/// priorities agree with the ways of timing, and for how long after the last event a network may then
-/// change, or the first circle of lines that clash. `hops PLAN` gives the hop counts, and `nominate PLAN`
-/// the plan with priorities by fewest hops. `decode OPTION FILE` gives the rows of captured frames,
-/// and `encode OPTION FILE` the frames of rows. `pcap-decode OPTION FILE` and `pcap-encode OPTION
-/// FILE` do the same for a classic pcap capture and rows with times. `sim PLAN EVENTS UNTIL` runs
-/// the plan's network from 0 to UNTIL with the faults and commands of an event list, and writes the
+/// tells which elements each single failure cuts off although another path exists, and `protected
+/// PLAN GROUPS` does so for groups of parts that fail together as well. `protect PLAN` gives the plan
+/// with priorities by which no failure cuts any element off so, or tells which elements failures cut
+/// off in the plan that it found. `agree PLAN` tells whether priorities agree with the ways of timing,
+/// and for how long after the last event a network may then change, or the first circle of lines that
+/// clash. `hops PLAN` gives the hop counts, and `nominate PLAN` the plan with priorities by fewest
+/// hops. `decode OPTION FILE` gives the rows of captured frames, and `encode OPTION FILE` the frames of
+/// rows. `pcap-decode OPTION FILE` and `pcap-encode OPTION FILE` do the same for a classic pcap capture
+/// and rows with times. `sim PLAN EVENTS UNTIL` runs the plan's network from 0 to UNTIL with the faults and commands of an event list, and writes the
 /// report; UNTIL is a millisecond up to 86,400,000. `inspect PLAN EVENTS AT` runs it to AT, and
 /// tells of each command whether it was taken, what each element chose, and of each input why it is
 /// taken or isn't. `sweep PLAN AT UNTIL` tells for each link what the network is at UNTIL where
@@ -173,29 +173,30 @@ pub fn run<R: Threads + Sync, F: Folder, K: Sink, G: Gate + Sync>(
     // Of `protected`. The plan holds out. Take a failure of a link, a bundle, a source or an
     // element, or none. Take a list of events without commands, and a settled millisecond in
     // which every nominated input that the failure leaves is up and, if it is a line, has its
-    // ESMC on. Let W be a level such that no remaining source is worse than W and no floor is
-    // better than W, and let every remaining source be better than do-not-use. Then each
+    // ESMC on. Let W be a level such that no remaining nominated source is worse than W and no
+    // floor is better than W, and let each of these sources be better than do-not-use. Then each
     // element that is still in reach has a level no worse than W (`IsHoldingOut`). With groups
     // the same holds for each failure and for each group. Beyond that (`Withstands`), if the
-    // plan has an agreed bound, it survives each failure and each group by that bound. If it
-    // has a bound after failures, it survives them by that one: out of a settled millisecond,
-    // after which parts of the failure or group only go down. Not said: without groups, that
-    // the network settles or that an input is taken; anything about two failures at once,
-    // unless they are one group; which input is taken. For groups, that the network is settled
-    // and at the best level where a nominated line that still speaks joins two elements of the
-    // group.
+    // plan has an agreed bound, it survives each failure and each group by that bound, under the
+    // premises of `protected_plan_survives` and in its sense. If it has a bound after failures,
+    // it survives them by that one: out of a settled millisecond, after which nothing comes up
+    // and no line's ESMC goes off. Not said: without groups, that the network settles or that an
+    // input is taken; anything about two failures at once, unless they are one group; which
+    // input is taken. For groups, that the network is settled and at the best level where a
+    // nominated line that still speaks joins two elements of the group.
     ensures protected_holds_out { result ≡ Status.Done → IfSome (F.contents folder.old)
         (IsHoldingOut (form_of (map string_bytes words.now))) }
 
     // Of `agree`. The plan has an agreed bound B. Take a list of events after which no element
     // is under a forced or manual switch in the millisecond of the last event. From B after
     // that event on, each element that a level better than every own clock reaches in the last
-    // event's millisecond takes the same input at the same level. If that is every element,
-    // each of these milliseconds is settled, and each element has exactly the best of the
-    // levels that reach it. The same holds from F on (the bound after failures, F ≤ B), if the
-    // list has no event that changes a source's level, some earlier millisecond was settled,
-    // and since then nothing came up and no line's ESMC went off. Not said: anything of
-    // elements that no such level reaches.
+    // event's millisecond takes the same input, or none, at the same level. If that is every
+    // element, each of these milliseconds is settled, and each element has exactly the best of
+    // the levels that reach it. The same holds from F on (the bound after failures, F ≤ B), if
+    // the list has no event that changes a source's level, some earlier millisecond was settled,
+    // and since then nothing came up and no line's ESMC went off. Not said: that such an element
+    // takes an input, unless that is every element; anything of elements that no such level
+    // reaches.
     ensures agreed_comes_to_rest { result ≡ Status.Done → IfSome (F.contents folder.old)
         (IsComingToRest (form_of (map string_bytes words.now))) }
 
