@@ -73,7 +73,9 @@ def test_lint_says_which_premise_an_example_breaks(name: str, line: int, said: s
 def test_lint_says_nothing_of_an_example_that_keeps_all_premises() -> None:
     ran = murdjohe("lint", str(EXAMPLES / "premises" / "kept.toml"), "--fail-on", "note")
     assert (ran.status, ran.out) == (0, b"")
-    said = "every element that can still have a clock follows one within 0.306 s, if nothing comes up meanwhile; after a repair"
+    said = (
+        "every element that can still have a clock follows one within 0.306 s, if nothing else happens; after a repair"
+    )
     assert said in ran.err
 
 

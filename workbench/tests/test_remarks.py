@@ -96,7 +96,7 @@ PAIR = (
 def test_a_plan_that_agrees_is_told() -> None:
     assert said("agree", "-", stdin=PAIR) == [
         "at rest 300.090 seconds after the last event, if no element is under a switch then, wherever a level reaches that is better than every internal oscillator (own clock)",
-        "after failures alone, out of a network at rest, where nothing comes up, no ESMC goes off and no source changes its level: 0.330 seconds after the last",
+        "after failures alone, out of a network at rest, if nothing comes up, no ESMC goes off and each source has its planned level at all times: 0.330 seconds after the last",
         "2 elements, 2 nominated lines",
     ]
 
@@ -122,7 +122,7 @@ def test_who_wants_a_floor_is_told() -> None:
     single, *rest = said("protect", "-", stdin=RING)
     assert single == (
         "after one failure in a settled network: every element that can still have a clock follows one within 0.303 s, "
-        "if nothing comes up meanwhile; after a repair within 300.017 s"
+        "if nothing else happens; after a repair within 300.017 s"
     )
     assert rest == [both, want + "B, C"]
     floored = RING.replace('{ name = "B" }', '{ name = "B", floor = "QL-SSU-B" }')

@@ -105,7 +105,7 @@ def on_survival(made: Made) -> list[str]:
     but = ", those above excepted" if made.gaps else ""
     return [
         f"after one failure in a settled network, or parts of one group going down{but}: every element that can still have a clock follows one within "
-        f"{agreement.failures / 1000:,.3f} s, if nothing comes up meanwhile; after a repair within {agreement.bound / 1000:,.3f} s"
+        f"{agreement.failures / 1000:,.3f} s, if nothing else happens; after a repair within {agreement.bound / 1000:,.3f} s"
     ]
 
 

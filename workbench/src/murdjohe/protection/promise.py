@@ -10,29 +10,35 @@ from murdjohe.network import findings, premises
 from murdjohe.plan.plan_lines import PlanLines
 
 
-def on_times(agreed: Agreement, who: str) -> list[str]:
-    """How soon after any single failure, out of a network at rest, somebody rests on a clock; nothing of a plan without bounds."""
+PROTECTED = "after one failure in a settled network: every element that can still have a clock follows one"
+# Of a plan with gaps an agreed one promises no more than this.
+REACHED = (
+    "after failures in a settled network: every element that a level better than every internal oscillator (own clock) still reaches "
+    "over nominated lines rests on its selection and level"
+)
+
+
+def on_times(agreed: Agreement, promise: str) -> list[str]:
+    """How soon after failures, out of a network at rest, what is promised holds; nothing of a plan without bounds."""
     if agreed.failures is None or agreed.bound is None:
         return []
-    return [
-        f"after one failure in a settled network: every element {who} follows one within {agreed.failures / 1000:,.3f} s, "
-        f"if nothing comes up meanwhile; after a repair within {agreed.bound / 1000:,.3f} s"
-    ]
+    soon, late = (f"{bound / 1000:,.3f} s" for bound in (agreed.failures, agreed.bound))
+    return [f"{promise} within {soon}, if nothing else happens; after a repair within {late}"]
 
 
 def on_survival(plan: PlanLines, data: bytes) -> list[str]:
-    """How soon after any single failure whoever can have a clock rests on one; or which premise of that is broken."""
+    """How soon after any single failure each element that can have a clock rests on one; or which premise of that is broken."""
     broken = premises.told(plan)
     if broken or premises.worst_source(plan) is None:
         return [broken] if broken else []
-    return on_times(api.agree(data).result, "that can still have a clock")
+    return on_times(api.agree(data).result, PROTECTED)
 
 
 def beside_findings(plan: PlanLines, agreed: Agreement, has_gaps: bool) -> list[str]:
     """The same beside what is to be looked at in a plan, where no premise is broken: that is told there."""
     if premises.told(plan) or premises.worst_source(plan) is None:
         return []
-    return on_times(agreed, "that nominated lines still lead to a clock" if has_gaps else "that can still have a clock")
+    return on_times(agreed, REACHED if has_gaps else PROTECTED)
 
 
 def on_found(text: str) -> list[str]:

@@ -149,7 +149,7 @@ def on_agreed(words: Words, text: str) -> list[str]:
     _, _, bound, _, failures = text.split()
     reached = "wherever a level reaches that is better than every internal oscillator (own clock)"
     at_rest = f"at rest {int(bound) / 1000:,.3f} seconds after the last event, if no element is under a switch then, {reached}"
-    premises = "out of a network at rest, where nothing comes up, no ESMC goes off and no source changes its level"
+    premises = "out of a network at rest, if nothing comes up, no ESMC goes off and each source has its planned level at all times"
     soon = f"after failures alone, {premises}: {int(failures) / 1000:,.3f} seconds after the last"
     return [at_rest, soon, *on_plan(words, None)]
 
