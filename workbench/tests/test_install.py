@@ -34,7 +34,14 @@ def test_what_is_installed_runs(tmp_path: Path, core: str, prefix: str) -> None:
     assert ran.status == 3 and "the two words are swapped" in ran.err
     lines = started([command, "--version"], RING, b"", **bare).out.decode().splitlines()
     assert lines[1].startswith(f"core {at}/lib/") and not lines[2].endswith("of the checkout")
-    pages = ("murdjohe.1", "murdjohe-lab.1", "murdjohe-plan.5", "murdjohe-events.5", "murdjohe-rows.5", "murdjohe-refusals.5")
+    pages = (
+        "murdjohe.1",
+        "murdjohe-lab.1",
+        "murdjohe-plan.5",
+        "murdjohe-events.5",
+        "murdjohe-rows.5",
+        "murdjohe-refusals.5",
+    )
     for page in pages:
         assert (at / "share" / "man" / f"man{page[-1]}" / page).stat().st_size > 500
     modules = at / "lib" / ("python3" if prefix == "/usr" else "python3.11") / "dist-packages"
