@@ -1,4 +1,4 @@
-"""Prints each definition on which a public clause rests, with its file and the first sentence over it.
+"""Prints each file of specs/ and each definition in it on which a public clause rests, with the first sentence over it.
 
 usage: python3 -m bench.words [CRATE ..]
 
@@ -12,18 +12,18 @@ import sys
 
 from bench.clauses import crate_names, first_sentence
 from bench.definitions.publicness import Specs
-from bench.definitions.spec_files import Item, read_specs
+from bench.definitions.spec_files import read_specs
 from bench.program import TOP, parser
 
 
-def comment_of(item: Item) -> str:
-    """The first sentence of the comment over a definition."""
+def said_of(lines: list[str]) -> str:
+    """The first sentence of the comment that some lines begin with, behind a colon; nothing without a comment."""
     found = []
-    for line in item.lines:
+    for line in lines:
         if not line.lstrip().startswith("--"):
             break
         found.append(line.strip().removeprefix("--").strip())
-    return first_sentence(" ".join(found))
+    return f": {first_sentence(' '.join(found))}" if found else ""
 
 
 def listed(specs: Specs, crate: str) -> list[str]:
@@ -32,8 +32,8 @@ def listed(specs: Specs, crate: str) -> list[str]:
     for (owner, module), file in sorted(specs.items()):
         if owner != crate or module.startswith("private") or not file.items:
             continue
-        rows.append(f"{crate}/specs/{module.replace('.', '/')}.antt")
-        rows += [f"  {item.name}{': ' + said if (said := comment_of(item)) else ''}" for item in file.items]
+        rows.append(f"{crate}/specs/{module.replace('.', '/')}.antt{said_of(file.head)}")
+        rows += [f"  {item.name}{said_of(item.lines)}" for item in file.items]
     return rows
 
 

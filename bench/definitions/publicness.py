@@ -8,6 +8,7 @@ from __future__ import annotations
 import dataclasses
 import pathlib
 import re
+from collections.abc import Callable
 
 from bench.definitions.rust_items import WORD, Item, RustFile, parse_rust
 from bench.definitions.spec_files import Key, SpecFile, references, uses
@@ -236,15 +237,21 @@ def named_by(file: SpecFile, code: str) -> list[tuple[str, Origin | None]]:
     return found
 
 
-def public_definitions(specs: Specs, crates: dict[str, Crate]) -> set[Key]:
-    """The definitions that some public clause rests on."""
+def rested_on(specs: Specs, crates: dict[str, Crate], is_meant: Callable[[str, Item], bool]) -> set[Key]:
+    """The definitions that the public clauses of some items rest on; which items, a test of the crate's name and the item says."""
     closure = Closure(specs, crates)
     for crate in crates.values():
         for module, file in crate.files.items():
             for item in file.items:
-                for clause in clauses_of_item(crate, module, without_invariants(item)):
-                    closure.note_clause(file, clause)
+                if is_meant(crate.name, item):
+                    for clause in clauses_of_item(crate, module, without_invariants(item)):
+                        closure.note_clause(file, clause)
     return closure.reached
+
+
+def public_definitions(specs: Specs, crates: dict[str, Crate]) -> set[Key]:
+    """The definitions that some public clause rests on."""
+    return rested_on(specs, crates, lambda _, __: True)
 
 
 def read_crates(folder: pathlib.Path) -> dict[str, Crate]:

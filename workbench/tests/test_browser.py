@@ -161,7 +161,7 @@ def test_the_keyboard_is_enough(browser: Any, works: str) -> None:
 def test_the_summary_goes_to_its_moments(browser: Any, works: str) -> None:
     browser.get(works)
     rows = browser.find_elements("css selector", "#worst li")
-    assert rows and rows[0].text.partition(" ")[2].startswith("nobody is without a source at the end")
+    assert rows and rows[0].text.partition(" ")[2].startswith("no element is without a source at the end")
     for row in rows:
         button = row.find_element("css selector", "button")
         button.click()

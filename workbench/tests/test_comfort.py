@@ -110,7 +110,7 @@ def test_losses_that_ended_are_apart_and_a_limit_has_a_status(folder: Path) -> N
     words = ["rehearse", "plan.toml", "works.csv"]
     ran = murdjohe(*words, folder=folder)
     said = ran.out.decode().splitlines()
-    assert said[0].startswith("nobody is without a source at the end") and ran.status == 0
+    assert said[0].startswith("no element is without a source at the end") and ran.status == 0
     assert any(line.startswith("losses that ended") for line in said)
     assert not any(line.startswith("losses that go on") for line in said)
     assert murdjohe(*words, "--limit", "30s", folder=folder).status == 20

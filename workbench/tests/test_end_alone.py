@@ -20,7 +20,7 @@ def test_a_survey_says_that_the_end_alone_is_looked_at_and_what_the_works_mend(f
     first, *said = ran.out.decode().splitlines()
     assert first.startswith("3 cases, each looked at in its last millisecond, 01:00:00.000 (3,600,000 ms)")
     assert "a source lost and back by then isn't counted, a level worse on the way is" in first
-    assert any("the common events alone leave nobody without a source at the end" in line for line in said)
+    assert any("the common events alone leave no element without a source at the end" in line for line in said)
     assert "bring up again what 1 failure took down: `up` of L1 at 00:40:00.000" in ran.err
     assert "what fails goes down at 00:10:00.000 (600,000 ms)" in ran.err
     ran = murdjohe("failures", *words, folder=folder)

@@ -36,7 +36,7 @@ def test_lint_tells_what_groups_cut_off_and_whom_they_leave_without_a_way(four: 
     line = line_of(EACH_OTHER, "[[link]]")
     wanted = [
         f'each-other.toml:{line}: warning: group "D", whose parts fail together, cuts off 2 elements, B first, though other links '
-        "lead there; `murdjohe protect --groups` seeks priorities under which it doesn't",
+        "lead there; `murdjohe protect --groups` looks for priorities under which it doesn't",
         f'each-other.toml:{line}: warning: group "E" leaves 3 elements without any path to a clock, whatever is nominated: B, C, X; '
         "lead a link there another way, or put a clock there",
     ]

@@ -34,8 +34,16 @@ def test_what_is_installed_runs(tmp_path: Path, core: str, prefix: str) -> None:
     assert ran.status == 3 and "the two words are swapped" in ran.err
     lines = started([command, "--version"], RING, b"", **bare).out.decode().splitlines()
     assert lines[1].startswith(f"core {at}/lib/") and not lines[2].endswith("of the checkout")
-    for page in ("man1/murdjohe.1", "man1/murdjohe-lab.1", "man5/murdjohe-plan.5", "man5/murdjohe-events.5"):
-        assert (at / "share" / "man" / page).stat().st_size > 500
+    pages = (
+        "murdjohe.1",
+        "murdjohe-lab.1",
+        "murdjohe-plan.5",
+        "murdjohe-events.5",
+        "murdjohe-rows.5",
+        "murdjohe-refusals.5",
+    )
+    for page in pages:
+        assert (at / "share" / "man" / f"man{page[-1]}" / page).stat().st_size > 500
     modules = at / "lib" / ("python3" if prefix == "/usr" else "python3.11") / "dist-packages"
     assert (modules / "murdjohe" / "py.typed").exists() and not (modules / "murdjohe" / "refusals.toml").is_symlink()
     script = "import murdjohe; print(murdjohe.gen(2).result.text.count('[[link]]'))"

@@ -73,7 +73,7 @@ def test_nothing_is_found_in_a_good_plan() -> None:
     [
         (SOURCES, "", [(1, "error", "there is no source"), (2, "error", 'element "A" has inputs, and none'), (5, "error", ""), (8, "error", "")]),
         ("priority = 1\n", "priority = 0\n", [(5, "warning", 'element "B" has one way in, L1>B'), (10, "warning", 'a failure of link "L1" cuts off B though'), (34, "warning", 'source "prtc-2" isn\'t nominated')]),
-        ('level = "QL-PRC"', 'level = "QL-DNU"', [(29, "warning", 'source "prc-1" has QL-DNU, so nobody'), (29, "note", "by its name it would give QL-PRC")]),
+        ('level = "QL-PRC"', 'level = "QL-DNU"', [(29, "warning", 'source "prc-1" has QL-DNU, so no element'), (29, "note", "by its name it would give QL-PRC")]),
         ('level = "QL-PRC"', 'level = "QL-SSU-A"', [(29, "note", 'source "prc-1" has QL-SSU-A, and by its name')]),
         ('b = "C"\npriority_b = 1\n', 'b = "C"\n', [(5, "warning", 'a failure of element "B" cuts off C though'), (8, "warning", 'element "C" has one way in, L3>C'), (20, "warning", 'of link "L3" cuts off C')]),
         ("priority_b = 1\n[[link]]", "[[link]]", [(5, "warning", "cuts off C"), (8, "warning", 'element "C" has one way in'), (20, "warning", "cuts off C")]),

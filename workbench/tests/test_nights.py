@@ -50,7 +50,7 @@ def test_a_night_that_ends_well_says_how_long_who_was_dark(folder: Path) -> None
     ran = rehearsed(folder, "--limit", "1m")
     said = ran.out.decode()
     on_way = "on the way 4 elements were, for 1499.701 s at most: site-1, site-2, site-3, hub"
-    assert ran.status == 20 and said.startswith(f"nobody is without a source at the end, 23:40:01.000; {on_way}\n")
+    assert ran.status == 20 and said.startswith(f"no element is without a source at the end, 23:40:01.000; {on_way}\n")
     for name in ("hub", "site-1", "site-2", "site-3"):
         (line,) = [line for line in said.splitlines() if f"  {name}: " in line and " below " in line]
         assert "1499." in line and "without a source" in line
@@ -93,7 +93,7 @@ def test_what_the_works_leave_behind_is_told(folder: Path) -> None:
     assert murdjohe("protected", "plan.toml", folder=folder).out == b"protected\n"
     ran = rehearsed(folder)
     said = ran.out.decode()
-    assert ran.status == 0 and "nobody who has a source loses it" in said
+    assert ran.status == 0 and "no element that has a source loses it" in said
     assert "\nleft behind at the end, so that the next failure may hurt more: lockout south>middle\n" in said
     told = json.loads(rehearsed(folder, "--json").out)["answer"]
     assert told["left_behind"] == ["lockout south>middle"]
@@ -118,7 +118,7 @@ def test_a_survey_tells_which_works_come_after_it_has_looked(folder: Path) -> No
     # (F3 goes down at 23:15 and comes up at 01:00; F2, to which north is forced, goes down at 01:30 and stays so)
     assert said[0].startswith("4 cases, each looked at in its last millisecond, 23:35:01.000 ")
     (alone,) = [line for line in said if line.startswith("the common events alone ")]
-    assert alone.startswith("the common events alone leave nobody without a source at the end; ")
+    assert alone.startswith("the common events alone leave no element without a source at the end; ")
     (later,) = [line for line in said if "come after the end" in line]
     assert later == (
         "2 of the common events come after the end and aren't run, the first `up F3` at 01:00:00.000: `rehearse` runs all of them"
@@ -202,7 +202,7 @@ def test_a_survey_of_pairs_in_a_plan_that_oscillates_takes_seconds_and_says_so_a
     assert lines[0].startswith("2,000 cases, each looked at in its last millisecond, 00:10:06.000 ")
     assert lines[1].endswith("priorities may oscillate, so `agree` gives no bound")
     assert "although a link could still serve them" in lines[2]
-    assert lines[3].split(" leave without one only ")[1].startswith("whom nothing could save: ")
+    assert lines[3].split(" leave only elements without one ")[1].startswith("that nothing could serve: ")
     told = re.fullmatch(
         r"(\d+) cases are unsettled at the end, still changing then \((.+)\), and \d+ cases have loops", lines[4]
     )

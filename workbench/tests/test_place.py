@@ -206,7 +206,7 @@ def test_a_chain_says_which_element_no_site_covers(folder: Path) -> None:
     ran = murdjohe("place", "plan.toml", "sites.csv", folder=folder)
     assert (ran.status, ran.out) == (1, b"")
     said = ran.err.splitlines()
-    assert said[0].endswith("no set of these sites covers everybody:")
+    assert said[0].endswith("no set of these sites covers all elements:")
     assert said[1].endswith("when link L1 fails no clock can reach N2")
     assert said[2].endswith("when element N1 fails no clock can reach N2")
     partly = murdjohe("place", "plan.toml", "sites.csv", "--partly", folder=folder)

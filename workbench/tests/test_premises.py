@@ -58,7 +58,7 @@ def test_the_sentence_says_how_many_more_there_are() -> None:
             'the internal oscillator of "middle", QL-SSU-A, is no worse than source "reserve", QL-SSU-B, so that the',
         ),
         ("floor", 9, 'the floor of "middle", QL-SSU-A, is better than source "reserve", QL-SSU-B, so that the'),
-        ("unused", 41, 'source "reserve" has QL-DNU, so nobody takes it, and the'),
+        ("unused", 41, 'source "reserve" has QL-DNU, so no element takes it, and the'),
     ],
 )
 def test_lint_says_which_premise_an_example_breaks(name: str, line: int, said: str) -> None:

@@ -215,7 +215,7 @@ def test_works_as_a_person_reads_them(folder: Path) -> None:
     ran = murdjohe("rehearse", str(mesh / "redundant.toml"), str(mesh / "works.csv"), "--start", "02:00:00")
     assert (ran.status, ran.err) == (0, "")
     assert ran.out.decode().splitlines()[:6] == [
-        "nobody is without a source at the end, 02:16:06.000",
+        "no element is without a source at the end, 02:16:06.000",
         "",
         "02:00:00.003  7 changes up to here, before the first event",
         "02:01:00.000  * lockout S2>hub-south",

@@ -208,8 +208,10 @@ def test_a_sweep_names_the_cuts_and_warns_of_locked() -> None:
     few = "3 of 8 cuts leave elements in holdover or free-running at the end (how many): N1 (2), A1 (1), A4 (1)"
     assert first == few and end.startswith("each link goes down at 00:01:00.000, and only the end, 00:06:40.000, is ")
     apart = "3 cuts leave elements without a source although a link could still serve them (how many): N1 (2), A1 (1), A4 (1)"
-    assert needless == apart and last.startswith("`locked` counts whoever takes an input")
-    assert said("sweep", "mesh/redundant.toml", "60s", "400s")[0] == "no cut of 8 leaves anybody in holdover at the end"
+    assert needless == apart and last.startswith("`locked` counts every element that takes an input")
+    assert (
+        said("sweep", "mesh/redundant.toml", "60s", "400s")[0] == "no cut of 8 leaves an element in holdover at the end"
+    )
 
 
 def test_a_study_names_the_cases_that_the_sweep_has_as_cuts() -> None:
@@ -218,7 +220,7 @@ def test_a_study_names_the_cases_that_the_sweep_has_as_cuts() -> None:
     assert said("study", "mesh/plan.toml", "-", "400s", stdin=cases)[:1] == [f"3 {few}N1 (2), A4 (1), A1 (1)"]
     none = [
         "4 of 4 events are after 59999, and had no effect",
-        "no case of 4 leaves anybody without a source at the end",
+        "no case of 4 leaves an element without a source at the end",
     ]
     assert said("study", "mesh/plan.toml", "-", "59999", stdin=cases)[:-1] == none
     way = "1 of 4 cases makes levels worse than before on the way, and 0 still at the end (for which element longest, and for how long up to the end): A1 (cell-1, 2 ms)"

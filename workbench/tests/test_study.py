@@ -132,7 +132,7 @@ def test_cases_that_leave_somebody_without_a_source_are_told_worst_first(folder:
         == "1 of 2 cases leaves elements without a source at the end (how many, most first): cut (2)"
     )
     none = "\n".join(TABLE.splitlines()[:3:2]) + "\n"
-    assert said(folder, none)[-2] == "no case of 1 leaves anybody without a source at the end"
+    assert said(folder, none)[-2] == "no case of 1 leaves an element without a source at the end"
 
 
 def test_many_cases_are_counted_and_the_worst_of_them_named(folder: Path) -> None:
@@ -149,7 +149,7 @@ def test_rows_that_are_not_settled_and_loops_are_told(folder: Path) -> None:
     rows = "x,no,1,0,1,0,QL-SEC,none,0,,1,0,0,,0\ny,no,2,0,0,1,QL-SEC,none,0,,61,0,0,,0\nz,yes,2,0,0,0,QL-SEC,none,0,,60,1,700,B,0\n"
     assert said(folder, f"{COLUMNS}\n{rows}") == [
         "1 of 4 events is after 10000, and had no effect",
-        "no case of 3 leaves anybody without a source at the end",
+        "no case of 3 leaves an element without a source at the end",
         "2 rows not settled, run longer, to a later UNTIL: x, y",
         "loops stand in 1 case: y",
         "traces of more than G.803's 60 lines in 1 case: y (61)",

@@ -61,7 +61,7 @@ def test_accepted_findings_are_left_out_whatever_their_line(tmp_path: Path) -> N
     ran = murdjohe("lint", str(plan), "--accept", str(accepted), "--fail-on", "note")
     assert (ran.status, ran.out) == (0, b"")
     number = len(found.splitlines())
-    assert f"{number} findings of {accepted} left out, which somebody accepted" in ran.err
+    assert f"{number} findings of {accepted} left out as accepted" in ran.err
     assert f"{accepted}: no longer found: note: gone; nothing" in ran.err
 
 

@@ -178,7 +178,7 @@ def orders(plan: Path, timeout: float | None = None) -> tuple[Order, ...]:
 
 def steps(old: Path, new: Path, timeout: float | None = None) -> tuple[Step, ...] | None:
     """In which order a plan becomes another one, each step with what the program says of the plan after it; None where no order is
-    found in which nobody loses its last way to a clock and no plan can loop or oscillate that couldn't before."""
+    found in which no element loses its last way to a clock and no plan can loop or oscillate that couldn't before."""
     with limited(timeout):
         before, after = plan_file.read(os.fspath(old)), plan_file.read(os.fspath(new))
         priorities.same_network(after.plan, before.plan)

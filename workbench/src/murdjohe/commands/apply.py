@@ -18,9 +18,9 @@ from murdjohe.plan import edits, priorities
 def apply(context: click.Context, plan: str, source: str, output: str | None, force: bool) -> int:
     """Takes the priorities of FROM, as `nominate` printed it, into PLAN.
 
-    Every other byte of PLAN stays: comments, order and spelling. Keys are added where none stood. FROM has to have the same
-    links and sources. The plan that comes of it is verified by the program, which says whether a loop is possible, and whether
-    elements may oscillate after a failure: the status is 1 then.
+    Every other byte of PLAN stays: comments, order and spelling. Keys are added where there were none. FROM must have the same
+    links and sources. The program verifies the new plan. If a loop is possible in it, or elements may oscillate after a
+    failure, the command says so and the status is 1.
 
     \b
       $ murdjohe gen 5 > plan.toml

@@ -27,11 +27,11 @@ PIECE = 4_000  # lines that are written at once
 @click.group("capture", invoke_without_command=True)
 @click.pass_context
 def capture(context: click.Context) -> None:
-    """Reads any capture, makes what an element received of it, and compares a device with the rules.
+    """Reads any capture, writes what an element received in it, and compares a device with the rules.
 
-    A capture is a pcap in micro- or nanoseconds or a pcapng, packed by gzip or not, of Ethernet or with the cooked headers of
-    `tcpdump -i any`. VLAN and QinQ tags are taken off, and frames of fewer than 60 bytes padded; what was done is said with
-    counts. Each ESMC frame is decoded by the proved program.
+    A capture is a pcap in micro- or nanoseconds or a pcapng, compressed by gzip or not, of Ethernet or with the cooked headers
+    of `tcpdump -i any`. VLAN and QinQ tags are removed, and frames of fewer than 60 bytes are padded; the command says how
+    many. The proved program decodes each ESMC frame.
     """
     if context.invoked_subcommand is None:
         context.obj.put((widths.fitted(context.get_help()).rstrip("\n") + "\n").encode())
@@ -54,7 +54,7 @@ capture.add_command(capture_compare.compare)
     "--fail-on",
     multiple=True,
     type=click.Choice(talk_faults.FAILING),
-    help="has the status 21 where this is found; may be given again",
+    help="ends with status 21 if this is found; may be repeated",
 )
 @click.option("-q", "--quiet", is_flag=True, help="without sentences on standard error")
 @output_options
@@ -62,10 +62,10 @@ capture.add_command(capture_compare.compare)
 def read(context: click.Context, file: str, option: str, local: bool, what: str | None, **asked: Any) -> int:
     """Says who speaks in a capture, at what rate, how levels change, and who was silent for more than five seconds.
 
-    FILE is a capture, or - for standard input. A rate that is off the one information message a second by more than a tenth
-    is marked. What counters an extended TLV has, bits that are reserved and set, codes that the option doesn't know, and group
-    addresses as sources are told beside it. The status is 0, 6 where the capture is damaged, and 21 where what --fail-on names
-    is found. Ctrl-C sums up what was read.
+    FILE is a capture, or - for standard input. A rate is marked if it differs by more than a tenth from one information message
+    a second. The report also has the counters of an extended TLV, reserved bits that are set, codes that the option doesn't
+    know, and group addresses as sources. The status is 0, or 6 if the capture is damaged, or 21 if something is found that
+    --fail-on names. Ctrl-C ends it with a summary of what was read.
 
     \b
       $ echo 1,5,020000000001,info,QL-PRC > rows
@@ -166,10 +166,10 @@ def node(
     output: str | None,
     force: bool,
 ) -> int:
-    """Makes of a capture what ELEMENT received: the file that `murdjohe node` takes.
+    """Writes what ELEMENT received in a capture: the file that `murdjohe node` takes.
 
-    FILE is a capture, or - for standard input. Of the lines that are named those into ELEMENT count, as L1>B for B. Millisecond
-    0 is that of the first packet. The status is 0, or 6 where the capture is damaged.
+    FILE is a capture, or - for standard input. Only the lines into ELEMENT count, as L1>B for B. Millisecond 0 is that of the
+    first packet. The status is 0, or 6 if the capture is damaged.
 
     \b
       $ murdjohe gen 2 > plan.toml
@@ -201,11 +201,11 @@ def node(
 @output_options
 @click.pass_context
 def write(context: click.Context, rows: str, option: str, every: int, output: str | None, force: bool) -> int:
-    """Makes a capture of rows, for a sender such as tcpreplay.
+    """Makes a capture from rows, for a sender such as tcpreplay.
 
-    ROWS are rows as `capture read --rows` or `pcap-decode` prints them, SEC,USEC,SOURCE,KIND,LEVEL and more, or as `decode`
-    does, SOURCE,KIND,LEVEL and more, which get times; or - for standard input. It is a classic pcap of Ethernet. The status is
-    0, or 6 where a row is refused.
+    ROWS are rows as `capture read --rows` or `pcap-decode` prints them (SEC,USEC,SOURCE,KIND,LEVEL and more), or as `decode`
+    prints them (SOURCE,KIND,LEVEL and more), which get times; or - for standard input. The capture is a classic pcap of
+    Ethernet. The status is 0, or 6 if a row is refused.
 
     \b
       $ printf '020000000001,info,QL-PRC\\n020000000001,event,QL-SEC\\n' > rows

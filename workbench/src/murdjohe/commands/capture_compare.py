@@ -26,10 +26,10 @@ if TYPE_CHECKING:
 @click.option(
     "--from", "begin", type=Milliseconds(), default="5s", show_default=True, help="nothing before is compared"
 )
-@click.option("--until", type=Milliseconds(), help="nothing after is compared; without it to the capture's end")
+@click.option("--until", type=Milliseconds(), help="nothing after is compared; by default the capture's end")
 @click.option("--most", type=click.IntRange(0), default=0, show_default=True, help="how many differences still pass")
 @click.option(
-    "--reaction", type=Milliseconds(), help="the longest time after which a change may be told; any without it"
+    "--reaction", type=Milliseconds(), help="the longest time after which a change may be told; by default any"
 )
 @click.option("--median", type=Milliseconds(), help="the same for the middle one of a line's times")
 @click.option(
@@ -48,13 +48,13 @@ if TYPE_CHECKING:
 def compare(context: click.Context, plan: str, element: str, file: str, line: tuple[str, ...], **settings: Any) -> int:
     """Compares what a device sent with what ELEMENT of PLAN has to send for what the device received.
 
-    What it received are the frames of the capture FILE on lines into ELEMENT, which `murdjohe node` is given; what it sent
-    are those on lines out of it. The first line is `pass` or `fail`. What differs is a row, with the number of the frame: missing,
-    late by more than the tolerance, wrong level, unexpected, or too many, by --rate. Below stands how soon the changes of each line
-    were told; where that is longer than --reaction or --median say, the device fails too. Information messages may come in any part
-    of a second. Millisecond 0 is that of the first packet; what the device had heard before isn't known, so the first five seconds
-    aren't compared. A capture may have any length. The status is 0 where it passes, else 1; 3 and 6 for a plan and a capture that
-    are refused.
+    What it received are the frames of the capture FILE on lines into ELEMENT, which go to `murdjohe node`. What it sent are the
+    frames on lines out of ELEMENT. The first line is `pass` or `fail`. Each difference is a row with the number of the frame:
+    missing, late by more than the tolerance, wrong level, unexpected, or too many, by --rate. Below stands how soon each line
+    told a change. The device also fails if that is longer than --reaction or --median. Information messages may come in any
+    part of a second. Millisecond 0 is that of the first packet. The first five seconds aren't compared, since it isn't known
+    what the device had heard before. A capture may have any length. The status is 0 if it passes, and 1 if not; it is 3 or 6 if
+    the plan or the capture is refused.
 
     \b
       $ murdjohe gen 2 > plan.toml

@@ -11,9 +11,7 @@ if TYPE_CHECKING:
     from murdjohe.capture import esmc
 
 ENDED = "ended by Ctrl-C, and summed up to there; `murdjohe capture watch` tells a capture as it comes"
-OPTION = click.option(
-    "--option", type=click.Choice(["I", "II"]), default="I", help="the network option; I where none is given"
-)
+OPTION = click.option("--option", type=click.Choice(["I", "II"]), default="I", help="the network option; by default I")
 LOCAL = click.option("--local", is_flag=True, help="times of day by this machine's clock, in place of UTC")
 LINE = click.option(
     "--line",

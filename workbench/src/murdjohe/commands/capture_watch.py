@@ -76,17 +76,18 @@ def stoppable() -> Iterator[Stop]:
     "--fail-on",
     multiple=True,
     type=click.Choice(talk_faults.FAILING),
-    help="has the status 21 where this is found; may be given again",
+    help="ends with status 21 if this is found; may be repeated",
 )
 @click.option("-q", "--quiet", is_flag=True, help="without sentences on standard error")
 @click.pass_context
 def watch(context: click.Context, file: str, option: str, local: bool, what: str | None, **asked: Any) -> int:
-    """Tells a live capture as it comes: each frame, and at once who is heard, changes its level, is silent and speaks again.
+    """Shows a live capture as it comes: each frame, and at once who is heard, changes its level, falls silent and speaks
+    again.
 
-    FILE is a pipe to which a capture is written, or standard input where none is named. Frames stand on standard output, what
-    changes is told on standard error: a silence after six and a half seconds, since a packet may be on its way for one. Ctrl-C
-    ends it with the summary of `capture read`. It may go on for any time. Each ESMC frame is decoded by the proved program. The
-    status is 0, also after Ctrl-C, 6 where the capture is damaged, and 21 where what --fail-on names is found.
+    FILE is a pipe to which a capture is written; without it standard input is read. Frames go to standard output, changes to
+    standard error. A silence is reported after six and a half seconds, since a packet may be on its way for one. Ctrl-C ends it
+    with the summary of `capture read`. It may go on for any time. The proved program decodes each ESMC frame. The status is 0,
+    also after Ctrl-C, or 6 if the capture is damaged, or 21 if something is found that --fail-on names.
 
     \b
       # tcpdump -i eth1 -U -w - ether proto 0x8809 | murdjohe capture watch

@@ -165,9 +165,9 @@ def has_times(form: Form) -> bool:
 def form_options(form: Form) -> list[click.Option]:
     """The options of a form beside those of all commands."""
     output = click.Option(["-o", "--output"], type=click.Path(), help="writes to this file, whole or not at all")
-    force = click.Option(["--force"], is_flag=True, help="writes over a file that is there already")
+    force = click.Option(["--force"], is_flag=True, help="overwrites an existing file")
     start = click.Option(["--start"], metavar="TIME", help="the time of day at which the run begins")
-    its = click.Option(["--groups"], type=click.Path(), help="also no group of this list cuts anybody off")
+    its = click.Option(["--groups"], type=click.Path(), help="also no group of this list cuts elements off")
     return [output, force, *([start] if has_times(form) else []), *([its] if form.name == GROUPED else [])]
 
 

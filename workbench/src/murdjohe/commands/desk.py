@@ -20,16 +20,17 @@ SWITCH = 0.0005  # seconds for which a thread of the pool may keep the server wa
 @click.command("desk")
 @click.argument("plan", required=False, type=click.Path())
 @click.argument("events", required=False, type=click.Path())
-@click.option("--port", type=click.IntRange(1, PORTS), help="the port; a free one without it")
+@click.option("--port", type=click.IntRange(1, PORTS), help="the port; by default a free one")
 @START
 @click.pass_context
 def desk(context: click.Context, plan: str | None, events: str | None, port: int | None, start: int | None) -> int:
     """Serves a page on which a plan is changed by pointing, with the program's verdicts on each change at once.
 
-    It prints the address, which only this user knows, and serves it until Ctrl-C. Priorities stand at the ends of links; elements,
-    links and sources come and go; `nominate`, `protect` and `repair` show what they would change; what fails or is commanded at a time
-    is run, with `why` beside it. Everything is undone and redone. Nothing is written but by Save, to the files that are named here
-    and to files below this folder. What wasn't saved is there again after a crash, from a draft in the user's folder of states.
+    The command prints the address, which only this user knows, and serves it until Ctrl-C. Priorities stand at the ends of
+    links. Elements, links and sources can be added and removed. `nominate`, `protect` and `repair` show what they would change.
+    Failures and commands at a given time are run, with `why` beside them. Everything can be undone and redone. Only Save writes
+    files: those that are named here, and files below this folder. After a crash, unsaved changes are there again, from a draft
+    in the user's folder of states.
 
     Without PLAN the desk is empty: take tables of an inventory on the page, or add elements.
 

@@ -66,7 +66,7 @@ def shown(found: list[differences.Difference], form: str) -> bytes:
 @click.argument("old", metavar="A", type=click.Path())
 @click.argument("new", metavar="B", type=click.Path())
 @click.option(
-    "--sweep", nargs=2, metavar="AT UNTIL", help="also what differs where each link fails at AT, looked at in UNTIL"
+    "--sweep", nargs=2, metavar="AT UNTIL", help="also compares what each link's failure at AT has led to at UNTIL"
 )
 @click.option("--csv", "form", flag_value="csv", help="as a table with commas: part, subject, what, old, new")
 @click.option("--json", "form", flag_value="json", help="as JSON: the rows of that table")
@@ -85,12 +85,12 @@ def diff(
     output: str | None,
     force: bool,
 ) -> int:
-    """Says what differs in plan B from plan A, whatever their order and spelling.
+    """Says how plan B differs from plan A, whatever their order and spelling.
 
-    Topology, priorities, floors, times and levels, where keys that are left out count as their defaults; with --sweep also
-    what the program says of each link's failure, with --groups whom each group of parts that fail together cuts off, and whom it leaves
-    without any way to a clock. What the program says of both plans stands beside it. The status is 0 where
-    nothing differs, and 1 where something does.
+    It compares topology, priorities, floors, times and levels. A key that is left out counts as its default. With --sweep it
+    also compares what the program says of each link's failure. With --groups it compares which elements each group of parts
+    that fail together cuts off, and which it leaves without a path to a clock. What the program says of both plans stands
+    beside it. The status is 0 if nothing differs, and 1 if something does.
 
     \b
       $ murdjohe gen 5 > plan.toml

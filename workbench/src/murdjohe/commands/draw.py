@@ -55,33 +55,36 @@ def rendered(network: Plan, view: View, marks: frozenset[str], ending: str, layo
 @click.argument("plan", type=click.Path())
 @click.option("--certificate", type=click.Path(), help="writes the ranks of this file beside the priorities")
 @click.option("--report", type=click.Path(), help="colours elements by their levels in this report of the plan")
-@click.option("--at", type=Milliseconds(), help="the millisecond of the report that is drawn; its end without this")
+@click.option("--at", type=Milliseconds(), help="the millisecond of the report that is drawn; by default its end")
 @click.option("--events", type=click.Path(), help="the events of that run, by which links are down before its end")
 @click.option(
     "--answer",
     type=click.Path(),
     help="draws the loop, or the place where one could close, in this answer of `rank` or `check` red",
 )
-@click.option("--near", multiple=True, help="draws only what lies near this element; may be given again")
+@click.option("--near", multiple=True, help="draws only what lies near this element; may be repeated")
 @click.option("--links", type=click.IntRange(min=0), default=2, show_default=True, help="how many links are near")
-@click.option("--layout", type=click.Choice([places.MAP, places.LAYERED]), help="a map, or layers; by the plan without")
 @click.option(
-    "--places", "table", type=click.Path(), help="a table with the columns name, x and y: where elements stand"
+    "--layout", type=click.Choice([places.MAP, places.LAYERED]), help="a map, or layers; by default what suits the plan"
 )
-@click.option("--ports", type=click.Path(), help="the table of ports; PLAN.ports.csv where there is one")
+@click.option(
+    "--places", "table", type=click.Path(), help="a table with the columns name, x and y: the position of each element"
+)
+@click.option("--ports", type=click.Path(), help="the table of ports; by default PLAN.ports.csv if there is one")
 @GROUPS
 @START
-@click.option("--force", is_flag=True, help="writes over a file that is there already")
+@click.option("--force", is_flag=True, help="overwrites an existing file")
 @click.option("-o", "--output", type=click.Path(), required=True, help="a file that ends in .svg, .png, .pdf or .dot")
 @click.pass_context
 def draw(context: click.Context, plan: str, report: str | None, force: bool, output: str, **asked: Any) -> int:
     """Draws a plan: elements, sources, links, and the lines that may be taken, as arrows with their priorities.
 
-    With a report elements have the colours of their levels; what is taken is thick, what is down dashed, a closed walk red with
-    the word LOOP, and who follows no source hatched. Up to 30 elements go on a page of A4, up to 320 on one of A3, and 5,000 are the
-    most; of a larger plan --near draws a part. A report of another plan is refused. With --groups each group of parts that fail
-    together has a colour, as a band along its links and round its elements and sources. Ports of the table beside the plan stand behind
-    the priorities. A file that is there is written over by --force alone.
+    With a report each element has the colour of its level. Lines that are taken are thick, and parts that are down are dashed.
+    A closed walk is red with the word LOOP, and an element that follows no source is hatched. A plan of up to 30 elements fits
+    on a page of A4, of up to 320 on one of A3. 5,000 elements are the most; --near draws a part of a larger plan. A report of
+    another plan is refused. With --groups each group of parts that fail together has a colour, as a band along its links and
+    round its elements and sources. Ports of the table beside the plan stand behind the priorities. An existing file is
+    overwritten only with --force.
 
     \b
       $ murdjohe gen 5 > plan.toml

@@ -38,16 +38,16 @@ def one_file(tables: dict[str, Any], side: Side, only: str | None, form: str | N
 )
 @click.option("--graphml", "form", flag_value=GRAPHML, help="writes the plan as a graph in GraphML")
 @click.option("--node-link", "form", flag_value=NODE_LINK, help="writes the plan as a graph in the JSON of networkx")
-@click.option("--force", is_flag=True, help="writes over files that are there already")
+@click.option("--force", is_flag=True, help="overwrites existing files")
 @click.pass_context
 def export_tables(
     context: click.Context, plan: str, output: str, only: str | None, form: str | None, force: bool
 ) -> int:
     """Writes the tables of a plan, with its priorities: elements.csv, links.csv and sources.csv.
 
-    `murdjohe import` makes the same plan of them, but for its comments, spelling and order of keys. Ports and other columns of the table
-    beside the plan, PLAN.ports.csv, are columns again. With --graphml or --node-link the plan is one graph, on standard output or in the
-    file of -o, with priorities, sources and those columns as attributes.
+    `murdjohe import` makes the same plan from them, except for comments, spelling and order of keys. Ports and other columns of
+    the table beside the plan, PLAN.ports.csv, are columns again. With --graphml or --node-link the plan is one graph, on
+    standard output or in the file of -o, with priorities, sources and those columns as attributes.
 
     \b
       $ murdjohe gen 5 > plan.toml

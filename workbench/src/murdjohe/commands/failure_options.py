@@ -24,18 +24,18 @@ from murdjohe.runs.moments import Event
 
 CommandT = TypeVar("CommandT", bound=Callable[..., Any])
 OPTIONS = (
-    click.option("--links", is_flag=True, help="each link, also where nothing else is asked"),
+    click.option("--links", is_flag=True, help="each link; also if no other kind is asked for"),
     click.option("--bundles", is_flag=True, help="each bundle, with all its links"),
     click.option("--sources", is_flag=True, help="each source"),
     click.option("--elements", is_flag=True, help="each element: its links and sources"),
     click.option(
         "--groups", type=click.Path(), help="each group of a list of parts that fail together: group,kind,part"
     ),
-    click.option("--pairs", is_flag=True, help="also each two of these together"),
+    click.option("--pairs", is_flag=True, help="also each pair of these together"),
     click.option(
         "--at",
         type=Milliseconds(),
-        help="when what fails goes down; 10m, or while the works of --during stand, without it",
+        help="when the parts go down; by default 10m, or while the works of --during are in progress",
     ),
     click.option("--during", type=click.Path(), help="an event list whose events are common to all cases"),
     START,

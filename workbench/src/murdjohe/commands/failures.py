@@ -36,10 +36,11 @@ def write_failures(
 ) -> int:
     """Writes the failures of a plan as a table of cases, a row for each link or source that goes down.
 
-    The columns are case, at, what, target and value; rows without a case are common to all. Links come first, then bundles,
-    sources, elements, groups and pairs, each in the order of the plan. A case is named as what fails, pairs with `--` between
-    their names; where that is no name or stood before, by its kind and number. A pair of whom one takes down all that the other
-    does is left out, and so is an element without links and sources. The events of --during are verified by the program.
+    The columns are case, at, what, target and value. Rows without a case are common to all cases. Links come first, then
+    bundles, sources, elements, groups and pairs, each in the order of the plan. A case is named after what fails, a pair with
+    `--` between the two names. If that isn't a valid name, or an earlier case has it, the case is named by kind and number. A
+    pair is left out if one of the two takes down all that the other does. An element without links and sources is left out too.
+    The program verifies the events of --during.
 
     \b
       $ murdjohe gen 5 > plan.toml

@@ -125,12 +125,12 @@ ENCODINGS = (tables.SPREADSHEET, "latin-1", "utf-16")
 
 
 @click.command("import", epilog="\b\n" + topics.TABLES.replace("\n\n", "\n\n\b\n"))
-@click.option("--option", type=click.Choice(["I", "II"]), default="I", help="the network option; I where none is given")
+@click.option("--option", type=click.Choice(["I", "II"]), default="I", help="the network option; by default I")
 @click.option(
-    "--map", "pairs", multiple=True, metavar="COLUMN=HEADER", help="a column has this header; may be given again"
+    "--map", "pairs", multiple=True, metavar="COLUMN=HEADER", help="a column has this header; may be repeated"
 )
 @click.option("--map-file", type=click.Path(), help="a file with a COLUMN=HEADER on each line, for --map")
-@click.option("--encoding", type=click.Choice(ENCODINGS), help="the encoding of the tables, where it isn't UTF-8")
+@click.option("--encoding", type=click.Choice(ENCODINGS), help="the encoding of the tables, if it isn't UTF-8")
 @click.option("--keep-extra", is_flag=True, help="keeps columns that a plan doesn't have in PLAN.ports.csv beside it")
 @click.option("--ignore-extra", is_flag=True, help="ignores columns that a plan doesn't have")
 @click.option(
@@ -159,16 +159,17 @@ def import_tables(
     force: bool,
     **asked: Any,
 ) -> int:
-    """Makes a plan of tables of elements, links and sources, as inventories give them.
+    """Makes a plan from tables of elements, links and sources, as inventories give them.
 
-    Without priorities it is a plan for `murdjohe nominate`. All mistakes of the tables are told at once, each with its file,
-    line, column and value, and nothing is written then. A column `duct` of the links becomes a list of groups, beside the plan of -o
-    with the ending .groups.csv, or where --groups says. Ports, columns `port_a` and `port_b` of the links and `port` of the sources,
-    go into a table beside the plan with the ending .ports.csv, and with --keep-extra all other columns too. The plan is verified by the
-    program: beside it stands whether a loop is possible in it, and whether elements may oscillate after a failure.
+    A plan without priorities is one for `murdjohe nominate`. All mistakes in the tables are reported at once, each with its
+    file, line, column and value, and nothing is written then. A column `duct` of the links becomes a list of groups, beside the
+    plan of -o with the ending .groups.csv, or in the file of --groups. Ports (columns `port_a` and `port_b` of the links and
+    `port` of the sources) go into a table beside the plan with the ending .ports.csv, and with --keep-extra all other columns
+    too. The program verifies the plan, and the command says whether a loop is possible in it, and whether elements may
+    oscillate after a failure.
 
-    With --graphml or --node-link the one word is a graph: its nodes are elements, its edges links. A node's `level` is that of a clock
-    there, and so is --clock.
+    With --graphml or --node-link the one argument is a graph: its nodes are elements, its edges links. A node's `level` is the
+    level of a clock there, as --clock gives it too.
     """
     made, paths = made_by(elements, links, sources, asked)
     data = made.plan.encode()

@@ -18,13 +18,13 @@ from murdjohe.protection import promise
 
 LARGE = 10_000  # elements from which on groups take long
 LONG = "groups are looked at one by one, a fifth of a second or more each in a plan of this size"
-LEFT_OUT = "whom single failures cut off isn't looked at: `murdjohe protected` says it, or `lint` without --no-gaps"
+LEFT_OUT = "single failures aren't looked at: `murdjohe protected` says what they cut off, or `lint` without --no-gaps"
 
 
 def judged(taken: PlanFile, path: str | None, has_gaps: bool) -> tuple[Judgement, Said]:
     """What the program says of a plan, and of the groups of a table, where one is named. Raises Wrong."""
     if path and not has_gaps:
-        raise Wrong("--no-gaps and --groups: whom groups cut off is found with whom single failures do")
+        raise Wrong("--no-gaps and --groups: what groups cut off is found together with what single failures cut off")
     table = groups.read(path, taken) if path else None
     judgement = plan_file.judged(taken, has_gaps=has_gaps, groups=table.data if table else None)
     known = table.groups if table else ()
@@ -61,9 +61,11 @@ def status_of(found: list[Finding], fail_on: str | None) -> int:
 @click.argument("plan", type=click.Path())
 @click.option("--json", "as_json", is_flag=True, help="JSON: a list of line, kind, what and remedy")
 @click.option(
-    "--fail-on", type=click.Choice([WARNING, NOTE]), help="also warnings, or notes, or what is worse, have a status: 21"
+    "--fail-on",
+    type=click.Choice([WARNING, NOTE]),
+    help="ends with status 21 if there are warnings, or warnings or notes",
 )
-@click.option("--no-gaps", is_flag=True, help="leaves out whom single failures cut off")
+@click.option("--no-gaps", is_flag=True, help="doesn't look at single failures")
 @click.option("--accept", type=click.Path(), help="leaves out the findings in this file, as `lint` printed them before")
 @GROUPS
 @output_options
@@ -71,13 +73,19 @@ def status_of(found: list[Finding], fail_on: str | None) -> int:
 def lint(context: click.Context, plan: str, as_json: bool, fail_on: str | None, no_gaps: bool, **asked: Any) -> int:
     """Says what a planner should look at, each with its line and a remedy.
 
-    Errors: no element, no source, elements with no way to a clock, a possible loop that the program finds, priorities by which
-    elements may oscillate after a failure (`agree`). Warnings: sources that aren't nominated or that nobody takes, elements with
-    one way in, single failures that cut somebody off to whom other links lead (`protected`), chains longer than G.803's 60 lines, 20 since a filter and 10 filters
-    (`chains`), links and bundles that are nominated at both ends without floors, inputs of one priority; with --groups also groups
-    that cut somebody off to whom other links lead, or leave somebody without any way to a clock. Notes: sources whose name says
-    another level. The status is 1 where there is an error, and 21 where there is none, but what --fail-on names. Warnings and
-    notes of a file of --accept are left out: what `lint` printed of an earlier plan and somebody looked at; their lines may differ.
+    Errors: no element; no source; elements without a path to a clock; a possible timing loop; priorities by which elements may
+    oscillate after a failure (`agree`).
+
+    Warnings: sources that aren't nominated, or that no element takes; elements with one way in; single failures that cut
+    elements off although a path remains (`protected`); chains longer than G.803's 60 lines, 20 since a filter and 10 filters
+    (`chains`); links and bundles that are nominated at both ends without floors; inputs of one element with the same priority.
+    With --groups also groups that cut elements off although a path remains, or that leave elements without a path to a clock.
+
+    Notes: sources whose name says another level.
+
+    The status is 1 if there is an error. Otherwise it is 21 if there is something that --fail-on names. With --accept, the
+    warnings and notes in that file are left out: what `lint` printed of an earlier plan, and what a planner accepted. Their
+    lines may differ.
 
     \b
       $ murdjohe gen 5 > plan.toml

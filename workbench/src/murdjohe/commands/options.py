@@ -50,9 +50,9 @@ START = click.option("--start", type=Start(), help="the time of day at which the
 def changed_events(command: CommandT) -> CommandT:
     """The command with the options by which its list of events is put in order, and more events are added."""
     add = click.option(
-        "--add", "more", multiple=True, metavar="EVENT", help="one event more, as '02:10 down L1'; may be given again"
+        "--add", "more", multiple=True, metavar="EVENT", help="one more event, as '02:10 down L1'; may be repeated"
     )
-    sort = click.option("--sort", "is_sorted", is_flag=True, help="puts the events in order of time first")
+    sort = click.option("--sort", "is_sorted", is_flag=True, help="sorts the events by time first")
     return sort(add(command))
 
 
@@ -79,7 +79,7 @@ def from_start(time: int | None, start: int | None, word: str) -> int | None:
 
 def output_options(command: CommandT) -> CommandT:
     """The command with the options by which what it prints goes to a file."""
-    force = click.option("--force", is_flag=True, help="writes over a file that is there already")
+    force = click.option("--force", is_flag=True, help="overwrites an existing file")
     output = click.option("-o", "--output", type=click.Path(), help="writes to this file in place of standard output")
     return output(force(command))
 

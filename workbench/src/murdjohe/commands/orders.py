@@ -154,7 +154,7 @@ def fitting(template: str | None, old: str | None, is_stepped: bool, output: str
 @click.option("--from", "old", type=click.Path(), help="only what differs from this plan")
 @click.option("--steps", "is_stepped", is_flag=True, help="in which order to work, from the plan of --from")
 @click.option("--template", type=click.Path(), help="a template of Jinja: a file for each element, in the folder of -o")
-@click.option("--ports", type=click.Path(), help="the table of ports; PLAN.ports.csv where there is one")
+@click.option("--ports", type=click.Path(), help="the table of ports; by default PLAN.ports.csv if there is one")
 @output_options
 @click.pass_context
 def print_orders(
@@ -162,12 +162,13 @@ def print_orders(
 ) -> int:
     """Prints for each element what is to be set there.
 
-    The inputs in their order with neighbour, link and bundle; the floor, the hold-off time in milliseconds, the
-    wait-to-restore time in minutes, and its own clock. Inputs of equal priority have the same place. The plan is verified by
-    the program, which says whether a loop is possible or elements may oscillate in it: the status is 1 then.
+    These are the inputs in their order with neighbour, link and bundle; the floor, the hold-off time in milliseconds, the
+    wait-to-restore time in minutes, and the element's own clock. Inputs of equal priority have the same place. The program
+    verifies the plan. If a loop is possible in it, or elements may oscillate, the command says so and the status is 1.
 
-    With --from and --steps it says in which order to visit the elements, so that no plan on the way can loop or oscillate and
-    nobody loses its last way to a clock. The program says so of the plan after each step; the status is 1 where there is no order.
+    With --from and --steps the command says in which order to visit the elements, so that no plan on the way can loop or
+    oscillate and no element loses its last path to a clock. The program verifies the plan after each step. The status is 1 if
+    there is no such order.
 
     \b
       $ murdjohe gen 5 > plan.toml

@@ -57,27 +57,34 @@ def picture(found: Placed, network: Plan, ending: str) -> bytes:
 @click.option("--survive/--no-survive", default=True, help="whether the loss of a clock is a failure")
 @click.option("--groups", type=click.Path(), help="parts that fail together, as ducts: a table group,kind,part")
 @click.option("--anew", is_flag=True, help="leaves the sources of the plan out: the table has all candidates")
-@click.option("--partly", is_flag=True, help="covers what sites can cover, and tells what none can")
+@click.option("--partly", is_flag=True, help="covers what sites can cover, and says what none can")
 @click.option(
-    "--seconds", type=click.FloatRange(1), default=SECONDS, show_default=True, help="for how long it is sought"
+    "--seconds", type=click.FloatRange(1), default=SECONDS, show_default=True, help="how long the search may take"
 )
 @click.option(
     "--json", "as_json", is_flag=True, help="JSON: sites, costs, what each is there for, other limits, verdicts"
 )
-@click.option("--picture", "drawn", type=click.Path(), help="draws the sites and whom each covers: .svg, .png or .pdf")
+@click.option(
+    "--picture",
+    "drawn",
+    type=click.Path(),
+    help="draws the sites and the elements that each covers: .svg, .png or .pdf",
+)
 @click.option("-o", "--output", type=click.Path(), help="writes the plan with its clocks and priorities to this file")
-@click.option("--force", is_flag=True, help="writes over a file that is there already")
+@click.option("--force", is_flag=True, help="overwrites an existing file")
 @click.pass_context
 def place(context: click.Context, plan: str, table: str, **asked: Any) -> int:
-    """Finds the cheapest sites for clocks by which every element keeps one after any single failure.
+    """Finds the cheapest sites for clocks with which every element keeps a clock after any single failure.
 
-    SITES is a table of candidates: element,cost,level. Sources of the plan stand, and cost nothing. An element is covered where a way of
-    at most --links lines leads to it from a clock, and after each failure of a link, bundle, element or clock one of at most
-    --links-failed lines. The set is known to be the cheapest where it is told as least; of sets that cost the same it has the fewest
-    sites. The plan is then nominated by `protect`. Where its ways are longer than the shortest a site is added, and that is told.
+    SITES is a table of candidates: element,cost,level. Sources of the plan stay, and cost nothing. An element is covered if a
+    path of at most --links lines leads to it from a clock, and after each failure of a link, bundle, element or clock a path of
+    at most --links-failed lines. A set that is called least is proved to be the cheapest. Of sets that cost the same it has the
+    fewest sites. Then `protect` nominates the plan. If its paths are longer than the shortest, a site is added, and the command
+    says so.
 
-    What is said of the plan is the program's: `check`, `agree`, `protected`, and `study` of all single failures. The status is 0 where all
-    of that holds, and 1 where no set of sites does, with the element and the failure that no site covers.
+    What is said of the plan comes from the program: `check`, `agree`, `protected`, and `study` of all single failures. The
+    status is 0 if all of that holds. It is 1 if no set of sites covers every element; the command then names the element and
+    the failure.
 
     \b
       $ murdjohe gen 6 > plan.toml

@@ -40,33 +40,38 @@ def status_of(found: Rehearsal, limit: int | None = None) -> int:
 @click.command("rehearse")
 @click.argument("plan", type=click.Path())
 @click.argument("events", type=click.Path())
-@click.option("--until", type=Milliseconds(), help="the end of the run; without it that by which `agree` says it rests")
+@click.option(
+    "--until",
+    type=Milliseconds(),
+    help="the end of the run; by default the time by which `agree` says the network rests",
+)
 @START
 @click.option(
     "--limit",
     type=Milliseconds(),
-    help="how long an element may be worse in one piece; without it only who still is at the end counts",
+    help="how long an element may be worse at a stretch; by default only what is worse at the end counts",
 )
-@click.option("--all", "has_all", is_flag=True, help="also what changes before the first event")
+@click.option("--all", "has_all", is_flag=True, help="also the changes before the first event")
 @click.option("--csv", "form", flag_value="csv", help="the list of events and changes as a table with commas")
 @click.option("--json", "form", flag_value="json", help="JSON: the list, commands, pairs and loops, and losses")
 @changed_events
 @output_options
 @click.pass_context
 def rehearse(context: click.Context, plan: str, events: str, form: str | None, **asked: Any) -> int:
-    """Shows works as they will go: events and what changes by them, in one list with times of day.
+    """Shows works as they will go: events and the changes that follow, in one list with times of day.
 
-    The first line says who is still without a source at the end of the run. An event stands behind a star. Below the list stand
-    the commands that are rejected, and why, and those that are taken and have no effect; pairs, two elements that take from each
-    other for a moment, and timing loops, from when to when; for each element since when and how long it is below its best level,
-    once it has had that, or follows no source, first where that goes on at the end and then where it ended; from when on the
-    network is settled; and whether elements of the plan may oscillate.
+    The first line says which elements are without a source at the end of the run. In the list, an event stands behind a star.
+    Below the list stand the commands that are rejected, with the reason, and those that are taken without effect. Then come
+    pairs (two elements that take timing from each other for a moment) and timing loops, with their times. Then comes, for each
+    element, since when and for how long it is below the best level that it has had, or follows no source: first the elements
+    for which this lasts to the end. The last lines say from when on the network is settled, and whether elements of the plan
+    may oscillate.
 
-    Changes, levels and whether it is settled are the program's, by `sim`, which is run to several milliseconds. Whether a
-    command is rejected, and which walks stand between, follow from these and from the table of commands; why an input that is
-    there isn't taken, a report doesn't tell. The status is 1 where a command is rejected, a timing loop stands at any time, an
-    event comes after the end, or the network isn't settled; else 20 where an element is worse at the end than before, or for
-    longer than --limit at once; 11 where the program stopped.
+    Changes, levels and whether the network is settled come from the program: `sim` is run to several milliseconds. Whether a
+    command is rejected, and which walks stand in between, follow from these and from the table of commands. A report doesn't
+    say why an available input isn't taken. The status is 1 if a command is rejected, a timing loop stands at any time, an event
+    comes after the end, or the network isn't settled. Otherwise it is 20 if an element is worse at the end than before, or for
+    longer than --limit at a stretch. It is 11 if the program stopped.
 
     \b
       $ murdjohe gen 5 > plan.toml

@@ -139,7 +139,7 @@ def printed(context: click.Context, made: Made, form: str, is_plan: bool) -> Non
 @click.command("repair")
 @click.argument("plan", type=click.Path())
 @click.option(
-    "--patch", is_flag=True, help="prints the first set as a patch, which `git apply` takes; the rest is said beside it"
+    "--patch", is_flag=True, help="prints the first set as a patch for `git apply`; the rest goes to standard error"
 )
 @click.option(
     "--json",
@@ -147,26 +147,28 @@ def printed(context: click.Context, made: Made, form: str, is_plan: bool) -> Non
     is_flag=True,
     help="JSON: groups of interlocked inputs, sets with their edits, and what the program says",
 )
-@click.option("--keep", multiple=True, metavar="LINE", help="this line keeps its priority; may be given again")
+@click.option("--keep", multiple=True, metavar="LINE", help="this line keeps its priority; may be repeated")
 @click.option(
     "--set", "number", type=click.IntRange(1), default=1, show_default=True, help="the set that is taken away"
 )
 @click.option("-o", "--output", type=click.Path(), help="writes the repaired plan to this file")
-@click.option("--force", is_flag=True, help="writes over a file that is there already")
+@click.option("--force", is_flag=True, help="overwrites an existing file")
 @click.pass_context
 def repair_plan(context: click.Context, plan: str, patch: bool, as_json: bool, **asked: Any) -> int:
-    """Finds the cheapest nominations to take away where `rank` says `cycle`, and what ends oscillation where `agree` says `clash`.
+    """Finds the cheapest nominations to take away if `rank` says `cycle`, and what ends oscillation if `agree` says
+    `clash`.
 
-    All groups of interlocked inputs are looked at, and how many loops are possible in each. A set costs first the elements that
-    lose their last input, then the gaps that arise: single failures that cut off more than before. Then come the first choices
-    that it takes, and how high its priorities are. The search begins with the lines that `protect` would keep, betters that set
-    part by part, and then seeks what is cheaper. It is told as least where nothing is: up to 400 inputs in a group, and within
-    25 seconds of processor time; else as found, perhaps not least. Up to three sets are told, with what they differ in; --set
-    takes another one than the first, and a LINE of --keep is in none.
+    It looks at all groups of interlocked inputs, and counts the possible loops in each. A set costs, in this order: the
+    elements that lose their last input; the gaps that arise, which are single failures that cut off more elements than before;
+    the first choices that it takes away; how high its priorities are. The search begins with the lines that `protect` would
+    keep, improves that set part by part, and then looks for a cheaper one. A set is called least if the search proves it, for
+    up to 400 inputs in a group and within 25 seconds of processor time. Otherwise it is called found, and a cheaper one may
+    exist. Up to three sets are shown, with their differences. --set takes another set than the first. No set has a LINE of
+    --keep.
 
-    Where elements may oscillate after a failure without a set, some of its inputs get a greater number besides, as the last
-    resort of their elements; sets after which nobody oscillates come first. The plan without the set is verified by the
-    program, which says too whether it is protected. The status is 0 where no loop is possible in it and no elements oscillate.
+    If elements may still oscillate after a failure without a set, some inputs also get a greater number, as the last resort of
+    their elements. Sets after which no elements oscillate come first. The program verifies the plan without the set, and says
+    whether it is protected. The status is 0 if no loop is possible in it and no elements oscillate.
 
     \b
       $ printf '[[element]]\\nname = "A"\\n[[element]]\\nname = "B"\\n[[element]]\\nname = "C"\\n' > plan.toml

@@ -18,14 +18,16 @@ from murdjohe.runs import rehearsals, simulation
 @click.command("report")
 @click.argument("plan", type=click.Path())
 @click.argument("events", type=click.Path())
-@click.option("--until", type=Milliseconds(), help="the end of the run; 20 minutes after the last event without it")
+@click.option("--until", type=Milliseconds(), help="the end of the run; by default 20 minutes after the last event")
 @START
 @click.option("--cuts", is_flag=True, help="also each link's failure alone, as a table and a map of cases and elements")
-@click.option("--layout", type=click.Choice([places.MAP, places.LAYERED]), help="a map, or layers; by the plan without")
 @click.option(
-    "--places", "table", type=click.Path(), help="a table with the columns name, x and y: where elements stand"
+    "--layout", type=click.Choice([places.MAP, places.LAYERED]), help="a map, or layers; by default what suits the plan"
 )
-@click.option("--force", is_flag=True, help="writes over a file that is there already")
+@click.option(
+    "--places", "table", type=click.Path(), help="a table with the columns name, x and y: the position of each element"
+)
+@click.option("--force", is_flag=True, help="overwrites an existing file")
 @click.option("-o", "--output", type=click.Path(), required=True, help="the page, a file that ends in .html")
 @click.pass_context
 def report(
@@ -42,9 +44,10 @@ def report(
 ) -> int:
     """Writes a page that shows a run: one file that opens from disk in any browser and asks for nothing from outside.
 
-    The network at any moment, by a slider and by the arrow keys from change to change; what each element shows and where it gets
-    its timing from, by a click; the list of events and changes; what each element lost; what the program says, with what it promises,
-    and checksums. It prints on A4. The status is 0, 11 where the program stopped the run, or that of what was refused.
+    The page shows the network at any moment, by a slider and by the arrow keys from change to change. A click on an element
+    shows its state and where it gets its timing from. Below are the list of events and changes, what each element lost, what
+    the program says and promises, and checksums. The page prints on A4. The status is 0, or 11 if the program stopped the run,
+    or that of what was refused.
 
     \b
       $ murdjohe gen 5 > plan.toml

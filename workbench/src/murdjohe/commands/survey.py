@@ -170,18 +170,24 @@ def told(context: click.Context, tally: Tally, done: Survey, end: Ending, asked:
 @click.argument("table", metavar="[CASES]", type=click.Path(), required=False)
 @failure_options.options
 @click.option(
-    "--until", type=Milliseconds(), help="the end of each run; without it that by which `agree` says it rests"
+    "--until",
+    type=Milliseconds(),
+    help="the end of each run; by default the time by which `agree` says the network rests",
 )
-@click.option("--worst", type=click.IntRange(0, 100_000), default=10, show_default=True, help="how many cases are told")
+@click.option(
+    "--worst", type=click.IntRange(0, 100_000), default=10, show_default=True, help="how many cases are shown"
+)
 @click.option(
     "--size",
     type=click.IntRange(1, MOST_ROWS),
-    help=f"cases that the program is given at once; an eighth of all, {portions.LEAST:,} to {portions.MOST:,}, without it; of a plan of "
-    f"more than {portions.LARGE:,} elements {portions.LEAST:,}",
+    help=f"cases in one run of the program; by default an eighth of all, {portions.LEAST:,} to {portions.MOST:,}, and "
+    f"{portions.LEAST:,} for a plan of more than {portions.LARGE:,} elements",
 )
-@click.option("--jobs", type=click.IntRange(1, 1_000), help="programs that run at once; one a processor without it")
 @click.option(
-    "--scheduler", metavar="ADDRESS", help="a cluster of Dask works the cases: its scheduler, as tcp://host:8786"
+    "--jobs", type=click.IntRange(1, 1_000), help="programs that run at once; by default one for each processor"
+)
+@click.option(
+    "--scheduler", metavar="ADDRESS", help="runs the cases on the Dask cluster with this scheduler, as tcp://host:8786"
 )
 @click.option(
     "--parts", type=click.Path(), default=PARTS, show_default=True, help="a folder in which finished parts are kept"
@@ -189,18 +195,20 @@ def told(context: click.Context, tally: Tally, done: Survey, end: Ending, asked:
 @click.option(
     "--fail-on",
     type=click.Choice(FAILING),
-    help="has the status 21 where a case leaves anybody without a source at its end (lost), or whom a link could still serve "
-    "(needless), is unsettled there, or has loops",
+    help="ends with status 21 if at the end of a case an element is without a source (lost), or is without one although a link "
+    "could still serve it (needless), or if the case is unsettled there, or has loops",
 )
 @click.option("--json", "as_json", is_flag=True, help="JSON: the summary")
 @click.option(
     "--names",
     is_flag=True,
-    help="names all who have no source in the cases that are told, each of which is run once more",
+    help="names all elements without a source in the cases that are shown; each case is run once more",
 )
-@click.option("--map", type=click.Path(), help="draws who has no source in the worst cases: .svg, .png or .pdf")
-@click.option("-o", "--output", type=click.Path(), help="all rows go to this file, packed where it ends in .gz")
-@click.option("--force", is_flag=True, help="writes over a file that is there already")
+@click.option(
+    "--map", type=click.Path(), help="draws which elements have no source in the worst cases: .svg, .png or .pdf"
+)
+@click.option("-o", "--output", type=click.Path(), help="writes all rows to this file, compressed if it ends in .gz")
+@click.option("--force", is_flag=True, help="overwrites an existing file")
 @click.pass_context
 def survey(
     context: click.Context,
@@ -211,19 +219,19 @@ def survey(
     force: bool,
     **asked: Any,
 ) -> int:
-    """Says what a network has come to at the end of each of many cases, and prints the worst.
+    """Says what has become of a network at the end of each of many cases, and prints the worst.
 
-    Only the end is looked at, the millisecond of --until: what is lost before and has come back by then isn't counted. Elements
-    that are taken away themselves, or that no link could still serve, are counted apart from those that one could. With --during
-    it is said what the common events do alone, which of them bring up again what a case took down, and which come after the end
-    and aren't run.
+    Losses are counted at the end, in the millisecond of --until. What is lost earlier and is back by then isn't counted.
+    Elements that fail themselves, and elements that no link could still serve, are counted separately from those that a link
+    could still serve. With --during the summary says what the common events do alone, which of them bring up again what a case
+    took down, and which come after the end and aren't run.
 
-    The cases are those that `failures` would write by the same options, or those of the table CASES, of any length. The program
-    works them by `study`, --size of them at once, on all processors or on a cluster. A survey that was stopped goes on where it
-    was by the same command: finished parts stand in --parts, and none is worked twice; that folder may go once it is done.
+    The cases are those that `failures` writes with the same options, or those of the table CASES, of any length. The program
+    runs them with `study`, --size of them at once, on all processors or on a cluster. The same command continues a survey that
+    was stopped: finished parts are kept in --parts, and none is run twice. That folder may be deleted when the survey is done.
 
-    --map draws the worst cases, each of which is run once more by `sim`: a column for each element that has no source at the end
-    of one of them, and in each field what the element follows.
+    --map draws the worst cases. Each of them is run once more with `sim`. The map has a column for each element that has no
+    source at the end of one of them, and each field shows what the element follows.
 
     \b
       $ murdjohe gen 5 > plan.toml

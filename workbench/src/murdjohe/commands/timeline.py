@@ -110,23 +110,23 @@ def timeline_of(path: str, asked: dict[str, Any]) -> Timeline:
 )
 @click.option("--events", type=click.Path(), help="the events of the run, drawn as marks")
 @click.option("--from", "first", type=Milliseconds(), help="the picture begins there, with what changes after it")
-@click.option("--until", type=Milliseconds(), help="the end of the run; without it a little after the last change")
+@click.option("--until", type=Milliseconds(), help="the end of the run; by default a little after the last change")
 @click.option(
     "--fold", type=Milliseconds(), default=1000, show_default=True, help="longer times without a change are left out"
 )
 @click.option("--all", "has_all", is_flag=True, help="also elements that don't change from the first event on")
 @START
-@click.option("--force", is_flag=True, help="writes over a file that is there already")
+@click.option("--force", is_flag=True, help="overwrites an existing file")
 @click.option("-o", "--output", type=click.Path(), required=True, help="a file that ends in .svg, .png or .pdf")
 @click.pass_context
 def timeline(context: click.Context, report: str, force: bool, output: str, **asked: Any) -> int:
     """Draws the changes of a report over time: a band for each element, coloured by its quality level.
 
-    REPORT is what `murdjohe sim` printed, or - for standard input. Colours are those of `draw`. A band is hatched where its
-    element is in holdover or free-running, or has a forced or manual switch; the input is written in it where there is room; a
-    timing loop is a red strip. Where nothing changes for longer than --fold, the rest of that time is left out, and a dotted
-    line says how long it is; close changes are drawn a twentieth of that apart. A file that is there
-    is written over by --force alone.
+    REPORT is what `murdjohe sim` printed, or - for standard input. The colours are those of `draw`. A band is hatched while its
+    element is in holdover or free-running, or has a forced or manual switch. The input is written in the band if there is room.
+    A timing loop is a red strip. If nothing changes for longer than --fold, the rest of that time is left out, and a dotted
+    line says how long it is. Close changes are drawn a twentieth of that apart. An existing file is overwritten only with
+    --force.
 
     \b
       $ murdjohe gen 5 > plan.toml

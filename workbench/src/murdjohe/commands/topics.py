@@ -29,8 +29,8 @@ name = "S"
 at = "A"
 level = "QL-PRC"
 
-Without priorities `murdjohe nominate` gives them, and `murdjohe protect` so that no one failure cuts anybody off. The head
-may have option = "I" or "II", and version = 2, in which a link may have a bundle. The keys of each row, and their limits:
+If a plan has no priorities, `murdjohe nominate` gives them. `murdjohe protect` gives them so that no single failure cuts elements
+off. The head may have option = "I" or "II", and version = 2, in which a link may have a bundle. The keys of each row, and their limits:
 """
 EVENTS = """\
 An event list is a table with commas. `at` is in milliseconds, or a time as 90s, 5m, 02:10 or 23:00:00, and rises; with --start
@@ -44,9 +44,9 @@ at,what,target,value
 
 """
 CASES = """\
-A list of cases is a table with commas: events, each behind the name of its case. In the run of a case its own events
-happen and those without a name, which are common to all and stand above all cases. The rows of one case stand together;
-their times rise, and begin anew with each case. `murdjohe help events` has the words of an event, and the times.
+A list of cases is a table with commas: events, each behind the name of its case. Events without a name are common to all
+cases, and stand above them. In the run of a case its own events happen and the common ones. The rows of one case stand together.
+Their times rise, and begin anew with each case. `murdjohe help events` has the words of an event, and the times.
 
 case,at,what,target,value
 ,1000,lockout,L1>B,
@@ -60,7 +60,7 @@ cases: links, bundles, sources, elements and groups that fail, each alone and, w
 """
 GROUPS = """\
 A list of groups is a table with commas: parts that fail together, as the fibres of one duct or the antennas of one roof. A
-group has a name, and a row for each part, one below the other; the kind is link, source or element. An element goes with all
+group has a name, and a row for each part, one below the other. The kind is link, source or element. An element fails with all
 its links and sources. A part may stand in several groups, and in each once.
 
 group,kind,part
@@ -69,7 +69,7 @@ duct-7,link,L5
 roof,source,GPS1
 roof,source,GPS2
 
-`murdjohe protected PLAN GROUPS` says whom each group cuts off although a path remains, and `murdjohe protect PLAN --groups GROUPS`
+`murdjohe protected PLAN GROUPS` says what each group cuts off although a path remains, and `murdjohe protect PLAN --groups GROUPS`
 gives priorities under which none does. `lint`, `diff`, `draw`, `failures` and `survey` take the same list with --groups, and `import`
 makes it of a column `duct` of the links' table. These commands read a table of the columns name and links too, with the names
 of a group's links between blanks.
@@ -128,7 +128,7 @@ def plan() -> str:
         for key in plan_lines.KEYS[section]:
             must = " (must be there)" if key in plan_lines.MUST[section] else ""
             lines.append(f"    {key}{must}{limits(key)}")
-    return PLAN + "\n".join(lines) + "\n\nThe levels are told by `murdjohe help levels`.\n"
+    return PLAN + "\n".join(lines) + "\n\n`murdjohe help levels` has the levels.\n"
 
 
 def events() -> str:
@@ -145,8 +145,8 @@ def events() -> str:
 
 def level_table() -> str:
     """The levels of both options, best first."""
-    rows = [f"  option {option}: {', '.join(names)}" for option, names in levels.LEVELS.items()]
-    return "Quality levels, best first; the last is do-not-use.\n\n" + "\n".join(rows) + "\n"
+    rows = [f"Option {option}: {', '.join(names)}." for option, names in levels.LEVELS.items()]
+    return "Quality levels, best first. The last is do-not-use.\n\n" + "\n\n".join(rows) + "\n"
 
 
 def statuses(numbers: tuple[int, ...] | None = None) -> str:
@@ -180,9 +180,9 @@ TOPICS = {
 # What is said of a form beside its words.
 MORE = {
     "protect": """\
-With --groups FILE, a list of groups (murdjohe help groups), it seeks priorities under which no group of parts that fail together
-cuts anybody off either: an exact search, and steps where that takes too long; 25 seconds of processor time in all, networks of
-at most 5,000 elements. The status is 1 where a group stays open, 5 or 24 where the list is refused.
+With --groups FILE, a list of groups (murdjohe help groups), it looks for priorities under which no group of parts that fail together
+cuts elements off either. The search is exact, or goes by steps if that takes too long. It takes at most 25 seconds of processor time,
+and networks of at most 5,000 elements. The status is 1 if a group still cuts elements off, 5 or 24 if the list is refused.
 
   $ murdjohe gen 5 > plan.toml
   $ printf 'group,kind,part\\nduct,link,S1\\nduct,link,R2\\n' > ducts.csv

@@ -36,26 +36,24 @@ def shown(found: Why, start: int | None, is_json: bool) -> bytes:
 @click.argument("element", shell_complete=completed)
 @click.argument("at", type=Milliseconds())
 @START
-@click.option(
-    "--all", "has_all", is_flag=True, help=f"all that brought it about, not the last {choices.USUAL} things alone"
-)
+@click.option("--all", "has_all", is_flag=True, help=f"all that led to it, not only the last {choices.USUAL} entries")
 @click.option("--json", "as_json", is_flag=True, help="JSON: the same, with times in milliseconds")
 @changed_events
 @output_options
 @click.pass_context
 def why(context: click.Context, plan: str, events: str, element: str, at: int, **asked: Any) -> int:
-    """Says why ELEMENT takes what it takes at AT, and what brought that about.
+    """Says why ELEMENT takes what it takes at AT, and what led to that.
 
-    AT counts from the beginning of the run; with --start a time with colons is a time of day.
+    AT counts from the beginning of the run. With --start a time with colons is a time of day.
 
-    First what it takes, at which level and since when; then of each other input why not; then the way up the trace to the
-    clock, line by line, or the loop. Below stands what led to all of this, in order of time: events, behind a star, hold-off and
-    wait-to-restore times that ran out, messages with when they were sent, and changes, of this element and of those from which
-    its timing or its other inputs come.
+    First comes what the element takes, at which level and since when. Then, for each other input, why it isn't taken. Then the
+    trace up to the clock, line by line, or the loop. Below stands what led to all of this, in order of time: events (behind a
+    star), hold-off and wait-to-restore times that ran out, messages with the time at which they were sent, and changes. The
+    changes are those of this element, and of the elements from which its timing or its other inputs come.
 
-    What is taken, levels, conditions and why an input isn't taken are the program's, by `inspect`, and changes by `sim`; which
-    message or time led to a change follows from these and from the published rules. The status is 11 where the program's report
-    ends before AT, since there are more than 200,000 changes: then nothing is told of what was before.
+    What is taken, levels, conditions and why an input isn't taken come from the program's `inspect`, and changes from its
+    `sim`. Which message or time led to a change follows from these and from the published rules. The status is 11 if the
+    program's report ends before AT, because there are more than 200,000 changes. Then nothing is said of what was before.
 
     \b
       $ murdjohe gen 5 > plan.toml

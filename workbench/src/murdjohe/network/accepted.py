@@ -39,6 +39,6 @@ def parted(found: list[Finding], path: str | None) -> tuple[list[Finding], list[
     known = accepted_in(path, files.text(path))
     rest = [finding for finding in found if key_of(finding) not in known]
     gone = known - {key_of(finding) for finding in found}
-    said = [f"{plural(len(found) - len(rest), 'finding')} of {path} left out, which somebody accepted"]
+    said = [f"{plural(len(found) - len(rest), 'finding')} of {path} left out as accepted"]
     said += [f"{path}: no longer found: {what}" for what in sorted(gone)]
     return rest, said

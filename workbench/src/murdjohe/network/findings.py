@@ -93,7 +93,7 @@ def on_sources(looked: Looked) -> Iterator[Finding]:
         if row.level == worst:
             line = looked.line("source", number, "level")
             promise = f", and {NOT_PROMISED}" if row.priority else ""
-            what = f"{title} has {worst}, so nobody takes it{promise}"
+            what = f"{title} has {worst}, so no element takes it{promise}"
             yield Finding(line, WARNING, what, "give it the level that it has, or take it out")
 
 
@@ -285,7 +285,7 @@ def on_groups(looked: Looked, said: Said) -> Iterator[Finding]:
         if gap and gap.elements > without:
             few = f"{gap.first}" if gap.elements == 1 else f"{plural(gap.elements, 'element')}, {gap.first} first,"
             what = f'group "{group.name}", whose parts fail together, cuts off {few} though other links lead there'
-            remedy = "`murdjohe protect --groups` seeks priorities under which it doesn't"
+            remedy = "`murdjohe protect --groups` looks for priorities under which it doesn't"
             yield Finding(part_place(looked, group, rows), WARNING, what, remedy)
         if lost:
             its = f"{plural(len(lost), 'element')} without any path to a clock, whatever is nominated: {listed(lost)}"

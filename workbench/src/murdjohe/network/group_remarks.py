@@ -45,7 +45,9 @@ def on_gaps(gaps: Iterable[Gap], known: Iterable[Group]) -> list[str]:
     said = [sentence(gap, by_name.get(gap.failure or "")) for gap in rows[:SHOWN]]
     more = len(rows) - SHOWN
     return said + (
-        [f"and {plural(more, 'group')} more {'cuts' if more == 1 else 'cut'} somebody off so"] if more > 0 else []
+        [f"and {more:,} more {'group cuts' if more == 1 else 'groups cut'} elements off in this way"]
+        if more > 0
+        else []
     )
 
 

@@ -89,9 +89,9 @@ def text_of(orders: list[Order]) -> list[str]:
     for order in orders:
         said.append(order.element)
         for one in order.inputs:
-            whence = f"{one.link} from {one.neighbour}" if one.link else f"source {one.name}"
+            origin = f"{one.link} from {one.neighbour}" if one.link else f"source {one.name}"
             bundle = f", bundle {one.bundle}" if one.bundle else ""
-            said.append(f"  {ordinal(one.place)}  {whence}{bundle} (priority {one.priority})")
+            said.append(f"  {ordinal(one.place)}  {origin}{bundle} (priority {one.priority})")
         if not order.inputs:
             said.append("  no input")
         times = f"hold-off {order.holdoff} ms, wait-to-restore {order.wtr} min"

@@ -72,7 +72,7 @@ def told(plan: PlanLines) -> str:
     promise = "the promise on single failures doesn't hold for this plan"
     for source in nominated_sources(plan):
         if refused(plan, source):
-            return f'{promise}: source "{source.name}" has {source.level}, so nobody takes it; give it the level that it has'
+            return f'{promise}: source "{source.name}" has {source.level}, so no element takes it; give it the level that it has'
     found = list(broken(plan))
     if not found:
         return ""

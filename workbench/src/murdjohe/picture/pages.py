@@ -64,7 +64,7 @@ def agreement_text(judgement: Judgement) -> str:
         return "it isn't looked at, since timing may go round"
     return (
         judgement.remedy
-        or "agreed: after a failure nobody oscillates where a level reaches that is better than every internal oscillator (own clock)"
+        or "agreed: after a failure no element oscillates if a level reaches it that is better than every internal oscillator (own clock)"
     )
 
 

@@ -55,7 +55,7 @@ def on_barred(problem: Problem, pairs: Iterable[Pair]) -> list[str]:
 def on_impossible(problem: Problem, pairs: Iterable[Pair]) -> list[str]:
     """That no set of sites does, and why."""
     return [
-        "no set of these sites covers everybody:",
+        "no set of these sites covers all elements:",
         *on_barred(problem, pairs),
         "name a candidate there, raise the limit, or let --partly cover the rest",
     ]
@@ -117,7 +117,7 @@ def on_made(made: Made) -> list[str]:
     if made.judgement is None:
         gap = made.gaps[0]
         return [
-            f"checked: `protect` found no plan: {plural(len(made.gaps), 'failure')} would cut somebody off, first "
+            f"checked: `protect` found no plan: {plural(len(made.gaps), 'failure')} would cut elements off, first "
             f"{gap.kind} {gap.failure or ''} ({plural(gap.elements, 'element')}, first {gap.first})"
         ]
     said = [f"checked: {made.judgement.text}", *made.judgement.lines]

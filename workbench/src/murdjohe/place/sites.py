@@ -40,7 +40,7 @@ def level_of(row: Row, option: str) -> tuple[str, str | None]:
     if word in known[:-1]:
         return word, None
     if word == known[-1]:
-        return word, f"the level {word!r} is that of a source that nobody may use; give the level of the clock"
+        return word, f"the level {word!r} is that of a source that no element may use; give the level of the clock"
     likely = levels.likely(word, option)
     hint = f"; write {likely!r}" if likely else f"; the levels of option {option} are {', '.join(known[:-1])}"
     return word, f"{word!r} is no level of option {option}{hint}"

@@ -12,7 +12,7 @@ from murdjohe.network.reference_chain import LONGEST
 from murdjohe.remarks.agreement import on_oscillation
 
 MOST_LINES = LONGEST[0][1]
-CAUTION = "`locked` counts whoever takes an input, also one that leads to an internal oscillator (own clock): `sim` of a cut says whose it is"
+CAUTION = "`locked` counts every element that takes an input, also one that leads to an internal oscillator (own clock): `sim` of a cut says whose it is"
 
 
 def name_of(row: Cut | Case) -> str:
@@ -41,7 +41,7 @@ def on_cuts(words: Words, rows: Sequence[Cut]) -> list[str]:
     few = f"{len(names):,} of {plural(len(rows), 'cut')} leave elements in holdover or free-running at the end (how many): "
     said = ([few + listed(names)] if names else []) + on_needless(words, rows) + on_ends(rows, "after", "cut", words)
     return [
-        *(said or [f"no cut of {len(rows):,} leaves anybody in holdover at the end"]),
+        *(said or [f"no cut of {len(rows):,} leaves an element in holdover at the end"]),
         CAUTION,
         on_end_of_cuts(words),
     ]
@@ -81,9 +81,9 @@ def on_needless(words: Words, rows: Sequence[Cut]) -> list[str]:
             f"{plural(len(needless), 'cut')} {verb} elements without a source although a link could still serve them (how many): {names}"
         )
     if others:
-        verb = "leaves" if len(others) == 1 else "leave"
-        whom = "without a source only elements that no link could serve, or that are taken away themselves"
-        said.append(f"{plural(len(others), 'cut')} {verb} {whom} (how many): {listed(others)}")
+        cuts = plural(len(others), "cut")
+        beyond = "only elements that no link could serve, or that fail themselves, are without a source"
+        said.append(f"after {cuts} {beyond} (how many): {listed(others)}")
     return said
 
 
@@ -103,7 +103,7 @@ def on_lost(rows: Sequence[Case]) -> str:
     """How many cases leave elements without a source, the worst case first."""
     left = sorted((row for row in rows if row.lost), key=lambda row: row.lost, reverse=True)
     if not left:
-        return f"no case of {len(rows):,} leaves anybody without a source at the end"
+        return f"no case of {len(rows):,} leaves an element without a source at the end"
     verb = "leaves" if len(left) == 1 else "leave"
     names = listed([f"{row.case} ({row.lost})" for row in left])
     return f"{len(left):,} of {plural(len(rows), 'case')} {verb} elements without a source at the end (how many, most first): {names}"

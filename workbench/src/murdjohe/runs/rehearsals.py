@@ -261,7 +261,7 @@ def losses_text(found: Rehearsal, start: int) -> list[str]:
     if over:
         said.append("losses that ended, from when on and how long in all:")
         said += [loss_text(loss, start) for loss in over]
-    return said or ["nobody who has a source loses it, or falls below the best level"]
+    return said or ["no element that has a source loses it, or falls below the best level"]
 
 
 def last_changing(found: Rehearsal) -> list[str]:
@@ -281,7 +281,7 @@ def dark_text(found: Rehearsal, start: int) -> str:
             f"the last of them of {listed(last_changing(found))}{rest}"
         )
     if not found.dark:
-        return f"nobody is without a source at the end, {end}{way_text(found)}"
+        return f"no element is without a source at the end, {end}{way_text(found)}"
     names = [f"{name} ({dark_since(found, name, since, start)})" for name, since in found.dark.items()]
     return (
         f"still without a source at the end, {end}: {plural(len(names), 'element')}: {listed(names)}{way_text(found)}"

@@ -79,10 +79,10 @@ def losing_text(tally: Tally, losses: Losses) -> list[str]:
     worst = losses.outcomes()[:1]
     most = f", {plural(worst[0].needless, 'element')} at most: {worst[0].case.case}" if worst else ""
     rest = tally.losing - losses.cases
-    apart = [f"{losses.themselves:,} with elements that are taken away themselves"] if losses.themselves else []
+    apart = [f"{losses.themselves:,} with elements that fail themselves"] if losses.themselves else []
     apart += [f"{losses.beyond:,} with elements that no link could still serve"] if losses.beyond else []
-    others = f"{rest:,} other {'case leaves' if rest == 1 else 'cases leave'} without one only whom nothing could save: {', '.join(apart)}"
-    return [needless + most, others if rest else "no case leaves anybody without one whom nothing could save"]
+    others = f"{rest:,} other {'case leaves' if rest == 1 else 'cases leave'} only elements without one that nothing could serve: {', '.join(apart)}"
+    return [needless + most, others if rest else "no other case leaves an element without a source"]
 
 
 def alone_text(ends: Ends) -> list[str]:
@@ -96,7 +96,7 @@ def alone_text(ends: Ends) -> list[str]:
             *later_text(ends, alone),
         ]
     who = f"{plural(len(alone.lost), 'element')} without a source at the end ({listed(alone.lost)})"
-    left = who if alone.lost else "nobody without a source at the end"
+    left = who if alone.lost else "no element without a source at the end"
     restless = "" if alone.is_settled else ", and it isn't settled then"
     more = f"{of_cases(ends.losses.more, 'leaves', 'leave')} more elements without one than they do"
     look = f"what they do before {ends.clock(ends.until)} isn't looked at: --at and --until say another time"
@@ -154,8 +154,8 @@ def names_text(names: list[Names]) -> list[str]:
     """Who has no source in each of some cases, all of them, by why."""
     said = []
     for one in names:
-        whom = "; ".join(f"{why}: {', '.join(who)}" for why, who in one.each)
-        said.append(f"  {one.case}  {whom if one.is_known else 'not known, since `sim` stops this run'}")
+        found = "; ".join(f"{why}: {', '.join(who)}" for why, who in one.each)
+        said.append(f"  {one.case}  {found if one.is_known else 'not known, since `sim` stops this run'}")
     return ["", "who has no source at the end, by name and why:", *said] if said else []
 
 

@@ -109,7 +109,7 @@ def back_text(why: Why, name: str, moment: Moment) -> str:
     if message and said and said != back:
         back, verb, then = said, "took", f" when it said so, at {moment(message.sent)}"
     if back is None:
-        return f"so {line.sender} tells whom it takes its timing from"
+        return f"so {line.sender} tells the element that it takes its timing from"
     other = "" if back.link == line.link else ", which is of the same bundle"
     return f"{line.sender} {verb} its timing from {line.receiver} over {back.name}{other}{then}"
 

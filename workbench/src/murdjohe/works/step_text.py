@@ -96,7 +96,7 @@ def summary(found: list[Step], is_old_good: bool) -> list[str]:
         said = f"{number}; the old plan can loop or oscillate, and so can those up to step {bad}: work these off without a pause"
     return [
         said,
-        "between two steps nobody loses its last way to a clock; failures meanwhile aren't looked at: `protected` tells them of the "
+        "between two steps no element loses its last way to a clock; failures meanwhile aren't looked at: `protected` tells them of the "
         "plan after a step",
     ]
 
@@ -105,7 +105,7 @@ def no_order(is_whole: bool) -> str:
     """That no order is found."""
     if is_whole:
         return (
-            "there is no order, element after element, in which no plan can loop or oscillate and nobody loses its last way to a "
+            "there is no order, element after element, in which no plan can loop or oscillate and no element loses its last way to a "
             "clock: take what is taken back away first, in a window in which elements may hold over"
         )
     return "no order was found in the time of a search; change fewer elements at once, by plans in between"
