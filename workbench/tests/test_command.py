@@ -91,7 +91,7 @@ def test_topics_are_told(topic: str) -> None:
 
 def test_the_plan_of_the_help_is_accepted(folder: Path) -> None:
     text = murdjohe("help", "plan").out.decode()
-    plan = text[text.index("[[element]]") : text.index("Without priorities")]
+    plan = text[text.index("[[element]]") : text.index("If a plan has no priorities")]
     ran = murdjohe("rank", "-", stdin=plan.encode())
     assert (ran.status, ran.out) == (0, b"line,rank\nL1>B,0\n")
     events = murdjohe("help", "events").out.decode()

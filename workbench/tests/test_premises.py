@@ -82,5 +82,5 @@ def test_lint_says_nothing_of_an_example_that_keeps_all_premises() -> None:
 def test_lint_says_what_it_leaves_out() -> None:
     ran = murdjohe("lint", str(EXAMPLES / "mesh" / "redundant.toml"), "--no-gaps")
     assert "cuts off" not in ran.out.decode() and "checked: accepted, agreed\n" in ran.err
-    assert "whom single failures cut off isn't looked at" in ran.err
+    assert "single failures aren't looked at" in ran.err
     assert "cuts off" in murdjohe("lint", str(EXAMPLES / "mesh" / "redundant.toml")).out.decode()
