@@ -27,7 +27,7 @@ from bench.measure.times import growth, run
 from bench.program import octets, program_words, put_files
 from bench.reference.plan import Plan, plan_text, read_plan
 
-SETTLED = 400_000  # milliseconds after which every such network has settled
+SETTLED, LEVEL = 400_000, 20  # milliseconds after which a small network has settled, and that each element adds at most
 FORMS = (
     "check",
     "rank",
@@ -61,18 +61,25 @@ class Cost(NamedTuple):
     status: int
 
 
+def settled(count: int) -> int:
+    """The millisecond from which a network of so many elements has settled: levels have gone from end to end."""
+    return SETTLED + LEVEL * count
+
+
 def events(plan: Plan, count: int) -> str:
     """So many links that go down one after the other, a second apart."""
+    start = settled(len(plan.elements))
     apart = max(1, len(plan.links) // count)
     names = [plan.links[k].name for k in range(0, len(plan.links), apart)][:count]
-    return "at,what,target,value\n" + "".join(f"{SETTLED + n * 1000},down,{name},\n" for n, name in enumerate(names))
+    return "at,what,target,value\n" + "".join(f"{start + n * 1000},down,{name},\n" for n, name in enumerate(names))
 
 
 def cases(plan: Plan, count: int) -> str:
     """So many cases, in each of which a link goes down."""
+    start = settled(len(plan.elements))
     apart = max(1, len(plan.links) // count)
     names = [plan.links[k].name for k in range(0, len(plan.links), apart)][:count]
-    return "case,at,what,target,value\n" + "".join(f"C{n},{SETTLED},down,{name},\n" for n, name in enumerate(names))
+    return "case,at,what,target,value\n" + "".join(f"C{n},{start},down,{name},\n" for n, name in enumerate(names))
 
 
 def groups(plan: Plan, count: int) -> str:
@@ -88,15 +95,16 @@ def groups(plan: Plan, count: int) -> str:
 
 def words_of(form: str, count: int, receiver: str) -> list[str]:
     """The words of a form, over the files of a folder with so many elements, one of which receives a line."""
-    until = str(SETTLED + 1_200_000)
+    start = settled(count)
+    until = str(start + 1_200_000)
     return {
         "check": ["check", "plan", "certificate"],
         "prio-check": ["prio-check", "plan", "certificate"],
         "sim": ["sim", "plan", "one", until],
-        "sim-1000": ["sim", "plan", "thousand", str(SETTLED + 2_400_000)],
-        "inspect": ["inspect", "plan", "one", str(SETTLED + 1_000)],
-        "study": ["study", "plan", "cases", str(SETTLED + 60_000)],
-        "sweep": ["sweep", "plan", str(SETTLED), str(SETTLED + 60_000)],
+        "sim-1000": ["sim", "plan", "thousand", str(start + 2_400_000)],
+        "inspect": ["inspect", "plan", "one", str(start + 1_000)],
+        "study": ["study", "plan", "cases", str(start + 60_000)],
+        "sweep": ["sweep", "plan", str(start), str(start + 60_000)],
         "prio-sim": ["prio-sim", "plan", "one", until],
         "protecting": ["protected", "protecting"],
         "groups": ["protected", "protecting", "groups"],

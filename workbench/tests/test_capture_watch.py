@@ -3,6 +3,7 @@
 from __future__ import annotations
 
 import fcntl
+import functools
 import json
 import os
 import pty
@@ -99,8 +100,9 @@ def test_frames_come_at_once_and_the_interrupt_sums_up() -> None:
 
 
 def test_capture_read_sums_up_what_came_before_the_interrupt() -> None:
-    pipe = subprocess.PIPE
-    with subprocess.Popen([str(LAUNCHER), "capture", "read", "-"], stdin=pipe, stdout=pipe, stderr=pipe) as process:
+    pipe, words = subprocess.PIPE, [str(LAUNCHER), "capture", "read", "-"]
+    heeded = functools.partial(signal.signal, signal.SIGINT, signal.SIG_DFL)  # (whatever started the tests)
+    with subprocess.Popen(words, preexec_fn=heeded, stdin=pipe, stdout=pipe, stderr=pipe) as process:
         assert process.stdin is not None
         process.stdin.write(HEAD + record(0) + record(1) + record(3)[:20])
         process.stdin.flush()
