@@ -32,7 +32,7 @@ if CHROMIUM is None or DRIVER is None:
 MESH = EXAMPLES / "mesh"
 OPTIONS = ("--headless=new", "--no-sandbox", "--disable-dev-shm-usage", "--window-size=1400,1000")
 # Generous limits in milliseconds, for a busy machine; on a quiet one it is a fraction of them.
-FIRST_PAINT, STEP = 20_000, 1_000  # milliseconds on the slowest machine; at rest a page takes some 1,500 and a step 25
+FIRST_PAINT, STEP = 20_000, 1_000
 
 
 @pytest.fixture(scope="module")
