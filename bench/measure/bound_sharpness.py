@@ -18,11 +18,7 @@ from bench.program import answer, program_words, put_files
 AT = 20000
 
 # The greatest delay, and the wait-to-restore times in minutes.
-KINDS = {
-    "usual waits": (20, (5, 5, 5, 1, 12)),
-    "no wait-to-restore": (20, (0,)),
-    "and delays up to 1000": (1000, (0,)),
-}
+KINDS = {"usual waits": (20, (5, 5, 5, 1, 12)), "no wait-to-restore": (20, (0,)), "and delays up to 1000": (1000, (0,))}
 
 
 def plan_text(numbers: random.Random, longest: int, waits: tuple[int, ...]) -> tuple[str, int]:

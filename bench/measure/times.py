@@ -22,10 +22,7 @@ def run(program: str, words: list[str]) -> Run:
     """Wall and processor time in milliseconds, peak memory in MB, and the exit status."""
     start = time.perf_counter()
     pid = os.posix_spawn(
-        program,
-        [program, *words],
-        os.environ,
-        file_actions=[(os.POSIX_SPAWN_OPEN, 1, "/dev/null", os.O_WRONLY, 0)],
+        program, [program, *words], os.environ, file_actions=[(os.POSIX_SPAWN_OPEN, 1, "/dev/null", os.O_WRONLY, 0)]
     )
     _, status, usage = os.wait4(pid, 0)
     wall = (time.perf_counter() - start) * 1000

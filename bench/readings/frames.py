@@ -7,14 +7,7 @@ from bench.readings.records import number_of
 
 DIGITS = b"0123456789abcdefABCDEF"
 # The octets that a frame must have, each with the place where they begin and the number of the error.
-FIXED = [
-    (0, "0180c2000002", 5),
-    (12, "8809", 6),
-    (14, "0a", 7),
-    (15, "0019a7", 8),
-    (18, "0001", 9),
-    (24, "010004", 11),
-]
+FIXED = [(0, "0180c2000002", 5), (12, "8809", 6), (14, "0a", 7), (15, "0019a7", 8), (18, "0001", 9), (24, "010004", 11)]
 
 
 class Wrong(Exception):

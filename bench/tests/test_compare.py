@@ -123,11 +123,7 @@ def test_what_agrees_is_told_as_by_hand() -> None:
 
 def test_a_level_reaches_where_nothing_keeps_it_out() -> None:
     plan = read_plan(CHAIN)
-    down, up, off = (
-        Event(1, "down", ("link", 1)),
-        Event(2, "up", ("line", 2)),
-        Event(3, "esmc-off", ("line", 2)),
-    )
+    down, up, off = (Event(1, "down", ("link", 1)), Event(2, "up", ("line", 2)), Event(3, "esmc-off", ("line", 2)))
     assert agree.Standing(plan, []).reached() == {0, 1, 2}
     assert agree.Standing(plan, [down]).reached() == {0, 1}
     assert agree.Standing(plan, [down, up]).reached() == {0, 1, 2}

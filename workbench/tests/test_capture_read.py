@@ -25,10 +25,7 @@ DONE = {
     "two tags": ["8 frames carried several VLAN tags (QinQ): taken off"],
     "cooked": [f"8 frames {encapsulation.COOKED_HEAD}"],
     "cooked 2": [f"8 frames {encapsulation.COOKED_HEAD}"],
-    "cooked 2, tagged": [
-        "8 frames carried a VLAN tag: taken off",
-        f"8 frames {encapsulation.COOKED_HEAD}",
-    ],
+    "cooked 2, tagged": ["8 frames carried a VLAN tag: taken off", f"8 frames {encapsulation.COOKED_HEAD}"],
     "before padding": ["8 frames had fewer than 60 bytes, as before padding: padded with zeros"],
     "cut behind the TLVs": ["8 frames had been cut by the capture behind the TLVs: padded with zeros"],
 }

@@ -18,17 +18,7 @@ from murdjohe.answers import api
 from murdjohe.core.faults import Wrong
 from murdjohe.desk import drafts, edits
 from murdjohe.desk.drafts import Base, Draft
-from murdjohe.desk.edits import (
-    AddEvents,
-    AddRow,
-    DropEvent,
-    DropEvents,
-    Edit,
-    SetValue,
-    TakeAway,
-    TakeOver,
-    TakeText,
-)
+from murdjohe.desk.edits import AddEvents, AddRow, DropEvent, DropEvents, Edit, SetValue, TakeAway, TakeOver, TakeText
 from murdjohe.desk.states import Conflict, States
 from murdjohe.plan import model
 from murdjohe.core import toml_reader

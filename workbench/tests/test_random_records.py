@@ -173,13 +173,7 @@ def broken_event(chance: random.Random, plan: RandomPlan, rows: list[str], numbe
     return at, words
 
 
-WRONG_TIMES = [
-    ("-5", "no number"),
-    ("1.5", "no number"),
-    ("", "no number"),
-    ("20x", "no number"),
-    (" 7", "blanks"),
-]
+WRONG_TIMES = [("-5", "no number"), ("1.5", "no number"), ("", "no number"), ("20x", "no number"), (" 7", "blanks")]
 WRONG_WORDS = [
     ("DOWN", '(nearest: "down")'),
     ("cut", '(nearest: "down")'),

@@ -242,11 +242,7 @@ _ALL = (
         PRIORITY,
         "check, where elements choose by priority alone",
         (0, 1, 3, 4, 7, 9),
-        (
-            _MAKE,
-            "murdjohe prio-rank plan.toml > certificate.csv",
-            "murdjohe prio-check plan.toml certificate.csv",
-        ),
+        (_MAKE, "murdjohe prio-rank plan.toml > certificate.csv", "murdjohe prio-check plan.toml certificate.csv"),
     ),
     Form(
         "prio-rank",
@@ -304,14 +300,7 @@ _ALL = (
         (0, 3, 6, 7, 9, 11),
         (_MAKE, _HEARD, "murdjohe node plan.toml E1 received 2s"),
     ),
-    Form(
-        "gen",
-        (_N,),
-        TRYING,
-        "writes a plan of N elements",
-        (0, 2),
-        ("murdjohe gen 5 > plan.toml",),
-    ),
+    Form("gen", (_N,), TRYING, "writes a plan of N elements", (0, 2), ("murdjohe gen 5 > plan.toml",)),
     Form(
         "trial",
         (_N,),

@@ -13,10 +13,7 @@ if TYPE_CHECKING:
     from typing import Any
 
 FILE = "refusals.toml"
-TABLES = {
-    program.BAD_PLAN: ("plan", b"bad plan "),
-    program.BAD_CERTIFICATE: ("certificate", b"bad certificate "),
-}
+TABLES = {program.BAD_PLAN: ("plan", b"bad plan "), program.BAD_CERTIFICATE: ("certificate", b"bad certificate ")}
 # The statuses that refuse files of several kinds: how each refusal begins, and its table.
 SEVERAL = {
     program.BAD_EVENTS: {b"bad events ": "events", b"bad groups ": "groups"},

@@ -10,17 +10,7 @@ from typing import NamedTuple
 from murdjohe.core.faults import Wrong
 from murdjohe.core.program import FOUND
 from murdjohe.desk import edits, pieces
-from murdjohe.desk.edits import (
-    AddEvents,
-    AddRow,
-    DropEvent,
-    DropEvents,
-    Edit,
-    SetValue,
-    TakeAway,
-    TakeOver,
-    TakeText,
-)
+from murdjohe.desk.edits import AddEvents, AddRow, DropEvent, DropEvents, Edit, SetValue, TakeAway, TakeOver, TakeText
 from murdjohe.desk.pieces import Piece, Value
 from murdjohe.plan.edits import MARK
 from murdjohe.plan.model import Plan

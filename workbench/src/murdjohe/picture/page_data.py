@@ -29,13 +29,7 @@ from murdjohe.survey.tallies import Tally
 
 MODES = {word: place for place, word in enumerate(row_tables.CHANGES.column("mode").words)}
 STATES = {word: place for place, word in enumerate(row_tables.CHANGES.column("state").words)}
-SIGNS = {
-    "loop": colours.LOOP,
-    "pair": colours.PAIR,
-    "dark": colours.DARK,
-    "grey": colours.GREY,
-    "pale": colours.PALE,
-}
+SIGNS = {"loop": colours.LOOP, "pair": colours.PAIR, "dark": colours.DARK, "grey": colours.GREY, "pale": colours.PALE}
 MOST_CELLS = 200_000  # elements of all cases together
 HEADS = ("link", "settled", "locked", "holdover", "free-running", "loops", "worst", "no source", "another way left")
 

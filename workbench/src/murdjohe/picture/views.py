@@ -86,12 +86,7 @@ def plain_view(title: str, network: Plan) -> View:
 
 
 def view_of(
-    title: str,
-    network: Plan,
-    report: Report,
-    events: tuple[Event, ...],
-    at: int | None,
-    start: int = 0,
+    title: str, network: Plan, report: Report, events: tuple[Event, ...], at: int | None, start: int = 0
 ) -> View:
     """The plan at a millisecond of a report, or at its end. What is cut is told by events, and by the report at its end."""
     wired = wiring.wiring_of(network)

@@ -171,12 +171,7 @@ def edits_of(plan: PlanLines, found: Found) -> list[Edit]:
     both = [(line, 0) for line in found.lines] + [(last.line, last.priority) for last in found.raised]
     return [
         Edit(
-            plan.line("link", line.row, line.key),
-            line.name.partition(">")[0],
-            line.key,
-            line.priority,
-            line.name,
-            new,
+            plan.line("link", line.row, line.key), line.name.partition(">")[0], line.key, line.priority, line.name, new
         )
         for line, new in both
     ]

@@ -66,10 +66,7 @@ class Losses:
         self.themselves += loss.themselves > 0 and not loss.needless
         self.beyond += loss.beyond > 0 and not loss.themselves and not loss.needless
         self.cases += loss.needless > 0
-        measures = (
-            (self.worst, (loss.needless, loss.case.lost)),
-            (self.widest, (loss.case.lost, loss.case.freerun)),
-        )
+        measures = ((self.worst, (loss.needless, loss.case.lost)), (self.widest, (loss.case.lost, loss.case.freerun)))
         for worst, measure in measures:
             if worst.has_place(measure):
                 self.kept[loss.case.case] = loss
