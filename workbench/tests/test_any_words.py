@@ -17,66 +17,13 @@ from murdjohe.core import streams
 from murdjohe.core.forms import FORMS
 from murdjohe.desk import server
 
-FILES = [
-    "plan",
-    "certificate",
-    "events",
-    "cases",
-    "report",
-    "capture",
-    "rows",
-    "nosuch",
-    ".",
-    "",
-    "-",
-    "/dev/null",
-    "p\udcffq",
-    "ä",
-]
-OPTIONS = [
-    "-q",
-    "--quiet",
-    "--json",
-    "--help",
-    "-h",
-    "--version",
-    "--",
-    "-x",
-    "--near",
-    "-o",
-    "out.dot",
-    "out.svg",
-    "--report",
-]
-OTHERS = [
-    "I",
-    "II",
-    "III",
-    "A",
-    "20m",
-    "0",
-    "99",
-    "-5",
-    "1e9",
-    "25h",
-    "12:00:00",
-    "3",
-    "2001",
-    "plan=",
-    "\n",
-    "\x1b[2J",
-]
-WORDS = st.lists(
-    st.one_of(
-        st.sampled_from([*FORMS, *cli.OWN]), st.sampled_from(FILES), st.sampled_from(OPTIONS), st.sampled_from(OTHERS)
-    ),
-    max_size=6,
-)
-LIKELY = st.builds(
-    lambda name, rest: [name, *rest],
-    st.sampled_from([*FORMS, *cli.OWN]),
-    st.lists(st.one_of(st.sampled_from(FILES), st.sampled_from(OTHERS), st.sampled_from(OPTIONS)), max_size=4),
-)
+FILES = [*"plan certificate events cases report capture rows nosuch . - /dev/null p\udcffq ä".split(), ""]
+OPTIONS = "-q --quiet --json --help -h --version -- -x --near -o out.dot out.svg --report".split()
+OTHERS = [*"I II III A 20m 0 99 -5 1e9 25h 12:00:00 3 2001 plan=".split(), "\n", "\x1b[2J"]
+NAMES = st.sampled_from([*FORMS, *cli.OWN])
+REST = st.sampled_from(FILES), st.sampled_from(OPTIONS), st.sampled_from(OTHERS)
+WORDS = st.lists(st.one_of(NAMES, *REST), max_size=6)
+LIKELY = st.builds(lambda name, rest: [name, *rest], NAMES, st.lists(st.one_of(*REST), max_size=4))
 
 
 def at_once(_: object) -> asyncio.Event:
@@ -91,12 +38,8 @@ def files(folder: Path, monkeypatch: pytest.MonkeyPatch) -> Path:
     """A folder with a file of each kind, in which a desk ends at once."""
     monkeypatch.setattr(server.Server, "ending", at_once)
     monkeypatch.setenv("XDG_STATE_HOME", str(folder / "states"))
-    at = {
-        "plan": "ring/plan.toml",
-        "certificate": "ring/certificate.csv",
-        "events": "ring/events.csv",
-        "report": "ring/report",
-    }
+    at = {"plan": "plan.toml", "certificate": "certificate.csv", "events": "events.csv", "report": "report"}
+    at = {name: f"ring/{file}" for name, file in at.items()}
     for name, source in (at | {"capture": "lab/capture.pcap", "rows": "lab/stimulus.rows"}).items():
         (folder / name).write_bytes((EXAMPLES / source).read_bytes())
     (folder / "cases").write_text("case,at,what,target,value\n,5,down,L1,\na,9,up,L1,\n")

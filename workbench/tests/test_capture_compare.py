@@ -105,10 +105,9 @@ def test_a_right_device_differs_nowhere(folder: Path) -> None:
     first, *times = ran.out.decode().splitlines()
     assert (ran.status, first) == (0, "pass: no differences"), ran.out
     # (each change is told after the delay)
-    assert [" ".join(line.split()) for line in times[2:]] == [
-        "east>tester 3 20 20 20",
-        "south>tester 3 20 20 20",
-        "west>tester 2 20 20 20",
+    told = [line.split() for line in times[2:]]
+    assert told == [[f"{where}>tester", *"3 20 20 20".split()] for where in ("east", "south")] + [
+        "west>tester 2 20 20 20".split()
     ]
     # (9 and 3 on south and on east, 8 and 3 on west, whose cable is out for a while; the tester speaks last, at 8600)
     assert "murdjohe: compared: 35 messages on 3 lines, from 0 to 8600 ms, with a tolerance of 100 ms\n" in ran.err
@@ -127,11 +126,11 @@ def changed(
 
 def late() -> Said:
     """A device that tells its do-not-use 600 milliseconds late."""
-    return changed(
-        played(),
-        lambda at, cable, octets: cable == "east" and at == 3_500 + DELAY,
-        lambda at, octets: [(at + 580, octets)],
-    )
+
+    def is_late(at: int, cable: str, _: str) -> bool:
+        return cable == "east" and at == 3_500 + DELAY
+
+    return changed(played(), is_late, lambda at, octets: [(at + 580, octets)])
 
 
 def late_by(more: int) -> Said:
@@ -282,14 +281,11 @@ def test_an_input_without_a_line_is_told(folder: Path) -> None:
         (["--line", "west>tester=@west", "--from", "9s"], 2, "nothing can be compared: c is at its end at 8600 ms"),
         (["--tolerance", "soon"], 2, "'soon' is no time"),
         (["--line", "west>tester=@west", "--events", "nosuch"], 7, "nosuch: No such file or directory"),
-        (
-            ["--line", "west>tester=@west", "--events", "bad"],
-            24,
-            "bad:1: `at,what`: it doesn't begin with milliseconds",
-        ),
+        (["--line", "west>tester=@west", "--events", "bad"], 24,
+         "bad:1: `at,what`: it doesn't begin with milliseconds"),
         (["--line", "west>tester=@west", "--events", "odd"], 2, "what device received is refused: "),
     ],
-)
+)  # fmt: skip
 def test_words_that_can_not_be_taken(folder: Path, words: list[str], status: int, said: str) -> None:
     (folder / "c").write_bytes(capture([]))
     (folder / "bad").write_text("at,what\n")

@@ -22,66 +22,40 @@ from murdjohe.plan.plan_lines import PlanLines
 from murdjohe.runs import failures
 
 PLAN = """version = 2
-[[element]]
-name = "A"
-[[element]]
-name = "B"
-[[element]]
-name = "C"
-[[link]]
-name = "L1"
-a = "A"
-b = "B"
-priority_b = 1
-bundle = "G"
-[[link]]
-name = "L2"
-a = "A"
-b = "B"
-priority_b = 2
-bundle = "G"
-[[source]]
-name = "A-clock"
-at = "A"
-level = "QL-PRC"
+element = [{ name = "A" }, { name = "B" }, { name = "C" }]
+link = [
+  { name = "L1", a = "A", b = "B", priority_b = 1, bundle = "G" },
+  { name = "L2", a = "A", b = "B", priority_b = 2, bundle = "G" },
+]
+source = [{ name = "A-clock", at = "A", level = "QL-PRC" }]
 """
 HEAD = "case,at,what,target,value\n"
-L1, L2, S = ("{},600000,down,L1,\n", "{},600000,down,L2,\n", "{},600000,down,A-clock,\n")
+
+
+# Each case with what goes down in it.
+PAIRS = "L1--L2:L1 L1--L2:L2 L1--A-clock:L1 L1--A-clock:A-clock L2--A-clock:L2 L2--A-clock:A-clock G--A-clock:L1 "
+PAIRS += "G--A-clock:L2 G--A-clock:A-clock"
 
 
 @pytest.mark.parametrize(
     ("words", "rows", "said"),
     [
-        ([], [L1.format("L1"), L2.format("L2")], "2 cases, 2 rows"),
-        (["--bundles"], [L1.format("G"), L2.format("G")], "1 case, 2 rows"),
-        (["--sources", "--at", "2s"], ["A-clock,2000,down,A-clock,\n"], "1 case, 1 row"),
+        ("", "L1:L1 L2:L2", "2 cases, 2 rows"),
+        ("--bundles", "G:L1 G:L2", "1 case, 2 rows"),
+        ("--sources --at 2s", "A-clock:A-clock", "1 case, 1 row"),
         # (C has nothing that could go down)
-        (
-            ["--elements"],
-            [one.format("A") for one in (L1, L2, S)] + [L1.format("B"), L2.format("B")],
-            "2 cases, 5 rows",
-        ),
-        (
-            ["--links", "--bundles", "--sources", "--pairs"],
-            [L1.format("L1"), L2.format("L2"), L1.format("G"), L2.format("G"), S.format("A-clock")]
-            + [one.format("L1--L2") for one in (L1, L2)]
-            + [one.format("L1--A-clock") for one in (L1, S)]
-            + [one.format("L2--A-clock") for one in (L2, S)]
-            + [one.format("G--A-clock") for one in (L1, L2, S)],
-            "8 cases, 14 rows",
-        ),
-        (
-            ["--links", "--pairs", "--cases", "2-3"],
-            [L2.format("L2"), L1.format("L1--L2"), L2.format("L1--L2")],
-            "2 cases, 3 rows",
-        ),
-        (["--cases", "7-9"], [], "0 cases, 0 rows"),
+        ("--elements", "A:L1 A:L2 A:A-clock B:L1 B:L2", "2 cases, 5 rows"),
+        ("--links --bundles --sources --pairs", f"L1:L1 L2:L2 G:L1 G:L2 A-clock:A-clock {PAIRS}", "8 cases, 14 rows"),
+        ("--links --pairs --cases 2-3", "L2:L2 L1--L2:L1 L1--L2:L2", "2 cases, 3 rows"),
+        ("--cases 7-9", "", "0 cases, 0 rows"),
     ],
 )
-def test_cases_by_hand(folder: Path, words: list[str], rows: list[str], said: str) -> None:
+def test_cases_by_hand(folder: Path, words: str, rows: str, said: str) -> None:
     (folder / "plan.toml").write_text(PLAN)
-    ran = murdjohe("failures", "plan.toml", *words, folder=folder)
-    assert (ran.status, ran.out.decode()) == (0, HEAD + "".join(rows))
+    ran = murdjohe("failures", "plan.toml", *words.split(), folder=folder)
+    at = "2000" if "--at" in words else "600000"
+    wanted = [f"{case},{at},down,{part},\n" for case, part in (row.split(":") for row in rows.split())]
+    assert (ran.status, ran.out.decode()) == (0, HEAD + "".join(wanted))
     down = "00:00:02.000 (2,000 ms)" if "--at" in words else "00:10:00.000 (600,000 ms)"
     end = "00:00:03.000 (3,000 ms)" if "--at" in words else "00:10:01.000 (601,000 ms)"
     chosen = "0.302 s after the last failure (`failures F` of `agree`), rounded up to a whole second"
@@ -191,11 +165,8 @@ def test_the_program_takes_each_case_of_an_example(folder: Path) -> None:
         (["plan.toml", "--cases", "0-2"], 2, "--cases: '0-2' is no span of cases"),
         (["plan.toml", "--at", "25h"], 2, "--at: at most a day, 24h"),
         (["plan.toml", "--groups", "none.csv"], 7, "none.csv: No such file"),
-        (
-            ["plan.toml", "--groups", "bad.csv"],
-            24,
-            "bad.csv:2: links: 'L9' names no link of the plan (nearest: \"L2\")",
-        ),
+        (["plan.toml", "--groups", "bad.csv"], 24,
+         "bad.csv:2: links: 'L9' names no link of the plan (nearest: \"L2\")"),
         (["plan.toml", "--groups", "bad.csv"], 24, "bad.csv:3: 'a b' is no name of a group"),
         (["plan.toml", "--groups", "bad.csv"], 24, "bad.csv:4: the group 'c' has no links"),
         (["plan.toml", "--during", "bad.csv"], 5, "bad.csv"),
@@ -203,7 +174,7 @@ def test_the_program_takes_each_case_of_an_example(folder: Path) -> None:
         (["bad.csv"], 3, "bad.csv"),
         (["none.toml"], 7, "none.toml: No such file"),
     ],
-)
+)  # fmt: skip
 def test_what_can_not_be_written(folder: Path, words: list[str], status: int, said: str) -> None:
     (folder / "plan.toml").write_text(PLAN)
     bad = "name,links\nduct,L1 L9\na b,L1\nc,\n"

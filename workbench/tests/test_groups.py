@@ -107,37 +107,25 @@ def test_the_table_may_come_on_standard_input(four: Path) -> None:
         ("group,kind,parts\n", "26", "ducts.csv:1: `group,kind,parts`: its first line is no header; begin with"),
         ("Group,Kind,Part\n", "26", "its header has other letters or blanks; begin with `group,kind,part`"),
         ("group;kind;part\n", "26", "its fields have semicolons between them; write commas, as in `group,kind,part`"),
-        (
-            "name,links\nD,L1 L5\n",
-            "26",
-            "it has a row for each group, with its links, and a row for each part is wanted",
-        ),
+        ("name,links\nD,L1 L5\n", "26",
+         "it has a row for each group, with its links, and a row for each part is wanted"),
         ("at,what,target,value\n", "26", "it is an event list, and no list of groups; are two words"),
         ("group,kind,part\n# ducts\n", "27 1", "ducts.csv:2: `# ducts`: it is a remark, and lists of groups have none"),
         ("group,kind,part\nD,link\n", "27 1", "it has 2 fields in place of three; write both commas"),
         ("group,kind,part\nD;link;L1\n", "27 1", "its fields have semicolons between them; write commas"),
         ("group,kind,part\nduct 7,link,L1\n", "51 1", "the name of its group has the sign ' '; a name is 1 to 32 of"),
-        (
-            "group,kind,part\nD,link,L1\nE,link,L1\nD,link,L5\n",
-            "52 3",
-            'ducts.csv:4: `D,link,L5`: the group "D" stood above, up to line 2, and other rows came between; put all rows',
-        ),
-        (
-            "group,kind,part\nD,fibre,L1\n",
-            "53 1",
-            '"fibre" is no kind of a part (nearest: "link"); the kinds are link,',
-        ),
+        ("group,kind,part\nD,link,L1\nE,link,L1\nD,link,L5\n", "52 3",
+         'ducts.csv:4: `D,link,L5`: the group "D" stood above, up to line 2, and other rows came between; put all rows'),
+        ("group,kind,part\nD,fibre,L1\n", "53 1",
+         '"fibre" is no kind of a part (nearest: "link"); the kinds are link,'),
         ("group,kind,part\nD,bundle,X\n", "53 1", "name the links of a bundle"),
         ("group,kind,part\nD,link,L9\n", "31 1", '"L9" names no link of the plan (nearest: "L5"); correct the name'),
-        (
-            "group,kind,part\nD,link,B\n",
-            "31 1",
-            '"B" is an element; its inputs are L1>B, L2>B, L4>B; a part of the kind',
-        ),
+        ("group,kind,part\nD,link,B\n", "31 1",
+         '"B" is an element; its inputs are L1>B, L2>B, L4>B; a part of the kind'),
         ("group,kind,part\nD,link,L1>B\n", "31 1", '"L1>B" is a line, into element B; a part of the kind link is the'),
         ("group,kind,part\nD,link,L1\n\nD,link,L1\n", "31 2", 'ducts.csv:4: `D,link,L1`: the group "D" has link "L1"'),
     ],
-)
+)  # fmt: skip
 def test_what_is_refused_is_told_in_one_line(four: Path, table: str, refusal: str, told: str) -> None:
     (four / "ducts.csv").write_text(table)
     ran = murdjohe("protected", "four.toml", "ducts.csv", folder=four)

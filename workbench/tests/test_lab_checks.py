@@ -11,13 +11,8 @@ import pytest
 from conftest import Ran, murdjohe
 from test_capture_compare import BENCH, CABLES, WORDS, compared, late, late_by, played
 
-KINDS = [
-    "nothing is missing",
-    "nothing is late",
-    "each level is right",
-    "nothing is unexpected",
-    "not too many messages",
-]
+KINDS = ["nothing is missing", "nothing is late", "each level is right", "nothing is unexpected"]
+KINDS.append("not too many messages")
 LATE = "3500 ms, 10:03:03.500, frame 25: QL-DNU (do-not-use) had to be said, and came 600 ms later"
 
 

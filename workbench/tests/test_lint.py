@@ -243,17 +243,11 @@ def test_findings_stand_in_the_order_of_the_file(seed: int) -> None:
 @pytest.mark.parametrize(
     ("name", "option", "level"),
     [
-        ("prc-east", "I", "QL-PRC"),
-        ("PRTC_1", "I", "QL-PRTC"),
-        ("bern-ssu-a", "I", "QL-SSU-A"),
-        ("prs-west", "II", "QL-PRS"),
-        ("prs-west", "I", None),
-        ("gnss-a", "I", None),
-        ("prc-prtc", "I", None),
-        ("eprtc", "I", "QL-ePRTC"),
-        ("sprc", "I", None),
+        ("prc-east", "I", "QL-PRC"), ("PRTC_1", "I", "QL-PRTC"), ("bern-ssu-a", "I", "QL-SSU-A"),
+        ("prs-west", "II", "QL-PRS"), ("prs-west", "I", None), ("gnss-a", "I", None), ("prc-prtc", "I", None),
+        ("eprtc", "I", "QL-ePRTC"), ("sprc", "I", None),
     ],
-)
+)  # fmt: skip
 def test_levels_in_names(name: str, option: str, level: str | None) -> None:
     assert findings.named_level(name, option) == level
 

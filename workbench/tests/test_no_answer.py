@@ -74,20 +74,14 @@ def test_a_text_that_was_cut_off_is_none(folder: Path, core: str, words: str) ->
 @pytest.mark.parametrize(
     ("words", "change", "said"),
     [
-        (
-            "sim plan.toml works.csv 1h",
-            "s/,source,/,orbit,/",
-            "kind is `orbit`, where traces have one of source, own, loop",
-        ),
-        (
-            "sim plan.toml works.csv 1h --json",
-            "s/,locked$/,asleep/",
-            "state is `asleep`, where changes have one of locked,",
-        ),
+        ("sim plan.toml works.csv 1h", "s/,source,/,orbit,/",
+         "kind is `orbit`, where traces have one of source, own, loop"),
+        ("sim plan.toml works.csv 1h --json", "s/,locked$/,asleep/",
+         "state is `asleep`, where changes have one of locked,"),
         ("sweep plan.toml 60s 1h", "s/^L1,yes/L1,nearly/", "settled is `nearly`, where cuts have one of yes, no"),
         ("rehearse plan.toml works.csv", "s/,locked$/,asleep/", "state is `asleep`, where changes have one of locked,"),
     ],
-)
+)  # fmt: skip
 def test_a_word_that_is_not_known_is_told(folder: Path, core: str, words: str, change: str, said: str) -> None:
     (folder / "plan.toml").write_text(RESERVE)
     (folder / "works.csv").write_text(UNMENDED)

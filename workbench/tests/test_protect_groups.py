@@ -103,23 +103,17 @@ def test_a_table_without_groups_gives_what_protect_gives(files: Path) -> None:
     [
         (["four.toml", "--groups", "nosuch.csv"], 7, "nosuch.csv: No such file or directory"),
         (["nosuch.toml", "--groups", "ducts.csv"], 7, "nosuch.toml: No such file or directory"),
-        (
-            ["ducts.csv", "--groups", "ducts.csv"],
-            3,
-            "ducts.csv:1: `group,kind,part`: it is a list of groups, and no plan",
-        ),
+        (["ducts.csv", "--groups", "ducts.csv"], 3,
+         "ducts.csv:1: `group,kind,part`: it is a list of groups, and no plan"),
         (["four.toml", "--groups", "four.toml"], 5, "four.toml:1: `version = 2`: it is a plan, and no list of groups"),
         (["four.toml", "--groups", "bad.csv"], 5, 'bad.csv:2: `D,link,L9`: "L9" names no link of the plan'),
         (["four.toml", "--groups", "old.csv"], 24, "old.csv:2: links: 'L9' names no link of the plan"),
         (["-", "--groups", "-"], 2, "`-`, standard input, can be read for one word alone"),
         (["--groups", "ducts.csv"], 2, "protect: PLAN is missing"),
-        (
-            ["four.toml", "ducts.csv"],
-            2,
-            'protect: "ducts.csv" is an unexpected argument, and a list of groups is --groups ducts.csv',
-        ),
+        (["four.toml", "ducts.csv"], 2,
+         'protect: "ducts.csv" is an unexpected argument, and a list of groups is --groups ducts.csv'),
     ],
-)
+)  # fmt: skip
 def test_what_is_refused_is_told_in_one_line_and_nothing_is_written(
     files: Path, words: list[str], status: int, told: str
 ) -> None:

@@ -148,27 +148,18 @@ def broken_event(chance: random.Random, plan: RandomPlan, rows: list[str], numbe
     link, source = plan.rows["link"][0], plan.rows["source"][0]["name"]
     line, element = f"{link['name']}>{link['a']}", link["a"]
     broken = {
-        27: [
-            (f"{time},{what}", "2 fields in place of four"),
-            (f"{time};{what};x;", "semicolons"),
-            ("# cut", "a remark"),
-        ],
+        27: [(f"{time},{what}", "2 fields in place of four"), (f"{time};{what};x;", "semicolons"), ("# cut", "a remark")],
         28: [(f"{word},{what},{target},{value}", says) for word, says in WRONG_TIMES],
         29: [(f"0,{what},{target},{value}", f"its time is before {rows[at - 1].partition(',')[0]}")],
         30: [(f"{time},{word},{target},{value}", says) for word, says in WRONG_WORDS],
-        31: [
-            (f"{time},lockout,{link['name']},", "is a link; its lines are"),
-            (f"{time},clear,{line},", "is a line, into element"),
-            (f"{time},down,{element},", "is an element; its inputs are"),
-            (f"{time},level,{line},{LEVELS[plan.option][0]}", "is a line"),
-            (f"{time},esmc-off,{source},", "is a source"),
-            (f"{time},down,nobody,", '"nobody" names nothing'),
-        ],
-        32: [
-            (f"{time},down,{source},x", "takes no value"),
-            (f"{time},level,{source},PRTC", f"is no level of option {plan.option}"),
-        ],
-    }[number]
+        31: [(f"{time},lockout,{link['name']},", "is a link; its lines are"),
+             (f"{time},clear,{line},", "is a line, into element"),
+             (f"{time},down,{element},", "is an element; its inputs are"),
+             (f"{time},level,{line},{LEVELS[plan.option][0]}", "is a line"),
+             (f"{time},esmc-off,{source},", "is a source"), (f"{time},down,nobody,", '"nobody" names nothing')],
+        32: [(f"{time},down,{source},x", "takes no value"),
+             (f"{time},level,{source},PRTC", f"is no level of option {plan.option}")],
+    }[number]  # fmt: skip
     rows[at], words = chance.choice(broken)
     return at, words
 

@@ -185,13 +185,8 @@ CUTS = "link,settled,locked,holdover,freerun,loops,worst,bound\nL1,yes,2,1,0,0,Q
 @pytest.mark.parametrize(
     ("form", "text", "old", "new", "said"),
     [
-        (
-            "sim",
-            RUN,
-            "locked",
-            "locked,7",
-            "has 7 fields, where a row of changes has at,element,mode,input,level,state",
-        ),
+        ("sim", RUN, "locked", "locked,7",
+         "has 7 fields, where a row of changes has at,element,mode,input,level,state"),
         ("sim", RUN, "good,0", "good", "has 3 fields, where a row of inputs has element,input,condition,left"),
         ("sim", RUN, "locked", "asleep", "state is `asleep`, where changes have one of locked, holdover, freerun"),
         ("sim", RUN, "good", "fair", "condition is `fair`, where inputs have one of good, holdoff, failed, restoring"),
@@ -200,16 +195,11 @@ CUTS = "link,settled,locked,holdover,freerun,loops,worst,bound\nL1,yes,2,1,0,0,Q
         ("sim", RUN, "source,S", "source,", "name is ``, where traces have a name"),
         ("inspect", INSPECTED, "taken", "spared", "verdict is `spared`, where reasons have one of taken, locked-out, "),
         ("inspect", INSPECTED, "inputs\n", "causes\ninputs\n", "`causes` has 1 fields, where a row of elements has "),
-        (
-            "sweep",
-            CUTS,
-            "worst",
-            "worst,best",
-            "the columns are `link,settled,locked,holdover,freerun,loops,worst,best,",
-        ),
+        ("sweep", CUTS, "worst", "worst,best",
+         "the columns are `link,settled,locked,holdover,freerun,loops,worst,best,"),
         ("sweep", CUTS, "yes", "nearly", "settled is `nearly`, where cuts have one of yes, no"),
     ],
-)
+)  # fmt: skip
 def test_an_unknown_column_or_word_is_told(form: str, text: str, old: str, new: str, said: str) -> None:
     assert reports.read(form, Answer(0, text.encode()))
     with pytest.raises(rows.RowFault) as fault:

@@ -85,19 +85,11 @@ def test_a_piece_is_cut_where_nothing_runs() -> None:
 
 def test_what_stands_is_carried_on() -> None:
     events = [
-        Row(1, "down,west>device,"),
-        Row(2, "down,east>device,"),
-        Row(3, "up,west>device,"),
-        Row(4, "lockout,west>device,"),
-        Row(5, "manual,east>device,"),
-        Row(6, "level,S,QL-SEC"),
-        Row(7, "level,S,QL-PRC"),
-        Row(8, "forced,west>device,"),
-        Row(9, "clear,device,"),
-        Row(10, "manual,west>device,"),
-        Row(11, "esmc-off,south>tester,"),
-        Row(9_999, "up,east>device,"),
-    ]
+        Row(1, "down,west>device,"), Row(2, "down,east>device,"), Row(3, "up,west>device,"),
+        Row(4, "lockout,west>device,"), Row(5, "manual,east>device,"), Row(6, "level,S,QL-SEC"),
+        Row(7, "level,S,QL-PRC"), Row(8, "forced,west>device,"), Row(9, "clear,device,"),
+        Row(10, "manual,west>device,"), Row(11, "esmc-off,south>tester,"), Row(9_999, "up,east>device,"),
+    ]  # fmt: skip
     found = [(row.at, row.rest) for row in soak.carried(events, 1_000)]
     assert found == [
         (1_000, "down,east>device,"),

@@ -173,86 +173,50 @@ def test_a_list_without_a_case_is_told(folder: Path) -> None:
 TWICE = "a,5,down,L1,\na,9,down,L2,\n\nb,5,down,S,\na,9,up,L1,\n"
 # Rows below the header, how they are refused, the line of the file, and what is said of it.
 REFUSED = [
-    (
-        "a,5,down,L1\n",
-        "27 1",
-        2,
-        "it has 4 fields in place of five; write all four commas, also where the first or the last",
-    ),
+    ("a,5,down,L1\n", "27 1", 2,
+     "it has 4 fields in place of five; write all four commas, also where the first or the last"),
     ("5,down,L1,\n", "27 1", 2, "it has 4 fields in place of five; write all four commas"),
     ("a,5,down,L1,,\n", "27 1", 2, "it has 6 fields in place of five; write all four commas"),
     ("a;5;down;L1;\n", "27 1", 2, "its fields have semicolons between them; write commas"),
     ("a,5,down,L1,\n# the other\n", "27 2", 3, "it is a remark, and lists of events have none; take it out"),
-    (
-        "a b,5,down,L1,\n",
-        "51 1",
-        2,
-        "the name of its case has the sign ' '; a name is 1 to 32 of A-Z a-z 0-9 _ -, as \"a-b\"",
-    ),
+    ("a b,5,down,L1,\n", "51 1", 2,
+     "the name of its case has the sign ' '; a name is 1 to 32 of A-Z a-z 0-9 _ -, as \"a-b\""),
     ("L1>B,5,down,L1,\n", "51 1", 2, "the name of its case has the sign '>'; a name is 1 to 32"),
     ("a.1,5,down,L1,\n", "51 1", 2, 'the name of its case has a dot; a name is 1 to 32 of A-Z a-z 0-9 _ -, as "a-1"'),
     ('"a\nb",5,down,L1,\n', "51 1", 2, "the name of its case has the sign '\\n'; a name is 1 to 32"),
-    (
-        "a" * 33 + ",5,down,L1,\n",
-        "51 1",
-        2,
-        f'the name of its case has 33 signs; a name is 1 to 32 of A-Z a-z 0-9 _ -, as "{"a" * 32}"',
-    ),
-    (
-        ",5,down,L1,\n\na,5,down,L2,\n,9,up,L1,\n",
-        "51 3",
-        5,
-        'it has no case, and stands below a row of case "a", line 4; put events that are common to all above all cases, or name',
-    ),
-    (
-        TWICE,
-        "52 4",
-        6,
-        'the case "a" stood above, up to line 3, and other rows came between; put all rows of a case together, or give one of',
-    ),
-    (
-        "a,20x,down,L1,\n",
-        "28 1",
-        2,
-        '"20x" is no number from 0 to 86400000; write whole milliseconds, digits alone, or 90s, 5m, 02:10',
-    ),
+    ("a" * 33 + ",5,down,L1,\n", "51 1", 2,
+     f'the name of its case has 33 signs; a name is 1 to 32 of A-Z a-z 0-9 _ -, as "{"a" * 32}"'),
+    (",5,down,L1,\n\na,5,down,L2,\n,9,up,L1,\n", "51 3", 5,
+     'it has no case, and stands below a row of case "a", line 4; put events that are common to all above all cases, or name'),
+    (TWICE, "52 4", 6,
+     'the case "a" stood above, up to line 3, and other rows came between; put all rows of a case together, or give one of'),
+    ("a,20x,down,L1,\n", "28 1", 2,
+     '"20x" is no number from 0 to 86400000; write whole milliseconds, digits alone, or 90s, 5m, 02:10'),
     ("a,86400001,down,L1,\n", "28 1", 2, '"86400001" is no number from 0 to 86400000; write whole milliseconds'),
-    (
-        "a,5,down,L1,\nb,9,down,L1,\nb,8,down,L2,\n",
-        "29 3",
-        4,
-        "its time is before 9, that of line 3; sort the rows of each case by time; those of one millisecond keep their order",
-    ),
+    ("a,5,down,L1,\nb,9,down,L1,\nb,8,down,L2,\n", "29 3", 4,
+     "its time is before 9, that of line 3; sort the rows of each case by time; those of one millisecond keep their order"),
     (",5,down,L1,\n,4,up,L1,\n", "29 2", 3, "its time is before 5, that of line 2; sort the rows of each case"),
     ("a,5,cut,L1,\n", "30 1", 2, '"cut" is no word of an event (nearest: "down"); the words are down, up, '),
-    (
-        "a,5,down,G,\n",
-        "31 1",
-        2,
-        '"G" is a bundle; its links are L1; `down` takes a link, a line, as L1>B, or a source',
-    ),
+    ("a,5,down,G,\n", "31 1", 2,
+     '"G" is a bundle; its links are L1; `down` takes a link, a line, as L1>B, or a source'),
     ("a,5,down,l2,\n", "31 1", 2, '"l2" names nothing in the plan (nearest: "L2")'),
     ("a,5,down,L1,x\n", "32 1", 2, '`down` takes no value, and "x" stands there; leave the value empty'),
     ("a,5,level,S,PRC\n", "32 1", 2, '"PRC" is no level of option I (nearest: "QL-PRC"); the levels are '),
-]
+]  # fmt: skip
 # Whole files without the header, and what is said of them.
 HEADLESS = [
     ("", "cases.csv: it is empty; begin with `case,at,what,target,value`"),
-    (
-        "a,5,down,L1,\n",
-        "cases.csv:1: `a,5,down,L1,`: its first line is no header; begin with `case,at,what,target,value`",
-    ),
+    ("a,5,down,L1,\n",
+     "cases.csv:1: `a,5,down,L1,`: its first line is no header; begin with `case,at,what,target,value`"),
     ("Case,At,What,Target,Value\n", "its header has other letters or blanks; begin with `case,at,what,target,value`"),
     ("case;at;what;target;value\n", "its fields have semicolons between them; write commas, as in `case,at,what,"),
-    (
-        "at,what,target,value\n5,down,L1,\n",
-        "cases.csv:1: `at,what,target,value`: it is an event list, and no list of cases; begin with `case,at,what,target,value`, "
-        "and write its case before each event",
-    ),
+    ("at,what,target,value\n5,down,L1,\n",
+     "cases.csv:1: `at,what,target,value`: it is an event list, and no list of cases; begin with `case,at,what,target,value`, "
+     "and write its case before each event"),
     (TABLE, f"cases.csv:1: `{COLUMNS}`: it is a table of `study`, and no list of cases; are two words of the"),
     (PLAN, "it is a plan, and no list of cases; are two words of the command swapped?"),
     ("case,at,what,target,value\n".encode("utf-16"), "it is text in UTF-16"),
-]
+]  # fmt: skip
 
 
 @pytest.mark.parametrize(("rows", "number", "line", "sentence"), REFUSED)

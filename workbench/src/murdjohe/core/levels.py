@@ -9,17 +9,13 @@ LEVELS = {
 # Names under which other programs know a level, small letters alone.
 OTHERS = {
     "I": {
-        "ql-eec1": "QL-SEC",
-        "eec1": "QL-SEC",
-        "ql-eec": "QL-SEC",
+        **dict.fromkeys(("ql-eec1", "eec1", "ql-eec"), "QL-SEC"),
         "dnu": "QL-DNU",
         "g.811": "QL-PRC",
         "prs": "QL-PRC",
     },
     "II": {
-        "ql-eec2": "QL-ST3",
-        "eec2": "QL-ST3",
-        "ql-eec": "QL-ST3",
+        **dict.fromkeys(("ql-eec2", "eec2", "ql-eec"), "QL-ST3"),
         "dus": "QL-DUS",
         "ql-dnu": "QL-DUS",
         "prc": "QL-PRS",

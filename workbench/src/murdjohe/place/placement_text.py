@@ -11,6 +11,7 @@ from murdjohe.core.wording import listed, plural
 from murdjohe.place import site_cover
 from murdjohe.place.placements import Made, Placed, Run
 from murdjohe.place.site_cover import Failure, Pair, Problem
+from murdjohe.place.sites import Site
 
 SHOWN = 8  # failures that are told of those that no site covers
 NAMED = 3  # elements that are named of one failure
@@ -171,33 +172,25 @@ def pair_data(problem: Problem, pair: Pair) -> dict[str, Any]:
     return {"failure": failure, "element": problem.network.names[pair.element]}
 
 
+def site_data(site: Site) -> dict[str, Any]:
+    return {"element": site.element, "level": site.level, "cost": float(site.cost)}
+
+
 def as_data(found: Placed, costs: dict[int | None, Decimal]) -> dict[str, Any]:
     """The placement as JSON has it."""
     problem, made = found.problem, found.made
     reasons = site_cover.reasons(problem, found.chosen.sites)
     return {
-        "cost": float(found.cost),
-        "is_least": found.chosen.is_least,
-        "added": found.added,
+        **{"cost": float(found.cost), "is_least": found.chosen.is_least, "added": found.added},
         "sites": [
-            {
-                "element": site.element,
-                "level": site.level,
-                "cost": float(site.cost),
-                "needed_for": [pair_data(problem, pair) for pair in reasons[place]],
-            }
+            site_data(site) | {"needed_for": [pair_data(problem, pair) for pair in reasons[place]]}
             for place, site in zip(found.chosen.sites, found.sites)
         ],
-        "filters": [{"element": site.element, "level": site.level, "cost": float(site.cost)} for site in found.filters],
+        "filters": [site_data(site) for site in found.filters],
         "uncut": list(found.uncut.lines) if found.uncut else None,
-        "uncovered": [
-            pair_data(problem, Pair(failure, element)) for failure, element in sorted(problem.left_out, key=str)
-        ],
+        "uncovered": [pair_data(problem, Pair(*pair)) for pair in sorted(problem.left_out, key=str)],
         "verdict": made.judgement.text if made.judgement else None,
-        "failures_ms": made.soon_ms,
-        "links": made.links,
-        "links_failed": made.links_failed,
-        "since": made.since,
+        **{"failures_ms": made.soon_ms, "links": made.links, "links_failed": made.links_failed, "since": made.since},
         "cases_that_lose": len(made.lost),
         "holds": found.holds() and not problem.left_out,
         "limits": [

@@ -188,15 +188,9 @@ def table_of(common: Iterable[Event], cases: Iterable[Case], at: int) -> bytes:
 
 def as_data(common: Iterable[Event], cases: Iterable[Case], at: int) -> dict[str, Any]:
     """The table as JSON has it, with what fails in each case."""
-    return {
-        "at": at,
-        "during": [vars(event) for event in common],
-        "cases": [
-            {
-                "case": case.name,
-                "failures": [{"kind": one.kind, "name": one.name} for one in case.failures],
-                "down": case.down,
-            }
-            for case in cases
-        ],
-    }
+
+    def kinds_of(case: Case) -> list[dict[str, str]]:
+        return [{"kind": one.kind, "name": one.name} for one in case.failures]
+
+    told = [{"case": case.name, "failures": kinds_of(case), "down": case.down} for case in cases]
+    return {"at": at, "during": [vars(event) for event in common], "cases": told}

@@ -6,22 +6,10 @@ from murdjohe.core import documents, levels, refusals, times
 from murdjohe.core.documents import Document
 from murdjohe.core.refusals import Refusal
 from murdjohe.plan.plan_lines import PlanLines
+from murdjohe.sentences import records
 
 SHOWN = 60  # signs of a line that a sentence shows
-NODE_WORDS = (
-    "frame",
-    "down",
-    "up",
-    "esmc-off",
-    "esmc-on",
-    "level",
-    "lockout",
-    "unlock",
-    "forced",
-    "manual",
-    "clear-wtr",
-    "clear",
-)
+NODE_WORDS = ("frame", *records.WORDS)
 KINDS = ("info", "event")
 
 

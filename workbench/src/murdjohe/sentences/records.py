@@ -36,15 +36,8 @@ IN_CASES = {
 # What a target is, by the word of an event.
 ON_INPUTS = ("lockout", "unlock", "forced", "manual", "clear-wtr")
 WORDS = ("down", "up", "esmc-off", "esmc-on", "level", *ON_INPUTS, "clear")
-ALIKE = {
-    "cut": "down",
-    "fail": "down",
-    "failed": "down",
-    "restore": "up",
-    "repair": "up",
-    "force": "forced",
-    "lock": "lockout",
-}
+ALIKE = {**dict.fromkeys(("cut", "fail", "failed"), "down"), "restore": "up", "repair": "up", "force": "forced"}
+ALIKE["lock"] = "lockout"
 
 
 class Row:

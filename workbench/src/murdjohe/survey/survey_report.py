@@ -121,29 +121,10 @@ def named(event: Event) -> str:
 def loss_rows(losses: list[Loss]) -> list[str]:
     """The columns of cases in which elements lose their source, with how many needn't have, how many no link could serve, and how many
     are taken away themselves."""
-    heads = [
-        "case",
-        "lost",
-        "needless",
-        "beyond",
-        "themselves",
-        "first",
-        "holdover",
-        "freerun",
-        "loops",
-        "worst",
-        "settled",
-    ]
+    heads = "case lost needless beyond themselves first holdover freerun loops worst settled".split()
     rows = [
-        [
-            one.case.case,
-            str(one.case.lost),
-            str(one.needless),
-            str(one.beyond),
-            str(one.themselves),
-            one.case.first or "-",
-        ]
-        + [str(one.case.holdover), str(one.case.freerun), str(one.case.loops), one.case.worst]
+        [one.case.case, *map(str, (one.case.lost, one.needless, one.beyond, one.themselves)), one.case.first or "-"]
+        + [*map(str, (one.case.holdover, one.case.freerun, one.case.loops)), one.case.worst]
         + ["yes" if one.case.is_settled else "no"]
         for one in losses
     ]
@@ -216,28 +197,18 @@ def has(tally: Tally, losses: Losses, what: str | None) -> bool:
 
 def as_data(tally: Tally, ends: Ends) -> dict[str, Any]:
     """The summary as JSON has it."""
-    losses = ends.losses
+    losses, alone = ends.losses, ends.alone
+    worst: dict[str, list[Any]] = {"lost": tally.lost.outcomes(), "worst_needless": losses.outcomes()}
+    worst |= {"restless": tally.restless.outcomes(), "dark": tally.dark.outcomes(), "chains": tally.chains.outcomes()}
     return {
-        "until": ends.until,
-        "end_by": ends.why,
-        "cases": tally.cases,
-        "losing": tally.losing,
-        "needless": losses.cases,
-        "taken_away": losses.themselves,
-        "beyond": losses.beyond,
-        "common_alone": ends.alone and ends.alone.lost,
-        "common_settled": ends.alone and ends.alone.lost is not None and ends.alone.is_settled,
-        "common_later": ends.alone and len(ends.alone.later),
-        "more_than_common": losses.more if ends.alone and ends.alone.lost is not None else None,
-        "unsettled": tally.unsettled,
-        "looping": tally.looping,
-        "hurting": tally.hurting,
-        "still": tally.still,
-        "lost": [dataclasses.asdict(one) for one in tally.lost.outcomes()],
-        "worst_needless": [dataclasses.asdict(one) for one in losses.outcomes()],
-        "restless": [dataclasses.asdict(one) for one in tally.restless.outcomes()],
-        "dark": [dataclasses.asdict(one) for one in tally.dark.outcomes()],
-        "chains": [dataclasses.asdict(one) for one in tally.chains.outcomes()],
+        **{"until": ends.until, "end_by": ends.why, "cases": tally.cases, "losing": tally.losing},
+        **{"needless": losses.cases, "taken_away": losses.themselves, "beyond": losses.beyond},
+        "common_alone": alone and alone.lost,
+        "common_settled": alone and alone.lost is not None and alone.is_settled,
+        "common_later": alone and len(alone.later),
+        "more_than_common": losses.more if alone and alone.lost is not None else None,
+        **{"unsettled": tally.unsettled, "looping": tally.looping, "hurting": tally.hurting, "still": tally.still},
+        **{name: [dataclasses.asdict(one) for one in outcomes] for name, outcomes in worst.items()},
         "first": dict(tally.first.most_common()),
         "names": {
             one.case: {"needless": one.needless, "beyond": one.beyond, "themselves": one.themselves}
