@@ -9,6 +9,7 @@ from dataclasses import dataclass
 from pathlib import Path
 
 import pytest
+from comfort_plans import RESERVE, UNMENDED
 from hypothesis import settings
 
 # (the gate tries the same examples each time, however busy the machine is)
@@ -61,3 +62,17 @@ def folder(tmp_path: Path, monkeypatch: pytest.MonkeyPatch) -> Path:
     """An empty folder, in which the test runs."""
     monkeypatch.chdir(tmp_path)
     return tmp_path
+
+
+@pytest.fixture
+def reserve(folder: Path) -> Path:
+    """The folder with a plan, that of `RESERVE`."""
+    (folder / "plan.toml").write_text(RESERVE)
+    return folder
+
+
+@pytest.fixture
+def unmended(reserve: Path) -> Path:
+    """The same, with works after which an element has nothing."""
+    (reserve / "works.csv").write_text(UNMENDED)
+    return reserve

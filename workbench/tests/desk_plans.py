@@ -2,6 +2,8 @@
 
 from __future__ import annotations
 
+from plans_spelled import spelled
+
 # A ring of three, spelled by a hand: comments, blanks and a key in quotes.
 RING = b"""# the core ring, spelled by hand
 version = 2
@@ -41,8 +43,7 @@ link = [{ name = "L1", a = "A", b = "B", priority_b = 1 }, { name = "L2", a = "B
 source = [{ name = "S", at = "A", level = "QL-PRC" }]
 """
 # Two elements that each prefer the other to a source of their own: they oscillate.
-PAIR = b"".join(b'[[element]]\nname = "%s"\n' % name for name in (b"A", b"B"))
-PAIR += b'[[link]]\nname = "L"\na = "A"\nb = "B"\npriority_a = 1\npriority_b = 1\ndelay_a = 10\ndelay_b = 10\n'
-PAIR += b"".join(
-    b'[[source]]\nname = "S%s"\nat = "%s"\nlevel = "QL-PRC"\npriority = 2\n' % (name, name) for name in (b"A", b"B")
-)
+PAIR = spelled(
+    *("element A", "element B", "link L a=A b=B priority_a=1 priority_b=1 delay_a=10 delay_b=10"),
+    *("source SA at=A level=QL-PRC priority=2", "source SB at=B level=QL-PRC priority=2"),
+).encode()

@@ -3,22 +3,24 @@
 from __future__ import annotations
 
 import random
-from collections.abc import Collection
+from collections.abc import Collection, Iterable
 from typing import Any
+
+from plans_spelled import spelled
 
 from murdjohe.core.documents import Document
 from murdjohe.network.groups import Group, text_of
 from murdjohe.plan.plan_lines import PlanLines
 
 
-def plan_of(elements: str, links: list[str], sources: list[str]) -> str:
-    """A plan of elements of one letter each, links `NAME A PRIORITY_A B PRIORITY_B [BUNDLE]` and sources `NAME AT`."""
-    lines = ["version = 2"] + [f'[[element]]\nname = "{name}"' for name in elements]
-    for name, a, priority_a, b, priority_b, *bundle in (link.split() for link in links):
-        lines.append(f'[[link]]\nname = "{name}"\na = "{a}"\nb = "{b}"')
-        lines += [f"priority_a = {priority_a}", f"priority_b = {priority_b}", *(f'bundle = "{one}"' for one in bundle)]
-    lines += ['[[source]]\nname = "{}"\nat = "{}"\nlevel = "QL-PRC"'.format(*source.split()) for source in sources]
-    return "\n".join(lines) + "\n"
+def plan_of(elements: Iterable[str], links: list[str], sources: list[str], level: str = "QL-PRC") -> str:
+    """A plan of elements, links `NAME A PRIORITY_A B PRIORITY_B [BUNDLE]` and sources `NAME AT`."""
+    rows = [f"element {name}" for name in elements]
+    for name, a, into_a, b, into_b, *bundle in (link.split() for link in links):
+        rows.append(f"link {name} a={a} b={b} priority_a={into_a} priority_b={into_b}")
+        rows[-1] += "".join(f" bundle={one}" for one in bundle)
+    rows += ["source {} at={} level={}".format(*source.split(), level) for source in sources]
+    return "version = 2\n" + spelled(*rows)
 
 
 # X hangs on both sides of a ring whose clock is at A.

@@ -7,19 +7,16 @@ from __future__ import annotations
 
 from dataclasses import dataclass
 
+from plans_spelled import spelled
+
 HEAD = "at,what,target,value\n"
 
 
 def plan_of(elements: str, links: tuple[str, ...], sources: tuple[str, ...]) -> str:
     """A plan of elements by name, links as `name a b priority_a priority_b`, and sources as `name at level priority`."""
-    rows = [f'[[element]]\nname = "{name}"\nfloor = "QL-SSU-B"\n' for name in elements.split()]
-    for link in links:
-        name, a, b, into_a, into_b = link.split()
-        rows.append(f'[[link]]\nname = "{name}"\na = "{a}"\nb = "{b}"\npriority_a = {into_a}\npriority_b = {into_b}\n')
-    for source in sources:
-        name, at, level, priority = source.split()
-        rows.append(f'[[source]]\nname = "{name}"\nat = "{at}"\nlevel = "{level}"\npriority = {priority}\n')
-    return "".join(rows)
+    rows = [f"element {name} floor=QL-SSU-B" for name in elements.split()]
+    rows += ["link {} a={} b={} priority_a={} priority_b={}".format(*link.split()) for link in links]
+    return spelled(*rows, *("source {} at={} level={} priority={}".format(*source.split()) for source in sources))
 
 
 @dataclass(frozen=True)

@@ -7,6 +7,7 @@ from pathlib import Path
 
 import pytest
 from conftest import EXAMPLES
+from plans_spelled import spelled
 
 import murdjohe
 from murdjohe.answers import inspections, reports
@@ -58,9 +59,8 @@ def test_a_report_by_priority_alone_has_no_levels() -> None:
 
 
 def test_a_run_that_was_stopped() -> None:
-    plan = b"".join(b'[[element]]\nname = "%b"\n' % name for name in (b"A", b"B"))
-    plan += b'[[link]]\nname = "L1"\na = "A"\nb = "B"\npriority_a = 1\npriority_b = 1\n'
-    run = murdjohe.sim(plan, b"at,what,target,value\n", "10m")
+    plan = spelled("element A", "element B", "link L1 a=A b=B priority_a=1 priority_b=1")
+    run = murdjohe.sim(plan.encode(), b"at,what,target,value\n", "10m")
     assert (run.status, run.result.stopped_at, len(run.result.changes)) == (11, 100_000, 200_000)
 
 
@@ -68,14 +68,10 @@ def test_tables() -> None:
     hops = murdjohe.hops(MESH / "topology.toml").result.rows
     assert hops[2] == reports.Hop("hub-north", 1, "N1>hub-north")
     assert murdjohe.hops(b'[[element]]\nname = "A"\n').result.rows == (reports.Hop("A", None, None),)
-    plan = b'[[element]]\nname = "A"\n[[element]]\nname = "B"\nown = "QL-SSU-A"\n[[element]]\nname = "C"\n'
-    for name, a, b in ((b"L1", b"A", b"B"), (b"L2", b"B", b"C")):
-        plan += b'[[link]]\nname = "%b"\na = "%b"\nb = "%b"\npriority_b = 1\n' % (name, a, b)
-    assert murdjohe.chains(plan).result.rows == (
-        reports.Chain("A", 0, 0, 0),
-        reports.Chain("B", 1, 1, 0),
-        reports.Chain("C", 2, 1, 1),
-    )
+    links = ("link L1 a=A b=B priority_b=1", "link L2 a=B b=C priority_b=1")
+    plan = spelled("element A", "element B own=QL-SSU-A", "element C", *links).encode()
+    chains = (reports.Chain("A", 0, 0, 0), reports.Chain("B", 1, 1, 0), reports.Chain("C", 2, 1, 1))
+    assert murdjohe.chains(plan).result.rows == chains
     ring = murdjohe.chains(MESH.parent / "ring" / "plan.toml").result
     assert (ring.rows, ring.ring) == (None, ("L1>B", "L2>C", "L3>A"))
     gaps = murdjohe.protected(MESH / "plan.toml")

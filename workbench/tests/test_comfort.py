@@ -93,28 +93,25 @@ def test_the_page_says_it_and_not_for_a_moment(swinging: Path) -> None:
 # 2. a loss that never ends
 
 
-def test_the_first_line_says_who_is_without_a_source_at_the_end(folder: Path) -> None:
-    (folder / "plan.toml").write_text(RESERVE)
-    (folder / "works.csv").write_text(UNMENDED)
-    ran = murdjohe("rehearse", "plan.toml", "works.csv", folder=folder)
+def test_the_first_line_says_who_is_without_a_source_at_the_end(unmended: Path) -> None:
+    ran = murdjohe("rehearse", "plan.toml", "works.csv", folder=unmended)
     first, *said = ran.out.decode().splitlines()
     assert first.startswith("still without a source at the end, 00:01:31.000: ") and "B (since 00:01:30.300)" in first
     assert ran.status == 20 and any(line.startswith("losses that go on at 00:01:31.000") for line in said)
-    found = json.loads(murdjohe("rehearse", "plan.toml", "works.csv", "--json", folder=folder).out)["answer"]
+    found = json.loads(murdjohe("rehearse", "plan.toml", "works.csv", "--json", folder=unmended).out)["answer"]
     assert [one["element"] for one in found["without_source_at_end"]] == ["B"]
 
 
-def test_losses_that_ended_are_apart_and_a_limit_has_a_status(folder: Path) -> None:
-    (folder / "plan.toml").write_text(RESERVE)
-    (folder / "works.csv").write_text(UNMENDED + "150000,unlock,L2>B,\n")
+def test_losses_that_ended_are_apart_and_a_limit_has_a_status(reserve: Path) -> None:
+    (reserve / "works.csv").write_text(UNMENDED + "150000,unlock,L2>B,\n")
     words = ["rehearse", "plan.toml", "works.csv"]
-    ran = murdjohe(*words, folder=folder)
+    ran = murdjohe(*words, folder=reserve)
     said = ran.out.decode().splitlines()
     assert said[0].startswith("no element is without a source at the end") and ran.status == 0
     assert any(line.startswith("losses that ended") for line in said)
     assert not any(line.startswith("losses that go on") for line in said)
-    assert murdjohe(*words, "--limit", "30s", folder=folder).status == 20
-    assert murdjohe(*words, "--limit", "2m", folder=folder).status == 0
+    assert murdjohe(*words, "--limit", "30s", folder=reserve).status == 20
+    assert murdjohe(*words, "--limit", "2m", folder=reserve).status == 0
 
 
 # 6. a command that is taken and does nothing

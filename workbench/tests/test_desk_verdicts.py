@@ -7,7 +7,7 @@ import time
 from pathlib import Path
 
 import pytest
-from desk_plans import RING
+from desk_plans import PAIR, RING
 
 from murdjohe.answers import api, reports
 from murdjohe.core import program
@@ -57,15 +57,11 @@ def test_the_ring_of_three_looping_and_repaired(told: "queue.Queue[Verdict]") ->
 
 
 def test_who_may_oscillate_and_by_when_all_rest(told: "queue.Queue[Verdict]") -> None:
-    plan = b"".join(b'[[element]]\nname = "%s"\n' % name for name in (b"A", b"B"))
-    plan += b'[[link]]\nname = "L"\na = "A"\nb = "B"\npriority_a = 3\npriority_b = 3\ndelay_a = 10\ndelay_b = 10\n'
-    plan += b"".join(
-        b'[[source]]\nname = "S%s"\nat = "%s"\nlevel = "QL-PRC"\npriority = 2\n' % (name, name) for name in (b"A", b"B")
-    )
+    plan = PAIR.replace(b" = 1\n", b" = 3\n")
     pool = Pool(told.put)
     found = all_of(pool, told, States(plan, "pair.toml"))
     assert found["agree"].said == {"bound": 300090, "failures": 330}
-    preferring = all_of(pool, told, States(plan.replace(b"= 3", b"= 1"), "pair.toml"))
+    preferring = all_of(pool, told, States(PAIR, "pair.toml"))
     assert set(preferring["agree"].said["clash"]) == {"L>A", "L>B"} and preferring["agree"].said["remedy"]
     pool.end()
 

@@ -12,21 +12,20 @@ from conftest import murdjohe
 # 3. a survey that looks at the end alone
 
 
-def test_a_survey_says_that_the_end_alone_is_looked_at_and_what_the_works_mend(folder: Path) -> None:
-    (folder / "plan.toml").write_text(RESERVE)
-    (folder / "works.csv").write_text("at,what,target,value\n20m,lockout,L2>B,\n30m,down,L1,\n40m,up,L1,\n")
+def test_a_survey_says_that_the_end_alone_is_looked_at_and_what_the_works_mend(reserve: Path) -> None:
+    (reserve / "works.csv").write_text("at,what,target,value\n20m,lockout,L2>B,\n30m,down,L1,\n40m,up,L1,\n")
     words = ["plan.toml", "--links", "--during", "works.csv", "--at", "10m"]
-    ran = murdjohe("survey", *words, "--until", "1h", folder=folder)
+    ran = murdjohe("survey", *words, "--until", "1h", folder=reserve)
     first, *said = ran.out.decode().splitlines()
     assert first.startswith("3 cases, each looked at in its last millisecond, 01:00:00.000 (3,600,000 ms)")
     assert "a source lost and back by then isn't counted, a level worse on the way is" in first
     assert any("the common events alone leave no element without a source at the end" in line for line in said)
     assert "bring up again what 1 failure took down: `up` of L1 at 00:40:00.000" in ran.err
     assert "what fails goes down at 00:10:00.000 (600,000 ms)" in ran.err
-    ran = murdjohe("failures", *words, folder=folder)
+    ran = murdjohe("failures", *words, folder=reserve)
     assert "bring up again what 1 failure took down" in ran.err and "goes down at 00:10:00.000" in ran.err
     # (without times it looks while the works stand)
-    ran = murdjohe("survey", *words[:-2], folder=folder)
+    ran = murdjohe("survey", *words[:-2], folder=reserve)
     first, *said = ran.out.decode().splitlines()
     assert first.startswith("3 cases, each looked at in its last millisecond, 00:30:02.000 (1,802,000 ms)")
     assert any("the common events alone leave 1 element without a source at the end (B)" in line for line in said)
@@ -54,13 +53,11 @@ def test_whom_nothing_could_save_is_counted_apart(folder: Path) -> None:
     )
 
 
-def test_sweep_names_the_end(folder: Path) -> None:
-    (folder / "plan.toml").write_text(RESERVE)
-    ran = murdjohe("sweep", "plan.toml", "60s", "10m", folder=folder)
+def test_sweep_names_the_end(reserve: Path) -> None:
+    ran = murdjohe("sweep", "plan.toml", "60s", "10m", folder=reserve)
     assert "each link goes down at 00:01:00.000, and only the end, 00:10:00.000, is looked at" in ran.err
 
 
-def test_lint_fails_on_what_is_asked(folder: Path) -> None:
-    (folder / "plan.toml").write_text(RESERVE)
-    assert murdjohe("lint", "plan.toml", folder=folder).status == 0
-    assert murdjohe("lint", "plan.toml", "--fail-on", "warning", folder=folder).status == 21
+def test_lint_fails_on_what_is_asked(reserve: Path) -> None:
+    assert murdjohe("lint", "plan.toml", folder=reserve).status == 0
+    assert murdjohe("lint", "plan.toml", "--fail-on", "warning", folder=reserve).status == 21

@@ -7,6 +7,7 @@ from pathlib import Path
 
 import pytest
 from conftest import murdjohe
+from plans_spelled import chain
 
 from murdjohe.core.documents import Document
 from murdjohe.picture import places
@@ -14,13 +15,6 @@ from murdjohe.plan import edits
 from murdjohe.plan.plan_lines import PlanLines
 
 COUNT = places.LARGEST + 1
-
-
-def chain(count: int) -> str:
-    """A chain of elements behind a clock."""
-    elements = "".join(f'[[element]]\nname = "E{e}"\n' for e in range(count))
-    links = "".join(f'[[link]]\nname = "L{e}"\na = "E{e}"\nb = "E{e + 1}"\npriority_b = 1\n' for e in range(count - 1))
-    return f'{elements}{links}[[source]]\nname = "S"\nat = "E0"\nlevel = "QL-PRC"\n'
 
 
 @pytest.fixture

@@ -10,6 +10,7 @@ import pytest
 from conftest import CASES, EXAMPLES, murdjohe
 from hypothesis import given, settings
 from hypothesis import strategies as st
+from plans_spelled import spelled
 from random_plans import random_plan
 from test_repair import random_network
 
@@ -22,41 +23,11 @@ from murdjohe.plan import edits
 from murdjohe.plan.plan_lines import PlanLines
 
 # Two clocks at A and B, and C with a reserve: nothing to be found.
-GOOD = """version = 2
-[[element]]
-name = "A"
-floor = "QL-SSU-B"
-[[element]]
-name = "B"
-floor = "QL-SSU-B"
-[[element]]
-name = "C"
-[[link]]
-name = "L1"
-a = "A"
-b = "B"
-priority_a = 2
-priority_b = 2
-[[link]]
-name = "L2"
-a = "A"
-b = "C"
-priority_b = 1
-[[link]]
-name = "L3"
-a = "B"
-b = "C"
-priority_b = 2
-[[source]]
-name = "prc-1"
-at = "A"
-level = "QL-PRC"
-[[source]]
-name = "prtc-2"
-at = "B"
-level = "QL-PRTC"
-priority = 1
-"""
+GOOD = "version = 2\n" + spelled(
+    *("element A floor=QL-SSU-B", "element B floor=QL-SSU-B", "element C"),
+    *("link L1 a=A b=B priority_a=2 priority_b=2", "link L2 a=A b=C priority_b=1", "link L3 a=B b=C priority_b=2"),
+    *("source prc-1 at=A level=QL-PRC", "source prtc-2 at=B level=QL-PRTC priority=1"),
+)
 SOURCES = GOOD[GOOD.index("[[source]]") :]
 
 

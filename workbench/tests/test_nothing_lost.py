@@ -10,7 +10,7 @@ from functools import partial
 from pathlib import Path
 
 import pytest
-from comfort_plans import RESERVE, THREE, UNMENDED, played
+from comfort_plans import RESERVE, THREE, played
 from conftest import LAUNCHER, murdjohe
 
 from murdjohe import main
@@ -19,12 +19,11 @@ from murdjohe import main
 # 8. nothing lost
 
 
-def test_an_output_that_is_an_input_is_refused_by_the_file(folder: Path) -> None:
-    (folder / "plan.toml").write_text(RESERVE)
-    (folder / "rows").write_text("020000000001,info,QL-PRC\n")
-    (folder / "link.svg").symlink_to("plan.toml")
-    (folder / "hard.toml").hardlink_to(folder / "plan.toml")
-    (folder / "link").symlink_to("rows")
+def test_an_output_that_is_an_input_is_refused_by_the_file(reserve: Path) -> None:
+    (reserve / "rows").write_text("020000000001,info,QL-PRC\n")
+    (reserve / "link.svg").symlink_to("plan.toml")
+    (reserve / "hard.toml").hardlink_to(reserve / "plan.toml")
+    (reserve / "link").symlink_to("rows")
     for words in (
         "survey plan.toml -o hard.toml --force",
         "draw plan.toml -o link.svg --force",
@@ -35,21 +34,19 @@ def test_an_output_that_is_an_input_is_refused_by_the_file(folder: Path) -> None
         "lint plan.toml -o hard.toml --force",
         "rank plan.toml -o plan.toml",
     ):
-        ran = murdjohe(*words.split(), folder=folder)
+        ran = murdjohe(*words.split(), folder=reserve)
         assert ran.status == 22 and "is read by this command" in ran.err, (words, ran)
-    assert (folder / "plan.toml").read_text() == RESERVE and (folder / "rows").read_text().startswith("02")
-    ran = murdjohe("protect", "-", "-o", "hard.toml", "--force", folder=folder, stdin=RESERVE.encode())
+    assert (reserve / "plan.toml").read_text() == RESERVE and (reserve / "rows").read_text().startswith("02")
+    ran = murdjohe("protect", "-", "-o", "hard.toml", "--force", folder=reserve, stdin=RESERVE.encode())
     assert ran.status == 0  # (standard input is no file there)
 
 
-def test_no_file_is_written_over_without_force(folder: Path) -> None:
-    (folder / "plan.toml").write_text(RESERVE)
-    (folder / "works.csv").write_text(UNMENDED)
-    (folder / "rows").write_text("020000000001,info,QL-PRC\n")
-    report = murdjohe("sim", "plan.toml", "works.csv", "10m", folder=folder).out
-    (folder / "report").write_bytes(report)
+def test_no_file_is_written_over_without_force(unmended: Path) -> None:
+    (unmended / "rows").write_text("020000000001,info,QL-PRC\n")
+    report = murdjohe("sim", "plan.toml", "works.csv", "10m", folder=unmended).out
+    (unmended / "report").write_bytes(report)
     for name in ("there.svg", "there.html", "there"):
-        (folder / name).write_text("kept")
+        (unmended / name).write_text("kept")
     for words in (
         *("draw plan.toml -o there.svg", "timeline report -o there.svg", "report plan.toml works.csv -o there.html"),
         *("capture write rows -o there", "rank plan.toml -o there", "nominate plan.toml -o there"),
@@ -57,20 +54,19 @@ def test_no_file_is_written_over_without_force(folder: Path) -> None:
         *("why plan.toml works.csv B 5m -o there", "rehearse plan.toml works.csv -o there", "gen 5 -o there"),
         *("diff plan.toml plan.toml -o there", "failures plan.toml -o there", "export plan.toml --only links -o there"),
     ):
-        ran = murdjohe(*words.split(), folder=folder)
+        ran = murdjohe(*words.split(), folder=unmended)
         assert ran.status == 22 and "there already; --force writes over it" in ran.err, (words, ran)
-    assert {(folder / name).read_text() for name in ("there.svg", "there.html", "there")} == {"kept"}
-    ran = murdjohe("rank", "plan.toml", "-o", "there", "--force", folder=folder)
-    assert ran.status == 0 and ran.out == b"" and (folder / "there").read_text().startswith("line,rank\n")
+    assert {(unmended / name).read_text() for name in ("there.svg", "there.html", "there")} == {"kept"}
+    ran = murdjohe("rank", "plan.toml", "-o", "there", "--force", folder=unmended)
+    assert ran.status == 0 and ran.out == b"" and (unmended / "there").read_text().startswith("line,rank\n")
 
 
-def test_a_dash_is_standard_output(folder: Path) -> None:
-    (folder / "plan.toml").write_text(RESERVE)
-    plain = murdjohe("rank", "plan.toml", folder=folder)
-    assert murdjohe("rank", "plan.toml", "-o", "-", folder=folder).out == plain.out
-    assert murdjohe("draw", "plan.toml", "-o", "-", folder=folder).out.startswith(b"<?xml")
-    assert murdjohe("failures", "plan.toml", "-o", "-", folder=folder).out.startswith(b"case,at")
-    assert [path.name for path in folder.iterdir()] == ["plan.toml"]
+def test_a_dash_is_standard_output(reserve: Path) -> None:
+    plain = murdjohe("rank", "plan.toml", folder=reserve)
+    assert murdjohe("rank", "plan.toml", "-o", "-", folder=reserve).out == plain.out
+    assert murdjohe("draw", "plan.toml", "-o", "-", folder=reserve).out.startswith(b"<?xml")
+    assert murdjohe("failures", "plan.toml", "-o", "-", folder=reserve).out.startswith(b"case,at")
+    assert [path.name for path in reserve.iterdir()] == ["plan.toml"]
 
 
 def test_a_plan_that_isnt_there_isnt_written(folder: Path) -> None:
@@ -112,20 +108,19 @@ def test_a_signal_that_a_library_makes_another_fault_of_keeps_its_status() -> No
 # statuses that mean one thing each
 
 
-def test_usage_files_inputs_outputs_and_space_have_statuses_of_their_own(folder: Path) -> None:
-    (folder / "plan.toml").write_text(RESERVE)
-    (folder / "there").write_text("")
-    (folder / "bad.csv").write_text("name,links\nA,nosuch\n")
-    (folder / "groups.csv").write_text("group,kind,part\nA,link,nosuch\n")
-    assert murdjohe("lint", "plan.toml", "--nosuch", folder=folder).status == 2
-    assert murdjohe("rank", "plan.toml", "-o", "there", folder=folder).status == 22
-    assert murdjohe("rank", "nosuch.toml", folder=folder).status == 7
-    assert murdjohe("survey", "plan.toml", "--groups", "nosuch", folder=folder).status == 7
-    assert murdjohe("survey", "plan.toml", "--groups", "bad.csv", folder=folder).status == 24
-    assert murdjohe("survey", "plan.toml", "--groups", "groups.csv", folder=folder).status == 5
-    assert murdjohe("rank", "plan.toml", "-o", "nosuch/ranks.csv", folder=folder).status == 8
-    assert murdjohe("draw", "plan.toml", "-o", "nosuch/plan.svg", folder=folder).status == 8
-    assert murdjohe("failures", "plan.toml", "-o", "/dev/full", folder=folder).status == 23
+def test_usage_files_inputs_outputs_and_space_have_statuses_of_their_own(reserve: Path) -> None:
+    (reserve / "there").write_text("")
+    (reserve / "bad.csv").write_text("name,links\nA,nosuch\n")
+    (reserve / "groups.csv").write_text("group,kind,part\nA,link,nosuch\n")
+    assert murdjohe("lint", "plan.toml", "--nosuch", folder=reserve).status == 2
+    assert murdjohe("rank", "plan.toml", "-o", "there", folder=reserve).status == 22
+    assert murdjohe("rank", "nosuch.toml", folder=reserve).status == 7
+    assert murdjohe("survey", "plan.toml", "--groups", "nosuch", folder=reserve).status == 7
+    assert murdjohe("survey", "plan.toml", "--groups", "bad.csv", folder=reserve).status == 24
+    assert murdjohe("survey", "plan.toml", "--groups", "groups.csv", folder=reserve).status == 5
+    assert murdjohe("rank", "plan.toml", "-o", "nosuch/ranks.csv", folder=reserve).status == 8
+    assert murdjohe("draw", "plan.toml", "-o", "nosuch/plan.svg", folder=reserve).status == 8
+    assert murdjohe("failures", "plan.toml", "-o", "/dev/full", folder=reserve).status == 23
     said = murdjohe("help", "statuses").out.decode()
     for number in (2, 7, 8, 20, 21, 22, 23, 24, 69, 70):
         assert f"\n  {number:>2}  " in said

@@ -11,45 +11,18 @@ import pytest
 from conftest import CASES, EXAMPLES, murdjohe
 from hypothesis import given, settings
 from hypothesis import strategies as st
+from plans_spelled import spelled
 from random_plans import random_plan
 
 from murdjohe.core.documents import Document
 from murdjohe.network import orders
 from murdjohe.plan.plan_lines import PlanLines
 
-PLAN = """version = 2
-[[element]]
-name = "A"
-own = "QL-SSU-A"
-[[element]]
-name = "B"
-floor = "QL-SSU-B"
-holdoff = 500
-[[element]]
-name = "C"
-wtr = 0
-[[link]]
-name = "L1"
-a = "A"
-b = "B"
-priority_b = 2
-bundle = "G"
-[[link]]
-name = "L2"
-a = "B"
-b = "A"
-priority_a = 2
-bundle = "G"
-[[link]]
-name = "L3"
-a = "B"
-b = "C"
-priority_a = 9
-[[source]]
-name = "S"
-at = "A"
-level = "QL-PRC"
-"""
+PLAN = "version = 2\n" + spelled(
+    *("element A own=QL-SSU-A", "element B floor=QL-SSU-B holdoff=500", "element C wtr=0"),
+    *("link L1 a=A b=B priority_b=2 bundle=G", "link L2 a=B b=A priority_a=2 bundle=G"),
+    *("link L3 a=B b=C priority_a=9", "source S at=A level=QL-PRC"),
+)
 TEXT = """A
   1st  source S (priority 1)
   floor none, hold-off 300 ms, wait-to-restore 5 min, internal oscillator (own clock) QL-SSU-A

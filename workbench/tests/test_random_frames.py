@@ -13,6 +13,7 @@ from pathlib import Path
 
 import pytest
 from conftest import CASES
+from plans_spelled import spelled
 from refusing import refused
 
 FRAME = bytes.fromhex("0180c200000202000000000188090a0019a700011000000001000402" + "00" * 32)
@@ -155,17 +156,11 @@ WRONG_RECEIVED = {
     48: [("10,down,L1>B,x", "has a value"), ("10,frame,L1>B,xyz", "has a value")],
     49: [(f"10,frame,L1>B,{FRAME.hex()[:-2]}", "its frame isn't 60 to 1514 bytes long")],
 }  # fmt: skip
-NODE_PLAN = """\
-[[element]]
-name = "A"
-[[element]]
-name = "B"
-[[link]]
-name = "L1"
-a = "A"
-b = "B"
-priority_b = 1
-"""
+NODE_PLAN = spelled(
+    "element A",
+    "element B",
+    "link L1 a=A b=B priority_b=1",
+)
 
 
 @pytest.mark.parametrize("number", list(WRONG_RECEIVED))

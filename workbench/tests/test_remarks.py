@@ -2,32 +2,16 @@
 
 from __future__ import annotations
 
-import itertools
 from pathlib import Path
 
 import pytest
 from conftest import EXAMPLES, murdjohe
+from plans_spelled import chain, spelled
 
-CHAIN = """\
-[[element]]
-name = "A"
-[[element]]
-name = "B"
-[[element]]
-name = "C"
-[[element]]
-name = "D"
-[[link]]
-name = "L1"
-a = "A"
-b = "B"
-priority_b = 1
-[[link]]
-name = "L2"
-a = "C"
-b = "D"
-priority_b = 3
-"""
+CHAIN = spelled(
+    *("element A", "element B", "element C", "element D"),
+    *("link L1 a=A b=B priority_b=1", "link L2 a=C b=D priority_b=3"),
+)
 SOURCE = '[[source]]\nname = "S"\nat = "A"\nlevel = "QL-PRC"\n'
 
 
@@ -66,13 +50,8 @@ def test_chains_are_held_against_the_reference_chain() -> None:
     assert said("chains", "-", stdin=CHAIN + SOURCE) == [
         "whatever fails, no chain is longer than G.803's 60 lines, 20 since a filter and 10 filters"
     ]
-    names = [f"E{number}" for number in range(23)]
-    plan = "".join(f'[[element]]\nname = "{name}"\n' for name in names)
-    for one, other in itertools.pairwise(names):
-        plan += f'[[link]]\nname = "{one}-{other}"\na = "{one}"\nb = "{other}"\npriority_b = 1\n'
-    assert said("chains", "-", stdin=plan) == [
-        "2 elements have chains of more than G.803's 20 lines since a filter: E21, E22"
-    ]
+    long = "2 elements have chains of more than G.803's 20 lines since a filter: E21, E22"
+    assert said("chains", "-", stdin=chain(23)) == [long]
 
 
 def test_a_protected_plan_is_told() -> None:

@@ -14,6 +14,7 @@ import networkx as nx
 import numpy
 import pytest
 from conftest import CASES, EXAMPLES, murdjohe
+from groups_made import plan_of
 from hypothesis import given, settings
 from hypothesis import strategies as st
 
@@ -30,14 +31,8 @@ TRIED = settings(max_examples=max(40, CASES))
 
 def planned(links: list[str], sources: list[str]) -> str:
     """A plan of links `NAME A PRIORITY_A B PRIORITY_B [BUNDLE]` and sources `NAME AT`."""
-    rows = [link.split() for link in links]
-    elements = dict.fromkeys(end for row in rows for end in (row[1], row[3]))
-    lines = ["version = 2"] + [f'[[element]]\nname = "{name}"' for name in elements]
-    for name, a, priority_a, b, priority_b, *bundle in rows:
-        lines.append(f'[[link]]\nname = "{name}"\na = "{a}"\nb = "{b}"')
-        lines += [f"priority_a = {priority_a}", f"priority_b = {priority_b}", *(f'bundle = "{one}"' for one in bundle)]
-    lines += ['[[source]]\nname = "{}"\nat = "{}"\nlevel = "QL-PRTC"'.format(*source.split()) for source in sources]
-    return "\n".join(lines) + "\n"
+    elements = dict.fromkeys(end for link in links for end in link.split()[1:4:2])
+    return plan_of(elements, links, sources, "QL-PRTC")
 
 
 # Two clocks' elements at a ring of eight, each link both ways: a knot of 24 lines.

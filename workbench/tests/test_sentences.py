@@ -32,67 +32,41 @@ def sentence(folder: Path, form: str, *files: str | bytes, more: tuple[str, ...]
         ("cycle L1>B L2>C L3>A\n", "it is the answer of a `rank` that found a possible loop"),
         ("name;a;b\nL1;A;B\n", "it is a table, and no plan; `murdjohe import` makes a plan of tables"),
         (b"\xd4\xc3\xb2\xa1", "one: it is a capture, and no plan"),
-        (
-            RING.encode("utf-16"),
-            "one:1: `# Three sites, each of which takes its timing from the one before: a ring of hops.`: it is text in UTF-16",
-        ),
+        (RING.encode("utf-16"),
+         "one:1: `# Three sites, each of which takes its timing from the one before: a ring of hops.`: it is text in UTF-16"),
         (b'[[element]]\nname = "Z\xfcrich"\n', 'one:2: `name = "Z�rich"`: the byte fc, in Latin-1 a `ü`, is no UTF-8'),
         ('[[element]]\nname = "A\n', 'one:2: `name = "A`: it is no TOML document: Illegal character'),
-        (
-            '[[element]]\nname = "A"\nwtr = 99999999999999999999\n',
-            "one:3: `wtr = 99999999999999999999`: it has an integer beyond 64 bits",
-        ),
-        (
-            '[[sources]]\nname = "S"\n',
-            'one:1: `[[sources]]`: the head has the unknown key "sources" (nearest: "source")',
-        ),
-        (
-            '[element]\nname = "A"\n',
-            'one:1: `[element]`: "element" is one table; write `[[element]]`, with two brackets',
-        ),
+        ('[[element]]\nname = "A"\nwtr = 99999999999999999999\n',
+         "one:3: `wtr = 99999999999999999999`: it has an integer beyond 64 bits"),
+        ('[[sources]]\nname = "S"\n',
+         'one:1: `[[sources]]`: the head has the unknown key "sources" (nearest: "source")'),
+        ('[element]\nname = "A"\n',
+         'one:1: `[element]`: "element" is one table; write `[[element]]`, with two brackets'),
         ("version = 3\n", "one:1: `version = 3`: the version is 3; the versions are 1 and 2"),
         ('option = "2"\n', 'one:1: `option = "2"`: the option is "2"; the options are "I" and "II"'),
-        (
-            PLAN + 'bundle = "B"\n',
-            'one:9: `bundle = "B"`: link "L1" has the key "bundle"; write `version = 2` at the head',
-        ),
+        (PLAN + 'bundle = "B"\n',
+         'one:9: `bundle = "B"`: link "L1" has the key "bundle"; write `version = 2` at the head'),
         (PLAN + 'site = "Bern"\n', 'one:9: `site = "Bern"`: link "L1" has the unknown key "site"'),
-        (
-            PLAN + "priority_b = 256\n",
-            'one:9: `priority_b = 256`: link "L1" has priority_b = 256; it has to be 0 to 255, where 0 is not nominated',
-        ),
-        (
-            '[[element]]\nname = "A"\nwtr = 300\n',
-            'one:3: `wtr = 300`: element "A" has wtr = 300; it has to be 0 to 12 minutes',
-        ),
-        (
-            '[[element]]\nname = "A"\nholdoff = 500.0\n',
-            'element "A" has for "holdoff" a number with a point; it has to be a whole number',
-        ),
-        (
-            '[[element]]\nname = "M.1"\n',
-            'one:2: `name = "M.1"`: element number 1: its name "M.1" has a dot; a name is 1 to 32 of A-Z a-z 0-9 _ -, as "M-1"',
-        ),
-        (
-            PLAN.replace('b = "M1"', 'b = "m1"'),
-            'one:8: `b = "m1"`: link "L1" has end b "m1", which names no element (nearest: "M1")',
-        ),
-        (
-            PLAN + '[[source]]\nname = "S"\nat = "M1"\nlevel = "PRTC"\n',
-            'source "S" has level = "PRTC", which is no level of option I (nearest: "QL-PRTC")',
-        ),
+        (PLAN + "priority_b = 256\n",
+         'one:9: `priority_b = 256`: link "L1" has priority_b = 256; it has to be 0 to 255, where 0 is not nominated'),
+        ('[[element]]\nname = "A"\nwtr = 300\n',
+         'one:3: `wtr = 300`: element "A" has wtr = 300; it has to be 0 to 12 minutes'),
+        ('[[element]]\nname = "A"\nholdoff = 500.0\n',
+         'element "A" has for "holdoff" a number with a point; it has to be a whole number'),
+        ('[[element]]\nname = "M.1"\n',
+         'one:2: `name = "M.1"`: element number 1: its name "M.1" has a dot; a name is 1 to 32 of A-Z a-z 0-9 _ -, as "M-1"'),
+        (PLAN.replace('b = "M1"', 'b = "m1"'),
+         'one:8: `b = "m1"`: link "L1" has end b "m1", which names no element (nearest: "M1")'),
+        (PLAN + '[[source]]\nname = "S"\nat = "M1"\nlevel = "PRTC"\n',
+         'source "S" has level = "PRTC", which is no level of option I (nearest: "QL-PRTC")'),
         ('[[element]]\nname = "A"\nown = "QL-EEC1"\n', '(nearest: "QL-SEC"); the levels are QL-ePRTC, '),
-        (
-            '[[element]]\nname = "A"\nfloor = "QL-DNU"\n',
-            'element "A" has floor = "QL-DNU", which is do-not-use; the levels are',
-        ),
+        ('[[element]]\nname = "A"\nfloor = "QL-DNU"\n',
+         'element "A" has floor = "QL-DNU", which is do-not-use; the levels are'),
         ('element = [{name = "A"}, {name = "B", wtr = 99}]\n', "one:1: `element = [{name"),
-        (
-            'element = [\n  {name = "A"},\n  # {name = "X"}\n  {name = "B",\n   wtr = 99},\n]\n',
-            'one:5: `wtr = 99},`: element "B" has wtr = 99',
-        ),
+        ('element = [\n  {name = "A"},\n  # {name = "X"}\n  {name = "B",\n   wtr = 99},\n]\n',
+         'one:5: `wtr = 99},`: element "B" has wtr = 99'),
     ],
-)
+)  # fmt: skip
 def test_plans(folder: Path, plan: str | bytes, said: str) -> None:
     assert said in sentence(folder, "rank", plan)
 

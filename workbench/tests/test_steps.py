@@ -9,6 +9,7 @@ from pathlib import Path
 
 import pytest
 from conftest import EXAMPLES, TOP, murdjohe
+from plans_spelled import spelled
 from random_plans import random_plan
 
 from murdjohe.answers import api
@@ -19,34 +20,12 @@ from murdjohe.works import step_text, steps
 from murdjohe.works.steps import ADDS, ALL, TAKES, Net, Visit
 
 REAL = EXAMPLES / "real"
-RING = """
-[[element]]
-name = "A"
-[[element]]
-name = "B"
-[[element]]
-name = "C"
-[[link]]
-name = "L1"
-a = "A"
-b = "B"
-priority_b = {L1}
-[[link]]
-name = "L2"
-a = "B"
-b = "C"
-priority_a = {L2a}
-priority_b = {L2b}
-[[link]]
-name = "L3"
-a = "C"
-b = "A"
-priority_a = {L3}
-[[source]]
-name = "S"
-at = "A"
-level = "QL-PRC"
-"""
+RING = spelled(
+    *("element A", "element B", "element C", "link L1 a=A b=B priority_b={L1}"),
+    "link L2 a=B b=C priority_a={L2a} priority_b={L2b}",
+    "link L3 a=C b=A priority_a={L3}",
+    "source S at=A level=QL-PRC",
+)
 
 
 def ring(**numbers: int) -> str:
@@ -95,28 +74,11 @@ def test_what_is_added_may_come_in_a_visit_of_its_own() -> None:
     assert steps.is_two_fold(net, old, new, "A") and not steps.is_two_fold(net, old, {"S": 1, "T": 1}, "A")
 
 
-PAIR = """
-[[element]]
-name = "A"
-[[element]]
-name = "B"
-[[link]]
-name = "L"
-a = "A"
-b = "B"
-priority_a = {0}
-priority_b = {1}
-[[source]]
-name = "S"
-at = "A"
-level = "QL-PRC"
-priority = {2}
-[[source]]
-name = "T"
-at = "B"
-level = "QL-PRC"
-priority = {3}
-"""
+PAIR = spelled(
+    *("element A", "element B", "link L a=A b=B priority_a={0} priority_b={1}"),
+    "source S at=A level=QL-PRC priority={2}",
+    "source T at=B level=QL-PRC priority={3}",
+)
 
 
 def test_a_source_is_nominated_at_one_end_before_it_goes_at_the_other(tmp_path: Path) -> None:

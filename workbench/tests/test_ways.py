@@ -6,6 +6,7 @@ import itertools
 
 import pytest
 from conftest import EXAMPLES, murdjohe
+from plans_spelled import spelled
 
 from murdjohe.answers.reports import Change
 from murdjohe.network import plan_file
@@ -67,12 +68,9 @@ def test_points_along_a_way() -> None:
 
 def spread(count: int) -> Plan:
     """A chain of so many elements, closed to a ring at its end: on a map it is a large circle."""
-    elements = "".join(f'[[element]]\nname = "E{number}"\n' for number in range(count))
-    links = "".join(
-        f'[[link]]\nname = "L{number}"\na = "E{number}"\nb = "E{(number + 1) % count}"\npriority_b = 1\n'
-        for number in range(count)
-    )
-    return plan_file.taken("spread", (elements + links).encode()).network
+    links = [f"link L{number} a=E{number} b=E{(number + 1) % count} priority_b=1" for number in range(count)]
+    text = spelled(*(f"element E{number}" for number in range(count)), *links)
+    return plan_file.taken("spread", text.encode()).network
 
 
 @pytest.mark.parametrize("count", [4, 12])
