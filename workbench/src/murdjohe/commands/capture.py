@@ -10,7 +10,7 @@ import click
 
 from murdjohe.capture import talk_faults
 from murdjohe.commands import capture_compare, capture_watch, widths
-from murdjohe.commands.capture_options import EVENTS, LINE, LOCAL, OPTION, ended
+from murdjohe.commands.capture_options import EVENTS, FAIL_ON, LINE, LOCAL, OPTION, ended
 from murdjohe.commands.options import Milliseconds, free, output_options, put
 from murdjohe.core import program, streams
 from murdjohe.core.faults import Wrong
@@ -50,12 +50,7 @@ capture.add_command(capture_compare.compare)
     "--rows", "what", flag_value="rows", help="each frame as a row of `pcap-decode`, as `capture write` takes it"
 )
 @click.option("--json", "what", flag_value="json", help="the report as JSON")
-@click.option(
-    "--fail-on",
-    multiple=True,
-    type=click.Choice(talk_faults.FAILING),
-    help="ends with status 21 if this is found; may be repeated",
-)
+@FAIL_ON
 @click.option("-q", "--quiet", is_flag=True, help="without sentences on standard error")
 @output_options
 @click.pass_context

@@ -4,6 +4,7 @@ from __future__ import annotations
 
 import click
 
+from murdjohe.capture import talk_faults
 from murdjohe.core import program, streams
 
 TYPE_CHECKING = False
@@ -18,6 +19,12 @@ LINE = click.option(
     multiple=True,
     metavar="LINE=WHERE",
     help="whose frames went over a line, as L1>B=02:00:00:00:00:01, L1>B=@eth1, or both with an @; once for each line",
+)
+FAIL_ON = click.option(
+    "--fail-on",
+    multiple=True,
+    type=click.Choice(talk_faults.FAILING),
+    help="ends with status 21 if this is found; may be repeated",
 )
 EVENTS = click.option(
     "--events",

@@ -11,7 +11,7 @@ from typing import Any
 import click
 
 from murdjohe.capture import talk_faults
-from murdjohe.commands.capture_options import LOCAL, OPTION, ended, is_quiet
+from murdjohe.commands.capture_options import FAIL_ON, LOCAL, OPTION, ended, is_quiet
 from murdjohe.commands.options import Milliseconds
 from murdjohe.core import program, streams
 from murdjohe.core.faults import Wrong
@@ -72,12 +72,7 @@ def stoppable() -> Iterator[Stop]:
 )
 @click.option("--json", "what", flag_value="json", help="a line of JSON for each frame and change, and for the summary")
 @click.option("--for", "length", type=Milliseconds(), help="ends after so long, as 90s or 12h, by this machine's clock")
-@click.option(
-    "--fail-on",
-    multiple=True,
-    type=click.Choice(talk_faults.FAILING),
-    help="ends with status 21 if this is found; may be repeated",
-)
+@FAIL_ON
 @click.option("-q", "--quiet", is_flag=True, help="without sentences on standard error")
 @click.pass_context
 def watch(context: click.Context, file: str, option: str, local: bool, what: str | None, **asked: Any) -> int:

@@ -44,6 +44,7 @@ class Start(click.ParamType):
         return value if isinstance(value, int) else cli.time_of_day(value) or 0
 
 
+RESTS = "by default the time by which `agree` says the network rests"
 START = click.option("--start", type=Start(), help="the time of day at which the run begins, as 02:00 or 23:00:00")
 
 

@@ -8,7 +8,7 @@ from typing import Any
 
 import click
 
-from murdjohe.commands.options import START, Milliseconds, changed_events, free, from_start, output_options, put
+from murdjohe.commands.options import RESTS, START, Milliseconds, changed_events, free, from_start, output_options, put
 from murdjohe.core import forms, plain_json, program, progress, streams
 from murdjohe.core.faults import Wrong
 from murdjohe.core.inputs import STDIN
@@ -40,11 +40,7 @@ def status_of(found: Rehearsal, limit: int | None = None) -> int:
 @click.command("rehearse")
 @click.argument("plan", type=click.Path())
 @click.argument("events", type=click.Path())
-@click.option(
-    "--until",
-    type=Milliseconds(),
-    help="the end of the run; by default the time by which `agree` says the network rests",
-)
+@click.option("--until", type=Milliseconds(), help=f"the end of the run; {RESTS}")
 @START
 @click.option(
     "--limit",

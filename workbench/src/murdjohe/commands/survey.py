@@ -11,7 +11,7 @@ import click
 from click.core import ParameterSource
 
 from murdjohe.commands import failure_options, map_options
-from murdjohe.commands.options import Milliseconds, free
+from murdjohe.commands.options import RESTS, Milliseconds, free
 from murdjohe.core import inputs, plain_json, program, progress, streams, times
 from murdjohe.core.faults import Wrong
 from murdjohe.core.files import Growing
@@ -169,11 +169,7 @@ def told(context: click.Context, tally: Tally, done: Survey, end: Ending, asked:
 @click.argument("plan", type=click.Path())
 @click.argument("table", metavar="[CASES]", type=click.Path(), required=False)
 @failure_options.options
-@click.option(
-    "--until",
-    type=Milliseconds(),
-    help="the end of each run; by default the time by which `agree` says the network rests",
-)
+@click.option("--until", type=Milliseconds(), help=f"the end of each run; {RESTS}")
 @click.option(
     "--worst", type=click.IntRange(0, 100_000), default=10, show_default=True, help="how many cases are shown"
 )

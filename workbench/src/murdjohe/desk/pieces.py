@@ -99,14 +99,7 @@ def added(plan: PlanLines, section: str, key: str, value: Value) -> Edit:
             continue
         if plan.text.startswith(f"{section} = ["):
             return Edit(span[1], span[1], f", {key} = {spelled(value)}")
-        start = plan.text.rfind("\n", 0, span[0]) + 1
-        blanks = re.match(r"[ \t]*", plan.text[start:])
-        indent = blanks[0] if blanks else ""
-        end = plan.text.find("\n", span[1])
-        if end < 0:
-            return Edit(len(plan.text), len(plan.text), f"\n{indent}{key} = {spelled(value)}")
-        feed = "\r\n" if plan.text[end - 1] == "\r" else "\n"
-        return Edit(end + 1, end + 1, f"{indent}{key} = {spelled(value)}{feed}")
+        return edits.behind(plan.text, span, f"{key} = {spelled(value)}")
     raise Wrong(f"no place is found for the key {key}; write it into the file")
 
 

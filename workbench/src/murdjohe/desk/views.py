@@ -140,49 +140,19 @@ def spot(sheet: Sheet, key: Key) -> dict[str, float]:
 def elements_of(plan: Plan, sheet: Sheet, numbers: Numbers) -> list[dict[str, Any]]:
     """The elements with what is set at them."""
     return [
-        {
-            "name": row.name,
-            "own": numbers.levels[row.own],
-            "floor": row.floor,
-            "holdoff": row.holdoff,
-            "wtr": row.wtr,
-            **spot(sheet, (ELEMENT, row.name)),
-        }
-        for row in plan.elements
+        row._asdict() | {"own": numbers.levels[row.own]} | spot(sheet, (ELEMENT, row.name)) for row in plan.elements
     ]
 
 
 def lines_of(wired: Wiring, numbers: Numbers) -> list[dict[str, Any]]:
     """The lines with the key of their priority."""
-    bundles = {bundle: place for place, bundle in enumerate(dict.fromkeys(one.bundle for one in wired.lines.values()))}
-    return [
-        {
-            "name": line.name,
-            "link": line.link,
-            "key": line.key,
-            "sender": numbers.elements[line.sender],
-            "receiver": numbers.elements[line.receiver],
-            "priority": line.priority,
-            "delay": line.delay,
-            "bundle": bundles[line.bundle],
-            "bundleName": line.bundle[1],
-        }
-        for line in wired.lines.values()
-    ]
+    rows = page_data.lines_of(wired, numbers)
+    return [{**row, "key": line.key, "delay": line.delay} for row, line in zip(rows, wired.lines.values())]
 
 
 def sources_of(plan: Plan, sheet: Sheet, numbers: Numbers) -> list[dict[str, Any]]:
     """The sources."""
-    return [
-        {
-            "name": row.name,
-            "at": numbers.elements[row.at],
-            "level": numbers.levels[row.level],
-            "priority": row.priority,
-            **spot(sheet, (SOURCE, row.name)),
-        }
-        for row in plan.sources
-    ]
+    return [page_data.source_of(row, numbers) | spot(sheet, (SOURCE, row.name)) for row in plan.sources]
 
 
 def levels_in(plan: Plan) -> set[str]:

@@ -19,6 +19,7 @@ from murdjohe.network.reachability import Reach
 from murdjohe.network.wiring import Wiring
 from murdjohe.picture import colours, places, worst
 from murdjohe.picture.places import ELEMENT, SOURCE, Layout
+from murdjohe.plan.model import Source
 from murdjohe.runs import ends, failure_times, failures, moments, simulation
 from murdjohe.runs.moments import Event
 from murdjohe.runs.rehearsals import Rehearsal, event_text, reasons
@@ -103,37 +104,30 @@ def levels_of(option: str, used: set[str]) -> list[dict[str, Any]]:
     return found
 
 
+def lines_of(wired: Wiring, numbers: Numbers) -> list[dict[str, Any]]:
+    """The lines."""
+    bundles = {bundle: place for place, bundle in enumerate(dict.fromkeys(one.bundle for one in wired.lines.values()))}
+    found: list[dict[str, Any]] = []
+    for line in wired.lines.values():
+        ends = {"sender": numbers.elements[line.sender], "receiver": numbers.elements[line.receiver]}
+        bundle = {"bundle": bundles[line.bundle], "bundleName": line.bundle[1]}
+        found.append({"name": line.name, "link": line.link, **ends, "priority": line.priority, **bundle})
+    return found
+
+
+def source_of(row: Source, numbers: Numbers) -> dict[str, Any]:
+    """A source."""
+    return row._asdict() | {"at": numbers.elements[row.at], "level": numbers.levels[row.level]}
+
+
 def network_of(plan: PlanFile, wired: Wiring, layout: Layout, used: set[str]) -> dict[str, Any]:
     """The network: elements, lines and sources with their places."""
     numbers = numbers_of(wired, plan.plan.option)
-    bundles = {
-        bundle: place for place, bundle in enumerate(dict.fromkeys(line.bundle for line in wired.lines.values()))
-    }
     elements = [
         {"name": name, "own": numbers.levels[wired.own[name]], **spot(layout, ELEMENT, name)} for name in wired.elements
     ]
-    lines = [
-        {
-            "name": line.name,
-            "link": line.link,
-            "sender": numbers.elements[line.sender],
-            "receiver": numbers.elements[line.receiver],
-            "priority": line.priority,
-            "bundle": bundles[line.bundle],
-            "bundleName": line.bundle[1],
-        }
-        for line in wired.lines.values()
-    ]
-    sources = [
-        {
-            "name": row.name,
-            "at": numbers.elements[row.at],
-            "level": numbers.levels[row.level],
-            "priority": row.priority,
-            **spot(layout, SOURCE, row.name),
-        }
-        for row in plan.network.sources
-    ]
+    lines = lines_of(wired, numbers)
+    sources = [source_of(row, numbers) | spot(layout, SOURCE, row.name) for row in plan.network.sources]
     ways = [way_of(layout, line.sender, line.receiver) for line in wired.lines.values()]
     for row, way in zip(lines, ways):
         row |= {"way": way} if way else {}

@@ -6,7 +6,7 @@ from dataclasses import dataclass, field
 
 from murdjohe.answers.reports import Change, Loop, Report
 from murdjohe.core import times
-from murdjohe.core.faults import Wrong, unusable
+from murdjohe.core.faults import unusable
 from murdjohe.network import clock_reach, wiring
 from murdjohe.network.wiring import Wiring
 from murdjohe.picture.group_bands import Painted

@@ -46,6 +46,16 @@ def value_of(plan: PlanLines, section: str, number: int, key: str) -> tuple[int,
     return None
 
 
+def behind(text: str, span: tuple[int, int], line: str) -> Edit:
+    """The edit that adds a line behind that of a value, with the same blanks before it and the same end."""
+    blanks = BLANKS.match(text, text.rfind("\n", 0, span[0]) + 1)
+    line = f"{blanks[0] if blanks else ''}{line}"
+    end = text.find("\n", span[1])
+    if end < 0:
+        return Edit(len(text), len(text), f"\n{line}")
+    return Edit(end + 1, end + 1, line + ("\r\n" if text[end - 1] == "\r" else "\n"))
+
+
 def added(plan: PlanLines, section: str, number: int, key: str, value: int) -> Edit:
     """The edit that adds a key to a row. Raises Wrong where there is no place to be found."""
     region = plan.region(section, number)
@@ -55,14 +65,7 @@ def added(plan: PlanLines, section: str, number: int, key: str, value: int) -> E
             continue
         if plan.text[region[0]] == "{":
             return Edit(span[1], span[1], f", {key} = {value}")
-        start = plan.text.rfind("\n", 0, span[0]) + 1
-        indent = BLANKS.match(plan.text, start)
-        blanks = indent[0] if indent else ""
-        end = plan.text.find("\n", span[1])
-        if end < 0:
-            return Edit(len(plan.text), len(plan.text), f"\n{blanks}{key} = {value}")
-        feed = "\r\n" if plan.text[end - 1] == "\r" else "\n"
-        return Edit(end + 1, end + 1, f"{blanks}{key} = {value}{feed}")
+        return behind(plan.text, span, f"{key} = {value}")
     raise Wrong(f"{plan.document.name}: {section} number {number}: no place is found for the key {key}; write it there")
 
 

@@ -20,7 +20,6 @@ HEADERS = {
 }
 NAMES = {"certificate": "certificate", "events": "event list", "cases": "list of cases", "groups": "list of groups"}
 FIELDS = {"events": "four", "cases": "five", "groups": "three"}  # how many a row has
-HEADER_NUMBERS = (34, 26)
 MOST_ROWS = 100_000  # of an event list, and of a list of cases
 HALF_DAY = 43_200_000  # milliseconds: a time that goes back so far is probably one of the next day
 # What would be right where one kind of list of events stands for the other.

@@ -10,6 +10,7 @@ millisecond, or from a change to what came in its own, so going back ends.
 from __future__ import annotations
 
 import heapq
+import math
 from collections.abc import Iterable, Iterator
 from dataclasses import dataclass
 
@@ -83,8 +84,8 @@ def made_another(history: History, name: str, at: int) -> Iterator[Cause]:
         yield Silence(name, at, before)
 
 
-def lockout_at(history: History, name: str, at: int) -> Command | None:
-    """The command by which an input is locked out in a millisecond; None where it isn't."""
+def lockout_of(history: History, name: str, at: float = math.inf) -> Command | None:
+    """The command by which an input is locked out in a millisecond, or at the end; None where it isn't."""
     found = None
     for one in history.commands:
         if one.at > at:
@@ -100,7 +101,7 @@ def taken_away(history: History, name: str, at: int) -> Iterator[Cause]:
     """What took an input away that would have served in a millisecond: a lockout, a cut, or a level upstream; nothing of one whose
     sender takes its timing from this very element."""
     turn = history.signals(name).last_turn(at)
-    if lockout := lockout_at(history, name, at):
+    if lockout := lockout_of(history, name, at):
         yield lockout
     elif turn and turn.has_failed:
         yield turn

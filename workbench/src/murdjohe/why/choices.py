@@ -164,17 +164,6 @@ def way_of(network: Network, inspection: Inspection, element: str) -> Way:
     return Way(tuple(found), kind, name, None)
 
 
-def lockout_of(history: History, name: str) -> Command | None:
-    """The command by which an input is locked out at the end; None where it isn't."""
-    found = None
-    for one in history.commands:
-        if one.input == name and one.is_taken and one.word == "lockout":
-            found = found or one
-        elif one.input == name and one.is_taken and one.word == "unlock":
-            found = None
-    return found
-
-
 def switch_of(history: History, chosen: Inspected, since: Since) -> Command | None:
     """The command by which an element is switched to an input; None where it selects automatically."""
     found = None
@@ -205,7 +194,7 @@ def roots_of_condition(history: History, reason: Reason, at: int) -> Iterator[Ca
 def roots_of_verdict(history: History, reason: Reason, at: int) -> Iterator[Cause]:
     """What made an input one that can't be taken, but for its condition; nothing of one that could be."""
     name, its = reason.input, history.signals(reason.input)
-    if reason.verdict == "locked-out" and (lockout := lockout_of(history, name)):
+    if reason.verdict == "locked-out" and (lockout := causes.lockout_of(history, name)):
         yield lockout
         yield from left_at(history, reason.element, name, lockout.at)
     elif reason.verdict == "silent":

@@ -6,7 +6,7 @@ from collections.abc import Callable
 
 from murdjohe.answers.inspections import Reason
 from murdjohe.core.wording import plural
-from murdjohe.why import causes, choices, signals
+from murdjohe.why import causes, signals
 from murdjohe.why.choices import Why
 
 Moment = Callable[[int], str]  # a millisecond as it is told
@@ -69,7 +69,7 @@ def level_since(why: Why, reason: Reason, moment: Moment) -> str:
 
 
 def on_locked_out(why: Why, reason: Reason, moment: Moment) -> str:
-    lockout = choices.lockout_of(why.history, reason.input)
+    lockout = causes.lockout_of(why.history, reason.input)
     since = f" since {moment(lockout.at)}" if lockout else ""
     return f"is locked out by the operator{since}; {level_text(why, reason)}, and {condition_text(why, reason, moment)}"
 
