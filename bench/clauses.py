@@ -209,8 +209,7 @@ def top_clauses() -> tuple[Clause, ...]:
 
 
 def main(given: list[str] | None = None) -> int:
-    words = parser(__doc__)
-    words.add_argument("--write", action="store_true")
+    words = parser(__doc__, write=False)
     words.add_argument("crates", nargs="*", metavar="CRATE")
     said = words.parse_args(given)
     if said.crates:

@@ -100,10 +100,9 @@ def network(kind: str, count: int, seed: int = 1) -> Plan:
 
 
 def main() -> int:
-    words = parser(__doc__)
+    words = parser(__doc__, seed=1)
     words.add_argument("kind", choices=sorted(KINDS))
     words.add_argument("count", type=int)
-    words.add_argument("--seed", type=int, default=1)
     given = words.parse_args()
     sys.stdout.write(plan_text(network(given.kind, given.count, given.seed)))
     return 0

@@ -101,8 +101,7 @@ def faults(shown: list[File], files: set[File], public: set[File]) -> list[str]:
 
 
 def main(given: list[str] | None = None) -> int:
-    words = parser(__doc__)
-    words.add_argument("--write", action="store_true")
+    words = parser(__doc__, write=False)
     is_written = words.parse_args(given).write
     specs, crates = read_specs(TOP / "crates"), read_crates(TOP / "crates")
     files = rest_of_call(specs, crates)

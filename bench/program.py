@@ -17,11 +17,18 @@ def parts_of(doc: str) -> tuple[str, str]:
     return usage.rstrip(), first + body
 
 
-def parser(doc: str | None) -> argparse.ArgumentParser:
-    """A reader of a script's words, whose help is the script's head."""
+def parser(doc: str | None, **options: float | str) -> argparse.ArgumentParser:
+    """A reader of a script's words, whose help is the script's head, with options of these defaults; False is that of a flag."""
     usage, head = parts_of(doc or "")
     form = argparse.RawDescriptionHelpFormatter
-    return argparse.ArgumentParser(usage=usage.replace("%", "%%"), description=head, formatter_class=form)
+    words = argparse.ArgumentParser(usage=usage.replace("%", "%%"), description=head, formatter_class=form)
+    for name, default in options.items():
+        option = f"--{name.replace('_', '-')}"
+        if default is False:
+            words.add_argument(option, action="store_true")
+        else:
+            words.add_argument(option, type=type(default), default=default)
+    return words
 
 
 def path(name: str) -> str:
@@ -29,9 +36,9 @@ def path(name: str) -> str:
     return os.path.abspath(name)
 
 
-def program_words(doc: str | None) -> argparse.ArgumentParser:
+def program_words(doc: str | None, **options: float | str) -> argparse.ArgumentParser:
     """The same with a first word PROGRAM, whose path is made one that holds in any folder."""
-    words = parser(doc)
+    words = parser(doc, **options)
     words.add_argument("program", type=path)
     return words
 
@@ -48,8 +55,9 @@ def answer(program: str, *words: str | int, folder: str | None = None) -> tuple[
     return status, text.decode("latin-1")
 
 
-def put_files(folder: str, files: Mapping[str, str | bytes]) -> None:
+def put_files(folder: str | pathlib.Path, files: Mapping[str, str | bytes]) -> None:
     """Writes files by name into a folder."""
     for name, content in files.items():
-        with open(os.path.join(folder, name), "wb") as file:
-            file.write(content if isinstance(content, bytes) else content.encode("utf-8"))
+        path_of = pathlib.Path(folder, name)
+        path_of.parent.mkdir(parents=True, exist_ok=True)
+        path_of.write_bytes(content if isinstance(content, bytes) else content.encode("utf-8"))

@@ -87,10 +87,7 @@ def tried(program: str, case: SimCase, folder: str, counted: Counter[str]) -> tu
 
 
 def main() -> int:
-    words = program_words(__doc__)
-    words.add_argument("--plans", type=int, default=500)
-    words.add_argument("--seed", type=int, default=1)
-    given = words.parse_args()
+    given = program_words(__doc__, plans=500, seed=1).parse_args()
     chance, counted = random.Random(given.seed), collections.Counter[str]()
     while counted["accepted"] < given.plans:
         with tempfile.TemporaryDirectory() as folder:

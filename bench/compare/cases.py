@@ -19,19 +19,11 @@ class Case(NamedTuple):
     text: bytes
 
 
-def case_words(doc: str | None) -> argparse.ArgumentParser:
-    """Either PROGRAM or --write FOLDER."""
-    words = parser(doc)
+def case_words(doc: str | None, **options: int) -> argparse.ArgumentParser:
+    """Either PROGRAM or --write FOLDER, and numbers with these defaults."""
+    words = parser(doc, **options)
     words.add_argument("program", nargs="?", type=path)
     words.add_argument("--write", metavar="FOLDER")
-    return words
-
-
-def random_words(doc: str | None, what: str, count: int) -> argparse.ArgumentParser:
-    """The same; how many cases, by the word for what they are; and the seed."""
-    words = case_words(doc)
-    words.add_argument(f"--{what}", type=int, default=count)
-    words.add_argument("--seed", type=int, default=1)
     return words
 
 

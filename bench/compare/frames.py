@@ -148,7 +148,7 @@ def random_case(chance: random.Random) -> tuple[str, str, bytes]:
 
 
 def main() -> int:
-    given = cases.read(cases.random_words(__doc__, "cases", 5000))
+    given = cases.read(cases.case_words(__doc__, cases=5000, seed=1))
     chance = random.Random(given.seed)
     made = [random_case(chance) for _ in range(given.cases)]
     lines = sum(len(list(lines_of(file))) for _, _, file in made)

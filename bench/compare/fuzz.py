@@ -227,11 +227,8 @@ def work(
 
 
 def main() -> int:
-    words = program_words(__doc__)
-    words.add_argument("--cases", type=int, default=5000)
-    words.add_argument("--seed", type=int, default=1)
+    words = program_words(__doc__, cases=5000, seed=1, processes=1)
     words.add_argument("--reader", action="append", choices=READERS)
-    words.add_argument("--processes", type=int, default=1)
     words.add_argument("--keep")
     given = words.parse_args()
     program, wrong = shutil.which(given.program), 0

@@ -41,7 +41,6 @@ import networkx
 
 from bench.compare import agree, protected, survival
 from bench.compare.protected import DOWN, Failure, Group, cut_off, failure_of, failures_of, groups_text
-from bench.levels import LEVELS
 from bench.program import WORKBENCH, answer, program_words, put_files
 from bench.reference.plan import Event, Link, Plan, PlanElement, Source, events_text, plan_text, read_plan
 
@@ -317,12 +316,8 @@ def said(counted: Counter[str]) -> str:
 
 
 def main() -> int:
-    words = program_words(__doc__)
-    words.add_argument("--networks", type=int, default=200)
-    words.add_argument("--small", type=int, default=60)
-    words.add_argument("--runs", type=int, default=20)
+    words = program_words(__doc__, networks=200, small=60, runs=20, seed=1)
     words.add_argument("--elements", default="30-60", metavar="FROM-TO")
-    words.add_argument("--seed", type=int, default=1)
     words.add_argument("--keep", help="leaves the files of the last network in this folder")
     given = words.parse_args()
     chance, wrong = random.Random(given.seed), 0

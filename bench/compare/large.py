@@ -97,11 +97,7 @@ def differences(program: str, folder: str, plan: Plan) -> list[str]:
 
 
 def main() -> int:
-    words = program_words(__doc__)
-    words.add_argument("--plans", type=int, default=50)
-    words.add_argument("--elements", type=int, default=3000)
-    words.add_argument("--seed", type=int, default=1)
-    given = words.parse_args()
+    given = program_words(__doc__, plans=50, elements=3000, seed=1).parse_args()
     differ = lines = 0
     with tempfile.TemporaryDirectory() as folder:
         for number in range(given.plans):

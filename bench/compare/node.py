@@ -204,11 +204,9 @@ def differences(given: argparse.Namespace) -> int:
 
 
 def main() -> int:
-    words = parser(__doc__)
+    words = parser(__doc__, network=False, seed=1)
     words.add_argument("program", nargs="?", type=path)
-    words.add_argument("--network", action="store_true")
     words.add_argument("--count", type=int)
-    words.add_argument("--seed", type=int, default=1)
     words.add_argument("--keep", help="work in this folder, and stop at the first difference with its files in it")
     given = words.parse_args()
     if given.program is None and not given.network:

@@ -153,9 +153,7 @@ def differences(program: str, folder: str, plan: Tables) -> Iterator[str]:
 
 
 def main() -> int:
-    parser = program_words(__doc__)
-    parser.add_argument("--plans", type=int, default=500)
-    parser.add_argument("--seed", type=int, default=1)
+    parser = program_words(__doc__, plans=500, seed=1)
     parser.add_argument("--keep")
     options = parser.parse_args()
     program = options.program

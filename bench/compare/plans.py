@@ -206,7 +206,7 @@ def random_plan(chance: random.Random) -> tuple[bytes, tuple[int, str]]:
 
 
 def main() -> int:
-    given = cases.read(cases.random_words(__doc__, "plans", 5000))
+    given = cases.read(cases.case_words(__doc__, plans=5000, seed=1))
     chance = random.Random(given.seed)
     plans = [random_plan(chance) for _ in range(given.plans)]
     told = collections.Counter[str]()

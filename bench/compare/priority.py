@@ -96,9 +96,7 @@ class Compared:
 
 
 def main() -> int:
-    words = program_words(__doc__)
-    words.add_argument("--plans", type=int, default=1000)
-    words.add_argument("--seed", type=int, default=1)
+    words = program_words(__doc__, plans=1000, seed=1)
     words.add_argument("--keep", help="work in this folder, and stop at the first difference with its files in it")
     given = words.parse_args()
     chance = random.Random(given.seed)

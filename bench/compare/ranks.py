@@ -186,9 +186,7 @@ def compare(program: str, plans: list[RandomPlan], chance: random.Random) -> int
 
 
 def main() -> int:
-    words = cases.random_words(__doc__, "plans", 500)
-    words.add_argument("--without-bundles", action="store_true")
-    given = cases.read(words)
+    given = cases.read(cases.case_words(__doc__, plans=500, seed=1, without_bundles=False))
     chance = random.Random(given.seed)
     plans = [random_plan(chance) for _ in range(given.plans)]
     if not given.without_bundles:

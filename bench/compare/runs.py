@@ -13,10 +13,7 @@ Differences = Callable[[str, Plan], Iterator[str]]  # what is wrong, in words, o
 
 def run_words(doc: str | None, plans: int, runs: int) -> argparse.ArgumentParser:
     """PROGRAM, how many plans and how many runs, the seed, and a folder for what differs."""
-    words = program_words(doc)
-    words.add_argument("--plans", type=int, default=plans)
-    words.add_argument("--runs", type=int, default=runs)
-    words.add_argument("--seed", type=int, default=1)
+    words = program_words(doc, plans=plans, runs=runs, seed=1)
     words.add_argument("--keep", help="stop at a plan with a difference, and leave its files in this folder")
     return words
 

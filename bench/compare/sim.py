@@ -65,9 +65,7 @@ def expected_and_words(form: str, case: SimCase, folder: str) -> tuple[str, list
 
 
 def main() -> int:
-    words = program_words(__doc__)
-    words.add_argument("--plans", type=int, default=300)
-    words.add_argument("--seed", type=int, default=1)
+    words = program_words(__doc__, plans=300, seed=1)
     forms = words.add_mutually_exclusive_group()
     forms.add_argument("--sweep", action="store_const", const="sweep", default="sim", dest="form")
     forms.add_argument("--cuts", action="store_const", const="cuts", dest="form")

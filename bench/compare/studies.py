@@ -90,12 +90,11 @@ def before_own(cases: list[list[str]], name: str, until: int) -> int:
 
 
 def main() -> int:
-    words = program_words(__doc__)
+    words = program_words(__doc__, seed=1)
     words.add_argument("plan", type=path)
     words.add_argument("table", metavar="CASES", type=path)
     words.add_argument("until", type=int)
     words.add_argument("--cases", type=int, help="so many, chosen at random; all without it")
-    words.add_argument("--seed", type=int, default=1)
     given = words.parse_args()
     with open(given.plan, encoding="utf-8") as file:
         plan = read_plan(file.read())

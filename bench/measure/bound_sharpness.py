@@ -64,10 +64,7 @@ def part_of(program: str, folder: str, numbers: random.Random, kind: str) -> tup
 
 
 def main() -> None:
-    parser = program_words(__doc__)
-    parser.add_argument("--plans", type=int, default=300)
-    parser.add_argument("--seed", type=int, default=1)
-    given = parser.parse_args()
+    given = program_words(__doc__, plans=300, seed=1).parse_args()
     program = given.program
     numbers = random.Random(given.seed)
     with tempfile.TemporaryDirectory() as folder:

@@ -34,11 +34,8 @@ def rows_text(count: int, share: int) -> str:
 
 
 def main() -> None:
-    words = program_words(__doc__)
+    words = program_words(__doc__, repeats=25, lines=50_000, extended=0)
     words.add_argument("other", nargs="?", type=path)
-    words.add_argument("--repeats", type=int, default=25)
-    words.add_argument("--lines", type=int, default=50_000)
-    words.add_argument("--extended", type=int, default=0)
     given = words.parse_args()
     programs = [program for program in (given.program, given.other) if program]
     with tempfile.TemporaryDirectory() as folder, contextlib.chdir(folder):

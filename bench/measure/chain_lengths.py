@@ -64,9 +64,7 @@ def figures(program: str, folder: str, form: str) -> tuple[int, int]:
 
 
 def main() -> int:
-    words = program_words(__doc__)
-    words.add_argument("--elements", type=int, default=50)
-    given = words.parse_args()
+    given = program_words(__doc__, elements=50).parse_args()
     print("| network | furthest | longest by `nominate` | gaps | longest by `protect` | gaps |")
     print("|---|---|---|---|---|---|")
     with tempfile.TemporaryDirectory() as folder:

@@ -109,10 +109,7 @@ def run(program: str, chance: random.Random, number: int, folder: str) -> Run | 
 
 
 def main() -> int:
-    words = program_words(__doc__)
-    words.add_argument("--minutes", type=float, default=60)
-    words.add_argument("--seed", type=int, default=1)
-    given = words.parse_args()
+    given = program_words(__doc__, minutes=60.0, seed=1).parse_args()
     program, runs, number, end = given.program, list[Run | None](), 0, time.monotonic() + 60 * given.minutes
     with tempfile.TemporaryDirectory() as folder:
         while time.monotonic() < end:

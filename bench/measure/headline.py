@@ -123,10 +123,8 @@ def document(is_written: bool) -> int:
 
 
 def main() -> int:
-    words = parser(__doc__)
+    words = parser(__doc__, document=False, write=False)
     words.add_argument("names", nargs="*", metavar="CRATE.FILE.NAME")
-    words.add_argument("--document", action="store_true")
-    words.add_argument("--write", action="store_true")
     given = words.parse_args()
     if given.document:
         return document(given.write)

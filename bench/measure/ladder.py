@@ -99,11 +99,8 @@ def time_dense(programs: list[str], repeats: int) -> None:
 
 
 def main() -> None:
-    words = program_words(__doc__)
+    words = program_words(__doc__, repeats=30, elements="500,1000,2000", all_keys=False)
     words.add_argument("other", nargs="?", type=path)
-    words.add_argument("--repeats", type=int, default=30)
-    words.add_argument("--elements", default="500,1000,2000")
-    words.add_argument("--all-keys", action="store_true")
     words.add_argument("--form", choices=["check", "rank", "gen"], default="check")
     given = words.parse_args()
     programs = [program for program in (given.program, given.other) if program]

@@ -174,11 +174,8 @@ def measured(
 
 
 def main() -> int:
-    words = program_words(__doc__)
-    words.add_argument("--elements", default="2000,10000,50000")
-    words.add_argument("--kind", default="ladder,operator,random")
+    words = program_words(__doc__, elements="2000,10000,50000", kind="ladder,operator,random", instructions=False)
     words.add_argument("--form", default=",".join(FORMS))
-    words.add_argument("--instructions", action="store_true")
     given = words.parse_args()
     counts = [int(count) for count in given.elements.split(",")]
     for kind in given.kind.split(","):

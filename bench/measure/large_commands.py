@@ -106,8 +106,7 @@ def measured(program: str, counts: list[int], names: list[str]) -> None:
 
 
 def main() -> int:
-    words = program_words(__doc__)
-    words.add_argument("--elements", default="2000,20000,100000")
+    words = program_words(__doc__, elements="2000,20000,100000")
     words.add_argument("--command", default=",".join(COMMANDS))
     given = words.parse_args()
     measured(given.program, [int(count) for count in given.elements.split(",")], given.command.split(","))

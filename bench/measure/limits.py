@@ -293,10 +293,7 @@ def run(program: str, case: Case, folder: str) -> tuple[int, bytes, float, int]:
 
 
 def main() -> int:
-    words = program_words(__doc__)
-    words.add_argument("--large", action="store_true")
-    words.add_argument("--only", default="")
-    given = words.parse_args()
+    given = program_words(__doc__, large=False, only="").parse_args()
     program, wrong = given.program, 0
     print("| what | answer | time | peak memory |\n|---|---|---|---|")
     for case in (case for case in (large_cases() if given.large else standard_cases()) if given.only in case.name):

@@ -33,9 +33,7 @@ def write(path: str, count: int) -> None:
 
 
 def main() -> int:
-    parser = program_words(__doc__)
-    parser.add_argument("--frames", type=int, default=1_000_000)
-    asked = parser.parse_args()
+    asked = program_words(__doc__, frames=1_000_000).parse_args()
     os.environ["MURDJOHE_CORE"] = os.path.abspath(asked.program)
     with tempfile.TemporaryDirectory() as name:
         path = os.path.join(name, "long.pcapng")

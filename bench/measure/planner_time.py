@@ -43,9 +43,7 @@ def plans(folder: pathlib.Path, program: str, elements: int) -> None:
 
 
 def main() -> None:
-    words = program_words(__doc__)
-    words.add_argument("--elements", type=int, default=2000)
-    given = words.parse_args()
+    given = program_words(__doc__, elements=2000).parse_args()
     program = given.program
     with tempfile.TemporaryDirectory() as name:
         folder = pathlib.Path(name)

@@ -46,9 +46,8 @@ def files_below(folder: str) -> list[tuple[float, str]]:
 
 
 def main() -> int:
-    words = parser(__doc__)
+    words = parser(__doc__, most=20)
     words.add_argument("crate")
-    words.add_argument("--most", type=int, default=20)
     given = words.parse_args()
     folder = TOP / "crates" / given.crate / "out" / "incremental"
     if not folder.is_dir():

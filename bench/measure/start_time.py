@@ -23,9 +23,7 @@ def taken(words: list[str], environment: dict[str, str]) -> float:
 
 
 def main() -> None:
-    words = program_words(__doc__)
-    words.add_argument("--runs", type=int, default=40)
-    given = words.parse_args()
+    given = program_words(__doc__, runs=40).parse_args()
     program = given.program
     environment = {**os.environ, "MURDJOHE_CORE": program}
     command = str(WORKBENCH)

@@ -110,9 +110,7 @@ def cost(calls: Calls) -> str:
 
 
 def main() -> int:
-    words = program_words(__doc__)
-    words.add_argument("--elements", default="250,2000")
-    given = words.parse_args()
+    given = program_words(__doc__, elements="250,2000").parse_args()
     for count in (int(it) for it in given.elements.split(",")):
         print(f"a network of {count} elements: {cost(busy_calls(given.program, *busy_network(count), NETWORK))}")
     for what, (told, change) in TOLD.items():

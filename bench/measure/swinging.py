@@ -87,9 +87,7 @@ def told(kind: str, counts: Counter[str]) -> str:
 
 
 def main() -> int:
-    words = program_words(__doc__)
-    words.add_argument("--plans", type=int, default=1000)
-    words.add_argument("--seed", type=int, default=1)
+    words = program_words(__doc__, plans=1000, seed=1)
     words.add_argument("--keep")
     given = words.parse_args()
     chance, tried, differ = random.Random(given.seed), 0, 0

@@ -74,11 +74,10 @@ def try_all(edits: list[Edit], top: pathlib.Path, jobs: int) -> int:
 
 
 def main() -> int:
-    words = parser(__doc__)
+    words = parser(__doc__, look=False)
     words.add_argument("crates", nargs="*", metavar="CRATE")
     words.add_argument("--changed", metavar="SINCE")
     words.add_argument("--jobs", type=int, default=max(1, (os.cpu_count() or 2) // 2))
-    words.add_argument("--look", action="store_true")
     given = words.parse_args()
     edits = edits_of(TOP)
     wanted = set(given.crates) | (changed_since(TOP, given.changed) if given.changed else set())

@@ -37,10 +37,8 @@ def read(path: str) -> str:
 
 
 def main() -> int:
-    words = parser(__doc__)
-    words.add_argument("--rows", action="store_true")
+    words = parser(__doc__, rows=False, seed=1)
     words.add_argument("--theorems", type=int, metavar="N")
-    words.add_argument("--seed", type=int, default=1)
     words.add_argument("--sim", nargs=3, metavar=("PLAN", "EVENTS", "UNTIL"))
     words.add_argument("--sweep", nargs=3, metavar=("PLAN", "AT", "UNTIL"))
     words.add_argument("--inspect", nargs=3, metavar=("PLAN", "EVENTS", "AT"))

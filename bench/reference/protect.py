@@ -13,7 +13,6 @@ sources and sources that leave no room: what is found keeps the rules of `broken
 where networkx finds no bridge. It calls no code of the program. It needs Python 3.11 and networkx.
 """
 
-import argparse
 import collections
 import dataclasses
 import random
@@ -24,6 +23,7 @@ import networkx
 
 from bench.compare.agree import bearing
 from bench.compare.protected import cut_off, failures_of
+from bench.program import parser
 from bench.reference.plan import Link, Plan, PlanElement, Source
 
 MOST_INPUTS, GREATEST_PRIORITY = 64, 255
@@ -294,11 +294,7 @@ def differences(plan: Plan, counted: collections.Counter[str]) -> Iterator[str]:
 
 
 def main() -> int:
-    words = argparse.ArgumentParser(description=__doc__, formatter_class=argparse.RawDescriptionHelpFormatter)
-    words.add_argument("--plans", type=int, default=1000)
-    words.add_argument("--large", type=int, default=5)
-    words.add_argument("--seed", type=int, default=1)
-    given = words.parse_args()
+    given = parser(__doc__, plans=1000, large=5, seed=1).parse_args()
     chance, counted = random.Random(given.seed), collections.Counter[str]()
     for number in range(given.plans + given.large):
         plan = random_topology(chance, chance.randint(1, 14) if number < given.plans else chance.randint(50, 200))

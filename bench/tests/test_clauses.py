@@ -2,15 +2,12 @@
 
 from __future__ import annotations
 
-import importlib.machinery
-import importlib.util
-import pathlib
 
 from bench.clauses import Call, Clause, clauses_at, comment_above, filled, first_sentence, whole
 from bench.definitions import rust_items
 from bench.measure.headline import counted_row, files_of, lost_in_readme
+from bench.repository import script
 
-TOP = pathlib.Path(__file__).resolve().parent.parent.parent
 SOURCE = """\
 /// Gives the sum of `a` and `b`. It is never less
 /// than either.
@@ -90,13 +87,8 @@ def test_the_readme_has_the_numbers_of_the_headline() -> None:
 
 
 def test_style_finds_words_and_long_sentences() -> None:
-    loader = importlib.machinery.SourceFileLoader("check_style", str(TOP / "docs" / "check_style"))
-    spec = importlib.util.spec_from_loader("check_style", loader)
-    assert spec is not None
-    style = importlib.util.module_from_spec(spec)
-    loader.exec_module(style)
     text = "He knows whence it comes, `whence` aside.\n\n```\nwhence\n```\n\n" + "word " * 46 + "end.\n"
-    assert list(style.finds("x.md", text)) == [
+    assert list(script("docs/check_style").finds("x.md", text)) == [
         "x.md:1: whence: better: where .. from",
         "x.md:7: a sentence of 47 words",
     ]

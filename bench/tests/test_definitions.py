@@ -11,6 +11,7 @@ from bench.definitions.publicness import public_definitions, read_crates
 from bench.definitions.rust_items import parse_rust
 from bench.definitions.spec_files import Key, parse, read_specs
 from bench.measure import headline
+from bench.program import put_files
 
 KEPT = """\
 -- What is kept.
@@ -71,10 +72,7 @@ def crates(tmp_path: Path) -> Path:
         "low/src/inner.rt": INNER,
         "high/src/lib.rt": HIGH,
     }
-    for name, text in files.items():
-        path = tmp_path / name
-        path.parent.mkdir(parents=True, exist_ok=True)
-        path.write_text(text, encoding="utf-8")
+    put_files(tmp_path, files)
     return tmp_path
 
 

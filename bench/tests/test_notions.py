@@ -2,8 +2,6 @@
 
 from __future__ import annotations
 
-import importlib.machinery
-import importlib.util
 from pathlib import Path
 
 import pytest
@@ -11,8 +9,9 @@ import pytest
 from bench.definitions.publicness import read_crates, rested_on
 from bench.definitions.spec_files import read_specs
 from bench.notions import faults, files_of, filled, line, orders_of, rest_of_call
+from bench.program import put_files
+from bench.repository import script
 
-TOP = Path(__file__).resolve().parent.parent.parent
 RUN = """\
 ghost use Rattle.std.specs.Prelude.{◌≡◌};
 ghost use Rattle.sync_top.specs.Forms.Check.{said};
@@ -55,10 +54,7 @@ def crates(tmp_path: Path) -> Path:
         "sync_top/src/lib.rt": "//! Top.\n\nmod program;\npub use program::{run, more};\n",
         "sync_top/src/program.rt": RUN,
     }
-    for name, text in files.items():
-        path = tmp_path / name
-        path.parent.mkdir(parents=True, exist_ok=True)
-        path.write_text(text, encoding="utf-8")
+    put_files(tmp_path, files)
     return tmp_path
 
 
@@ -97,10 +93,7 @@ def test_a_file_has_one_place_and_a_public_clause() -> None:
 
 
 def test_the_line_of_names_is_counted_as_generated() -> None:
-    loader = importlib.machinery.SourceFileLoader("check_words", str(TOP / "docs" / "check_words"))
-    spec = importlib.util.spec_from_loader("check_words", loader)
-    assert spec is not None
-    check_words = importlib.util.module_from_spec(spec)
-    loader.exec_module(check_words)
-    count = check_words.counted("one two\n\n<!-- specs: low.First low -->\nlow `First`, `Last`\n\nthree\n")
+    count = script("docs/check_words").counted(
+        "one two\n\n<!-- specs: low.First low -->\nlow `First`, `Last`\n\nthree\n"
+    )
     assert (count.whole, count.generated) == (11, 8)

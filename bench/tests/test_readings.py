@@ -2,9 +2,6 @@
 
 import random
 import struct
-import sys
-from importlib.machinery import ModuleSpec, SourceFileLoader
-from importlib.util import module_from_spec
 from pathlib import Path
 
 import pytest
@@ -17,6 +14,7 @@ from bench.readings.frames import Wrong, expected, frame_of, row_of
 from bench.readings.plans import plan_of, rank_answer
 from bench.readings.records import check_answer, events_refusal, number_of
 from bench.readings.refused import Refused, Unsure
+from bench.repository import script
 
 SHORT = 20_000  # longer plans take the readings a second each
 DEEP = b"[" * 100  # the program refuses lists in lists of this depth, which TOML allows
@@ -25,11 +23,7 @@ ROW = b"020000000001,event,QL-PRTC,0011223344556677,00,1,0"
 
 def by_hand(name: str, place: Path) -> list[tuple[list[bytes | None], tuple[int, str]]]:
     """The files of each row of a table of cases/, made as cases/run makes them, with the status and the answer by hand."""
-    loader = SourceFileLoader("cases_run", str(TOP / "cases" / "run"))
-    module = sys.modules[loader.name] = module_from_spec(ModuleSpec(loader.name, loader, origin=loader.path))
-    module.__file__ = loader.path
-    loader.exec_module(module)
-    rows, wrong = module.prepared("no program", TOP / "cases" / name, place)
+    rows, wrong = script("cases/run").prepared("no program", TOP / "cases" / name, place)
     assert not wrong
     files = [[place / name / word for word in row.words[1:]] for row in rows]
     read = [[path.read_bytes() if path.exists() else None for path in its] for its in files]
