@@ -19,16 +19,16 @@ keys = pytest.importorskip("selenium.webdriver.common.keys")
 CHROMIUM, DRIVER = shutil.which("chromium"), shutil.which("chromedriver")
 if CHROMIUM is None or DRIVER is None:
     pytest.skip("there is no chromium with its driver (Debian: chromium, chromium-driver)", allow_module_level=True)
-OPTIONS = ("--headless=new", "--no-sandbox", "--disable-dev-shm-usage", "--window-size=1500,1000")
+OPTIONS = ("--headless=new", "--no-sandbox", "--disable-dev-shm-usage")
 PATIENCE = 60.0  # seconds, for a busy machine
 JUDGED = "desk.number >= 0 && ['loop', 'agree', 'protected', 'chains', 'run'].every(name => desk.said[name])"
 
 
-def opened_browser() -> Iterator[Any]:
+def opened_browser(size: str = "1500,1000") -> Iterator[Any]:
     """A browser that keeps what its console says and which requests it makes."""
     options = webdriver.ChromeOptions()
     options.binary_location = CHROMIUM
-    for option in OPTIONS:
+    for option in (*OPTIONS, f"--window-size={size}"):
         options.add_argument(option)
     options.set_capability("goog:loggingPrefs", {"browser": "ALL", "performance": "ALL"})
     driver = webdriver.Chrome(service=service.Service(DRIVER), options=options)

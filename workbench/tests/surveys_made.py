@@ -98,3 +98,11 @@ def rows_in(path: str | Path) -> list[str]:
     lines = (gzip.decompress(data) if str(path).endswith(".gz") else data).decode().splitlines()
     assert lines[0] == core_double.HEADER
     return lines[1:]
+
+
+@pytest.fixture
+def double(folder: Path, monkeypatch: pytest.MonkeyPatch) -> Double:
+    """A double of the program in the folder in which the test runs, which takes its place there."""
+    found = Double(folder).made()
+    monkeypatch.setenv("MURDJOHE_CORE", found.program)
+    return found

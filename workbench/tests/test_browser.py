@@ -14,6 +14,7 @@ from typing import Any
 
 import pytest
 from conftest import EXAMPLES, murdjohe, started
+from desk_browsing import actions, keys, opened_browser
 
 from murdjohe.answers import api
 from murdjohe.answers.reports import Change, Report
@@ -22,30 +23,14 @@ from murdjohe.picture import page_data, pages, places
 from murdjohe.runs import moments, rehearsals, spans
 from murdjohe.runs.moments import Event
 
-webdriver = pytest.importorskip("selenium.webdriver", reason="there is no selenium (Debian: python3-selenium)")
-service = pytest.importorskip("selenium.webdriver.chrome.service")
-actions = pytest.importorskip("selenium.webdriver.common.action_chains")
-keys = pytest.importorskip("selenium.webdriver.common.keys")
-CHROMIUM, DRIVER = shutil.which("chromium"), shutil.which("chromedriver")
-if CHROMIUM is None or DRIVER is None:
-    pytest.skip("there is no chromium with its driver (Debian: chromium, chromium-driver)", allow_module_level=True)
 MESH = EXAMPLES / "mesh"
-OPTIONS = ("--headless=new", "--no-sandbox", "--disable-dev-shm-usage", "--window-size=1400,1000")
 # Generous limits in milliseconds, for a busy machine; on a quiet one it is a fraction of them.
 FIRST_PAINT, STEP = 20_000, 1_000
 
 
 @pytest.fixture(scope="module")
 def browser() -> Iterator[Any]:
-    """A browser that keeps what its console says and which requests it makes."""
-    options = webdriver.ChromeOptions()
-    options.binary_location = CHROMIUM
-    for option in OPTIONS:
-        options.add_argument(option)
-    options.set_capability("goog:loggingPrefs", {"browser": "ALL", "performance": "ALL"})
-    driver = webdriver.Chrome(service=service.Service(DRIVER), options=options)
-    yield driver
-    driver.quit()
+    yield from opened_browser("1400,1000")
 
 
 def page_of(folder: Path, *words: str) -> str:

@@ -44,20 +44,13 @@ def broken_certificate(chance: random.Random, plan: RandomPlan, rows: list[str],
     at = chance.randrange(1, len(rows))
     line = rows[at].partition(",")[0]
     if number == 35:
-        rows[at] = chance.choice(
-            [line, f"{line},-1", f"{line},1.5", f"{line},01", f"{line},1,2", f"{line},99999999999999999999"]
-        )
+        ranks = ("", ",-1", ",1.5", ",01", ",1,2", ",99999999999999999999")
+        rows[at] = chance.choice([f"{line}{rank}" for rank in ranks])
         return at, "LINE,RANK"
     if number == 36:
         other, link = chance.choice(lines_of(plan, False)), line.partition(">")[0]
-        name, words = chance.choice(
-            [
-                (other, "isn't nominated"),
-                (link, "names a link"),
-                (f"{line}x", "names no line"),
-                ("nobody>X", "names no line"),
-            ]
-        )
+        none = [(f"{line}x", "names no line"), ("nobody>X", "names no line")]
+        name, words = chance.choice([(other, "isn't nominated"), (link, "names a link"), *none])
         rows[at] = f"{name},1"
         return at, words
     first = chance.randrange(1, len(rows) - 1)
@@ -85,14 +78,8 @@ def test_certificates_without_a_line(folder: Path) -> None:
         missing = chance.choice(lines)
         rows = ["line,rank", *(f"{line},1" for line in lines if line != missing)]
         (folder / "certificate.csv").write_text("\n".join(rows))
-        words = f'the nominated line "{missing}" has no row'
-        refused(
-            "check",
-            ["plan.toml", "certificate.csv"],
-            "certificate.csv",
-            (38, None, words),
-            f"bad certificate N {missing}",
-        )
+        broken = (38, None, f'the nominated line "{missing}" has no row')
+        refused("check", ["plan.toml", "certificate.csv"], "certificate.csv", broken, f"bad certificate N {missing}")
 
 
 HEADERS: dict[str, tuple[str, list[str], int, str]] = {
@@ -251,9 +238,8 @@ def test_events_past_the_limit(folder: Path) -> None:
     chance = random.Random("limit")
     ranked_plan(chance, folder)
     (folder / "events.csv").write_text("at,what,target,value\n" + "5,clear,nobody,\n" * 100_001)
-    refused(
-        "sim", ["plan.toml", "events.csv", "10"], "events.csv", (31, 2, '"nobody" names nothing'), r"bad events N 1"
-    )
+    words = '"nobody" names nothing'
+    refused("sim", ["plan.toml", "events.csv", "10"], "events.csv", (31, 2, words), r"bad events N 1")
     plan = random_plan(chance)
     (folder / "plan.toml").write_bytes(plan.text()[0].encode())
     element = plan.rows["element"][0]["name"]

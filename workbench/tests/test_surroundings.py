@@ -10,6 +10,7 @@ import subprocess
 from pathlib import Path
 
 import pytest
+from comfort_plans import played
 from conftest import EXAMPLES, LAUNCHER, WORKBENCH, murdjohe, started
 from murdjohe import main
 from murdjohe.core import streams
@@ -121,18 +122,12 @@ def test_without_a_program_it_is_told_how_it_is_built(tmp_path: Path) -> None:
 
 @pytest.mark.parametrize(("script", "said"), [("kill -9 $$", "signal 9"), ("kill -11 $$", "signal 11")])
 def test_a_program_that_is_killed_is_told(tmp_path: Path, script: str, said: str) -> None:
-    other = tmp_path / "core"
-    other.write_text(f"#!/bin/sh\n{script}\n")
-    other.chmod(0o755)
-    ran = murdjohe("gen", "3", MURDJOHE_CORE=str(other))
+    ran = murdjohe("gen", "3", MURDJOHE_CORE=played(tmp_path, script))
     assert ran.status == 69 and said in ran.err
 
 
 def test_want_of_memory_is_told_as_the_program_does(tmp_path: Path) -> None:
-    other = tmp_path / "core"
-    other.write_text("#!/bin/sh\nexit 10\n")
-    other.chmod(0o755)
-    ran = murdjohe("gen", "3", MURDJOHE_CORE=str(other))
+    ran = murdjohe("gen", "3", MURDJOHE_CORE=played(tmp_path, "exit 10"))
     assert (ran.status, ran.out) == (10, b"") and "out of memory" in ran.err
 
 

@@ -13,7 +13,7 @@ import pytest
 from conftest import murdjohe
 from hypothesis import given
 from hypothesis import strategies as st
-from surveys_made import EACH, INTERRUPT, RING, UNTIL, Double, ended, rows_in, surveyed, table_of
+from surveys_made import EACH, INTERRUPT, RING, UNTIL, Double, double, ended, rows_in, surveyed, table_of
 
 from murdjohe.answers import studies
 from murdjohe.answers.studies import Case
@@ -21,14 +21,6 @@ from murdjohe.survey.tallies import Tally, Worst
 
 PLAN = str(RING)
 HEAD = "case,at,what,target,value\n"
-
-
-@pytest.fixture
-def double(folder: Path, monkeypatch: pytest.MonkeyPatch) -> Double:
-    """A double of the program in the folder in which the test runs, which takes its place there."""
-    found = Double(folder).made()
-    monkeypatch.setenv("MURDJOHE_CORE", found.program)
-    return found
 
 
 @pytest.mark.parametrize("size", ["1", "4", "21", "2000"])

@@ -13,7 +13,7 @@ from pathlib import Path
 import core_double
 import pytest
 from conftest import WORKBENCH
-from surveys_made import EACH, KILL, PATIENCE_S, RING, UNTIL, Double, ended, rows_in, table_of
+from surveys_made import EACH, KILL, PATIENCE_S, RING, UNTIL, Double, double, ended, rows_in, table_of
 
 import murdjohe
 from murdjohe.core import program
@@ -75,14 +75,6 @@ def dask(folder: Path) -> Iterator[Dask]:
         for process in found.started:
             process.kill()
             process.wait()
-
-
-@pytest.fixture
-def double(folder: Path, monkeypatch: pytest.MonkeyPatch) -> Double:
-    """A double of the program in the folder in which the test runs."""
-    found = Double(folder).made()
-    monkeypatch.setenv("MURDJOHE_CORE", found.program)
-    return found
 
 
 def test_a_worker_that_is_lost_changes_no_row(double: Double, tmp_path: Path) -> None:

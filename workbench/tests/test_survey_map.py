@@ -11,7 +11,7 @@ from pathlib import Path
 import core_double
 import pytest
 from conftest import EXAMPLES, TOP, murdjohe, started
-from surveys_made import EACH, INTERRUPT, PATIENCE_S, RING, UNTIL, Double, ended, rows_in, surveyed, table_of
+from surveys_made import EACH, INTERRUPT, PATIENCE_S, RING, UNTIL, Double, double, ended, rows_in, surveyed, table_of
 
 from murdjohe.answers import reports
 from murdjohe.answers.reports import Report
@@ -159,14 +159,6 @@ def test_many_elements_are_put_together(
     assert [maps[0].rows[1].unfed(column) for column in maps[0].columns] == [1, 2]
     text = Path("map.svg").read_text()
     assert ">hub-north +2<" in text and "a column is up to 3 elements that follow one another" in text
-
-
-@pytest.fixture
-def double(folder: Path, monkeypatch: pytest.MonkeyPatch) -> Double:
-    """A double of the program, whose runs have no traces."""
-    found = Double(folder).made()
-    monkeypatch.setenv("MURDJOHE_CORE", found.program)
-    return found
 
 
 def test_a_run_that_says_otherwise_than_study_is_told(
