@@ -241,9 +241,7 @@ def run_group(
     failure = failure_of(plan, group)
     runs = [(out_of_rest(chance, failure, bound + SPARE), failures), (survival.up_and_down(chance, failure), bound)]
     for events, after in runs:
-        rest = (
-            max([DOWN, *(event.at for event in events)] if after == bound else [event.at for event in events]) + after
-        )
+        rest = max([DOWN] * (after == bound) + [event.at for event in events]) + after
         put_files(folder, {"events": events_text(plan, events)})
         status, text = answer(program, "sim", "found", "events", rest + LONGER, folder=folder)
         counted["stopped"] += status == 11

@@ -66,26 +66,26 @@ def settled(count: int) -> int:
     return SETTLED + LEVEL * count
 
 
+def apart(plan: Plan, count: int) -> list[str]:
+    """So many links or more, as far from one another in the plan as they can be."""
+    return [link.name for link in plan.links[:: max(1, len(plan.links) // count)]]
+
+
 def events(plan: Plan, count: int) -> str:
     """So many links that go down one after the other, a second apart."""
-    start = settled(len(plan.elements))
-    apart = max(1, len(plan.links) // count)
-    names = [plan.links[k].name for k in range(0, len(plan.links), apart)][:count]
+    start, names = settled(len(plan.elements)), apart(plan, count)[:count]
     return "at,what,target,value\n" + "".join(f"{start + n * 1000},down,{name},\n" for n, name in enumerate(names))
 
 
 def cases(plan: Plan, count: int) -> str:
     """So many cases, in each of which a link goes down."""
-    start = settled(len(plan.elements))
-    apart = max(1, len(plan.links) // count)
-    names = [plan.links[k].name for k in range(0, len(plan.links), apart)][:count]
+    start, names = settled(len(plan.elements)), apart(plan, count)[:count]
     return "case,at,what,target,value\n" + "".join(f"C{n},{start},down,{name},\n" for n, name in enumerate(names))
 
 
 def groups(plan: Plan, count: int) -> str:
     """So many groups of two links and an element each, all of whose parts fail together."""
-    apart = max(1, len(plan.links) // (2 * count))
-    names = [plan.links[k].name for k in range(0, len(plan.links), apart)]
+    names = apart(plan, 2 * count)
     rows = (
         f"G{n},link,{one}\nG{n},link,{other}\nG{n},element,{plan.elements[n % len(plan.elements)].name}\n"
         for n, (one, other) in enumerate(zip(names[: 2 * count : 2], names[1 : 2 * count : 2]))

@@ -79,15 +79,15 @@ def sim_case(name: str, plan: str, events: str, until: int, begins: str, ends: s
     return Case(name, ["sim", "plan", "events", str(until)], {"plan": plan, "events": events}, status, begins, ends)
 
 
-def section_cases() -> Iterator[Case]:
+def section_cases(
+    counts: tuple[int, ...] = (2000, 4000, 2000), case: Callable[..., Case] = rank_case, size: str = ""
+) -> Iterator[Case]:
     """As many rows of each section as there may be, and one more."""
-    for section, most, make in (
-        ("element", 2000, elements),
-        ("link", 4000, lambda n: elements(2) + links(n)),
-        ("source", 2000, lambda n: elements(1) + sources(n, "priority = 0\n")),
-    ):
-        yield rank_case(f"{most} {section}s", make(most))
-        yield rank_case(f"{most + 1} {section}s", make(most + 1), 3, f"bad plan 25 15 {section} {most + 1}\n")
+    makes: dict[str, Callable[[int], str]] = {"element": elements, "link": lambda n: elements(2) + links(n)}
+    makes["source"] = lambda n: elements(1) + sources(n, "priority = 0\n")
+    for most, (section, make) in zip(counts, makes.items()):
+        yield case(f"{size}{most} {section}s", make(most))
+        yield case(f"{size}{most + 1} {section}s", make(most + 1), 3, f"bad plan 25 15 {section} {most + 1}\n")
 
 
 def input_cases() -> Iterator[Case]:
@@ -216,15 +216,7 @@ def large_rank_case(name: str, plan: str, status: int = 0, begins: str = "line,r
 
 def large_plan_cases() -> Iterator[Case]:
     """Large plans at each limit of their rows, and with one more."""
-    for section, most, make in (
-        ("element", 100_000, elements),
-        ("link", 200_000, lambda n: elements(2) + links(n)),
-        ("source", 100_000, lambda n: elements(1) + sources(n, "priority = 0\n")),
-    ):
-        yield large_rank_case(f"large: {most} {section}s", make(most))
-        yield large_rank_case(
-            f"large: {most + 1} {section}s", make(most + 1), 3, f"bad plan 25 15 {section} {most + 1}\n"
-        )
+    yield from section_cases((100_000, 200_000, 100_000), large_rank_case, "large: ")
     yield large_rank_case("large: 64 lines into an element", elements(2) + nominated(64), ends="L63>E1,0\n")
     yield large_rank_case("large: 65 lines", elements(2) + nominated(65), 3, "bad plan 25 15 link 65\n")
     plan = elements(2) + nominated(1)

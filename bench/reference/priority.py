@@ -1,9 +1,9 @@
 """Networks by priority alone for the reference: hops with returns, ranks and loops, and the report of a run."""
 
-from collections.abc import Collection, Iterable, Sequence
+from collections.abc import Iterable
 from typing import Self
 
-from bench.reference.element import Command, Element
+from bench.reference.element import Element
 from bench.reference.network import Network, closed_walks, last_said
 from bench.reference.plan import Event, Plan, certificate_text
 
@@ -33,27 +33,9 @@ class PriorityElement(Element):
         """Neither locked out nor failed."""
         return i not in self.locked and not self.inputs[i].failed
 
-    def evaluate(self, ups: list[bool], cleared: Collection[int], commands: Sequence[Command]) -> None:
-        """One millisecond with its signals and its commands in order."""
-        eligible = self.told(ups, cleared, commands)
-        if self.manual not in eligible:
-            self.manual = None
-        self.taken = self.chosen(eligible)
-        self.was_locked = self.was_locked or self.taken is not None
-
-    def chosen(self, eligible: list[int]) -> int | None:
-        """The forced input or none; else the manual one; else the least number, where the current one stays on a
-        tie.
-        """
-        if self.forced is not None:
-            return self.forced if self.forced in eligible else None
-        if self.manual is not None:
-            return self.manual
-        if not eligible:
-            return None
-        first = min(self.inputs[i].priority for i in eligible)
-        best = [i for i in eligible if self.inputs[i].priority == first]
-        return self.taken if self.taken in best else min(best)
+    def place(self, i: int) -> int:
+        """All inputs stand at one place."""
+        return 0
 
 
 class PriorityNetwork(Network):
