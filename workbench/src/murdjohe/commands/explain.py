@@ -4,7 +4,7 @@ from __future__ import annotations
 
 import click
 
-from murdjohe.core import documents, files, inputs, program
+from murdjohe.core import documents, files, inputs, program, shapes
 from murdjohe.core.faults import Wrong
 from murdjohe.core.forms import FORMS
 from murdjohe.core.inputs import Words
@@ -12,27 +12,15 @@ from murdjohe.core.program import Answer
 from murdjohe.remarks import form_remarks
 from murdjohe.sentences import answers
 
-# How refusals begin, with their statuses.
-BEGINNINGS = (
-    (b"usage\n", program.USAGE),
-    (b"bad plan", program.BAD_PLAN),
-    (b"bad certificate", program.BAD_CERTIFICATE),
-    (b"bad events", program.BAD_EVENTS),
-    (b"bad groups", program.BAD_EVENTS),
-    (b"bad frames", program.BAD_FRAMES),
-    (b"bad capture", program.BAD_FRAMES),
-    (b"bad node", program.BAD_FRAMES),
-    (b"read fault\n", program.READ_FAULT),
-    (b"too long\n", program.TOO_LONG),
-    (b"falls", program.REFUTED),
-    (b"cycle", program.REFUTED),
-)
+# How refusals begin, by their statuses.
+BEGINNINGS = {status: tuple(one.rstrip(b" ") for one in all_of) for status, all_of in shapes.REFUSED.items()}
+BEGINNINGS[program.REFUTED] = (b"falls", b"cycle")
 
 
 def status_of(form: str, text: bytes) -> int:
     """The status with which the program writes such a text."""
-    for beginning, status in BEGINNINGS:
-        if text.startswith(beginning):
+    for status, beginnings in BEGINNINGS.items():
+        if text.startswith(beginnings):
             return status
     if form == "prio-rank" and text.startswith(b"at,what,target,value\n"):
         return program.REFUTED

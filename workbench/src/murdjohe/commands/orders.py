@@ -90,11 +90,8 @@ def works_of(new: list[Order], old: PlanFile | None) -> list[Work]:
         element: tuple(one for name, one in inputs.items() if name not in now.get(element, {}))
         for element, inputs in was.items()
     }
-    return [
-        Work(order, tuple(changes[order.element]), gone.get(order.element, ()))
-        for order in new
-        if order.element in changes
-    ]
+    there = [order for order in new if order.element in changes]
+    return [Work(order, tuple(changes[order.element]), gone.get(order.element, ())) for order in there]
 
 
 def by_template(path: str, taken: PlanFile, old: PlanFile | None, ports: str | None, name: str) -> dict[str, bytes]:

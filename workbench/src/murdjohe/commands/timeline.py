@@ -52,25 +52,18 @@ def red_of(path: str, report: Report, plan: str | None, end: int) -> list[Red]:
         return standing(report, end)
     wired = wiring.wiring_of(plan_graph.read_plan(plan))
     views.of_this_plan(path, report, wired)
+    found = [(walk, line) for walk in spans.walks_of(wired, report.changes) for line in walk.lines]
+    words = {True: strips.PAIR, False: strips.LOOP}
     return [
-        Red(
-            wired.lines[line].receiver,
-            walk.start,
-            end if walk.stop is None else walk.stop,
-            strips.PAIR if walk.is_pair else strips.LOOP,
-        )
-        for walk in spans.walks_of(wired, report.changes)
-        for line in walk.lines
+        Red(wired.lines[line].receiver, walk.start, end if walk.stop is None else walk.stop, words[walk.is_pair])
+        for walk, line in found
     ]
 
 
 def within(red: list[Red], start: int, end: int) -> list[Red]:
     """The closed walks as far as they stand between two milliseconds."""
-    return [
-        Red(one.element, max(one.start, start), min(one.stop, end), one.word)
-        for one in red
-        if one.stop > start and one.start < end
-    ]
+    there = [one for one in red if one.stop > start and one.start < end]
+    return [Red(one.element, max(one.start, start), min(one.stop, end), one.word) for one in there]
 
 
 def timeline_of(path: str, asked: dict[str, Any]) -> Timeline:

@@ -21,22 +21,7 @@ class Column:
     """A column: its name in JSON, what the program's header calls it, what it holds, what is written where there is
     nothing, and what G.803 allows, 0 where that says nothing."""
 
-    __slots__ = (
-        *(
-            "name",
-            "head",
-            "kind",
-            "says",
-            "none",
-            "words",
-            "unit",
-            "may_lack",
-            "is_any_code",
-            "not_in",
-            "only_in",
-            "limit",
-        ),
-    )
+    __slots__ = "name head kind says none words unit may_lack is_any_code not_in only_in limit".split()
 
     def __init__(
         self,

@@ -25,19 +25,12 @@ TABLES = {
     "prio-rank": (row_tables.RANKS, b""),
 }
 # The tables of the parts of a report and of an inspection, in their order; the part of closed walks has none.
+CHANGES, LOOPS = (b"changes", row_tables.CHANGES), (b"loops", None)
+COMMANDS, ELEMENTS = (b"commands", row_tables.COMMANDS), (b"elements", row_tables.ELEMENTS)
 PARTS: dict[str, tuple[tuple[bytes, Table | None], ...]] = {
-    "sim": (
-        (b"changes", row_tables.CHANGES),
-        (b"inputs", row_tables.INPUTS),
-        (b"traces", row_tables.TRACES),
-        (b"loops", None),
-    ),
-    "prio-sim": ((b"changes", row_tables.CHANGES), (b"loops", None)),
-    "inspect": (
-        (b"commands", row_tables.COMMANDS),
-        (b"elements", row_tables.ELEMENTS),
-        (b"inputs", row_tables.REASONS),
-    ),
+    "sim": (CHANGES, (b"inputs", row_tables.INPUTS), (b"traces", row_tables.TRACES), LOOPS),
+    "prio-sim": (CHANGES, LOOPS),
+    "inspect": (COMMANDS, ELEMENTS, (b"inputs", row_tables.REASONS)),
 }
 RINGS = ("rank", "prio-rank", "chains")
 PLANS = ("gen", "nominate", "protect")

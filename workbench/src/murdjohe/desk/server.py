@@ -82,21 +82,9 @@ class Server:
         app.router.add_get("/state", self.state)
         app.router.add_get("/run", self.run)
         app.router.add_get("/news", self.news)
-        posts: dict[str, Callable[[Any], Awaitable[Any]]] = {
-            "/edit": self.edit,
-            "/undo": self.undo,
-            "/redo": self.redo,
-            "/propose": self.propose,
-            "/why": self.why,
-            "/cases": self.cases,
-            "/gap": self.gap,
-            "/tables": self.tables,
-            "/orders": self.orders,
-            "/find": self.find,
-            "/save": self.save,
-        }
-        for path, work in posts.items():
-            app.router.add_post(path, self.posted(work))
+        posts = (self.edit, self.undo, self.redo, self.propose, self.why, self.cases, self.gap)
+        for work in (*posts, self.tables, self.orders, self.find, self.save):
+            app.router.add_post(f"/{work.__name__}", self.posted(work))
         return app
 
     def is_known(self, request: web.Request) -> bool:

@@ -136,12 +136,8 @@ def drawn_lines(page: Page, view: View, lines: list[Line], path: list[Point]) ->
         ranks = [f" r{view.ranks[line.name]}" if line.name in view.ranks else "" for line in lines]
         ports = [f" {view.ports[line.name]}" if line.name in view.ports else "" for line in lines]
         words = ", ".join(f"{line.priority}{rank}{port}" for line, rank, port in zip(lines, ranks, ports))
-        text = {
-            "color": colours.DARK,
-            "fontsize": page.font * 0.72,
-            "bbox": {"facecolor": "white", "lw": 0, "pad": 0.6},
-        }
-        page.write(before(page, path), words, **text)
+        box = {"facecolor": "white", "lw": 0, "pad": 0.6}
+        page.write(before(page, path), words, color=colours.DARK, fontsize=page.font * 0.72, bbox=box)
 
 
 def drawn_bands(page: Page, view: View, links: list[str], path: list[Point]) -> list[str]:

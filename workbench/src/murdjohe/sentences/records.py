@@ -12,12 +12,8 @@ from murdjohe.core.refusals import Refusal
 from murdjohe.plan.plan_lines import PlanLines
 from murdjohe.sentences.plan import name_fault
 
-HEADERS = {
-    "certificate": "line,rank",
-    "events": "at,what,target,value",
-    "cases": "case,at,what,target,value",
-    "groups": "group,kind,part",
-}
+HEADERS = {"certificate": "line,rank", "events": "at,what,target,value", "groups": "group,kind,part"}
+HEADERS["cases"] = f"case,{HEADERS['events']}"
 NAMES = {"certificate": "certificate", "events": "event list", "cases": "list of cases", "groups": "list of groups"}
 FIELDS = {"events": "four", "cases": "five", "groups": "three"}  # how many a row has
 MOST_ROWS = 100_000  # of an event list, and of a list of cases

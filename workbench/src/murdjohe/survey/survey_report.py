@@ -171,11 +171,8 @@ def text_of(tally: Tally, most: int, ends: Ends) -> list[str]:
     said = [*end_text(tally, ends), *losing_text(tally, ends.losses), unsettled_text(tally), way_text(tally)]
     said += alone_text(ends)
     if needless := ends.losses.outcomes():
-        said += [
-            "",
-            "who loses the clock though a link could still serve them, most elements first:",
-            *loss_rows(needless),
-        ]
+        head = "who loses the clock though a link could still serve them, most elements first:"
+        said += ["", head, *loss_rows(needless)]
     if lost := ends.losses.all_outcomes():
         said += ["", "who has no source at the end, whatever the cause, most elements first:", *loss_rows(lost)]
     said += names_text(ends.names)

@@ -78,13 +78,8 @@ def values_of(
         "columns": side.get(("element", order.element), {}),
     }
     changes = [{"what": what, "old": old, "new": new} for what, old, new in work.changes]
-    return {
-        "plan": plan,
-        "element": element,
-        "inputs": seen(order.inputs),
-        "changes": changes,
-        "taken_back": seen(work.taken_back),
-    }
+    inputs, taken_back = seen(order.inputs), seen(work.taken_back)
+    return {"plan": plan, "element": element, "inputs": inputs, "changes": changes, "taken_back": taken_back}
 
 
 def ending_of(path: str) -> str:
