@@ -106,9 +106,8 @@ def test_a_right_device_differs_nowhere(folder: Path) -> None:
     assert (ran.status, first) == (0, "pass: no differences"), ran.out
     # (each change is told after the delay)
     told = [line.split() for line in times[2:]]
-    assert told == [[f"{where}>tester", *"3 20 20 20".split()] for where in ("east", "south")] + [
-        "west>tester 2 20 20 20".split()
-    ]
+    changes = {"east": "3", "south": "3", "west": "2"}
+    assert told == [[f"{where}>tester", count, "20", "20", "20"] for where, count in changes.items()]
     # (9 and 3 on south and on east, 8 and 3 on west, whose cable is out for a while; the tester speaks last, at 8600)
     assert "murdjohe: compared: 35 messages on 3 lines, from 0 to 8600 ms, with a tolerance of 100 ms\n" in ran.err
 
@@ -281,11 +280,14 @@ def test_an_input_without_a_line_is_told(folder: Path) -> None:
         (["--line", "west>tester=@west", "--from", "9s"], 2, "nothing can be compared: c is at its end at 8600 ms"),
         (["--tolerance", "soon"], 2, "'soon' is no time"),
         (["--line", "west>tester=@west", "--events", "nosuch"], 7, "nosuch: No such file or directory"),
-        (["--line", "west>tester=@west", "--events", "bad"], 24,
-         "bad:1: `at,what`: it doesn't begin with milliseconds"),
+        (
+            ["--line", "west>tester=@west", "--events", "bad"],
+            24,
+            "bad:1: `at,what`: it doesn't begin with milliseconds",
+        ),
         (["--line", "west>tester=@west", "--events", "odd"], 2, "what device received is refused: "),
     ],
-)  # fmt: skip
+)
 def test_words_that_can_not_be_taken(folder: Path, words: list[str], status: int, said: str) -> None:
     (folder / "c").write_bytes(capture([]))
     (folder / "bad").write_text("at,what\n")

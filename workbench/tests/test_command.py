@@ -124,8 +124,10 @@ def test_the_version_names_workbench_program_and_toolchain(core: str) -> None:
         (["sim", "p", "e", "1e6"], 'sim: UNTIL is "1e6"; it is a time up to a day'),
         (["sim", "p", "e", "1200000.0"], 'UNTIL is "1200000.0"'),
         (["sim", "p", "e", "-5"], 'UNTIL is "-5"'),
-        (["sim", "p", "e", "0600"],
-         'UNTIL is "0600"; it is a time up to a day: milliseconds, or 20m, 90s, 1h30m, HH:MM, HH:MM:SS, without leading zeros'),
+        (
+            ["sim", "p", "e", "0600"],
+            'UNTIL is "0600"; it is a time up to a day: milliseconds, or 20m, 90s, 1h30m, HH:MM, HH:MM:SS, without leading zeros',
+        ),
         (["sim", "p", "e", "86400001"], 'UNTIL is "86400001", which is more than a day'),
         (["sim", "p", "e", "25h"], 'UNTIL is "25h", which is more than a day'),
         (["study", "p"], "study: CASES is missing, a list of cases, events with the name of a case"),
@@ -143,7 +145,7 @@ def test_the_version_names_workbench_program_and_toolchain(core: str) -> None:
         (["version"], 'unknown command "version" (nearest: "--version")'),
         (["rank", "plan", "check"], '"check" is an unexpected argument; the form is `murdjohe rank PLAN`'),
     ],
-)  # fmt: skip
+)
 def test_the_wrong_word_is_told_and_what_its_words_are(words: list[str], said: str) -> None:
     ran = murdjohe(*words)
     assert (ran.status, ran.out) == (2, b"usage\n")

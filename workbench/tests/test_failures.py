@@ -165,8 +165,11 @@ def test_the_program_takes_each_case_of_an_example(folder: Path) -> None:
         (["plan.toml", "--cases", "0-2"], 2, "--cases: '0-2' is no span of cases"),
         (["plan.toml", "--at", "25h"], 2, "--at: at most a day, 24h"),
         (["plan.toml", "--groups", "none.csv"], 7, "none.csv: No such file"),
-        (["plan.toml", "--groups", "bad.csv"], 24,
-         "bad.csv:2: links: 'L9' names no link of the plan (nearest: \"L2\")"),
+        (
+            ["plan.toml", "--groups", "bad.csv"],
+            24,
+            "bad.csv:2: links: 'L9' names no link of the plan (nearest: \"L2\")",
+        ),
         (["plan.toml", "--groups", "bad.csv"], 24, "bad.csv:3: 'a b' is no name of a group"),
         (["plan.toml", "--groups", "bad.csv"], 24, "bad.csv:4: the group 'c' has no links"),
         (["plan.toml", "--during", "bad.csv"], 5, "bad.csv"),
@@ -174,7 +177,7 @@ def test_the_program_takes_each_case_of_an_example(folder: Path) -> None:
         (["bad.csv"], 3, "bad.csv"),
         (["none.toml"], 7, "none.toml: No such file"),
     ],
-)  # fmt: skip
+)
 def test_what_can_not_be_written(folder: Path, words: list[str], status: int, said: str) -> None:
     (folder / "plan.toml").write_text(PLAN)
     bad = "name,links\nduct,L1 L9\na b,L1\nc,\n"

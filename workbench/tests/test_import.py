@@ -79,11 +79,15 @@ def test_two_tables_to_an_accepted_plan(folder: Path) -> None:
 @pytest.mark.parametrize(
     "elements",
     [
-        "name;own\nA;\nB;\n", "name\town\nA\t\nB\t\n", "sep=;\nname;own\nA;\nB;\n",
-        "sep=|\r\nName|Own\r\nA|\r\nB|\r\n", "\ufeffNAME,own\r\nA,\r\n\r\nB,\r\n", '"Name"\n"A"\nB,,\n',
+        "name;own\nA;\nB;\n",
+        "name\town\nA\t\nB\t\n",
+        "sep=;\nname;own\nA;\nB;\n",
+        "sep=|\r\nName|Own\r\nA|\r\nB|\r\n",
+        "\ufeffNAME,own\r\nA,\r\n\r\nB,\r\n",
+        '"Name"\n"A"\nB,,\n',
         "sep=,\nname\nA\nB",
     ],
-)  # fmt: skip
+)
 def test_tables_as_spreadsheets_write_them(folder: Path, elements: str) -> None:
     ran = imported(folder, elements=elements)
     assert (ran.status, ran.out, ran.err) == (0, PLAN, "")
@@ -170,19 +174,23 @@ def test_of_many_mistakes_twenty_are_told(folder: Path) -> None:
 @pytest.mark.parametrize(
     ("elements", "said"),
     [
-        ("name,vendor\nA,X\n",
-         "e.csv:1: there is no column 'vendor' in a table of elements; the columns are name, own, "),
+        (
+            "name,vendor\nA,X\n",
+            "e.csv:1: there is no column 'vendor' in a table of elements; the columns are name, own, ",
+        ),
         ("own\nQL-SEC\n", "e.csv:1: the column 'name' is missing"),
         ("name,Name\nA,B\n", "e.csv:1: the column 'name' stands there twice"),
         ("name,wtr\nA,5\nB\n", "e.csv:3: 1 field under 2 columns"),
         ('name\n"A\n', "e.csv:2: it is no CSV"),
         ("", "e.csv:1: the column 'name' is missing"),
         ("name\n", "e.csv:1: there is no element below the header"),
-        ("name,holdoff\n\nA,500.0\n",
-         "e.csv:3: holdoff is '500.0', which is no whole number; it has to be 300 to 1800"),
+        (
+            "name,holdoff\n\nA,500.0\n",
+            "e.csv:3: holdoff is '500.0', which is no whole number; it has to be 300 to 1800",
+        ),
         ("name\nA\x7f\n", "e.csv:2: name is 'A\\x7f'"),
     ],
-)  # fmt: skip
+)
 def test_what_can_not_be_a_plan_is_refused_and_nothing_written(folder: Path, elements: str, said: str) -> None:
     (folder / "plan.toml").write_text("# what stood there before\n")
     ran = imported(folder, "-o", "plan.toml", "--force", elements=elements)
@@ -305,12 +313,16 @@ def test_ducts_go_where_it_is_said_and_nothing_is_written_over(folder: Path) -> 
     ("words", "links", "status", "said"),
     [
         ([], DUCTS.replace("north", "north 7"), 24, "l.csv:2: duct is 'north 7', which no plan can have: a name is"),
-        ([], DUCTS.replace("south; north", "north;north"), 24,
-         "l.csv:3: duct is 'north;north', which has 'north' twice"),
+        (
+            [],
+            DUCTS.replace("south; north", "north;north"),
+            24,
+            "l.csv:3: duct is 'north;north', which has 'north' twice",
+        ),
         (["--groups", "g.csv"], LINKS, 2, "--groups: the table of links has no column `duct`"),
         (["--groups", "-"], DUCTS, 2, "--groups: standard output is for the plan; name a file"),
     ],
-)  # fmt: skip
+)
 def test_ducts_that_can_not_be_groups(folder: Path, words: list[str], links: str, status: int, said: str) -> None:
     ran = imported(folder, *words, "-o", "plan.toml", links=links)
     assert (ran.status, ran.out) == (status, b"") and said in ran.err

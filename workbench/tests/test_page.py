@@ -188,10 +188,8 @@ def test_the_command_writes_a_page_and_says_what_the_program_says(folder: Path) 
 
 def test_the_facts_have_times_of_day_where_the_run_begins_at_one(folder: Path) -> None:
     at = EXAMPLES / "ring"
-    words = [
-        "report", str(at / "plan.toml"), str(at / "events.csv"), "--until", "2m", "--start", "23:59", "-o",
-        "page.html",
-    ]  # fmt: skip
+    files = [str(at / "plan.toml"), str(at / "events.csv")]
+    words = ["report", *files, "--until", "2m", "--start", "23:59", "-o", "page.html"]
     ran = murdjohe(*words, folder=folder)
     first = "still without a source at the end, 00:01:00.000: 3 elements: A (since 23:59:00.003, and no link could serve it), "
     assert ran.err.startswith(f"murdjohe: {first}")

@@ -169,8 +169,10 @@ def test_long_times_are_folded() -> None:
         (["draw", "plan.toml", "--report", "plan.toml", "-o", "plan.dot"], "plan.toml: it is no report of sim"),
         (["draw", "plan.toml", "--at", "5", "-o", "new.svg"], "--at and --events are of a run: name its report"),
         (["draw", "plan.toml", "--places", "plan.toml", "-o", "new.svg"], "plan.toml:1: a table of places has"),
-        (["timeline", "report", "--plan", "../mesh/plan.toml", "-o", "t.svg"],
-         "report: it is a report of another plan"),
+        (
+            ["timeline", "report", "--plan", "../mesh/plan.toml", "-o", "t.svg"],
+            "report: it is a report of another plan",
+        ),
         (["draw", "plan.toml", "--certificate", "report", "-o", "plan.dot"], "report: it is no certificate"),
         (["draw", "plan.toml", "--answer", "report", "-o", "plan.dot"], "report: it is no answer of rank or check"),
         (["draw", "plan.toml", "-o", "/dev/full"], "a picture ends in"),
@@ -180,7 +182,7 @@ def test_long_times_are_folded() -> None:
         (["timeline", "report", "--from", "23h", "-o", "t.svg"], "--from: nothing changes after 82800000"),
         (["timeline", "report", "--fold", "0", "-o", "t.svg"], "--fold: at least 1 millisecond"),
     ],
-)  # fmt: skip
+)
 def test_what_can_not_be_drawn_is_one_line(words: list[str], said: str) -> None:
     ran = murdjohe(*words, folder=EXAMPLES / "ring")
     # (the file to write, a file to read, what a file has, or the words)

@@ -52,12 +52,15 @@ def test_the_sentence_says_how_many_more_there_are() -> None:
 @pytest.mark.parametrize(
     ("name", "line", "said"),
     [
-        ("own", 9,
-         'the internal oscillator of "middle", QL-SSU-A, is no worse than source "reserve", QL-SSU-B, so that the'),
+        (
+            "own",
+            9,
+            'the internal oscillator of "middle", QL-SSU-A, is no worse than source "reserve", QL-SSU-B, so that the',
+        ),
         ("floor", 9, 'the floor of "middle", QL-SSU-A, is better than source "reserve", QL-SSU-B, so that the'),
         ("unused", 41, 'source "reserve" has QL-DNU, so no element takes it, and the'),
     ],
-)  # fmt: skip
+)
 def test_lint_says_which_premise_an_example_breaks(name: str, line: int, said: str) -> None:
     path = EXAMPLES / "premises" / f"{name}.toml"
     ran = murdjohe("lint", str(path))

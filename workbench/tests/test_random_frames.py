@@ -151,11 +151,13 @@ WRONG_RECEIVED = {
     44: [("20m,down,L1>B,", "write 1200000"), *((f"{at},down,L1>B,", "no millisecond") for at in ("x", "86400001"))],
     45: [("9,down,L1>B,", "is before the line before it")],
     46: [("10,Down,L1>B,", '(nearest: "down")'), ("10,cut,L1>B,", '"cut" is no word')],
-    47: [("10,down,L1,", '"L1" is a link: name its line, L1>B or L1>A'),
-         ("10,down,L3>C,", '"L3>C" names nothing at this element')],
+    47: [
+        ("10,down,L1,", '"L1" is a link: name its line, L1>B or L1>A'),
+        ("10,down,L3>C,", '"L3>C" names nothing at this element'),
+    ],
     48: [("10,down,L1>B,x", "has a value"), ("10,frame,L1>B,xyz", "has a value")],
     49: [(f"10,frame,L1>B,{FRAME.hex()[:-2]}", "its frame isn't 60 to 1514 bytes long")],
-}  # fmt: skip
+}
 NODE_PLAN = spelled(
     "element A",
     "element B",

@@ -145,9 +145,9 @@ def too_many_inputs(chance: random.Random, plan: RandomPlan) -> BrokenPlan:
 
 
 PLAN_KINDS = [
-    unknown_key, missing_key, other_kind, wrong_name, same_name, no_element, self_link, out_of_range, no_level,
-    wrong_bundle, too_many_inputs,
-]  # fmt: skip
+    *(unknown_key, missing_key, other_kind, wrong_name, same_name, no_element, self_link),
+    *(out_of_range, no_level, wrong_bundle, too_many_inputs),
+]
 
 
 @pytest.mark.parametrize("kind", PLAN_KINDS)

@@ -78,16 +78,20 @@ def test_plans(folder: Path, plan: str | bytes, said: str) -> None:
         ("line;rank\nL1>B;0\n", "two:1: `line;rank`: its fields have semicolons between them; write commas"),
         ("L1>B,0\n", "two:1: `L1>B,0`: its first line is no header; begin with `line,rank`"),
         ("Line,Rank\n", "two:1: `Line,Rank`: its header has other letters or blanks"),
-        ("cycle L1>B L2>C L3>A\n",
-         "two:1: `cycle L1>B L2>C L3>A`: it is the answer of a `rank` that found a possible loop, and no certificate"),
+        (
+            "cycle L1>B L2>C L3>A\n",
+            "two:1: `cycle L1>B L2>C L3>A`: it is the answer of a `rank` that found a possible loop, and no certificate",
+        ),
         (b"\xff\xfel\0i\0", 'two:1: `li`: it is text in UTF-16, as Excel\'s "Unicode text" is'),
         ("line,rank\nL1>B;0\n", "two:2: `L1>B;0`: the row has a semicolon between its fields; write a comma"),
-        ("line,rank\nL1>A,0\n",
-         'two:2: `L1>A,0`: "L1>A" is a line that isn\'t nominated: link "L1" has no priority_a above 0, one:11'),
+        (
+            "line,rank\nL1>A,0\n",
+            'two:2: `L1>A,0`: "L1>A" is a line that isn\'t nominated: link "L1" has no priority_a above 0, one:11',
+        ),
         ("line,rank\nL1,0\n", 'two:2: `L1,0`: "L1" names a link; its lines are L1>B and L1>A'),
         ("line,rank\nl1>b,0\n", '"l1>b" names no line of the plan (nearest: "L1>B")'),
     ],
-)  # fmt: skip
+)
 def test_certificates(folder: Path, certificate: str | bytes, said: str) -> None:
     assert sentence(folder, "check", RING, certificate).startswith(said) or said in sentence(
         folder, "check", RING, certificate
@@ -97,17 +101,21 @@ def test_certificates(folder: Path, certificate: str | bytes, said: str) -> None
 @pytest.mark.parametrize(
     ("row", "said"),
     [
-        ("5,down,LAG,",
-         'two:2: `5,down,LAG,`: "LAG" is a bundle; its links are L1, L2; `down` takes a link, a line, as L1>B, or a'),
+        (
+            "5,down,LAG,",
+            'two:2: `5,down,LAG,`: "LAG" is a bundle; its links are L1, L2; `down` takes a link, a line, as L1>B, or a',
+        ),
         ("5,down,B,", '"B" is an element; its inputs are L1>B, L2>B; `down` takes a link'),
         ("5,lockout,L2,", '"L2" is a link; its lines are L2>B and L2>A; `lockout` takes a line, as L1>B, or a source'),
         ("5,clear,L1>B,", '"L1>B" is a line, into element B; `clear` takes an element'),
         ("5,level,L1>B,QL-PRC", '"L1>B" is a line, into element B; `level` takes a source'),
         ("5,down,l1,", '"l1" names nothing in the plan (nearest: "L1")'),
-        ("20x,down,L1,",
-         'two:2: `20x,down,L1,`: "20x" is no number from 0 to 86400000; write whole milliseconds, digits alone, or 90s, 5m, 02:10'),
+        (
+            "20x,down,L1,",
+            'two:2: `20x,down,L1,`: "20x" is no number from 0 to 86400000; write whole milliseconds, digits alone, or 90s, 5m, 02:10',
+        ),
     ],
-)  # fmt: skip
+)
 def test_events(folder: Path, row: str, said: str) -> None:
     ends = 'a = "A"\nb = "B"\nbundle = "LAG"\n'
     plan = f'version = 2\nelement = [{{name = "A"}}, {{name = "B"}}]\n[[link]]\nname = "L1"\n{ends}[[link]]\nname = "L2"\n{ends}'

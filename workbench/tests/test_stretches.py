@@ -149,12 +149,15 @@ def test_parts_have_the_names_that_they_always_had() -> None:
 
 TAILS = st.sampled_from(
     [
-        ",yes,9,0,0,0,QL-PRC,300,0,,3,0,0,,0", ",yes,9,0,0,0,QL-PRC,300,0,,4,1,20,E1,0",
-        ",yes,7,2,0,0,QL-SEC,none,2,E4,3,3,500,E3,2", ",yes,6,2,1,0,QL-SEC,none,2,E2,0,3,500,E2,3",
-        ",no,8,1,0,0,QL-DNU,none,1,E4,2,1,70,E4,1", ",no,8,1,0,2,QL-DNU,none,1,E2,9,2,900,E1,2",
+        ",yes,9,0,0,0,QL-PRC,300,0,,3,0,0,,0",
+        ",yes,9,0,0,0,QL-PRC,300,0,,4,1,20,E1,0",
+        ",yes,7,2,0,0,QL-SEC,none,2,E4,3,3,500,E3,2",
+        ",yes,6,2,1,0,QL-SEC,none,2,E2,0,3,500,E2,3",
+        ",no,8,1,0,0,QL-DNU,none,1,E4,2,1,70,E4,1",
+        ",no,8,1,0,2,QL-DNU,none,1,E2,9,2,900,E1,2",
         ",no,9,0,0,0,QL-PRC,none,0,,1,0,0,,0",
     ]
-)  # fmt: skip
+)
 
 
 @given(st.lists(st.lists(TAILS, max_size=12), max_size=5), st.integers(0, 4))

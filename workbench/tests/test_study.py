@@ -206,17 +206,21 @@ REFUSED = [
 # Whole files without the header, and what is said of them.
 HEADLESS = [
     ("", "cases.csv: it is empty; begin with `case,at,what,target,value`"),
-    ("a,5,down,L1,\n",
-     "cases.csv:1: `a,5,down,L1,`: its first line is no header; begin with `case,at,what,target,value`"),
+    (
+        "a,5,down,L1,\n",
+        "cases.csv:1: `a,5,down,L1,`: its first line is no header; begin with `case,at,what,target,value`",
+    ),
     ("Case,At,What,Target,Value\n", "its header has other letters or blanks; begin with `case,at,what,target,value`"),
     ("case;at;what;target;value\n", "its fields have semicolons between them; write commas, as in `case,at,what,"),
-    ("at,what,target,value\n5,down,L1,\n",
-     "cases.csv:1: `at,what,target,value`: it is an event list, and no list of cases; begin with `case,at,what,target,value`, "
-     "and write its case before each event"),
+    (
+        "at,what,target,value\n5,down,L1,\n",
+        "cases.csv:1: `at,what,target,value`: it is an event list, and no list of cases; begin with `case,at,what,target,value`, "
+        "and write its case before each event",
+    ),
     (TABLE, f"cases.csv:1: `{COLUMNS}`: it is a table of `study`, and no list of cases; are two words of the"),
     (PLAN, "it is a plan, and no list of cases; are two words of the command swapped?"),
     ("case,at,what,target,value\n".encode("utf-16"), "it is text in UTF-16"),
-]  # fmt: skip
+]
 
 
 @pytest.mark.parametrize(("rows", "number", "line", "sentence"), REFUSED)

@@ -247,8 +247,11 @@ def test_a_program_without_studies_is_told(double: Double, capfd: pytest.Capture
         (f"{HEAD}\na,5,down,L1\n", 5, "cases.csv:3: `a,5,down,L1`: it has 4 fields in place of five"),
         (f"{HEAD}a,5,down,L1,\n,5,down,L2,\n", 5, "cases.csv:3: `,5,down,L2,`: rows without a case"),
         (f"{HEAD}a b,5,down,L1,\n", 5, "cases.csv:2: `a b,5,down,L1,`: 'a b' is no name of a case"),
-        (f"{HEAD}a,5,down,L1,\nb,5,down,L1,\na,6,down,L2,\n", 5,
-         "cases.csv:4: `a,6,down,L2,`: the case 'a' has rows from line 2 on"),
+        (
+            f"{HEAD}a,5,down,L1,\nb,5,down,L1,\na,6,down,L2,\n",
+            5,
+            "cases.csv:4: `a,6,down,L2,`: the case 'a' has rows from line 2 on",
+        ),
         (f'{HEAD}a,5,down,"L1,\n', 5, "cases.csv:2: "),
         (f"{HEAD}a,5,down,L1\xff,\n", 24, "cases.csv: behind line "),
         (gzip.compress(HEAD.encode() * 99)[:-9], 24, "cases.csv: it is packed by gzip, and damaged behind line "),
@@ -256,7 +259,7 @@ def test_a_program_without_studies_is_told(double: Double, capfd: pytest.Capture
         (f"{HEAD}a,5,down,L1,\n" + "a,5,down,L1,\n" * 100_000, 5, "cases.csv: the case 'a' has 100,001 rows"),
     ],
     ids=["empty", "events", "short-row", "late-common", "name", "apart", "quote", "latin-1", "cut", "field", "rows"],
-)  # fmt: skip
+)
 def test_a_damaged_table_is_one_line(
     double: Double, capfd: pytest.CaptureFixture[str], table: str | bytes, status: int, said: str
 ) -> None:

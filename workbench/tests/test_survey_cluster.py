@@ -135,11 +135,13 @@ def test_where_no_scheduler_is_that_is_told(double: Double, monkeypatch: pytest.
         (("1.0.0", "abd", ""), "worker w: it has another proved program, sha256 abd, and this command abc"),
         (("0.9.0", "abc", ""), "worker w: it has the package 0.9.0, and this command 1.0.0"),
         (("1.0.0", "", "there is none"), "worker w: there is none"),
-        (Exception("ModuleNotFoundError(\"No module named 'murdjohe'\")"),
-         f"worker w: it has no package murdjohe; {cluster.HOW}"),
+        (
+            Exception("ModuleNotFoundError(\"No module named 'murdjohe'\")"),
+            f"worker w: it has no package murdjohe; {cluster.HOW}",
+        ),
         (OSError("it is gone"), "worker w: it is gone"),
     ],
-)  # fmt: skip
+)
 def test_what_a_worker_says_of_itself(answer: object, said: str | None, monkeypatch: pytest.MonkeyPatch) -> None:
     monkeypatch.setattr(murdjohe, "__version__", "1.0.0")
     assert cluster.unfit("w", answer, "abc") == said

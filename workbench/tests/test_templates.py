@@ -145,10 +145,12 @@ def test_the_ending_of_a_file_is_that_of_the_template() -> None:
         ("kind,name,column,value\nlink,L9,port_a,1\n", ":2: the plan has no link 'L9'"),
         ("kind,name,column,value\ncable,L1,port_a,1\n", ":2: 'cable' is no kind"),
         ("kind,name,column,value\nlink,L1,port_a\n", ":2: the row has 3 fields"),
-        ("kind,name,column,value\nlink,L1,port_a,1\nlink,L1,port_a,2\n",
-         ":3: port_a of link 'L1' stands above already"),
+        (
+            "kind,name,column,value\nlink,L1,port_a,1\nlink,L1,port_a,2\n",
+            ":3: port_a of link 'L1' stands above already",
+        ),
     ],
-)  # fmt: skip
+)
 def test_mistakes_of_a_table_of_ports(text: str, told: str) -> None:
     network = Plan("I", (), (Link("L1", "A", "B"),), ())
     with pytest.raises(Wrong) as wrong:
