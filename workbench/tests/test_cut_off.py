@@ -9,10 +9,10 @@ from typing import Any
 
 import pytest
 from conftest import CASES
+from groups_made import tables_of
 from hypothesis import given, settings
 from hypothesis import strategies as st
 from test_gaps import cut_off as searched
-from test_gaps import tables_of
 from test_repair import METRO, planned, random_network
 
 import murdjohe as forms
