@@ -94,8 +94,13 @@ def test_a_repair_as_json(folder: Path) -> None:
     ran = murdjohe("repair", "--json", "-", stdin=murdjohe("gen", "3").out)
     gap = {"kind": "source", "failure": "P0", "elements": 1, "first": "E0"}
     assert json.loads(ran.out)["answer"] == {
-        **{"knots": [], "least": True, "set": 1, "checked": "accepted", "clash": None},
-        **{"gaps": [gap], "sets": []},
+        "knots": [],
+        "least": True,
+        "set": 1,
+        "checked": "accepted",
+        "clash": None,
+        "gaps": [gap],
+        "sets": [],
     }
     assert (ran.status, ran.err) == (0, "")
     ran = murdjohe("repair", "--json", "--patch", "naive.toml", folder=folder)

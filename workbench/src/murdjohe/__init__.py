@@ -15,12 +15,59 @@ __version__ = "1.0.0"
 TYPE_CHECKING = False
 if TYPE_CHECKING:
     from murdjohe.answers import api, inspections, reports, studies
-    from murdjohe.answers.api import *
+    from murdjohe.answers.api import (
+        Answered,
+        Refused,
+        agree,
+        chains,
+        check,
+        decode,
+        encode,
+        gen,
+        hops,
+        inspect,
+        node,
+        nominate,
+        pcap_decode,
+        pcap_encode,
+        prio_check,
+        prio_rank,
+        prio_sim,
+        protect,
+        protected,
+        rank,
+        sim,
+        study,
+        sweep,
+        trial,
+    )
 
-__all__ = (
-    "Answered Refused agree chains check decode encode gen hops inspect node nominate pcap_decode pcap_encode".split()
-)
-__all__ += "prio_check prio_rank prio_sim protect protected rank sim study sweep trial".split()
+__all__ = [
+    "Answered",
+    "Refused",
+    "agree",
+    "chains",
+    "check",
+    "decode",
+    "encode",
+    "gen",
+    "hops",
+    "inspect",
+    "node",
+    "nominate",
+    "pcap_decode",
+    "pcap_encode",
+    "prio_check",
+    "prio_rank",
+    "prio_sim",
+    "protect",
+    "protected",
+    "rank",
+    "sim",
+    "study",
+    "sweep",
+    "trial",
+]
 MODULES = ("api", "inspections", "reports", "studies")
 
 

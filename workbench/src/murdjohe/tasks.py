@@ -43,8 +43,23 @@ from murdjohe.why.choices import Asked, Why
 from murdjohe.works import step_text, steps as step_search
 from murdjohe.works.step_text import Step
 
-__all__ = "Comparison Late Linted Placement Surveyed Wrong compare diff judge lint orders place".split()
-__all__ += "rehearse repair steps survey why".split()
+__all__ = [
+    *[
+        "Comparison",
+        "Late",
+        "Linted",
+        "Placement",
+        "Surveyed",
+        "Wrong",
+        "compare",
+        "diff",
+        "judge",
+        "lint",
+        "orders",
+        "place",
+    ],
+    *["rehearse", "repair", "steps", "survey", "why"],
+]
 
 Path = str | os.PathLike[str]
 Time = int | str  # milliseconds, or a spelling such as 5m or 02:10

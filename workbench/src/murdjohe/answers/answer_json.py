@@ -37,8 +37,13 @@ def text(words: Words, answer: Answer, said: list[str]) -> bytes:
     """The whole JSON text, which ends with a line feed."""
     name = NAMES[answer.status] if answer.status < len(NAMES) else str(answer.status)
     form = words.form.name
-    told: dict[str, Any] = {"json": row_tables.JSON, "command": form, "form": form}
-    told |= {"status": answer.status, "name": name}
+    told: dict[str, Any] = {
+        "json": row_tables.JSON,
+        "command": form,
+        "form": form,
+        "status": answer.status,
+        "name": name,
+    }
     if answer.status in reports.GOOD:
         told["answer"] = plain(reports.read(words.form.name, answer))
     else:

@@ -14,10 +14,19 @@ from murdjohe.core.row_columns import LEVEL, WORD, Column, Table
 
 PLAIN = {str: "string", int: "integer", bool: "boolean", types.NoneType: "null"}
 TABLES: dict[str, Table] = {
-    **{"Chain": row_tables.CHAINS, "Gap": row_tables.GAPS, "Hop": row_tables.HOPS, "Change": row_tables.CHANGES},
-    **{"Input": row_tables.INPUTS, "Trace": row_tables.TRACES, "Command": row_tables.COMMANDS},
-    **{"Inspected": row_tables.ELEMENTS, "Reason": row_tables.REASONS, "Cut": row_tables.CUTS},
-    **{"Case": row_tables.CASES, "Frame": row_tables.FRAMES, "Sent": row_tables.SENT},
+    "Chain": row_tables.CHAINS,
+    "Gap": row_tables.GAPS,
+    "Hop": row_tables.HOPS,
+    "Change": row_tables.CHANGES,
+    "Input": row_tables.INPUTS,
+    "Trace": row_tables.TRACES,
+    "Command": row_tables.COMMANDS,
+    "Inspected": row_tables.ELEMENTS,
+    "Reason": row_tables.REASONS,
+    "Cut": row_tables.CUTS,
+    "Case": row_tables.CASES,
+    "Frame": row_tables.FRAMES,
+    "Sent": row_tables.SENT,
 }
 OCTETS = {"type": "object", "properties": {"octets": {"type": "string"}}, "required": ["octets"]}
 

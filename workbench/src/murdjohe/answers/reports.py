@@ -271,11 +271,28 @@ def octets(answer: Answer) -> bytes:
 
 
 READERS: dict[str, Callable[[Answer], Any]] = {
-    **{"check": verdict, "prio-check": verdict, "rank": ranking, "prio-rank": ranking, "chains": chains},
-    **{"protected": gaps, "agree": agreement, "hops": hops, "nominate": written, "protect": protection},
-    **{"gen": written, "encode": written, "sim": report, "prio-sim": prio_report, "inspect": inspection},
-    **{"sweep": sweep, "study": study, "trial": trial, "decode": frames, "pcap-decode": capture},
-    **{"node": replay, "pcap-encode": octets},
+    "check": verdict,
+    "prio-check": verdict,
+    "rank": ranking,
+    "prio-rank": ranking,
+    "chains": chains,
+    "protected": gaps,
+    "agree": agreement,
+    "hops": hops,
+    "nominate": written,
+    "protect": protection,
+    "gen": written,
+    "encode": written,
+    "sim": report,
+    "prio-sim": prio_report,
+    "inspect": inspection,
+    "sweep": sweep,
+    "study": study,
+    "trial": trial,
+    "decode": frames,
+    "pcap-decode": capture,
+    "node": replay,
+    "pcap-encode": octets,
 }
 GOOD = (program.DONE, program.REFUTED, program.STOPPED)
 

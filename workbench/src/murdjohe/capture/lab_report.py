@@ -265,8 +265,14 @@ def as_json(bench: Bench, found: Compared, said_of: list[str]) -> str:
     rows = [finding._asdict() | {"frame": finding.frame or None} for finding in found.findings]
     reactions = [asdict(one) for one in found.reactions]
     passed: dict[str, object] = {"pass": found.is_passed, "slow": found.slow, "reactions": reactions, "why": found.why}
-    whole: dict[str, object] = {"zero": bench.zero, "messages": found.messages, "findings": rows}
-    return json.dumps({**whole, **passed, "said": said_of}, indent=2) + "\n"
+    whole: dict[str, object] = {
+        "zero": bench.zero,
+        "messages": found.messages,
+        "findings": rows,
+        **passed,
+        "said": said_of,
+    }
+    return json.dumps(whole, indent=2) + "\n"
 
 
 def day_of(bench: Bench, capture: Capture, is_local: bool) -> Clock:

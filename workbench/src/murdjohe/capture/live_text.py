@@ -53,8 +53,13 @@ def values(said: Said) -> dict[str, Any]:
     if isinstance(said, Begun):
         return {"what": "heard", **place(said.frame), "level": said.frame.says.level}
     if isinstance(said, Quiet):
-        what = {"what": "silent", "frame": said.number, "time": said.at}
-        return {**what, "port": said.port or None, "source": said.source}
+        return {
+            "what": "silent",
+            "frame": said.number,
+            "time": said.at,
+            "port": said.port or None,
+            "source": said.source,
+        }
     if isinstance(said, Again):
         return {"what": "again", **place(said.frame), "silence": said.length}
     where = {"frame": said.frame, "time": said.at, "port": said.port or None, "source": said.source}

@@ -13,10 +13,24 @@ from murdjohe.core.levels import LEVELS
 
 # Steps of ColorBrewer's YlGnBu, by Cynthia Brewer.
 LEVEL_COLOURS = {
-    **{"QL-ePRTC": "#FFFFE5", "QL-PRTC": "#E9F7B1", "QL-ePRC": "#D1EDB3", "QL-PRC": "#AEDFB6", "QL-PRS": "#AEDFB6"},
-    **{"QL-STU": "#80CEBB", "QL-SSU-A": "#59BFC0", "QL-ST2": "#59BFC0", "QL-SSU-B": "#39ADC3", "QL-TNC": "#39ADC3"},
-    **{"QL-ST3E": "#2296C1", "QL-eEEC": "#1F78B4", "QL-SEC": "#2259A6", "QL-ST3": "#2259A6", "QL-SMC": "#243F99"},
-    **{"QL-PROV": "#1A2B7E", "QL-DNU": "#081D58", "QL-DUS": "#081D58"},
+    "QL-ePRTC": "#FFFFE5",
+    "QL-PRTC": "#E9F7B1",
+    "QL-ePRC": "#D1EDB3",
+    "QL-PRC": "#AEDFB6",
+    "QL-PRS": "#AEDFB6",
+    "QL-STU": "#80CEBB",
+    "QL-SSU-A": "#59BFC0",
+    "QL-ST2": "#59BFC0",
+    "QL-SSU-B": "#39ADC3",
+    "QL-TNC": "#39ADC3",
+    "QL-ST3E": "#2296C1",
+    "QL-eEEC": "#1F78B4",
+    "QL-SEC": "#2259A6",
+    "QL-ST3": "#2259A6",
+    "QL-SMC": "#243F99",
+    "QL-PROV": "#1A2B7E",
+    "QL-DNU": "#081D58",
+    "QL-DUS": "#081D58",
 }
 PLAIN = "#FFFFFF"  # where no level is known
 LOOP, PAIR = "#D00000", "#E07000"

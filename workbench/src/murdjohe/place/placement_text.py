@@ -181,7 +181,9 @@ def as_data(found: Placed, costs: dict[int | None, Decimal]) -> dict[str, Any]:
     problem, made = found.problem, found.made
     reasons = site_cover.reasons(problem, found.chosen.sites)
     return {
-        **{"cost": float(found.cost), "is_least": found.chosen.is_least, "added": found.added},
+        "cost": float(found.cost),
+        "is_least": found.chosen.is_least,
+        "added": found.added,
         "sites": [
             site_data(site) | {"needed_for": [pair_data(problem, pair) for pair in reasons[place]]}
             for place, site in zip(found.chosen.sites, found.sites)
@@ -190,7 +192,10 @@ def as_data(found: Placed, costs: dict[int | None, Decimal]) -> dict[str, Any]:
         "uncut": list(found.uncut.lines) if found.uncut else None,
         "uncovered": [pair_data(problem, Pair(*pair)) for pair in sorted(problem.left_out, key=str)],
         "verdict": made.judgement.text if made.judgement else None,
-        **{"failures_ms": made.soon_ms, "links": made.links, "links_failed": made.links_failed, "since": made.since},
+        "failures_ms": made.soon_ms,
+        "links": made.links,
+        "links_failed": made.links_failed,
+        "since": made.since,
         "cases_that_lose": len(made.lost),
         "holds": found.holds() and not problem.left_out,
         "limits": [

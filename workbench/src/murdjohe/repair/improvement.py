@@ -10,7 +10,6 @@ import random
 import time
 from typing import Any
 
-
 from murdjohe.repair.first_sets import put_back
 from murdjohe.repair.least_sets import Search, Terms
 

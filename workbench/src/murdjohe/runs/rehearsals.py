@@ -349,18 +349,23 @@ def text_of(found: Rehearsal, start: int, has_all: bool) -> list[str]:
 def as_data(found: Rehearsal, start: int) -> dict[str, Any]:
     """The rehearsal as JSON has it."""
     return {
-        **{"until": found.until, "end_by": found.why, "settled_from": found.settled_at},
+        "until": found.until,
+        "end_by": found.why,
+        "settled_from": found.settled_at,
         "stopped_at": found.report.stopped_at,
         "without_source_at_end": [
             {"element": name, "since": since, "no_link_left": name in found.beyond}
             for name, since in found.dark.items()
         ],
-        **{"left_behind": found.left, "oscillation": found.oscillation, "late_events": found.late},
+        "left_behind": found.left,
+        "oscillation": found.oscillation,
+        "late_events": found.late,
         "list": [dict(zip(COLUMNS, row)) | {"at": int(row[0])} for row in table_of(found, start)],
         "commands": [
             asdict(one)
             | {"taken": one.is_taken, "no_effect": found.idle.get((one.at, one.word, one.input or one.element))}
             for one in found.commands
         ],
-        **{"walks": [asdict(walk) for walk in found.walks], "losses": [asdict(loss) for loss in found.losses]},
+        "walks": [asdict(walk) for walk in found.walks],
+        "losses": [asdict(loss) for loss in found.losses],
     }

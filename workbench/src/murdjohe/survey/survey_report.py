@@ -198,13 +198,21 @@ def as_data(tally: Tally, ends: Ends) -> dict[str, Any]:
     worst: dict[str, list[Any]] = {"lost": tally.lost.outcomes(), "worst_needless": losses.outcomes()}
     worst |= {"restless": tally.restless.outcomes(), "dark": tally.dark.outcomes(), "chains": tally.chains.outcomes()}
     return {
-        **{"until": ends.until, "end_by": ends.why, "cases": tally.cases, "losing": tally.losing},
-        **{"needless": losses.cases, "taken_away": losses.themselves, "beyond": losses.beyond},
+        "until": ends.until,
+        "end_by": ends.why,
+        "cases": tally.cases,
+        "losing": tally.losing,
+        "needless": losses.cases,
+        "taken_away": losses.themselves,
+        "beyond": losses.beyond,
         "common_alone": alone and alone.lost,
         "common_settled": alone and alone.lost is not None and alone.is_settled,
         "common_later": alone and len(alone.later),
         "more_than_common": losses.more if alone and alone.lost is not None else None,
-        **{"unsettled": tally.unsettled, "looping": tally.looping, "hurting": tally.hurting, "still": tally.still},
+        "unsettled": tally.unsettled,
+        "looping": tally.looping,
+        "hurting": tally.hurting,
+        "still": tally.still,
         **{name: [dataclasses.asdict(one) for one in outcomes] for name, outcomes in worst.items()},
         "first": dict(tally.first.most_common()),
         "names": {

@@ -174,7 +174,12 @@ def text_of(why: Why, start: int | None) -> list[str]:
 
 
 KINDS: dict[type[object], str] = {
-    **{Event: "event", Command: "event", Turn: "timer", Message: "message", Silence: "silence", Change: "change"}
+    Event: "event",
+    Command: "event",
+    Turn: "timer",
+    Message: "message",
+    Silence: "silence",
+    Change: "change",
 }
 
 
@@ -182,8 +187,13 @@ def input_data(why: Why, reason: Reason, moment: Moment) -> dict[str, Any]:
     """An input as JSON has it."""
     line = why.history.wired.lines.get(reason.input)
     return {
-        **{"input": reason.input, "from": line.sender if line else None, "priority": why.priority(reason.input)},
-        **{"condition": reason.condition, "left": reason.left, "level": reason.level, "verdict": reason.verdict},
+        "input": reason.input,
+        "from": line.sender if line else None,
+        "priority": why.priority(reason.input),
+        "condition": reason.condition,
+        "left": reason.left,
+        "level": reason.level,
+        "verdict": reason.verdict,
         "why": None if reason.verdict == "taken" else input_text(why, reason, moment),
     }
 
@@ -198,13 +208,22 @@ def as_data(why: Why, start: int | None) -> dict[str, Any]:
     """All of it as JSON has it; times in milliseconds, and sentences as a person reads them."""
     moment, chosen, way = moment_of(start), why.chosen, why.way
     return {
-        **{"element": why.element, "at": why.at, "mode": chosen.mode, "switched": chosen.switched},
-        **{"input": chosen.input, "level": chosen.level, "state": chosen.state, "since": asdict(why.since)},
+        "element": why.element,
+        "at": why.at,
+        "mode": chosen.mode,
+        "switched": chosen.switched,
+        "input": chosen.input,
+        "level": chosen.level,
+        "state": chosen.state,
+        "since": asdict(why.since),
         "inputs": [input_data(why, reason, moment) for reason in why.inputs],
         "trace": {
             "lines": [{"line": line.name, "from": line.sender, "into": line.receiver} for line in way.lines],
-            **{"kind": way.kind, "name": way.name, "loop": way.walk},
+            "kind": way.kind,
+            "name": way.name,
+            "loop": way.walk,
         },
         "before": [cause_data(why, cause, moment) for cause in why.causes],
-        **{"is_all": why.is_whole, "stopped_at": why.stopped_at},
+        "is_all": why.is_whole,
+        "stopped_at": why.stopped_at,
     }
