@@ -8,10 +8,10 @@ use Rattle.std.proofs.lemmas.List.{get_or-set_same, get_or-replicate, get_or_pas
 use Rattle.std.proofs.lemmas.List.Folds.{sum_by-replicate}
 use Rattle.std.proofs.lemmas.List.Sums.{get_or-le-sum_by, count_by-le-length, sum_by-set}
 use Rattle.agenda.specs.private.Tournament.{IsTournament, with_player}
-use Rattle.agenda.proofs.Tournaments.{same_players, last_has}
+use Rattle.agenda.proofs.Tournaments.{same_players, each_has, last_has}
 use Rattle.agenda.specs.declared.due_times.Due.{Due}
 use Rattle.agenda.specs.declared.due_times.TheConstants.{NEVER}
-use Rattle.agenda.specs.DueTimes.{due_in, due_count, IsFirst, AreLater}
+use Rattle.agenda.specs.DueTimes.{due_in, due_count, IsFirst, IsFirstTime, AreLater}
 use Rattle.agenda.specs.EarlierDue.{times_by}
 use Rattle.agenda.specs.private.EarlierDue.{number_at, IsListed}
 use Rattle.agenda.proofs.KeptTimes.{length_times, times-new, times-set}
@@ -59,6 +59,27 @@ is_first times rounds at place all last apart within is = record {
   ends = of_number (due_in times place) at apart (is ∙ last);
   first = λ i inside. no_less (due_in times i) at (omega (arith, last_least (length times) (number_at times) rounds all i inside, last));
 }
+
+-- some player has the last winner's number
+some_has : (n : ℕ) (players : ℕ → ℕ) (rounds : List ℕ) → IsTournament min NEVER n players rounds 0 → 0 < n → (i : ℕ) × (i < n) × (players i ≡ slice_index_or rounds 1 NEVER)
+some_has n players rounds all some =
+    each_has min NEVER n players rounds (λ a. (i : ℕ) × (i < n) × (players i ≡ a)) all
+    (λ i within. (i, within, refl))
+    (λ a b one other. elim (dec_le a b) [
+      | yes low ↦ subst (λ m. (i : ℕ) × (i < n) × (players i ≡ m)) (sym (min-eq_left low)) one
+      | no high ↦ subst (λ m. (i : ℕ) × (i < n) × (players i ≡ m)) (sym (min-eq_right (omega (arith, high)))) other
+    ])
+    (n + n) 1 (omega arith) (omega arith) (omega arith)
+
+-- the last winner's number is the first time
+pub is_first_time : (times : List (Option ℕ)) (rounds : List ℕ) (at : ℕ) → IsTournament min NEVER (length times) (number_at times) rounds 0
+    → slice_index_or rounds 1 NEVER ≡ at → ¬ (at ≡ NEVER) → 0 < length times → IsFirstTime times at
+is_first_time times rounds at all last apart some =
+    let found : (i : ℕ) × (i < length times) × (number_at times i ≡ slice_index_or rounds 1 NEVER) = some_has (length times) (number_at times) rounds all some in
+    record {
+      some = (found.0, found.1, of_number (due_in times found.0) at apart (found.2 ∙ last));
+      first = λ i inside. no_less (due_in times i) at (omega (arith, last_least (length times) (number_at times) rounds all i inside, last));
+    }
 
 -- so is any that is due, where the last winner has the last number
 pub is_last : (times : List (Option ℕ)) (rounds : List ℕ) (due : Due) → IsTournament min NEVER (length times) (number_at times) rounds 0

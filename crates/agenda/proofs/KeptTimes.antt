@@ -21,9 +21,6 @@ time_there flags rounds i within = get_or-map-range_with_len (time_at flags roun
 pub of_times : (flags : List Bool) (rounds : List ℕ) (player : ℕ → ℕ) → IsTournament min NEVER (length flags) player rounds 0 → IsTournament min NEVER (length (times_by flags rounds)) player rounds 0
 of_times flags rounds player all = subst (λ n. IsTournament min NEVER n player rounds 0) (sym (length_times flags rounds)) all
 
-pub of_flags : (flags : List Bool) (rounds rounds_then : List ℕ) (player : ℕ → ℕ) → IsTournament min NEVER (length flags) player rounds_then 0 → IsTournament min NEVER (length (times_by flags rounds)) player rounds_then 0
-of_flags flags rounds rounds_then player all = subst (λ n. IsTournament min NEVER n player rounds_then 0) (sym (length_times flags rounds)) all
-
 -- the time of an object whose number stands in the tournament, and of one that is given another
 same_time : (b : Bool) (at : ℕ) → time_if b (unwrap_or (time_if b at) NEVER) ≡ time_if b at
 same_time true at = refl

@@ -1,10 +1,10 @@
 -- Laws of a tournament, whoever plays.
-use Rattle.std.proofs.Common.{◌≡◌, ◌≢◌, ◌≤◌, ◌<◌, ℕ, zero, suc, ◌+◌, ◌-◌, ◌*◌, ◌/◌, Bool, true, false, nat_eq, List, set, length, refl, ap, sym, ◌∙◌, arith, subst, get_or-set_other, length-set}
+use Rattle.std.proofs.Common.{◌≡◌, ◌≢◌, ◌≤◌, ◌<◌, ℕ, zero, suc, ◌+◌, ◌-◌, ◌*◌, ◌/◌, Bool, true, false, nat_eq, List, set, refl, sym, ◌∙◌, arith, subst, get_or-set_other, length-set}
 use Rattle.std.specs.Prelude.{slice_index_or, if◌then◌else◌}
 use Rattle.std.proofs.Math.Decide.{dec_lt}
 use Rattle.std.proofs.lemmas.Bool.Decides.{nat_tests}
 use Rattle.std.proofs.lemmas.List.{get_or-set_same}
-use Rattle.agenda.specs.private.Tournament.{IsTournament, with_player}
+use Rattle.agenda.specs.private.Tournament.{IsTournament}
 
 -- only the players below their number count
 pub same_players : {A : Type 0} (winner : A → A → A) (nobody : A) (n : ℕ) (player other : ℕ → A) (rounds : List A) → ((i : ℕ) → i < n → player i ≡ other i) → IsTournament winner nobody n player rounds 0 → IsTournament winner nobody n other rounds 0
@@ -13,30 +13,6 @@ same_players winner nobody n player other rounds same all = record {
   players = λ i within. all.players i within ∙ same i within;
   winners = all.winners;
 }
-
--- another player comes: the winner of its first comparison is stale
-pub with_another : {A : Type 0} (winner : A → A → A) (nobody : A) (n : ℕ) (player : ℕ → A) (rounds : List A) (i : ℕ) (other : A) → IsTournament winner nobody n player rounds 0 → i < n → IsTournament winner nobody n (with_player player i other) (set rounds (n + i) other) ((n + i) / 2)
-with_another winner nobody n player rounds i other all within = record {
-  room = length-set rounds (n + i) other ∙ all.room;
-  players = λ k inside. at k inside (nat_eq k i) refl;
-  winners = λ k some inside apart.
-      let here : k ≢ n + i = omega arith in
-      let left : 2 * k ≢ n + i = omega arith in
-      let right : 2 * k + 1 ≢ n + i = omega arith in
-      rw (get_or-set_other rounds (n + i) k other nobody here, get_or-set_other rounds (n + i) (2 * k) other nobody left, get_or-set_other rounds (n + i) (2 * k + 1) other nobody right)
-      (all.winners k some inside (omega arith));
-}
-  where
-    room : n + i < length rounds
-    room = omega (arith, all.room)
-
-    at : (k : ℕ) → k < n → (b : Bool) → nat_eq k i ≡ b → slice_index_or (set rounds (n + i) other) (n + k) nobody ≡ (if b then other else player k)
-    at k inside true is =
-        let same : k ≡ i = grind (arith, nat_tests) in
-        ap (λ j. slice_index_or (set rounds (n + i) other) (n + j) nobody) same ∙ get_or-set_same rounds (n + i) other nobody room
-    at k inside false is =
-        let apart : k ≢ i = grind (arith, nat_tests) in
-        get_or-set_other rounds (n + i) (n + k) other nobody (omega arith) ∙ all.players k inside
 
 -- the winner of the two after a place
 abbrev pub winner_at : {A : Type 0} → (A → A → A) → A → List A → ℕ → A

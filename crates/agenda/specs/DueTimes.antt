@@ -17,6 +17,11 @@ pub record IsFirst (times : List (Option ℕ)) (due : Due) : Type 0 where
   pub ends : due_in times due.place ≡ Some due.at
   pub first : (i : ℕ) → i < length times → IfSome (due_in times i) (λ other. due.at ≤ other)
 
+-- an object is due then, and none before
+pub record IsFirstTime (times : List (Option ℕ)) (at : ℕ) : Type 0 where
+  pub some : (i : ℕ) × (i < length times) × (due_in times i ≡ Some at)
+  pub first : (i : ℕ) → i < length times → IfSome (due_in times i) (λ other. at ≤ other)
+
 -- the object at a place was due now or before, and isn't due any more; the others are due as they were
 pub record IsTaken (now : ℕ) (before after : List (Option ℕ)) (place : ℕ) : Type 0 where
   pub within : place < length before

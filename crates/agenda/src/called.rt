@@ -1,6 +1,6 @@
 //! Marks of what is due, and the marked places in order.
 
-ghost use Rattle.std.specs.Prelude.{◌≡◌, ◌≤◌, ◌<◌, ℕ, true, length, replicate, IfOk, IfSome};
+ghost use Rattle.std.specs.Prelude.{◌≡◌, ◌≤◌, ◌<◌, ℕ, true, length, IfOk, IfSome};
 ghost use Rattle.agenda.specs.DueTimes.{due_in, AreLater};
 ghost use Rattle.agenda.specs.Called.{is_marked, AreDueMarked, AreInOrder};
 
@@ -58,8 +58,5 @@ pub fn first_due(dues: &DueTimes) -> Option<u64>
     ensures from { (n : ℕ) → ((k : ℕ) → k < length dues.now →
         IfSome (due_in dues.now k) (λ due. n ≤ due)) → IfSome result (λ first. n ≤ first) }
 {
-    match dues.first() {
-        Some(due) => Some(due.at),
-        None => None,
-    }
+    dues.first_time()
 }

@@ -1,8 +1,8 @@
 //! When each object is due, with the first of these times at hand.
 
-ghost use Rattle.std.specs.Prelude.{◌≡◌, ◌≤◌, ◌<◌, ◌+◌, ℕ, false, None, Option, IsNone, IfSome, IfOk, MatchOption, length, min, replicate, slice_index_or, slice_set};
+ghost use Rattle.std.specs.Prelude.{◌≡◌, ◌≤◌, ◌<◌, ◌+◌, ℕ, false, None, Option, IsNone, IfSome, IfOk, MatchOption, option_map, length, min, replicate, slice_index_or, slice_set};
 ghost use Rattle.agenda.specs.private.Tournament.{IsTournament, with_player};
-ghost use Rattle.agenda.specs.DueTimes.{due_in, due_count, IsFirst, IsTaken, AreLater};
+ghost use Rattle.agenda.specs.DueTimes.{due_in, due_count, IsFirst, IsFirstTime, IsTaken, AreLater};
 ghost use Rattle.agenda.specs.EarlierDue.{time_at, times_by};
 ghost use Rattle.agenda.specs.private.EarlierDue.{IsListed};
 
@@ -133,6 +133,24 @@ impl DueTimes {
         })
     }
 
+    /// The first of all times, without an object that is due then. It takes the same time for any
+    /// number of objects; only where it is the last number of all, 2^64 - 1, that of `first`.
+    ///
+    /// `None` exactly where no object is due. This project's own.
+    pub fn first_time(&self) -> Option<u64>
+        ensures { MatchOption result ((i : ℕ) → i < length self.now → due_in self.now i ≡ None)
+            (IsFirstTime self.now) }
+    {
+        if self.due == 0 {
+            return None;
+        }
+        let at = self.rounds[1];
+        if at == NEVER {
+            return time_of(self.first());
+        }
+        Some(at)
+    }
+
     /// Takes out an object that is due at `now` or before it, if there is one; that object isn't due
     /// afterwards. It takes the time of `set` where there is one, and no memory.
     ///
@@ -153,6 +171,16 @@ impl DueTimes {
             }
             _ => None,
         }
+    }
+}
+
+/// The time of what is due.
+fn time_of(due: Option<Due>) -> Option<u64>
+    ensures { result ≡ option_map (λ due. due.at) due }
+{
+    match due {
+        Some(due) => Some(due.at),
+        None => None,
     }
 }
 

@@ -1,6 +1,6 @@
 //! Which places are marked, in the order of marking.
 
-ghost use Rattle.std.specs.Prelude.{◌≡◌, ◌<◌, ℕ, true, false, nat_eq, if◌then◌else◌, List, [], ◌∷◌, ◌++◌, IfOk, length, replicate, slice_index_or, slice_set};
+ghost use Rattle.std.specs.Prelude.{◌≡◌, ◌<◌, ℕ, true, false, nat_eq, if◌then◌else◌, [], ◌∷◌, ◌++◌, IfOk, length, replicate, slice_index_or, slice_set};
 ghost use Rattle.std.specs.List.{All, list_any};
 ghost use Rattle.agenda.specs.Marked.{none_marked, AreListed};
 

@@ -2,7 +2,7 @@
 //!
 //! The function does nothing: its contract is the law. This project's own.
 
-ghost use Rattle.std.specs.Prelude.{◌≡◌, ◌<◌, ◌+◌, ◌||◌, ℕ, false, nat_eq, List, [], ◌∷◌, ◌++◌, length, take, drop, slice_index, slice_index_or, replicate};
+ghost use Rattle.std.specs.Prelude.{◌≡◌, ◌<◌, ◌+◌, ◌||◌, ℕ, false, nat_eq, List, [], ◌∷◌, ◌++◌, length, take, drop, slice_index};
 ghost use Rattle.std.specs.List.{IsDistinct, list_any};
 ghost use Rattle.agenda.specs.Marked.{none_marked, AreListed};
 

@@ -1,6 +1,4 @@
 pub mod LineLemmas
-pub mod LongLines
-pub mod PaddingLemmas
 pub mod RowLemmas
 pub mod TextLemmas
 pub mod CodeLemmas
@@ -8,3 +6,5 @@ pub mod ReadingLemmas
 pub mod StepLemmas
 pub mod FrameLemmas
 pub mod RoundTrip
+pub mod CarriedLemmas
+pub mod PlainLemmas

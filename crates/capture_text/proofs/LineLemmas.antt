@@ -27,13 +27,6 @@ split_whole p (x ∷ xs) none =
     let rest = split_whole p xs h.1 in
     slice_split-cons_no p x xs h.0 ∙ rw rest refl
 
-pub split_unless_any : (p : ℕ → Bool) (xs : List ℕ) → list_any p xs ≡ false → slice_split p xs ≡ xs ∷ []
-split_unless_any p [] none = refl
-split_unless_any p (x ∷ xs) none =
-    let h = or_parts (p x) (list_any p xs) none in
-    let rest = split_unless_any p xs h.1 in
-    slice_split-cons_no p x xs h.0 ∙ rw rest refl
-
 -- where no byte before a place passes, and that at the place does, the place is the first
 place_is : (p : ℕ → Bool) (xs : List ℕ) (place : ℕ) → place < length xs → p (get_or xs place 0) ≡ true → list_any p (take place xs) ≡ false → position_or_len p xs ≡ place
 place_is p [] place within passes none = absurd (omega (arith, within))

@@ -20,11 +20,12 @@ use Rattle.sync_ql.specs.Table.{not_enhanced}
 use Rattle.sync_ql.specs.Level.{level_of_codes}
 use Rattle.esmc_frame.specs.declared.frame.Pdu.{Pdu}
 use Rattle.esmc_frame.specs.declared.frame.Extended.{Extended}
+use Rattle.capture_text.specs.declared.reading.Codes.{Codes}
 use Rattle.capture_text.specs.Row.{kind_text, level_text, name_or_number, enhanced_in, fields_behind, row_fields, row_of}
 use Rattle.capture_text.specs.Reading.{IsRow, SayRow, SaysFrame, SaysTlv, SaysBehind, as_named, tlv_as_named, HasNamedCode, enhanced_named, fields_of, ◌>>=◌, event_of, codes_of_text, octet, count_of, tlv_of, behind_of, said_by, pdu_of}
 use Rattle.capture_text.specs.Lines.{parts_left}
 use Rattle.capture_text.specs.private.Steps.{AreOctets}
-use Rattle.capture_text.proofs.CodeLemmas.{codes_of_level_text, text_stands_for, alone_has_none, text_alone}
+use Rattle.capture_text.proofs.CodeLemmas.{StandsFor, codes_of_level_text, text_stands_for, alone_has_none, text_alone}
 use Rattle.capture_text.proofs.RowLemmas.{IsField, AreFields, fields_joined, field_tested, name_is_field, code_is_field, octet_is_field}
 
 -- what a step found, where the steps give a value
@@ -244,6 +245,10 @@ kind_is_field false = field_tested (kind_text false) refl
 level_is_field : (found : Option Level) (code : ℕ) → code < 16 → IsField (name_or_number found code)
 level_is_field (Some level) code small = field_tested (name_or_number (Some level) code) (name_is_field level)
 level_is_field None code small = field_tested (name_or_number None code) (code_is_field code small)
+
+-- and so is a text that stands for codes
+pub level_text_is_field : (option : NetOption) (text : List ℕ) (both : Codes) → StandsFor option text both → IsField text
+level_text_is_field option text both text_is = rw text_is.written (level_is_field (level_of_codes option both.code (Some both.enhanced)) both.code text_is.small)
 
 one_is_bytes : (octet : ℕ) → octet < 256 → IsBytes (octet ∷ [])
 one_is_bytes octet small zero = small

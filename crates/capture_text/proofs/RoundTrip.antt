@@ -40,7 +40,7 @@ row_of_some : (option : NetOption) (n : ℕ) (line : List ℕ) → 0 < length li
 row_of_some option n [] some = absurd (omega (arith, some))
 row_of_some option n (first ∷ digits) some = refl
 
-carried : (n : ℕ) (pdu : Pdu) → IsSendable pdu → carried_at n (encode_lower (written_frame pdu)) ≡ Ok pdu
+pub carried : (n : ℕ) (pdu : Pdu) → IsSendable pdu → carried_at n (encode_lower (written_frame pdu)) ≡ Ok pdu
 unfolding carried_at
 carried n pdu can = rw (decode_of-digits pdu can, reading_of-written pdu can) refl
 

@@ -1,5 +1,5 @@
 -- The parts of a row.
-use Rattle.std.proofs.Common.{◌≡◌, ◌≤◌, ◌<◌, ◌==◌, ℕ, ◌+◌, ◌/◌, ◌%◌, ◌^◌, Bool, true, false, not, List, [], ◌∷◌, ◌++◌, length, codes, refl, nat_le, sym, ap, ◌∙◌, arith, append_assoc, append-nil, Option}
+use Rattle.std.proofs.Common.{◌≡◌, ◌≤◌, ◌<◌, ◌==◌, ℕ, ◌+◌, ◌/◌, ◌%◌, ◌^◌, Bool, true, false, not, List, [], ◌∷◌, ◌++◌, length, codes, refl, nat_le, ap, ◌∙◌, arith}
 use Rattle.std.specs.Fmt.{decimal, digits}
 use Rattle.std.specs.List.{list_all, range_with_len, join_with_byte, All}
 use native.Mathlib.Decide.{dec_lt}
@@ -14,10 +14,7 @@ use Rattle.sync_ql.specs.declared.levels.Level.{Level}
 use Rattle.sync_ql.specs.Table.{levels_of}
 use Rattle.sync_ql.specs.Level.{row_at, name_of}
 use Rattle.sync_ql.proofs.Tables.{at_each}
-use Rattle.esmc_frame.specs.declared.frame.Extended.{Extended}
-use Rattle.capture_text.specs.Row.{fields_behind}
 use Rattle.capture_text.specs.Reading.{fields_of}
-use Rattle.capture_text.specs.private.Steps.{with_commas}
 
 -- a number below 10 is one digit, one below 100 two, and one below 1000 three
 pub one_digit : (number : ℕ) → number < 10 → decimal number ≡ (48 + number) ∷ []
@@ -114,17 +111,3 @@ fields_joined field [] are = slice_split_none (λ byte. byte == 44) field are.0
 fields_joined field (next ∷ fields) are =
     slice_split_at (λ byte. byte == 44) field 44 (join_with_byte 44 (next ∷ fields)) are.0 refl
     ∙ ap (λ rest. field ∷ rest) (fields_joined next fields are.1)
-
--- a joined text is the first field, and the others with a comma before each
-with_commas_joined : (field : List ℕ) (fields : List (List ℕ)) → join_with_byte 44 (field ∷ fields) ≡ field ++ with_commas fields
-with_commas_joined field [] = sym (append-nil field)
-with_commas_joined field (next ∷ fields) = ap (λ rest. field ++ 44 ∷ rest) (with_commas_joined next fields)
-
--- a row part by part
-pub row_by_parts : (source kind level : List ℕ) (extended : Option Extended) → join_with_byte 44 (source ∷ kind ∷ level ∷ fields_behind extended) ≡ ((source ++ (codes "," ++ kind ++ codes ",")) ++ level) ++ with_commas (fields_behind extended)
-row_by_parts source kind level extended =
-    let behind = with_commas (fields_behind extended) in
-    with_commas_joined source (kind ∷ level ∷ fields_behind extended)
-    ∙ ap (λ rest. source ++ 44 ∷ rest) (sym (append_assoc kind (44 ∷ []) (level ++ behind)))
-    ∙ sym (append_assoc source (44 ∷ (kind ++ 44 ∷ [])) (level ++ behind))
-    ∙ sym (append_assoc (source ++ 44 ∷ (kind ++ 44 ∷ [])) level behind)

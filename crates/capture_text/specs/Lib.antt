@@ -3,6 +3,5 @@ pub mod Row
 pub mod Reading
 pub mod Capture
 pub mod Numbers
-pub mod Gives
 pub mod Steps
 pub mod private

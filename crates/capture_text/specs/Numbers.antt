@@ -1,11 +1,11 @@
 -- The numbers by which refusals are printed.
 use Rattle.std.specs.Prelude.{ℕ, Option, Some, None}
+use Rattle.esmc_frame.specs.Numbers.{number_of}
 use Rattle.capture_text.specs.declared.error.CaptureErr.{CaptureErr}
-use Rattle.capture_text.specs.declared.error.CaptureErr.TheVariants.{Hex, Frame, Row, NoMemory}
+use Rattle.capture_text.specs.declared.error.CaptureErr.TheVariants.{Hex, Frame, Row}
 
--- the number of a refusal; out of memory is none. This project's own
-abbrev pub number_of : CaptureErr → Option ℕ
-number_of (Hex line) = Some 12
-number_of (Frame line error) = Some 13
-number_of (Row line) = Some 14
-number_of NoMemory = None
+-- the numbers of a refusal: its own, the line, and that of what is wrong with a frame. This project's own
+abbrev pub numbers_of : CaptureErr → ℕ × ℕ × Option ℕ
+numbers_of (Hex line) = (12, line, None)
+numbers_of (Frame line error) = (13, line, Some (number_of error))
+numbers_of (Row line) = (14, line, None)

@@ -1,4 +1,4 @@
 -- What no public clause rests on: who reads contracts alone need not read it.
 pub mod Examples
-pub mod Gives
+pub mod Plain
 pub mod Steps

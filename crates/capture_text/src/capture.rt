@@ -1,28 +1,24 @@
 //! Whole texts: frames to rows, and rows to frames.
 
-ghost use Rattle.std.specs.Prelude.{◌≡◌, ◌<◌, ◌+◌, ◌*◌, ◌/◌, ◌%◌, ◌==◌, ◌&&◌, ◌++◌, length, Err, IfOk, OnOk};
-ghost use Rattle.std.specs.List.{list_all};
-ghost use Rattle.hex.specs.Hex.{decode_of, encode_lower, is_hex_digit};
+ghost use Rattle.std.specs.Prelude.{◌≡◌, ◌<◌, ◌++◌, length, option_map, IfOk, OnOk};
+ghost use Rattle.std.specs.Result.{result_ok};
+ghost use Rattle.hex.specs.Hex.{decode_of, encode_lower};
+ghost use Rattle.esmc_frame.specs.Frame.{written_frame};
 ghost use Rattle.capture_text.specs.Capture.{row_of_line, frame_of_line, decoded_text, encoded_text, rows_in_form, carried_at, as_line};
-ghost use Rattle.capture_text.specs.Row.{row_of};
-ghost use Rattle.capture_text.specs.Gives.{Gives};
-ghost use Rattle.capture_text.specs.private.Steps.{GivesThat, with_front, IsPut};
+ghost use Rattle.sync_text.specs.Gives.{Gives};
+ghost use Rattle.capture_text.specs.private.Steps.{GivesThat, with_front};
 
 use crate::error::CaptureErr;
+use crate::line::{LONGEST, Line};
 use crate::lines::Lines;
+use crate::plain::Plain;
 use crate::reading::read_row;
 use crate::row::row_for;
-use esmc_frame::{FRAME, FrameErr, GREATEST_FRAME, Pdu, decode, encode};
+use esmc_frame::{FRAME, Pdu, decode, encode};
+use hex::FromHexError;
 use std::alloc::Global;
 use sync_ql::NetOption;
-use sync_text::{NoMemory, Text};
-
-/// The octets before the padding of a frame that has no extended QL TLV.
-const BEFORE_PADDING: usize = 28;
-/// The padding of the shortest frame that has no extended QL TLV.
-const PADDING: [u8; 32] = [0; 32];
-/// The digits of this padding.
-const PADDING_DIGITS: [u8; 64] = [b'0'; 64];
+use sync_text::{NoAnswer, NoMemory, Text};
 
 /// The rows of captured frames, each with a line feed.
 ///
@@ -31,14 +27,17 @@ const PADDING_DIGITS: [u8; 64] = [b'0'; 64];
 /// empty line is passed over, and counted. `Hex` where `hex` decodes no octets from the first line
 /// that is refused, `Frame` where these are no frame, with the first part that is wrong.
 /// This project's own; frames after G.8264, ESMC PDU format.
-pub fn decode_lines(alloc: Global, bytes: &[u8], option: NetOption) -> Result<Text, CaptureErr>
+pub fn decode_lines(
+    alloc: Global,
+    bytes: &[u8],
+    option: NetOption,
+) -> Result<Text, NoAnswer<CaptureErr>>
     ensures exact { Gives result (decoded_text option bytes.now) }
 {
     let mut text = Text::new(alloc);
-    let mut room = [0; GREATEST_FRAME];
     let mut lines = Lines::of(bytes);
     while let Some((number, line)) = lines.next_line() {
-        put_row_of(&mut text, &mut room, number, line, option)?;
+        put_row_of(alloc, &mut text, number, line, option)?;
     }
     Ok(text)
 }
@@ -48,7 +47,11 @@ pub fn decode_lines(alloc: Global, bytes: &[u8], option: NetOption) -> Result<Te
 /// Lines are cut as in `decode_lines`, and each is a row as `put_row` writes it; the digits of its
 /// source may be of either case. `Row` names the first line that is no row.
 /// This project's own; frames after G.8264, ESMC PDU format.
-pub fn encode_rows(alloc: Global, bytes: &[u8], option: NetOption) -> Result<Text, CaptureErr>
+pub fn encode_rows(
+    alloc: Global,
+    bytes: &[u8],
+    option: NetOption,
+) -> Result<Text, NoAnswer<CaptureErr>>
     ensures exact { Gives result (encoded_text option bytes.now) }
 
     // The frames are decoded to the rows, in the form in which `put_row` writes them.
@@ -62,111 +65,60 @@ pub fn encode_rows(alloc: Global, bytes: &[u8], option: NetOption) -> Result<Tex
     Ok(text)
 }
 
-/// Puts the row of the frame on a line, with a line feed. The octets of the frame go into the room.
+/// Puts the row of the frame on a line, with a line feed.
 fn put_row_of(
+    alloc: Global,
     text: &mut Text,
-    room: &mut [u8; GREATEST_FRAME],
     number: u64,
     line: &[u8],
     option: NetOption,
-) -> Result<(), CaptureErr>
+) -> Result<(), NoAnswer<CaptureErr>>
     ensures { GivesThat result text.new (with_front text.old (row_of_line option number line.now)) }
 {
     if line.is_empty() {
         return Ok(());
     }
-    let pdu = value_of(room, number, line)?;
-    put_row_line(text, &pdu, option)?;
+    if let Some(plain) = Plain::of_frame(line) {
+        put_line(text, plain.row(option))?;
+        return Ok(());
+    }
+    let pdu = value_of(alloc, number, line)?;
+    put_line(text, row_for(&pdu, option))?;
     Ok(())
 }
 
-/// What the frame on a line carries, whose octets go into the room.
-fn value_of(room: &mut [u8; GREATEST_FRAME], number: u64, line: &[u8]) -> Result<Pdu, CaptureErr>
-    ensures value { carried_at number line.now ≡ result }
+/// What the frame on a line carries.
+fn value_of(alloc: Global, number: u64, line: &[u8]) -> Result<Pdu, NoAnswer<CaptureErr>>
+    ensures value { Gives result (carried_at number line.now) }
     ensures code { IfOk result (λ pdu. pdu.code < 16) }
 {
-    if line.len() > 2 * GREATEST_FRAME {
-        return Err(refusal_of_long(number, line));
-    }
-    value_in(&mut room[..line.len() / 2], number, line)
-}
-
-/// What the frame on a line carries, whose octets go into room for as many.
-fn value_in(octets: &mut [u8], number: u64, line: &[u8]) -> Result<Pdu, CaptureErr>
-    requires { length octets.old ≡ length line.now / 2 }
-    ensures value { carried_at number line.now ≡ result }
-    ensures code { IfOk result (λ pdu. pdu.code < 16) }
-{
-    if !put_octets(octets, line) {
-        return Err(CaptureErr::Hex(number));
-    }
-    match decode(octets) {
+    let Some(octets) = octets_of(alloc, line)? else {
+        return Err(NoAnswer::Refused(CaptureErr::Hex(number)));
+    };
+    match decode(octets.as_slice()) {
         Ok(pdu) => Ok(pdu),
-        Err(error) => Err(CaptureErr::Frame(number, error)),
+        Err(error) => Err(NoAnswer::Refused(CaptureErr::Frame(number, error))),
     }
 }
 
-/// Puts the octets that a line gives as digits into room for as many. Whether it gives octets.
-fn put_octets(octets: &mut [u8], line: &[u8]) -> bool
-    requires { length octets.old ≡ length line.now / 2 }
-    ensures { IsPut (decode_of line.now) result octets.new }
+/// The octets that a line gives as digits, if it gives octets.
+fn octets_of(alloc: Global, line: &[u8]) -> Result<Option<Vec<u8>>, NoMemory>
+    ensures { IfOk result (λ octets. option_map (λ list. list.items) octets ≡ result_ok (decode_of line.now)) }
 {
-    // Digits of padding are compared, all at once, and not decoded.
-    match line.strip_suffix(&PADDING_DIGITS) {
-        Some(front) => put_padded(octets, front),
-        None => hex::decode_to_slice(line, octets).is_ok(),
+    match hex::decode(alloc, line) {
+        Ok(octets) => Ok(Some(octets)),
+        Err(FromHexError::OutOfMemory) => Err(NoMemory),
+        Err(_) => Ok(None),
     }
 }
 
-/// Puts the octets that digits and the digits of padding give into room for as many.
-fn put_padded(octets: &mut [u8], front: &[u8]) -> bool
-    requires { length octets.old ≡ length front.now / 2 + length PADDING }
-    ensures { IsPut (decode_of (front.now ++ PADDING_DIGITS)) result octets.new }
+/// Puts a line, with a line feed.
+fn put_line(text: &mut Text, mut line: Line) -> Result<(), NoMemory>
+    requires { length line < LONGEST }
+    ensures { OnOk result (text.new ≡ text.old ++ as_line line) }
 {
-    let (read, padding) = octets.split_at_mut(front.len() / 2);
-    padding.copy_from_slice(&PADDING);
-    hex::decode_to_slice(front, read).is_ok()
-}
-
-/// Why a line is refused that is longer than any frame: for its digits, and else for its length.
-fn refusal_of_long(number: u64, line: &[u8]) -> CaptureErr
-    requires { 2 * GREATEST_FRAME < length line.now }
-    ensures { carried_at number line.now ≡ Err result }
-{
-    if gives_octets(line) {
-        CaptureErr::Frame(number, FrameErr::Length)
-    } else {
-        CaptureErr::Hex(number)
-    }
-}
-
-/// Whether a line is an even number of digits.
-fn gives_octets(line: &[u8]) -> bool
-    ensures { result ≡ (length line.now % 2 == 0 && list_all is_hex_digit line.now) }
-{
-    line.len() % 2 == 0 && are_digits(line)
-}
-
-fn are_digits(line: &[u8]) -> bool
-    ensures { result ≡ list_all is_hex_digit line.now }
-{
-    line.iter().all(|byte| is_digit(*byte))
-}
-
-fn is_digit(byte: u8) -> bool
-    ensures { result ≡ is_hex_digit byte }
-{
-    matches!(byte, b'0'..=b'9' | b'A'..=b'F' | b'a'..=b'f')
-}
-
-/// Puts a row, with a line feed.
-fn put_row_line(text: &mut Text, pdu: &Pdu, option: NetOption) -> Result<(), NoMemory>
-    requires { pdu.now.code < 16 }
-    ensures { OnOk result (text.new ≡ text.old ++ as_line (row_of option pdu.now)) }
-{
-    let mut row = row_for(pdu, option);
-    row.put(b"\n");
-    text.put(row.bytes())
+    line.put(b"\n");
+    text.put(line.bytes())
 }
 
 /// Puts the frame of the row on a line, with a line feed.
@@ -175,51 +127,32 @@ fn put_frame_of(
     number: u64,
     line: &[u8],
     option: NetOption,
-) -> Result<(), CaptureErr>
+) -> Result<(), NoAnswer<CaptureErr>>
     ensures { GivesThat result text.new (with_front text.old (frame_of_line option number line.now)) }
 {
     if line.is_empty() {
         return Ok(());
     }
+    if let Some(plain) = Plain::of_row(line, option) {
+        put_line(text, plain.frame())?;
+        return Ok(());
+    }
     let Some(pdu) = read_row(line, option) else {
-        return Err(CaptureErr::Row(number));
+        return Err(NoAnswer::Refused(CaptureErr::Row(number)));
     };
-    let mut frame = [0; FRAME];
-    encode(&pdu, &mut frame);
-    put_digits(text, &frame)?;
+    put_line(text, frame_for(&pdu))?;
     Ok(())
 }
 
-/// Puts a frame as digits, with a line feed.
-fn put_digits(text: &mut Text, frame: &[u8; FRAME]) -> Result<(), NoMemory>
-    ensures { OnOk result (text.new ≡ text.old ++ as_line (encode_lower frame.now)) }
+/// The digits of the frame that carries a value.
+fn frame_for(pdu: &Pdu) -> Line
+    requires { pdu.now.code < 16 }
+    ensures digits { result ≡ encode_lower (written_frame pdu.now) }
+    ensures short { length result < LONGEST }
 {
-    text.put(&digits_of(frame))?;
-    text.put(b"\n")
-}
-
-/// The digits of a frame.
-#[tactic(auto, using(crate::proofs::PaddingLemmas::ends_with_padding))]
-fn digits_of(frame: &[u8; FRAME]) -> [u8; 120]
-    ensures { result ≡ encode_lower frame.now }
-{
-    let (front, behind) = frame.split_at(BEFORE_PADDING);
-    if behind == PADDING.as_slice() {
-        return padded_digits(front);
-    }
-    let mut digits = [0; 120];
-    hex::encode_to_slice(frame.as_slice(), &mut digits).unwrap();
-    digits
-}
-
-/// The digits of octets and of the padding behind them.
-#[tactic(auto, using(crate::proofs::PaddingLemmas::padded_digits))]
-fn padded_digits(octets: &[u8]) -> [u8; 120]
-    requires { length octets.now ≡ BEFORE_PADDING }
-    ensures { result ≡ encode_lower (octets.now ++ PADDING) }
-{
-    // The digits of the padding stand there before the others are put.
-    let mut digits = [b'0'; 120];
-    hex::encode_to_slice(octets, &mut digits[..2 * BEFORE_PADDING]).unwrap();
-    digits
+    let mut frame = [0; FRAME];
+    encode(pdu, &mut frame);
+    let mut line = Line::new();
+    line.put_digits(&frame);
+    line
 }

@@ -1,10 +1,9 @@
 //! Why lines give no text.
 
 ghost use Rattle.std.specs.Prelude.{◌≡◌};
-ghost use Rattle.capture_text.specs.Numbers.{number_of};
+ghost use Rattle.capture_text.specs.Numbers.{numbers_of};
 
 use esmc_frame::FrameErr;
-use sync_text::NoMemory;
 use thiserror::Error;
 
 /// The first line that is wrong, counted from 1 with the empty ones, and how.
@@ -21,34 +20,20 @@ pub enum CaptureErr {
     /// The line is no row.
     #[error("line {0}: no row of three or seven fields")]
     Row(u64),
-    /// Out of memory.
-    #[error("out of memory")]
-    NoMemory,
 }
 
 impl CaptureErr {
-    /// The number by which the refusal is printed, from 12 to 14.
+    /// The numbers by which the refusal is printed: its own, from 12 to 14, then the line that is
+    /// refused, and last that of what is wrong with a frame. `None` where that is none.
     ///
-    /// `None` when out of memory, which refuses no line.
     /// This project's own.
-    pub fn number(self) -> Option<u8>
-        ensures { result ≡ number_of self }
+    pub fn numbers(self) -> (u8, u64, Option<u8>)
+        ensures { result ≡ numbers_of self }
     {
         match self {
-            CaptureErr::Hex(_) => Some(12),
-            CaptureErr::Frame(..) => Some(13),
-            CaptureErr::Row(_) => Some(14),
-            CaptureErr::NoMemory => None,
+            CaptureErr::Hex(line) => (12, line, None),
+            CaptureErr::Frame(line, error) => (13, line, Some(error.number())),
+            CaptureErr::Row(line) => (14, line, None),
         }
-    }
-}
-
-impl From<NoMemory> for CaptureErr {
-    ghost use Rattle.capture_text.specs.declared.error.CaptureErr.TheVariants as refusal;
-
-    ghost from_gives = { λ _ e. e ≡ refusal.NoMemory };
-
-    fn from(_: NoMemory) -> CaptureErr {
-        CaptureErr::NoMemory
     }
 }

@@ -17,7 +17,9 @@
 mod capture;
 mod cutting;
 mod error;
+mod line;
 mod lines;
+mod plain;
 mod reading;
 mod row;
 

@@ -6,7 +6,7 @@ ghost use Rattle.sync_ql.specs.Level.{level_of_name};
 ghost use Rattle.esmc_frame.specs.declared.frame.Pdu.{Pdu};
 ghost use Rattle.capture_text.specs.Lines.{parts_left};
 ghost use Rattle.capture_text.specs.private.Steps.{kind_and_rest};
-ghost use Rattle.capture_text.specs.Reading.{IsRow, pdu_of, codes_of_text, code_of_number, codes_of_level, codes_of_code, count_of, tlv_of, behind_of, fields_of};
+ghost use Rattle.capture_text.specs.Reading.{IsRow, pdu_of, codes_of_text, code_of_number, count_of, tlv_of, behind_of, fields_of};
 
 use crate::cutting::cut_at;
 use esmc_frame::{Extended, Pdu};
@@ -15,7 +15,7 @@ use sync_ql::{NOT_ENHANCED, NetOption, code_of, enhanced_of, level_of_code, leve
 use sync_text::read_number;
 
 /// How many digits a source has.
-const SOURCE_DIGITS: usize = 12;
+pub(crate) const SOURCE_DIGITS: usize = 12;
 
 /// The four-bit code and the enhanced code that the text of a level stands for.
 #[derive(Clone, Copy)]
@@ -41,7 +41,7 @@ pub fn read_row(line: &[u8], option: NetOption) -> Option<Pdu>
     let (source, rest) = line.split_at_checked(SOURCE_DIGITS)?;
     let source = <[u8; 6] as FromHex>::from_hex(source).ok()?;
     let (event, rest) = kind_and_rest(rest)?;
-    let (level, behind) = level_and_behind(rest);
+    let (level, behind) = cut_at(rest, b',');
     let both = codes_of_text(option, level)?;
     let extended = behind_of(both.enhanced, behind)?;
     Some(Pdu {
@@ -54,7 +54,7 @@ pub fn read_row(line: &[u8], option: NetOption) -> Option<Pdu>
 
 /// Whether the kind between the first two commas is that of an event message, and what stands
 /// behind them.
-fn kind_and_rest(text: &[u8]) -> Option<(bool, &[u8])>
+pub(crate) fn kind_and_rest(text: &[u8]) -> Option<(bool, &[u8])>
     ensures { option_map (λ kind. (kind.0, kind.1.now)) result ≡ kind_and_rest text.now }
 {
     if let Some(rest) = text.strip_prefix(b",info,") {
@@ -62,19 +62,6 @@ fn kind_and_rest(text: &[u8]) -> Option<(bool, &[u8])>
     }
     let rest = text.strip_prefix(b",event,")?;
     Some((true, rest))
-}
-
-/// The first field, which is the level's, and what stands behind its comma if it has one.
-#[tactic(auto, using(crate::proofs::LineLemmas::split_unless_any))]
-fn level_and_behind(text: &[u8]) -> (&[u8], Option<&[u8]>)
-    ensures { fields_of text.now ≡ result.0.now ∷ parts_left 44 result.1 }
-{
-    // Most rows end with the level, and `contains` looks at many bytes at once.
-    if text.contains(&b',') {
-        cut_at(text, b',')
-    } else {
-        (text, None)
-    }
 }
 
 /// What stands behind the level: nothing, where it has no enhanced code, or an extended QL TLV.
@@ -134,7 +121,7 @@ fn count_of(text: &[u8]) -> Option<u8>
 }
 
 /// The codes that the text of a level stands for: a level's name, or `code-N`.
-fn codes_of_text(option: NetOption, text: &[u8]) -> Option<Codes>
+pub(crate) fn codes_of_text(option: NetOption, text: &[u8]) -> Option<Codes>
     ensures codes { result ≡ codes_of_text option text.now }
     ensures four_bits { IfSome result (λ both. both.code < 16) }
 {

@@ -2,19 +2,14 @@
 
 ghost use Rattle.std.specs.Prelude.{◌≡◌, ◌<◌, ◌≤◌, ◌+◌, ◌↔◌, [], ◌∷◌, ◌++◌, codes, length, Some, OnOk, OnErr, IfSome};
 ghost use Rattle.std.specs.Fmt.{decimal};
-ghost use Rattle.hex.specs.Hex.{IsBytes, encode_lower};
 ghost use Rattle.capture_text.specs.Row.{kind_text, level_text, enhanced_in, row_of};
 ghost use Rattle.capture_text.specs.Reading.{pdu_of, as_named, HasNamedCode};
 ghost use Rattle.capture_text.specs.private.Steps.{AreOctets, behind_text};
 
+use crate::line::{LONGEST, Line};
 use esmc_frame::{Extended, Pdu};
-use std::marker::Model;
 use sync_ql::{NetOption, level_of_codes, name_of};
 use sync_text::{NoMemory, Text};
-
-/// The most octets that a row has, with its line feed: twelve digits, `,event,`, a name of eight
-/// letters, and behind it four commas with sixteen and two digits and two counts of three digits.
-const LONGEST_ROW: usize = 56;
 
 /// Puts the row of what a frame carries at the end, without a line feed: `SOURCE,KIND,LEVEL`, and
 /// `SOURCE,KIND,LEVEL,CLOCK,FLAGS,EEECS,EECS` where it has an extended QL TLV.
@@ -38,14 +33,14 @@ pub fn put_row(out: &mut Text, pdu: &Pdu, option: NetOption) -> Result<(), NoMem
 }
 
 /// The row of what a frame carries.
-pub(crate) fn row_for(pdu: &Pdu, option: NetOption) -> Row
+pub(crate) fn row_for(pdu: &Pdu, option: NetOption) -> Line
     requires { pdu.now.code < 16 }
     ensures row { result ≡ row_of option pdu.now }
-    ensures short { length result < LONGEST_ROW }
+    ensures short { length result < LONGEST }
     ensures read_back { pdu_of option (row_of option pdu.now) ≡ Some (as_named option pdu.now) }
 {
-    let mut row = Row::new();
-    row.put_source(&pdu.source);
+    let mut row = Line::new();
+    row.put_digits(&pdu.source);
     row.put(kind_part(pdu.event));
     row.put_level(pdu.code, enhanced_in(&pdu.extended), option);
     row.put_behind(&pdu.extended);
@@ -53,7 +48,7 @@ pub(crate) fn row_for(pdu: &Pdu, option: NetOption) -> Row
 }
 
 /// The kind between its commas.
-fn kind_part(event: bool) -> &'static [u8]
+pub(crate) fn kind_part(event: bool) -> &'static [u8]
     ensures part { result.now ≡ codes "," ++ kind_text event ++ codes "," }
     ensures short { length result.now ≤ 7 }
 {
@@ -70,67 +65,10 @@ fn enhanced_in(extended: &Option<Extended>) -> Option<u8>
     }
 }
 
-/// A row that is being put together.
-#[derive(Drop)]
-pub(crate) struct Row {
-    octets: [u8; LONGEST_ROW],
-    len: usize,
-}
-
-impl Model for Row {
-    ghost use Rattle.std.specs.Prelude.{ℕ, ◌≤◌, List, take};
-    ghost use Rattle.capture_text.specs.declared.row.TheConstants.{LONGEST_ROW};
-
-    ghost Value = { List ℕ };
-
-    ghost view = { λ row. take row.len row.octets };
-
-    ghost invariant = { λ row. row.len ≤ LONGEST_ROW };
-}
-
-impl Row {
-    fn new() -> Row
-        ensures { result ≡ [] }
-    {
-        Row {
-            octets: [0; LONGEST_ROW],
-            len: 0,
-        }
-    }
-
-    /// What was put so far.
-    pub(crate) fn bytes(&self) -> &[u8]
-        ensures { result.now ≡ self.now }
-    {
-        &self.octets[..self.len]
-    }
-
-    /// Puts a part at the end.
-    pub(crate) fn put(&mut self, part: &[u8])
-        requires { length self.old + length part.now ≤ LONGEST_ROW }
-        ensures put { self.new ≡ self.old ++ part.now }
-        ensures len { length self.new ≡ length self.old + length part.now }
-    {
-        let end = self.len + part.len();
-        self.octets[self.len..end].copy_from_slice(part);
-        self.len = end;
-    }
-
-    fn put_source(&mut self, source: &[u8; 6])
-        requires { length self.old + 12 ≤ LONGEST_ROW }
-        ensures put { self.new ≡ self.old ++ encode_lower source.now }
-        ensures len { length self.new ≡ length self.old + 12 }
-        ensures six { length source.now ≡ 6 }
-        ensures octets { IsBytes source.now }
-    {
-        let mut digits = [0; 12];
-        hex::encode_to_slice(source.as_slice(), &mut digits).unwrap();
-        self.put(&digits);
-    }
-
+impl Line {
     #[tactic(auto, using(crate::proofs::RowLemmas::length_name))]
-    fn put_level(&mut self, code: u8, enhanced: Option<u8>, option: NetOption)
-        requires room { length self.old + 8 ≤ LONGEST_ROW }
+    pub(crate) fn put_level(&mut self, code: u8, enhanced: Option<u8>, option: NetOption)
+        requires room { length self.old + 8 ≤ LONGEST }
         requires code { code < 16 }
         ensures put { self.new ≡ self.old ++ level_text option code enhanced }
         ensures len { length self.new ≤ length self.old + 8 }
@@ -143,7 +81,7 @@ impl Row {
 
     #[tactic(auto, using(std::proofs::Common::append_assoc))]
     fn put_code(&mut self, code: u8)
-        requires room { length self.old + 8 ≤ LONGEST_ROW }
+        requires room { length self.old + 8 ≤ LONGEST }
         requires code { code < 16 }
         ensures put { self.new ≡ self.old ++ (codes "code-" ++ decimal code) }
         ensures len { length self.new ≤ length self.old + 8 }
@@ -154,7 +92,7 @@ impl Row {
 
     #[tactic(auto, using(crate::proofs::RowLemmas::one_digit, crate::proofs::RowLemmas::two_digits, crate::proofs::RowLemmas::three_digits))]
     fn put_number(&mut self, number: u8)
-        requires { length self.old + 3 ≤ LONGEST_ROW }
+        requires { length self.old + 3 ≤ LONGEST }
         ensures put { self.new ≡ self.old ++ decimal number }
         ensures len { length self.new ≤ length self.old + 3 }
     {
@@ -173,7 +111,7 @@ impl Row {
 
     /// Puts the fields behind the level, if there are any, each with a comma before it.
     fn put_behind(&mut self, extended: &Option<Extended>)
-        requires { length self.old + 28 ≤ LONGEST_ROW }
+        requires { length self.old + 28 ≤ LONGEST }
         ensures put { self.new ≡ self.old ++ behind_text extended.now }
         ensures len { length self.new ≤ length self.old + 28 }
         ensures octets { IfSome extended.now AreOctets }
@@ -184,40 +122,18 @@ impl Row {
     }
 
     fn put_tlv(&mut self, extended: &Extended)
-        requires { length self.old + 28 ≤ LONGEST_ROW }
+        requires { length self.old + 28 ≤ LONGEST }
         ensures put { self.new ≡ self.old ++ behind_text (Some extended.now) }
         ensures len { length self.new ≤ length self.old + 28 }
         ensures octets { AreOctets extended.now }
     {
         self.put(b",");
-        self.put_clock(&extended.clock);
+        self.put_digits(&extended.clock);
         self.put(b",");
-        self.put_flags(extended.flags);
+        self.put_digits(&[extended.flags]);
         self.put(b",");
         self.put_number(extended.eeecs);
         self.put(b",");
         self.put_number(extended.eecs);
-    }
-
-    fn put_clock(&mut self, clock: &[u8; 8])
-        requires { length self.old + 16 ≤ LONGEST_ROW }
-        ensures put { self.new ≡ self.old ++ encode_lower clock.now }
-        ensures len { length self.new ≡ length self.old + 16 }
-        ensures eight { length clock.now ≡ 8 }
-        ensures octets { IsBytes clock.now }
-    {
-        let mut digits = [0; 16];
-        hex::encode_to_slice(clock.as_slice(), &mut digits).unwrap();
-        self.put(&digits);
-    }
-
-    fn put_flags(&mut self, flags: u8)
-        requires { length self.old + 2 ≤ LONGEST_ROW }
-        ensures put { self.new ≡ self.old ++ encode_lower (flags ∷ []) }
-        ensures len { length self.new ≡ length self.old + 2 }
-    {
-        let mut digits = [0; 2];
-        hex::encode_to_slice([flags].as_slice(), &mut digits).unwrap();
-        self.put(&digits);
     }
 }

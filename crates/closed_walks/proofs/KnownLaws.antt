@@ -29,7 +29,7 @@ use Rattle.closed_walks.specs.declared.following.Next.{Next}
 use Rattle.closed_walks.specs.declared.following.Next.TheVariants.{On, Over}
 use Rattle.closed_walks.specs.Following.{next_of, Follows, IsPassed, is_met, AreMet}
 use Rattle.closed_walks.specs.private.Known.{known_at, IsKnown, AreKnown, IsOnLoop, IsEndAt, IsMoreKnown}
-use Rattle.closed_walks.proofs.FollowLaws.{trace-begins, takes-on, ends-over}
+use Rattle.closed_walks.proofs.FollowLaws.{trace-begins, ends-over}
 use Rattle.closed_walks.proofs.Rings.{comes-back, loop-ends, loop-next, loop-takes, rotated}
 
 -- what is taken is an input of the element's own
@@ -448,11 +448,6 @@ line-within plan inputs known element items rest line are is leads =
     (taken-line plan inputs (receiver_of plan line.0) line.0 are
     (leads-less plan (taken_in_list inputs) known element rest line (taken-own plan inputs are) (subst (LeadsToKnown plan (taken_in_list inputs) known element) is leads)).1).has
 
-pub leads-none : (plan : Topology) (taken : Taken) (known : List (Option Ending)) (element : ℕ) (lines : List LineId) → lines ≡ [] → LeadsToKnown plan taken known element lines → IsKnown known element
-leads-none plan taken known element lines is leads =
-    let way : Follows plan taken element (numbers []) leads.last = subst (λ ls. Follows plan taken element (numbers ls) leads.last) is leads.follows in
-    subst (IsKnown known) (sym way) leads.is
-
 -- an element takes one line
 pub known-next : (plan : Topology) (taken : Taken) (known : List (Option Ending)) (element line other : ℕ) → taken element ≡ Some (line_input line)
     → IsKnown known (sender_of plan line) → taken element ≡ Some (line_input other) → IsKnown known (sender_of plan other)
@@ -564,8 +559,3 @@ over-none taken element line end next is over takes = never (record { 0 = line }
   where
     never : (l : LineId) → On l ≡ Over end → ⊥
     never l same = cc
-
-pub on-line : (plan : Topology) (taken : Taken) (element other : ℕ) (line : LineId) (next : Next) → next ≡ next_of (taken element) element → next ≡ On line → taken element ≡ Some (line_input other)
-    → other ≡ line.0
-on-line plan taken element other line next is on takes =
-    line_input-same other line.0 (same_Some (line_input other) (line_input line.0) (sym takes ∙ takes-on (taken element) element line next is on))

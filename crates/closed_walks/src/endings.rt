@@ -1,15 +1,14 @@
 //! How the trace of each element ends.
 
-ghost use Rattle.std.specs.Prelude.{◌≡◌, ◌≤◌, ◌<◌, ◌⊎◌, ℕ, true, false, List, length, map, replicate, slice_get, Option, None, Some, IfOk, OnOk, IsTrue};
-ghost use Rattle.std.specs.List.{All};
-ghost use Rattle.sync_topo.specs.Lines.{line_input, sender_of, receiver_of, numbers};
+ghost use Rattle.std.specs.Prelude.{◌≡◌, ◌≤◌, ◌<◌, ◌⊎◌, ℕ, true, false, length, map, replicate, slice_get, None, Some, IfOk, OnOk};
+ghost use Rattle.sync_topo.specs.Lines.{line_input, sender_of, numbers};
 ghost use Rattle.sync_topo.specs.WellFormed.{IsWellFormed};
 ghost use Rattle.net_rules.specs.GoingBack.{ComesBack};
 ghost use Rattle.closed_walks.specs.declared.traced.Ending.{Ending};
 ghost use Rattle.closed_walks.specs.Taking.{taken_in_list, AreTaken};
 ghost use Rattle.closed_walks.specs.Traces.{EndsSo, AreFound};
 ghost use Rattle.closed_walks.specs.Following.{Follows, is_met};
-ghost use Rattle.closed_walks.specs.private.Known.{known_at, IsKnown, AreKnown, IsEndAt, IsMoreKnown};
+ghost use Rattle.closed_walks.specs.private.Known.{IsKnown, AreKnown, IsEndAt, IsMoreKnown};
 
 use crate::following::{Next, follow, next_of};
 use crate::traced::{End, Ending};

@@ -1,6 +1,6 @@
 //! Listing the closed walks of what is taken.
 
-ghost use Rattle.std.specs.Prelude.{◌≡◌, ◌<◌, ◌+◌, ℕ, true, false, List, length, map, slice_get, Some, IsNone, IfOk, OnOk, IfSome};
+ghost use Rattle.std.specs.Prelude.{◌≡◌, ◌<◌, ◌+◌, ℕ, true, false, length, map, slice_get, Some, IsNone, IfOk, OnOk, IfSome};
 ghost use Rattle.std.specs.List.{All};
 ghost use Rattle.sync_topo.specs.Lines.{line_count, receiver_of, numbers};
 ghost use Rattle.sync_topo.specs.WellFormed.{IsWellFormed};

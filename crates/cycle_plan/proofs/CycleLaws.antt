@@ -1,5 +1,5 @@
 -- What the planner's answers are to the test of ranks.
-use Rattle.std.proofs.Common.{◌≡◌, refl, arith, ℕ, List, [], ◌∷◌, ◌++◌}
+use Rattle.std.proofs.Common.{◌≡◌, ℕ, List, [], ◌∷◌, ◌++◌}
 use Rattle.std.specs.Prelude.{◌<◌}
 use Rattle.std.specs.List.{All}
 use Rattle.std.proofs.lemmas.List.Elements.{All-cons, All-nil}
@@ -9,10 +9,6 @@ use Rattle.sync_topo.proofs.LineLaws.{IsNominated-within}
 use Rattle.sync_topo.specs.declared.returns.ReturnRule.{ReturnRule}
 use Rattle.sync_topo.specs.Hops.{hops_by}
 use Rattle.cycle_plan.proofs.HopFacts.{hop_parts}
-use Rattle.sync_topo.specs.Hops.{IsRising}
-use Rattle.rank_cert.specs.Ranks.{Ranks, rank_of, Judges}
-use Rattle.rank_cert.specs.declared.rising.Verdict.{Verdict}
-use Rattle.rank_cert.specs.declared.rising.Verdict.TheVariants.{Rising, Falls}
 use Rattle.sync_topo.specs.Ranks.{IsBefore, Leads, IsFirstCycle, Walks, Circles}
 
 -- lines each of which is before the next are a walk
@@ -24,12 +20,6 @@ walk_from returns plan first (next ∷ rest) last leads = (leads.0.hops, walk_fr
 pub IsCycle-first : (returns : ReturnRule) (plan : Topology) (lines : List ℕ) → IsFirstCycle (hops_by returns plan) lines → Circles (hops_by returns plan) lines
 IsCycle-first returns plan [] never = never
 IsCycle-first returns plan (line ∷ rest) first = walk_from returns plan line rest line first.closes
-
--- the test of ranks finds nothing else of rising ranks than that they rise
-pub rising_is_accepted : (plan : Topology) (ranks : Ranks) → IsRising plan (rank_of ranks) → (verdict : Verdict) → Judges plan ranks verdict → verdict ≡ Rising
-rising_is_accepted plan ranks rising Rising judged = refl
-rising_is_accepted plan ranks rising (Falls line next) judged =
-    let less = rising line.0 next.0 judged.hops_on in absurd (omega (arith, less, judged.falls))
 
 -- lines each of which is before the next are lines of the plan
 all_within : (returns : ReturnRule) (plan : Topology) (first : ℕ) (rest : List ℕ) (last : ℕ) → Leads (IsBefore (hops_by returns plan)) first rest last

@@ -1,11 +1,11 @@
 -- The parts of the bound after failures: one line, element, level or source more.
 use Rattle.std.proofs.Common.{◌≡◌, ℕ, ◌+◌, ◌<◌, ◌≤◌, zero, suc, Bool, true, false, max, List, length, Some, refl, sym, ap, subst, ◌∙◌, inl, inr, arith}
-use Rattle.std.specs.Prelude.{slice_get, slice_set, slice_index_or, replicate}
+use Rattle.std.specs.Prelude.{slice_get, slice_set, slice_index_or}
 use Rattle.std.proofs.lemmas.Bool.{true≢false, cases_lt, cases_eq}
 use Rattle.std.specs.List.{list_any, range_with_len}
 use Rattle.std.proofs.lemmas.List.Folds.{list_any_at}
 use Rattle.std.proofs.lemmas.List.FromFn.{length-range_with_len, get_or-range_with_len}
-use Rattle.std.proofs.lemmas.List.{length-replicate, get_or-replicate, length-set}
+use Rattle.std.proofs.lemmas.List.{length-set}
 use Rattle.std.proofs.lemmas.Option.{same_Some, slice_get_within, slice_get-get_or}
 use Rattle.sync_topo.specs.declared.element.Element.{Element}
 use Rattle.sync_topo.specs.Topology.{Topology}
@@ -16,25 +16,6 @@ use Rattle.net_rules.specs.Settling.{IsGreatest}
 use Rattle.net_rules.specs.Losing.{IsHoldoff}
 use Rattle.reach_rules.specs.Failing.{IsDelayInto, is_planned}
 use Rattle.cycle_plan.specs.private.Latest.{IsIntoBelow, AreDelaysInto, IsHoldoffBelow, has_level}
-
--- no line yet
-pub AreDelaysInto-none : (plan : Topology) (delays : List ℕ) → delays ≡ replicate (length plan.elements) 0 → AreDelaysInto plan 0 delays
-AreDelaysInto-none plan delays is = record {
-  counted = ap length is ∙ length-replicate {A = ℕ} (length plan.elements) 0;
-  each = λ element delay there.
-      let stood : slice_get (replicate {A = ℕ} (length plan.elements) 0) element ≡ Some delay = subst (λ r. slice_get r element ≡ Some delay) is there in
-      let inside : element < length plan.elements =
-      omega (arith, slice_get_within (replicate {A = ℕ} (length plan.elements) 0) element delay stood, length-replicate {A = ℕ} (length plan.elements) 0) in
-      let same : 0 ≡ delay =
-      same_Some 0 delay
-      (sym (slice_get-get_or (replicate {A = ℕ} (length plan.elements) 0) element 0 (rw (length-replicate {A = ℕ} (length plan.elements) 0) inside)
-      ∙ ap (λ r. Some r) (get_or-replicate (length plan.elements) element 0 0 inside)) ∙ stood) in
-      subst (IsIntoBelow plan 0 element) same (record {
-        most = λ line low nominated into. absurd (omega (arith, low));
-        reached = inl refl;
-        few = omega arith;
-      });
-}
 
 -- a line that isn't nominated
 pub AreDelaysInto-same : (plan : Topology) (n : ℕ) (delays : List ℕ) → is_nominated plan n ≡ false → AreDelaysInto plan n delays → AreDelaysInto plan (n + 1) delays

@@ -20,7 +20,7 @@ use Rattle.sync_topo.specs.Hops.{hops_any, is_last_resort, HopsBy}
 use Rattle.sync_topo.proofs.HopLaws.{hop-meets, hop-any-from}
 use Rattle.sync_topo.proofs.KeptNumbers.{kept_in_range, kept_passes, kept_rises}
 use Rattle.cycle_plan.specs.private.Numbers.{number_in, number_out}
-use Rattle.cycle_plan.specs.private.Inputs.{line_of, line_at, AreWithin}
+use Rattle.cycle_plan.specs.private.Inputs.{line_of, line_at}
 
 -- the lines among inputs are those in front
 lines_in_front : (lines sources : List ℕ) (place : ℕ) → line_at (map line_input lines ++ map Source sources) place ≡ slice_get lines place
@@ -62,10 +62,6 @@ input_is plan element place line here =
     let passes = kept_passes (λ line. is_nominated plan line && nat_eq (receiver_of plan line) element) 0 (line_count plan) place line (sym (line_of_input plan element place) ∙ here) in
     let parts = and_parts (is_nominated plan line) (nat_eq (receiver_of plan line) element) passes.0 in
     (parts.0, eqb-true _ _ parts.1)
-
--- so the lines among an element's inputs are lines of the plan
-pub AreWithin-inputs : (plan : Topology) (element : ℕ) → AreWithin (line_count plan) (inputs_of plan element)
-AreWithin-inputs plan element place line here = IsNominated-within plan line (input_is plan element place line here).0
 
 -- a line stands inside the list
 pub line_at_within : (inputs : List InputId) (place line : ℕ) → line_at inputs place ≡ Some line → place < length inputs

@@ -1,3 +1,4 @@
+pub mod GreatestLaws
 pub mod TopLemmas
 pub mod HopFacts
 pub mod OrderLemmas

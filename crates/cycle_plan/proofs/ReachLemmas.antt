@@ -1,5 +1,5 @@
 -- All three counts of the chains into each element, with one line more.
-use Rattle.std.proofs.Common.{◌≡◌, ℕ, ◌*◌, ◌+◌, ◌<◌, ◌≤◌, Bool, true, false, List, length, get_or, Option, Some, None, refl, sym, ap, subst, ◌∙◌, inl, inr, arith}
+use Rattle.std.proofs.Common.{◌≡◌, ℕ, ◌*◌, ◌+◌, ◌<◌, ◌≤◌, Bool, List, length, get_or, Option, Some, None, refl, sym, ap, subst, ◌∙◌, inl, inr, arith}
 use Rattle.std.specs.Prelude.{◌≢◌, slice_get, slice_set, slice_index_or, replicate, map, if◌then◌else◌}
 use Rattle.std.specs.Option.{option_map}
 use Rattle.std.proofs.lemmas.Bool.{cases_eq}
@@ -20,23 +20,15 @@ use Rattle.reach_rules.specs.declared.chain.Chain.{Chain}
 use Rattle.reach_rules.specs.Chains.{is_filter, begins_at_filter, since_of, clocks_of, IsRow, AreRows}
 use Rattle.cycle_plan.specs.private.Peeling.{line_in, IsAmongFirst, IsOrder}
 use Rattle.cycle_plan.specs.Mosts.{row_of}
-use Rattle.cycle_plan.specs.private.Mosts.{no_most, no_reach, most_but, raised_most, IsMost, IsReach, AreReaches, links_step, since_step, clocks_step, over, raised_reach}
-use Rattle.cycle_plan.specs.declared.most.Most.{Most}
+use Rattle.cycle_plan.specs.private.Mosts.{no_reach, IsMost, IsReach, AreReaches, links_step, since_step, clocks_step, over, raised_reach}
+use Rattle.cycle_plan.specs.declared.greatest.Greatest.{Greatest}
+use Rattle.cycle_plan.specs.private.Greatest.{greatest_but, raised_greatest, IsBelow}
 use Rattle.cycle_plan.specs.declared.reach.Reach.{Reach}
 use Rattle.cycle_plan.proofs.Walks.{some_rank}
-use Rattle.cycle_plan.proofs.MostLemmas.{IsCount, links_count, since_count, clocks_count, line_most, few_but, IsMost-other, IsMost-raised, IsMost-all}
+use Rattle.cycle_plan.proofs.GreatestLaws.{below-but}
+use Rattle.cycle_plan.proofs.MostLemmas.{IsCount, links_count, since_count, clocks_count, line_most, IsMost-none, IsMost-other, IsMost-raised, IsMost-all}
 
 -- before any line is done
-IsMost-none : (plan : Topology) (order : List LineId) (element : ℕ) (count : List ℕ → ℕ) → IsMost plan order 0 element count no_most
-IsMost-none plan order element count = record {
-  above = λ line before counted one. let early = one.first.early in absurd (omega (arith, early));
-  above_others = λ line before counted one. let early = one.first.early in absurd (omega (arith, early));
-  reached = inl refl;
-  reached_by_others = inl refl;
-  few = omega arith;
-  few_others = omega arith;
-}
-
 pub AreReaches-none : (plan : Topology) (order : List LineId) (reaches : List Reach) → reaches ≡ replicate (length plan.elements) no_reach → AreReaches plan order 0 reaches
 AreReaches-none plan order reaches is = record {
   counted = ap length is ∙ length-replicate (length plan.elements) no_reach;
@@ -64,21 +56,14 @@ pub line_within : (plan : Topology) (ranks : Ranks) (order : List LineId) (place
 line_within plan ranks order place line ordered within read = IsNominated-within plan line.0 (ordered.only place line.0 (line_there order place line within read))
 
 -- what a new count can't exceed
-small_but : (most : Most) (n bundle : ℕ) → most.most ≤ n → most.without ≤ n → n < 2 * link_limit → most_but most bundle < 2147483648
-small_but most n bundle few few_others low = cases (most_but most bundle) refl
-  where
-    either : (same : Bool) → (if same then most.without else most.most) ≤ n
-    either true = few_others
-    either false = few
-
-    cases : (k : ℕ) → most_but most bundle ≡ k → most_but most bundle < 2147483648
-    cases k is = let less : most_but most bundle ≤ n = either _ in omega (arith, less, low)
+small_but : (most : Greatest) (n bundle : ℕ) → IsBelow most n → n < 2 * link_limit → greatest_but most bundle < 2147483648
+small_but most n bundle few low = omega (arith, below-but most bundle n few, low)
 
 -- each has room for one more
 pub record HasRoom (reach : Reach) (bundle : ℕ) : Type 0 where
-  pub links : most_but reach.links bundle < 2147483648
-  pub since : most_but reach.since bundle < 2147483648
-  pub clocks : most_but reach.clocks bundle < 2147483648
+  pub links : greatest_but reach.links bundle < 2147483648
+  pub since : greatest_but reach.since bundle < 2147483648
+  pub clocks : greatest_but reach.clocks bundle < 2147483648
 
 pub has_room : (plan : Topology) (ranks : Ranks) (order : List LineId) (n element bundle : ℕ) (reaches : List Reach) → IsWellFormed plan → IsOrder Barred plan ranks order
     → n < length order → AreReaches plan order n reaches → element < length plan.elements → HasRoom (slice_index_or reaches element no_reach) bundle
@@ -88,23 +73,23 @@ has_room plan ranks order n element bundle reaches well ordered within are insid
     let low : n < 2 * link_limit = omega (arith, within, few, links) in
     let is = are.each element (slice_index_or reaches element no_reach) (slice_get-get_or reaches element no_reach (rw are.counted inside)) in
     record {
-      links = small_but (slice_index_or reaches element no_reach).links n bundle is.links.few is.links.few_others low;
-      since = small_but (slice_index_or reaches element no_reach).since n bundle is.since.few is.since.few_others low;
-      clocks = small_but (slice_index_or reaches element no_reach).clocks n bundle is.clocks.few is.clocks.few_others low;
+      links = small_but (slice_index_or reaches element no_reach).links n bundle is.links.few low;
+      since = small_but (slice_index_or reaches element no_reach).since n bundle is.since.few low;
+      clocks = small_but (slice_index_or reaches element no_reach).clocks n bundle is.clocks.few low;
     }
 
 -- one count, where the line at place n is done too
-one_count : (plan : Topology) (ranks : Ranks) (order : List LineId) (n line : ℕ) (count : List ℕ → ℕ) (step : Bool → ℕ → ℕ) (from to : Most)
+one_count : (plan : Topology) (ranks : Ranks) (order : List LineId) (n line : ℕ) (count : List ℕ → ℕ) (step : Bool → ℕ → ℕ) (from to : Greatest)
     → IsOrder Barred plan ranks order → line_in order n ≡ Some line → IsCount plan count step
     → IsMost plan order n (sender_of plan line) count from → IsMost plan order n (receiver_of plan line) count to
     → IsMost plan order (n + 1) (receiver_of plan line) count
-    (raised_most to (line_bundle plan line) (step (begins_at_filter plan line) (most_but from (line_bundle plan line))))
+    (raised_greatest to (line_bundle plan line) (step (begins_at_filter plan line) (greatest_but from (line_bundle plan line))))
 one_count plan ranks order n line count step from to ordered here counts from_is to_is =
     let nominated = ordered.only n line here in
     let done : (other : ℕ) → Hops plan other line → IsAmongFirst order n other = λ other hop. ordered.after n line other here hop in
-    let few = few_but plan order n line count step from counts nominated done from_is in
-    let slow = counts.slow (begins_at_filter plan line) (most_but from (line_bundle plan line)) in
-    IsMost-raised plan order n line count to (step (begins_at_filter plan line) (most_but from (line_bundle plan line))) here nominated
+    let few = below-but from (line_bundle plan line) n from_is.few in
+    let slow = counts.slow (begins_at_filter plan line) (greatest_but from (line_bundle plan line)) in
+    IsMost-raised plan order n line count to (step (begins_at_filter plan line) (greatest_but from (line_bundle plan line))) here nominated
     (line_most plan order n line count step from counts nominated done from_is) (omega (arith, few, slow)) to_is
 
 reach_raised : (plan : Topology) (ranks : Ranks) (order : List LineId) (n line : ℕ) (from to : Reach) → IsOrder Barred plan ranks order → line_in order n ≡ Some line

@@ -93,13 +93,6 @@ walked_more hop low next at lines lowest differs walked before =
       higher = rw (numbers-push lines at) (All-cons (λ line. low < line) at.0 (reverse (numbers lines)) higher walked.higher);
     }
 
--- fewer lines are behind than are on the ring
-pub walked_short : (hop : HopTest) (low at n : ℕ) (lines : List LineId) → HasRound hop n low → IsWalked hop low at lines → length lines < n
-walked_short hop low at n lines round walked = elim (cases_lt (length lines) round.0) [
-  | inl less ↦ let within = round.2 in omega (arith, less, within)
-  | inr not_less ↦ let never = walked.above round.0 low round.1 not_less round.3 in absurd (omega (arith, never))
-]
-
 -- the ring, closed
 pub first_from : (hop : HopTest) (start n on low : ℕ) (lines : List LineId) → IsLowestResidue hop start → StepsBack hop n start on → IsLowOn hop on n low
     → IsWalked hop low low lines → IsFirstCycleFrom hop low (reverse (numbers lines))

@@ -1,5 +1,5 @@
 -- When the lines out of an element can be ranked, and when they are held.
-use Rattle.std.proofs.Common.{◌≡◌, ℕ, zero, suc, ◌<◌, ◌≤◌, Bool, true, false, List, [], ◌∷◌, ◌++◌, length, Option, Some, None, refl, sym, ap, subst, ◌∙◌, inl, inr, arith, eq-eqb}
+use Rattle.std.proofs.Common.{◌≡◌, ℕ, zero, suc, ◌+◌, ◌<◌, ◌≤◌, true, List, [], ◌∷◌, ◌++◌, length, Option, Some, None, refl, sym, ap, subst, ◌∙◌, inl, inr, arith, eq-eqb}
 use Rattle.std.specs.Prelude.{◌≢◌, slice_get, slice_set, if◌then◌else◌}
 use Rattle.std.specs.List.{Contains}
 use Rattle.std.proofs.lemmas.List.Elements.{Contains-append_cases}
@@ -16,14 +16,15 @@ use Rattle.sync_topo.proofs.LineLaws.{IsNominated-within}
 use Rattle.rank_cert.specs.Ranks.{Ranks, rank_at}
 use Rattle.sync_topo.specs.declared.input.InputId.{InputId}
 use Rattle.cycle_plan.specs.private.Inputs.{line_at, IsOpenLine, AreFirstOpen}
-use Rattle.cycle_plan.specs.private.Tops.{AreSmall, IsRankedAt, IsTop, rank_after, is_top}
-use Rattle.cycle_plan.specs.private.Peeling.{IsNext, IsRanking, IsOpenInto, IsWatched, IsPeeling, IsHeld, AreKept, IsMore, IsSettled, IsAmong, AreFree, AreNext, IsTopOf, IsPeeled}
+use Rattle.cycle_plan.specs.private.Tops.{AreSmall, IsRankedAt, IsTop}
+use Rattle.cycle_plan.specs.private.Peeling.{IsRanking, IsOpenInto, IsWatched, IsPeeling, IsHeld, AreKept, IsMore, IsSettled, IsAmong, AreFree, AreNext, IsTopOf, IsPeeled}
 use Rattle.cycle_plan.specs.declared.inputs.OpenInputs.{OpenInputs}
 use Rattle.cycle_plan.specs.declared.ranking.Ranking.{Ranking}
-use Rattle.cycle_plan.specs.declared.top.GreatestRanks.{GreatestRanks}
+use Rattle.cycle_plan.specs.declared.greatest.Greatest.{Greatest}
+use Rattle.cycle_plan.specs.private.Greatest.{greatest_but}
 use Rattle.cycle_plan.proofs.HopFacts.{line_at_within, hop_parts, hop_from, input_place, input_is, ends_apart}
 use Rattle.cycle_plan.proofs.PeelingLemmas.{Grows, fewer, IsNext-grows, IsOpenInto-grows}
-use Rattle.cycle_plan.proofs.TopLemmas.{is_top-Some, is_top-other}
+use Rattle.cycle_plan.proofs.GreatestLaws.{above-but, reached-but}
 use Rattle.cycle_plan.proofs.WatchLemmas.{open_line, closed_line, line_at_open, past_end}
 
 -- ranks are below the number of lines
@@ -123,79 +124,70 @@ settled_by_one returns plan ranks element last stands given line nominated sent 
 ]
 
 -- the rank after the top is the next
-pub IsTopOf-from : (returns : ReturnRule) (plan : Topology) (ranks : Ranks) (element : ℕ) (top : GreatestRanks) → IsRanking returns plan ranks
+pub IsTopOf-from : (returns : ReturnRule) (plan : Topology) (ranks : Ranks) (element : ℕ) (top : Greatest) → IsRanking returns plan ranks
     → IsTop returns plan ranks (inputs_of plan element) (length (inputs_of plan element)) top → IsTopOf returns plan ranks element top
-IsTopOf-from returns plan ranks element top ranking is_top_of line nominated sent ranked =
-    cases (is_top top (number_out returns plan line)) refl
+IsTopOf-from returns plan ranks element top ranking is_top line nominated sent ranked = record {
+  above = λ from hop.
+      let parts = hop_parts returns plan from line hop in
+      let rank = some from hop in
+      let low = above-but IsWay top out is_top (number_in returns plan from) (rank.0 + 1) rank.2 parts.3 in
+      (rank.0, rank.1, omega (arith, low));
+  reached = elim (reached-but IsWay top out is_top) [
+    | inl none ↦ inl none
+    | inr found ↦ inr (
+      found.1.line,
+      found.1.rank,
+      hop_of found.0 (greatest_but top out) found.1 (λ same. found.2 (sym found.1.number_is ∙ same)),
+      found.1.ranked,
+      sym found.1.next_is,
+    )
+  ];
+}
   where
     inputs : List InputId
     inputs = inputs_of plan element
 
-    -- a line that hops there stands among the inputs with its rank
-    some : (from : ℕ) → HopsBy returns plan from line → (rank : ℕ) × IsRankedAt ranks inputs (length inputs) from rank
+    out : ℕ
+    out = number_out returns plan line
+
+    IsWay : ℕ → ℕ → Type 0
+    IsWay = IsRankedAt returns plan ranks inputs (length inputs)
+
+    -- a line that hops there has a rank, and stands among the inputs with it
+    some : (from : ℕ) → HopsBy returns plan from line → (rank : ℕ) × (rank_at ranks from ≡ Some rank) × IsWay (number_in returns plan from) (rank + 1)
     some from hop = by_rank (rank_at ranks from) refl
       where
-        by_rank : (o : Option ℕ) → rank_at ranks from ≡ o → (rank : ℕ) × IsRankedAt ranks inputs (length inputs) from rank
+        by_rank : (o : Option ℕ) → rank_at ranks from ≡ o → (rank : ℕ) × (rank_at ranks from ≡ Some rank) × IsWay (number_in returns plan from) (rank + 1)
         by_rank None e = absurd (ranked from hop e)
         by_rank (Some rank) e =
             let parts = hop_parts returns plan from line hop in
-            let at = input_place plan element from parts.0 (parts.2 ∙ sent) in
-            (rank, record { place = at.0; low = line_at_within inputs at.0 from at.1; here = at.1; ranked = e })
-
-    -- a line among the inputs that has a rank hops to the line, unless it is of its bundle
-    hop_of : (from rank : ℕ) → IsRankedAt ranks inputs (length inputs) from rank → number_in returns plan from ≢ number_out returns plan line → HopsBy returns plan from line
-    hop_of from rank stands apart =
-        let from_nominated = ranking.only from rank stands.ranked in
-        let is = input_is plan element stands.place from stands.here in
-        hop_from returns plan from line from_nominated nominated (is.1 ∙ sym sent) apart
-
-    cases : (b : Bool) → is_top top (number_out returns plan line) ≡ b → IsNext (hops_by returns plan) (rank_at ranks) line (if b then top.next_without else top.next)
-    cases true is_own =
-        let own : top.bundle ≡ Some (number_out returns plan line) = is_top-Some top (number_out returns plan line) is_own in
-        record {
-          above = λ from hop.
-              let rank = some from hop in
-              let parts = hop_parts returns plan from line hop in (
-                rank.0,
-                rank.1.ranked,
-                is_top_of.above_others from rank.0 rank.1 (λ same. parts.3 (same_Some _ _ (sym same ∙ own))),
-              );
-          reached = elim is_top_of.reached_by_others [
-            | inl none ↦ inl none
-            | inr found ↦ inr (
-              found.0,
-              found.1,
-              hop_of found.0 found.1 found.2 (λ same. found.4 (own ∙ ap (λ b. Some b) (sym same))),
-              found.2.ranked,
-              found.3,
+            let at = input_place plan element from parts.0 (parts.2 ∙ sent) in (
+              rank,
+              e,
+              record {
+                line = from;
+                rank = rank;
+                place = at.0;
+                low = line_at_within inputs at.0 from at.1;
+                here = at.1;
+                ranked = e;
+                number_is = refl;
+                next_is = refl;
+              },
             )
-          ];
-        }
-    cases false not_own = record {
-      above = λ from hop. let rank = some from hop in (rank.0, rank.1.ranked, is_top_of.above from rank.0 rank.1);
-      reached = elim is_top_of.reached [
-        | inl none ↦ inl none
-        | inr found ↦ inr (
-          found.0,
-          found.1,
-          hop_of found.0 found.1 found.2 (λ same. is_top-other top (number_out returns plan line) not_own (found.4 ∙ ap (λ b. Some b) same)),
-          found.2.ranked,
-          found.3,
-        )
-      ];
-    }
 
--- the lines that are meant come next after the top
-pub AreNext-top : (returns : ReturnRule) (plan : Topology) (ranks : Ranks) (element : ℕ) (only : Option ℕ) (top : GreatestRanks) → IsTopOf returns plan ranks element top → AreFree returns plan ranks element only
-    → AreNext returns plan ranks element only top
-AreNext-top returns plan ranks element only top is_top free line nominated sent among =
-    is_top line nominated sent (λ from hop. free line from nominated sent among hop)
+    -- a line among the inputs that has a rank hops to the line, unless it has its number
+    hop_of : (number next : ℕ) (way : IsWay number next) → number_in returns plan way.line ≢ out → HopsBy returns plan way.line line
+    hop_of number next way apart =
+        let from_nominated = ranking.only way.line way.rank way.ranked in
+        let is = input_is plan element way.place way.line way.here in
+        hop_from returns plan way.line line from_nominated nominated (is.1 ∙ sym sent) apart
 
 -- what is said of the next ranks stays so
-pub AreNext-grows : (returns : ReturnRule) (plan : Topology) (before after : Ranks) (element : ℕ) (only : Option ℕ) (top : GreatestRanks) → Grows (rank_at before) (rank_at after)
+pub AreNext-grows : (returns : ReturnRule) (plan : Topology) (before after : Ranks) (element : ℕ) (only : Option ℕ) (top : Greatest) → Grows (rank_at before) (rank_at after)
     → AreNext returns plan before element only top → AreNext returns plan after element only top
 AreNext-grows returns plan before after element only top grows next line nominated sent among =
-    IsNext-grows (hops_by returns plan) (rank_at before) (rank_at after) line (rank_after top (number_out returns plan line)) grows (next line nominated sent among)
+    IsNext-grows (hops_by returns plan) (rank_at before) (rank_at after) line (greatest_but top (number_out returns plan line)) grows (next line nominated sent among)
 
 -- more and yet more
 pub IsMore-same : (returns : ReturnRule) (plan : Topology) (ranking : Ranking) → IsPeeling returns plan ranking → IsMore returns plan ranking ranking

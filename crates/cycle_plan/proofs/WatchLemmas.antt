@@ -3,7 +3,7 @@ use Rattle.std.proofs.Common.{◌≡◌, ℕ, ◌+◌, ◌<◌, ◌≤◌, Bool,
 use Rattle.std.specs.Prelude.{◌≢◌, ◌⊎◌, ◌&&◌, is_none}
 use Rattle.std.specs.Option.{option_map_or}
 use Rattle.std.proofs.lemmas.Bool.{true≢false, cases_lt, cases_eq, and_parts, eqb-false, not-true, ne_eqb}
-use Rattle.std.proofs.lemmas.Option.{none-some, same_Some}
+use Rattle.std.proofs.lemmas.Option.{same_Some}
 use Rattle.rank_cert.proofs.RuleLaws.{is_none-of}
 use Rattle.sync_topo.specs.Topology.{Topology}
 use Rattle.rank_cert.specs.Ranks.{Ranks, rank_at}
@@ -85,25 +85,6 @@ closed_before returns plan ranks inputs watch first was next place low = elim (c
   | inl before ↦ was.before place before
   | inr not_before ↦ next.closed place not_before low
 ]
-
--- where no line is left there, both places are the end
-pub AreFirstOpen-none : (returns : ReturnRule) (plan : Topology) (ranks : Ranks) (inputs : List InputId) (watch : OpenInputs) (first : ℕ) (back done : Bool) → AreOpenInputs returns plan ranks inputs watch
-    → IsNextOpen ranks inputs watch.first first → line_at inputs first ≡ None
-    → AreFirstOpen returns plan ranks inputs (record { first = first; second = length inputs; back = back; done = done })
-AreFirstOpen-none returns plan ranks inputs watch first back done was next none =
-    let past = past_end ranks inputs first next.open_there none in
-    record {
-      watched = record {
-        first_within = next.within;
-        second_within = omega arith;
-        before = closed_before returns plan ranks inputs watch first was next;
-        between = λ place other line after from_first low other_from other_low here there. absurd (omega (arith, past, from_first, low));
-      };
-      first = next.open_there;
-      second = λ inside. absurd (omega (arith, inside));
-      apart = λ inside. absurd (omega (arith, inside));
-      differ = λ line other here there. absurd (none-some line (sym none ∙ here));
-    }
 
 -- what a search for the next open place of another bundle finds
 pub record IsNextOther (returns : ReturnRule) (plan : Topology) (ranks : Ranks) (inputs : List InputId) (bundle from found : ℕ) : Type 0 where

@@ -4,7 +4,7 @@ ghost use Rattle.std.specs.Prelude.{◌≡◌, ◌≢◌, ◌≤◌, ◌<◌, �
 ghost use Rattle.sync_topo.specs.Lines.{line_count};
 ghost use Rattle.net_rules.specs.Settling.{IsOneWay, IsDelay, IsWait, IsGreatest, IsSettlingBound};
 ghost use Rattle.rank_cert.specs.Ranks.{rank_at};
-ghost use Rattle.cycle_plan.specs.private.BoundParts.{AreDirections, IsRankBelow, receiver_in};
+ghost use Rattle.cycle_plan.specs.private.BoundParts.{AreDirections, IsRankBelow};
 
 use crate::ranked::{Ranked, rank_plan};
 use rank_cert::Cert;

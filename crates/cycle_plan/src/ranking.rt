@@ -5,13 +5,14 @@ ghost use Rattle.rank_cert.specs.Ranks.{rank_at};
 ghost use Rattle.sync_topo.specs.Hops.{hops_by};
 ghost use Rattle.cycle_plan.specs.private.Numbers.{number_out};
 ghost use Rattle.cycle_plan.specs.private.Inputs.{AreFirstOpen};
-ghost use Rattle.cycle_plan.specs.private.Tops.{rank_after};
+ghost use Rattle.cycle_plan.specs.private.Greatest.{greatest_but};
 ghost use Rattle.cycle_plan.specs.private.GoingBack.{IsDone};
 ghost use Rattle.cycle_plan.specs.private.Peeling.{IsRanking, IsPeeling, IsPeeled, IsMore, IsNext, IsSettled, AreKept, IsWatched, is_among, IsAmong, AreFree, IsTopOf};
 
+use crate::greatest::Greatest;
 use crate::inputs::{OpenInputs, first_open, inputs_of, line_at};
 use crate::numbers::{number_in, number_out};
-use crate::top::{GreatestRanks, top_of};
+use crate::top::top_of;
 use rank_cert::Cert;
 use std::alloc::Global;
 use sync_text::NoMemory;
@@ -113,13 +114,13 @@ impl Ranking {
         plan: &Plan,
         only: Option<u32>,
         line: LineId,
-        top: GreatestRanks,
+        top: Greatest,
     ) -> Result<(), NoMemory>
         requires peeling { IsPeeling returns plan.now self.old }
         requires within { line.0 < line_count plan.now }
         requires next { IsNominated plan.now line.0 → IsAmong returns plan.now only line.0
             → IsNext (hops_by returns plan.now) (rank_at self.old.ranks) line.0
-            (rank_after top (number_out returns plan.now line.0)) }
+            (greatest_but top (number_out returns plan.now line.0)) }
         ensures more { OnOk result (IsMore returns plan.now self.old self.new) }
         ensures given { OnOk result (IsNominated plan.now line.0 → IsAmong returns plan.now only line.0
             → rank_at self.new.ranks line.0 ≢ None) }
@@ -136,13 +137,13 @@ impl Ranking {
             returns,
             plan,
             line,
-            top.rank_of(number_out(returns, plan, line)),
+            top.but(number_out(returns, plan, line)),
         )?;
         Ok(())
     }
 
     /// What the ranks of all inputs of an element come to.
-    fn top(&self, returns: ReturnRule, plan: &Plan, element: u32) -> GreatestRanks
+    fn top(&self, returns: ReturnRule, plan: &Plan, element: u32) -> Greatest
         requires ranking { IsRanking returns plan.now self.now.ranks }
         requires within { element < length plan.now.elements }
         ensures { IsTopOf returns plan.now self.now.ranks element result }

@@ -4,10 +4,11 @@ ghost use Rattle.std.specs.Prelude.{◌≡◌, ◌<◌, ◌≤◌, ◌+◌, ◌^
 ghost use Rattle.sync_topo.specs.declared.returns.ReturnRule.{ReturnRule};
 ghost use Rattle.cycle_plan.specs.private.GoingBack.{IsDone};
 ghost use Rattle.cycle_plan.specs.Mosts.{row_of};
-ghost use Rattle.cycle_plan.specs.private.Mosts.{no_reach, AreReaches, since_step, clocks_step, over, raised_reach, most_but};
+ghost use Rattle.cycle_plan.specs.private.Greatest.{greatest_but};
+ghost use Rattle.cycle_plan.specs.private.Mosts.{no_reach, AreReaches, since_step, clocks_step, over, raised_reach};
 
 use crate::filters::is_filter;
-use crate::most::Most;
+use crate::greatest::Greatest;
 use crate::ranking::Ranking;
 use reach_rules::Chain;
 use std::alloc::Global;
@@ -18,11 +19,11 @@ use sync_topo::Plan;
 #[derive(Clone, Copy, Drop)]
 pub(crate) struct Reach {
     /// Of lines in all.
-    pub(crate) links: Most,
+    pub(crate) links: Greatest,
     /// Of lines since the last that begins at a filter.
-    pub(crate) since: Most,
+    pub(crate) since: Greatest,
     /// Of lines that begin at a filter.
-    pub(crate) clocks: Most,
+    pub(crate) clocks: Greatest,
 }
 
 impl Reach {
@@ -31,17 +32,17 @@ impl Reach {
         ensures { result ≡ no_reach }
     {
         Reach {
-            links: Most::none(),
-            since: Most::none(),
-            clocks: Most::none(),
+            links: Greatest::none(),
+            since: Greatest::none(),
+            clocks: Greatest::none(),
         }
     }
 
     /// The greatest counts of the chains that end in a line of this bundle out of the element.
     fn over(self, bundle: u32, filters: bool) -> Chain
-        requires links { most_but self.links bundle < 2 ^ 31 }
-        requires since { most_but self.since bundle < 2 ^ 31 }
-        requires clocks { most_but self.clocks bundle < 2 ^ 31 }
+        requires links { greatest_but self.links bundle < 2 ^ 31 }
+        requires since { greatest_but self.since bundle < 2 ^ 31 }
+        requires clocks { greatest_but self.clocks bundle < 2 ^ 31 }
         ensures { result ≡ over self bundle filters }
     {
         Chain {
@@ -75,7 +76,7 @@ impl Reach {
 }
 
 /// The lines since the last filter, with one more line.
-fn since_over(before: u32, filters: bool) -> u32
+fn since_over(before: u64, filters: bool) -> u64
     requires { before < 2 ^ 31 }
     ensures { result ≡ since_step filters before }
 {
@@ -83,7 +84,7 @@ fn since_over(before: u32, filters: bool) -> u32
 }
 
 /// The lines that begin at a filter, with one more line.
-fn clocks_over(before: u32, filters: bool) -> u32
+fn clocks_over(before: u64, filters: bool) -> u64
     requires { before < 2 ^ 31 }
     ensures { result ≡ clocks_step filters before }
 {

@@ -9,11 +9,11 @@ ghost use Rattle.net_rules.specs.Losing.{IsLineTime};
 ghost use Rattle.rank_cert.specs.Ranks.{rank_at};
 ghost use Rattle.reach_rules.specs.Failing.{AreTimes};
 ghost use Rattle.cycle_plan.specs.private.GoingBack.{IsDone};
-ghost use Rattle.cycle_plan.specs.private.Latest.{no_late, late_but, AreLates, IsLong, AreDelaysInto};
+ghost use Rattle.cycle_plan.specs.private.Latest.{AreLates, IsLong, AreDelaysInto};
 ghost use Rattle.cycle_plan.specs.private.Peeling.{line_in};
 
 use crate::bound::greater;
-use crate::late::Late;
+use crate::greatest::Greatest;
 use crate::numbers::{number_in, number_out};
 use crate::ranking::Ranking;
 use std::alloc::Global;
@@ -30,7 +30,7 @@ impl Ranking {
         ensures few { IfOk result (λ longest. longest ≤ (2 * link_limit + 1) * greatest_delay) }
     {
         let delays = delays_into(alloc, plan)?;
-        let Ok(mut lates) = vec![in alloc; Late::none(); plan.elements() as usize] else {
+        let Ok(mut lates) = vec![in alloc; Greatest::none(); plan.elements() as usize] else {
             return Err(NoMemory);
         };
         let mut longest = 0;
@@ -52,7 +52,7 @@ impl Ranking {
         plan: &Plan,
         place: usize,
         delays: &[u32],
-        lates: &mut [Late],
+        lates: &mut [Greatest],
         longest: u64,
     ) -> u64
         requires done { IsDone ReturnRule.BarredFromLast plan.now self.now }
@@ -68,7 +68,7 @@ impl Ranking {
     }
 
     /// Passes the line at a place of the order, and gives its time.
-    fn pass(&self, plan: &Plan, place: usize, delays: &[u32], lates: &mut [Late]) -> u64
+    fn pass(&self, plan: &Plan, place: usize, delays: &[u32], lates: &mut [Greatest]) -> u64
         requires done { IsDone ReturnRule.BarredFromLast plan.now self.now }
         requires within { place < length self.now.order.items }
         requires delays { AreDelaysInto plan.now (line_count plan.now) delays.now }

@@ -1,5 +1,4 @@
-ghost use Rattle.std.specs.Prelude.{◌≤◌, ◌<◌, ◌⊎◌, IsTrue, IsNone, IfSome, All, length};
-ghost use Rattle.sync_ql.specs.Selection.{AreOfOneOption};
+ghost use Rattle.std.specs.Prelude.{◌≤◌, ◌<◌, ◌⊎◌, IsTrue, IfSome, All};
 ghost use Rattle.sync_ql.specs.Told.{IsOfOption};
 
 use selector::{Candidate, Choice, Table, choose};

@@ -1,12 +1,14 @@
 -- The rows of a case file that are gone through, one more and all.
-use Rattle.std.proofs.Common.{◌≡◌, ◌≤◌, ◌<◌, ◌+◌, ℕ, zero, suc, Bool, true, false, List, [], ◌∷◌, ◌++◌, length, map, Some, None, refl, sym, ap, arith, ◌∙◌, append_assoc, append-nil, length-append}
+use Rattle.std.proofs.Common.{◌≡◌, ◌≤◌, ◌<◌, ◌+◌, ℕ, zero, suc, true, false, List, [], ◌∷◌, ◌++◌, length, map, Some, None, refl, sym, ap, arith, ◌∙◌, append_assoc, append-nil, length-append}
 use Rattle.std.specs.Prelude.{Ok, Err}
 use Rattle.std.specs.List.{All, flat_map, sum_by}
 use Rattle.std.proofs.lemmas.Bool.{lt-ltb, le-ltb}
 use Rattle.std.proofs.lemmas.List.{length-map}
 use Rattle.std.proofs.lemmas.List.Concat.{length-flat_map}
 use Rattle.std.proofs.lemmas.List.Elements.{All-append, All-nil}
-use Rattle.sync_text.specs.Gives.{UnlessNoMemory}
+use Rattle.sync_text.specs.declared.errors.NoAnswer.{NoAnswer}
+use Rattle.sync_text.specs.Gives.{IfRefusal, Refuses}
+use Rattle.sync_text.proofs.Failures.{refused-more}
 use Rattle.csv_records.specs.Fields.{five_of}
 use Rattle.csv_records.proofs.FirstRefusals.{first_refusal-some, first_refusal-none}
 use Rattle.sync_topo.specs.declared.event.Case.{Case}
@@ -18,8 +20,6 @@ use Rattle.event_file.specs.declared.case_file.Cases.{Cases}
 use Rattle.event_file.specs.declared.error.EventErr.{EventErr}
 use Rattle.event_file.specs.declared.error.EventErr.TheVariants as refusal
 use Rattle.event_file.specs.declared.progress.CasesSoFar.{CasesSoFar}
-use Rattle.event_file.specs.Refusal.{is_no_memory}
-use Rattle.event_file.specs.private.Refusal.{Refuses}
 use Rattle.event_file.specs.Rows.{Fields, event_in, time_in, last_time, row_refusal}
 use Rattle.event_file.specs.private.Rows.{event_row}
 use Rattle.event_file.specs.EventText.{unless_refused}
@@ -28,15 +28,6 @@ use Rattle.event_file.specs.CaseText.{names_of, case_of, cases_in, cases_of_rows
 use Rattle.event_file.specs.private.CasesTaken.{with_current, with_event, AreSorted, AreTimely, IsTimely, AreCasesTaken, AreCasesLeft}
 use Rattle.event_file.proofs.CaseRowLaws.{five_row, refusal-said, refusal-before, refusal-here}
 use Rattle.event_file.proofs.Sorting.{names-are, all-cases, all-timely, put-taken}
-
--- what holds unless out of memory may be followed by more
-pub unless-more : {P Q : Type 0} (want : Bool) → (P → Q) → UnlessNoMemory want P → UnlessNoMemory want Q
-unless-more true more holds = tt
-unless-more false more holds = more holds
-
-if_not_wanted : {P : Type 0} (want : Bool) → P → UnlessNoMemory want P
-if_not_wanted true holds = tt
-if_not_wanted false holds = holds
 
 -- the rule that the next row breaks
 pub limit-broken : (plan : Topology) (done : List Fields) (kept : CasesSoFar) (row : Fields) → AreCasesTaken plan done kept → event_limit plan < kept.rows + 1
@@ -65,15 +56,15 @@ module _ (plan : Topology) (done : List Fields) (row : Fields) (name at word tar
       let numbered = taken.sorted.numbered in
       rw (by_fields, le-ltb (event_limit plan) (length done + 1) (omega (arith, few, numbered)), may, numbered) refl
 
-  pub apart-broken : (kept : CasesSoFar) (error : EventErr) → AreCasesTaken plan done kept → kept.rows + 1 ≤ event_limit plan → may_follow done name ≡ true
-      → UnlessNoMemory (is_no_memory error) ((is_apart done name ≡ true) × (error ≡ refusal.Apart (kept.rows + 1)))
-      → UnlessNoMemory (is_no_memory error) (case_refusal plan done (length done + 1) row ≡ Some error)
+  pub apart-broken : (kept : CasesSoFar) (failed : NoAnswer EventErr) → AreCasesTaken plan done kept → kept.rows + 1 ≤ event_limit plan → may_follow done name ≡ true
+      → IfRefusal failed (λ error. (is_apart done name ≡ true) × (error ≡ refusal.Apart (kept.rows + 1)))
+      → IfRefusal failed (λ error. case_refusal plan done (length done + 1) row ≡ Some error)
   unfolding case_refusal
-  apart-broken kept error taken few may stood =
+  apart-broken kept failed taken few may stood =
       let numbered = taken.sorted.numbered in
       let of_row : is_apart done name ≡ true → case_refusal plan done (length done + 1) row ≡ Some (refusal.Apart (kept.rows + 1))
       = λ apart. rw (by_fields, le-ltb (event_limit plan) (length done + 1) (omega (arith, few, numbered)), may, apart, numbered) refl in
-      unless-more (is_no_memory error) (λ parts. of_row parts.0 ∙ ap Some (sym parts.1)) stood
+      refused-more failed (λ error parts. of_row parts.0 ∙ ap Some (sym parts.1)) stood
 
   said-is : (kept : CasesSoFar) (rows : ℕ) → AreSorted plan done name kept → rows ≡ length done → rows + 1 ≤ event_limit plan → may_follow done name ≡ true → is_apart done name ≡ false
       → case_refusal plan done (length done + 1) row ≡ row_refusal plan (rows + 1) kept.before (event_row at word target value)
@@ -85,9 +76,9 @@ module _ (plan : Topology) (done : List Fields) (row : Fields) (name at word tar
 
   pub said-broken : (kept : CasesSoFar) (rows : ℕ) (error : EventErr) → AreSorted plan done name kept → rows ≡ length done → rows + 1 ≤ event_limit plan → may_follow done name ≡ true
       → is_apart done name ≡ false → row_refusal plan (rows + 1) kept.before (event_row at word target value) ≡ Some error
-      → UnlessNoMemory (is_no_memory error) (case_refusal plan done (length done + 1) row ≡ Some error)
+      → case_refusal plan done (length done + 1) row ≡ Some error
   said-broken kept rows error sorted numbered few may together broken =
-      if_not_wanted (is_no_memory error) (said-is kept rows sorted numbered few may together ∙ broken)
+      said-is kept rows sorted numbered few may together ∙ broken
 
   -- and the one that breaks none
   pub row-taken : (kept : CasesSoFar) (rows : ℕ) (event : Event) → AreSorted plan done name kept → rows ≡ length done → rows + 1 ≤ event_limit plan → may_follow done name ≡ true
@@ -150,11 +141,11 @@ AreCasesLeft-more plan rows row rest kept after left taken = record {
 }
 
 -- the first row that breaks a rule is the refusal of all
-pub cases_refused : (plan : Topology) (rows : List Fields) (row : Fields) (rest : List Fields) (kept : CasesSoFar) (error : EventErr)
+pub cases_refused : (plan : Topology) (rows : List Fields) (row : Fields) (rest : List Fields) (kept : CasesSoFar) (failed : NoAnswer EventErr)
     → AreCasesLeft plan rows (row ∷ rest) kept
-    → ((done : List Fields) → AreCasesTaken plan done kept → UnlessNoMemory (is_no_memory error) (case_refusal plan done (length done + 1) row ≡ Some error))
-    → Refuses error (cases_of_rows plan rows)
-cases_refused plan rows row rest kept error left broken = unless-more (is_no_memory error) answer (broken left.done left.taken)
+    → ((done : List Fields) → AreCasesTaken plan done kept → IfRefusal failed (λ error. case_refusal plan done (length done + 1) row ≡ Some error))
+    → Refuses failed (cases_of_rows plan rows)
+cases_refused plan rows row rest kept failed left broken = refused-more failed answer (broken left.done left.taken)
   where
     within : length left.done < length rows
     within =
@@ -165,8 +156,8 @@ cases_refused plan rows row rest kept error left broken = unless-more (is_no_mem
     sound place before =
         ap (λ list. case_refusal_at plan list place) left.parts ∙ refusal-before plan left.done (row ∷ rest) place before ∙ left.taken.sorted.sound place before
 
-    answer : case_refusal plan left.done (length left.done + 1) row ≡ Some error → cases_of_rows plan rows ≡ Err error
-    answer is =
+    answer : (error : EventErr) → case_refusal plan left.done (length left.done + 1) row ≡ Some error → cases_of_rows plan rows ≡ Err error
+    answer error is =
         ap (λ found. unless_refused found (cases_in plan rows))
         (first_refusal-some (case_refusal_at plan rows) (length rows) (length left.done) error within
         (ap (λ list. case_refusal_at plan list (length left.done)) left.parts ∙ refusal-here plan left.done row rest ∙ is) sound)

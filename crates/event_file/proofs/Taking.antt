@@ -1,6 +1,6 @@
 -- The rows that are gone through, one more and all.
 use Rattle.std.proofs.Common.{◌≡◌, ◌≤◌, ◌<◌, ◌+◌, ℕ, suc, List, [], ◌∷◌, ◌++◌, length, Some, None, refl, sym, ap, inl, inr, arith, ◌∙◌, append_assoc, append-nil}
-use Rattle.std.specs.Prelude.{slice_get, unwrap_or, option_and_then, Result, Ok, Err}
+use Rattle.std.specs.Prelude.{slice_get, unwrap_or, option_and_then, Ok, Err}
 use Rattle.std.specs.List.{All}
 use Rattle.std.proofs.lemmas.Bool.{cases_lt}
 use Rattle.std.proofs.lemmas.List.{get_or_append_left, length-append}
@@ -12,8 +12,6 @@ use Rattle.sync_topo.specs.Sizes.{event_limit}
 use Rattle.sync_topo.specs.Events.{Fits, IsInOrder}
 use Rattle.csv_records.proofs.FirstRefusals.{first_refusal-some, first_refusal-none}
 use Rattle.event_file.specs.declared.error.EventErr.{EventErr}
-use Rattle.event_file.specs.declared.error.EventErr.TheVariants.{Header, Fields, Time, Order, What, Target, Value, Limit, Name, Apart, NoMemory}
-use Rattle.event_file.specs.private.Refusal.{Refuses}
 use Rattle.event_file.specs.Rows.{Fields as Row, event_in, time_in, time_before, row_refusal, refusal_at, last_time}
 use Rattle.event_file.specs.EventText.{events_in, events_of_rows, unless_refused}
 use Rattle.event_file.specs.private.Taken.{AreTaken}
@@ -78,27 +76,13 @@ AreTaken-more plan rows n before row rest events event taken sound is time after
     one_event : (plan : Topology) (row : Row) (event : Event) → event_in plan row ≡ Some event → events_in plan (row ∷ []) ≡ event ∷ []
     one_event plan row event is = rw is refl
 
--- a refusal that is the answer, unless out of memory
-pub refused : {A : Type 0} (answer : Result A EventErr) (e : EventErr) → answer ≡ Err e → Refuses e answer
-refused answer Header is = is
-refused answer (Fields k) is = is
-refused answer (Time k) is = is
-refused answer (Order k) is = is
-refused answer (What k) is = is
-refused answer (Target k) is = is
-refused answer (Value k) is = is
-refused answer Limit is = is
-refused answer (Name k) is = is
-refused answer (Apart k) is = is
-refused answer NoMemory is = tt
-
 -- the first row that breaks a rule is the refusal of all
 pub rows_refused : (plan : Topology) (rows : List Row) (n before : ℕ) (row : Row) (rest : List Row) (events : List Event) (error : EventErr)
     → AreTaken plan rows n before (row ∷ rest) events → row_refusal plan (n + 1) before row ≡ Some error
-    → Refuses error (events_of_rows plan rows)
+    → events_of_rows plan rows ≡ Err error
 rows_refused plan rows n before row rest events error taken broken =
-    refused (events_of_rows plan rows) error (ap (λ refusal. unless_refused refusal (events_in plan rows))
-    (first_refusal-some (refusal_at plan rows) (length rows) n error within (next_refusal plan rows n before row rest events taken ∙ broken) taken.sound))
+    ap (λ refusal. unless_refused refusal (events_in plan rows))
+    (first_refusal-some (refusal_at plan rows) (length rows) n error within (next_refusal plan rows n before row rest events taken ∙ broken) taken.sound)
   where
     within : n < length rows
     within =

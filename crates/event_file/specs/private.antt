@@ -2,6 +2,5 @@
 pub mod CaseExamples
 pub mod CasesTaken
 pub mod Examples
-pub mod Refusal
 pub mod Rows
 pub mod Taken

@@ -5,7 +5,7 @@ ghost use Rattle.std.specs.List.{All};
 ghost use Rattle.sync_topo.specs.Events.{IsCase, IsEventList};
 ghost use Rattle.sync_topo.specs.Sizes.{event_limit};
 ghost use Rattle.event_file.specs.CaseText.{cases_of, cases_of_rows, all_events, is_case_header};
-ghost use Rattle.event_file.specs.Refusal.{Gives};
+ghost use Rattle.sync_text.specs.Gives.{Gives};
 ghost use Rattle.event_file.specs.Rows.{last_time};
 
 use crate::error::EventErr;
@@ -13,7 +13,7 @@ use crate::progress::CasesSoFar;
 use crate::reading::are_headings;
 use csv_records::{Record, Records};
 use std::alloc::Global;
-use sync_text::{Rows, Text};
+use sync_text::{NoAnswer, Rows, Text};
 use sync_topo::{Case, Event, Plan};
 
 /// Many runs of one plan, each with events of its own beside those that all have in common.
@@ -39,7 +39,7 @@ pub struct Cases {
 /// at row 5,000,001 where the plan is large, `Fields`, `Name`, `Apart`, `Time`, `Order`, `What`,
 /// `Target` or `Value`. Rows are read one after another, so a text that is wrong at its start is
 /// refused in little memory. This project's own.
-pub fn read_cases(alloc: Global, plan: &Plan, bytes: &[u8]) -> Result<Cases, EventErr>
+pub fn read_cases(alloc: Global, plan: &Plan, bytes: &[u8]) -> Result<Cases, NoAnswer<EventErr>>
     ensures exact { Gives result (cases_of plan.now bytes.now) }
     ensures common { IfOk result (λ cases. IsEventList plan.now cases.common) }
     ensures each { IfOk result (λ cases. All (IsCase plan.now) cases.cases) }
@@ -49,7 +49,7 @@ pub fn read_cases(alloc: Global, plan: &Plan, bytes: &[u8]) -> Result<Cases, Eve
 {
     let mut records = Records::of(alloc, bytes);
     if !records.advance()? || !is_case_header(records.taken()) {
-        return Err(EventErr::Header);
+        return Err(NoAnswer::Refused(EventErr::Header));
     }
     take_case_rows(alloc, plan, &mut records)
 }
@@ -67,7 +67,11 @@ fn is_case_header(first: &Record) -> bool
 }
 
 /// The cases of all rows that are left.
-fn take_case_rows(alloc: Global, plan: &Plan, records: &mut Records<'_>) -> Result<Cases, EventErr>
+fn take_case_rows(
+    alloc: Global,
+    plan: &Plan,
+    records: &mut Records<'_>,
+) -> Result<Cases, NoAnswer<EventErr>>
     requires { records.old.spent ≡ false }
     ensures exact { Gives result (cases_of_rows plan.now records.old.left) }
     ensures common { IfOk result (λ cases. IsEventList plan.now cases.common) }

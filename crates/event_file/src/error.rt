@@ -1,9 +1,8 @@
 // Why a text gives no events.
 
 ghost use Rattle.std.specs.Prelude.{◌≡◌};
-ghost use Rattle.event_file.specs.Refusal.{number_of};
+ghost use Rattle.event_file.specs.Refusal.{numbers_of};
 
-use sync_text::NoMemory;
 use thiserror::Error;
 
 /// The first rule that a text of events, or of cases, breaks. Rows count from 1 after the header.
@@ -43,41 +42,27 @@ pub enum EventErr {
     /// The case stood before, and the row before is of another one.
     #[error("row {0}: apart from the other rows of its case")]
     Apart(u64),
-    /// Out of memory.
-    #[error("out of memory")]
-    NoMemory,
 }
 
 impl EventErr {
-    /// The number by which the refusal is printed, from 26 to 33, and 51 and 52 for cases alone.
+    /// The numbers by which the refusal is printed: its own, from 26 to 33, and 51 and 52 for cases
+    /// alone, and then the row that is refused. `None` where it is none.
     ///
-    /// `None` when out of memory, which refuses no text.
     /// This project's own.
-    pub fn number(self) -> Option<u8>
-        ensures { result ≡ number_of self }
+    pub fn numbers(self) -> (u8, Option<u64>)
+        ensures { result ≡ numbers_of self }
     {
         match self {
-            EventErr::Header => Some(26),
-            EventErr::Fields(_) => Some(27),
-            EventErr::Time(_) => Some(28),
-            EventErr::Order(_) => Some(29),
-            EventErr::What(_) => Some(30),
-            EventErr::Target(_) => Some(31),
-            EventErr::Value(_) => Some(32),
-            EventErr::Limit => Some(33),
-            EventErr::Name(_) => Some(51),
-            EventErr::Apart(_) => Some(52),
-            EventErr::NoMemory => None,
+            EventErr::Header => (26, None),
+            EventErr::Fields(row) => (27, Some(row)),
+            EventErr::Time(row) => (28, Some(row)),
+            EventErr::Order(row) => (29, Some(row)),
+            EventErr::What(row) => (30, Some(row)),
+            EventErr::Target(row) => (31, Some(row)),
+            EventErr::Value(row) => (32, Some(row)),
+            EventErr::Limit => (33, None),
+            EventErr::Name(row) => (51, Some(row)),
+            EventErr::Apart(row) => (52, Some(row)),
         }
-    }
-}
-
-impl From<NoMemory> for EventErr {
-    ghost use Rattle.event_file.specs.declared.error.EventErr.TheVariants as refusal;
-
-    ghost from_gives = { λ _ e. e ≡ refusal.NoMemory };
-
-    fn from(_: NoMemory) -> EventErr {
-        EventErr::NoMemory
     }
 }

@@ -1,11 +1,10 @@
 // The cases of the rows so far.
 
-ghost use Rattle.std.specs.Prelude.{◌≡◌, ◌≤◌, ◌<◌, ◌+◌, ◌^◌, [], ◌∷◌, ◌++◌, true, false, List, None, Some, IfOk, IfErr, OnOk, length};
-ghost use Rattle.sync_text.specs.Gives.{UnlessNoMemory};
+ghost use Rattle.std.specs.Prelude.{◌≡◌, ◌≤◌, ◌<◌, ◌+◌, ◌^◌, [], ◌∷◌, ◌++◌, true, false, List, None, Some, IfOk, OnOk, length};
+ghost use Rattle.sync_text.specs.Gives.{IfRefused};
 ghost use Rattle.sync_topo.specs.Names.{is_named};
 ghost use Rattle.sync_topo.specs.Sizes.{event_limit};
 ghost use Rattle.sync_topo.specs.Topology.{Topology};
-ghost use Rattle.event_file.specs.Refusal.{is_no_memory};
 ghost use Rattle.event_file.specs.Rows.{Fields};
 ghost use Rattle.event_file.specs.CaseRows.{may_follow, is_apart, case_refusal};
 ghost use Rattle.event_file.specs.private.CasesTaken.{with_current, with_event, AreSorted, AreCasesTaken};
@@ -15,7 +14,7 @@ use crate::error::EventErr;
 use crate::row::event_said;
 use csv_records::Record;
 use std::alloc::Global;
-use sync_text::{NoMemory, Rows, Text};
+use sync_text::{NoAnswer, NoMemory, Rows, Text};
 use sync_topo::{Case, Event, Names, Plan, is_name};
 
 /// What the rows so far gave.
@@ -59,24 +58,23 @@ impl CasesSoFar {
         alloc: Global,
         plan: &Plan,
         row: &Record,
-    ) -> Result<(), EventErr>
+    ) -> Result<(), NoAnswer<EventErr>>
         requires { self.old.rows ≤ event_limit plan.now }
         ensures taken { (done : List Fields) → AreCasesTaken plan.now done self.old →
             OnOk result (AreCasesTaken plan.now (done ++ row.now ∷ []) self.new) }
         ensures refused { (done : List Fields) → AreCasesTaken plan.now done self.old →
-            IfErr result (λ error. UnlessNoMemory (is_no_memory error)
-            (case_refusal plan.now done (length done + 1) row.now ≡ Some error)) }
+            IfRefused result (λ error. case_refusal plan.now done (length done + 1) row.now ≡ Some error) }
     {
         let limit = plan.event_limit() as u64;
         let number = self.rows + 1;
         if limit < number {
-            return Err(EventErr::Limit);
+            return Err(NoAnswer::Refused(EventErr::Limit));
         }
         let Some((name, at, word, target, value)) = row.five() else {
-            return Err(EventErr::Fields(number));
+            return Err(NoAnswer::Refused(EventErr::Fields(number)));
         };
         if !self.may_follow(name) {
-            return Err(EventErr::Name(number));
+            return Err(NoAnswer::Refused(EventErr::Name(number)));
         }
         match self.come_to(alloc, number, name) {
             Ok(()) => {}
@@ -84,7 +82,7 @@ impl CasesSoFar {
         }
         let event = match event_said(plan, number, self.before, at, word, target, value) {
             Ok(event) => event,
-            Err(error) => return Err(error),
+            Err(refused) => return Err(NoAnswer::Refused(refused)),
         };
         self.put(event)?;
         Ok(())
@@ -99,22 +97,21 @@ impl CasesSoFar {
     }
 
     /// Comes to the case of the row of this number, which is that of the row before it or a new one.
-    fn come_to(&mut self, alloc: Global, number: u64, name: &[u8]) -> Result<(), EventErr>
+    fn come_to(&mut self, alloc: Global, number: u64, name: &[u8]) -> Result<(), NoAnswer<EventErr>>
         ensures rows { OnOk result (self.new.rows ≡ self.old.rows) }
         ensures together { (plan : Topology) (done : List Fields) → AreCasesTaken plan done self.old →
             may_follow done name.now ≡ true → OnOk result (is_apart done name.now ≡ false) }
         ensures sorted { (plan : Topology) (done : List Fields) → AreCasesTaken plan done self.old →
             may_follow done name.now ≡ true → OnOk result (AreSorted plan done name.now self.new) }
         ensures apart { (plan : Topology) (done : List Fields) → AreCasesTaken plan done self.old →
-            IfErr result (λ error. UnlessNoMemory (is_no_memory error)
-            ((is_apart done name.now ≡ true) × (error ≡ EventErr.Apart number))) }
+            IfRefused result (λ error. (is_apart done name.now ≡ true) × (error ≡ EventErr.Apart number)) }
     {
         if name.is_empty() {
             return Ok(());
         }
         match self.names.place_of(name) {
             Some(place) if place == self.whole.as_slice().len() => Ok(()),
-            Some(_) => Err(EventErr::Apart(number)),
+            Some(_) => Err(NoAnswer::Refused(EventErr::Apart(number))),
             None => {
                 self.begin(alloc, name)?;
                 self.before = 0;

@@ -5,7 +5,7 @@ ghost use Rattle.std.specs.List.{All};
 ghost use Rattle.sync_topo.specs.Events.{Fits, IsInOrder};
 ghost use Rattle.sync_topo.specs.Sizes.{event_limit};
 ghost use Rattle.event_file.specs.EventText.{events_of, events_of_rows, is_header};
-ghost use Rattle.event_file.specs.Refusal.{Gives};
+ghost use Rattle.sync_text.specs.Gives.{Gives};
 ghost use Rattle.event_file.specs.Rows.{last_time};
 ghost use Rattle.event_file.specs.private.Rows.{event_row};
 
@@ -13,7 +13,7 @@ use crate::error::EventErr;
 use crate::row::event_of;
 use csv_records::{Record, Records};
 use std::alloc::Global;
-use sync_text::Rows;
+use sync_text::{NoAnswer, Rows};
 use sync_topo::{Event, Plan};
 
 /// The events of a text over a plan, in order of time.
@@ -25,7 +25,11 @@ use sync_topo::{Event, Plan};
 /// at row 5,000,001 where the plan is large, `Fields`, `Time`, `Order`, `What`, `Target` or `Value`.
 /// Rows are read one after another, so a text that is wrong at its start is refused in little
 /// memory. This project's own.
-pub fn read_events(alloc: Global, plan: &Plan, bytes: &[u8]) -> Result<Rows<Event>, EventErr>
+pub fn read_events(
+    alloc: Global,
+    plan: &Plan,
+    bytes: &[u8],
+) -> Result<Rows<Event>, NoAnswer<EventErr>>
     ensures exact { Gives result (events_of plan.now bytes.now) }
     ensures fits { IfOk result (All (Fits plan.now)) }
     ensures in_order { IfOk result IsInOrder }
@@ -34,7 +38,7 @@ pub fn read_events(alloc: Global, plan: &Plan, bytes: &[u8]) -> Result<Rows<Even
 {
     let mut records = Records::of(alloc, bytes);
     if !records.advance()? || !is_header(records.taken()) {
-        return Err(EventErr::Header);
+        return Err(NoAnswer::Refused(EventErr::Header));
     }
     take_rows(alloc, plan, &mut records)
 }
@@ -60,7 +64,11 @@ pub(crate) fn are_headings(at: &[u8], what: &[u8], target: &[u8], value: &[u8]) 
 }
 
 /// The events of all rows that are left.
-fn take_rows(alloc: Global, plan: &Plan, records: &mut Records<'_>) -> Result<Rows<Event>, EventErr>
+fn take_rows(
+    alloc: Global,
+    plan: &Plan,
+    records: &mut Records<'_>,
+) -> Result<Rows<Event>, NoAnswer<EventErr>>
     requires { records.old.spent ≡ false }
     ensures exact { Gives result (events_of_rows plan.now records.old.left) }
     ensures fits { IfOk result (All (Fits plan.now)) }
@@ -75,7 +83,7 @@ fn take_rows(alloc: Global, plan: &Plan, records: &mut Records<'_>) -> Result<Ro
         number += 1;
         let event = match event_of(plan, number, before, records.taken()) {
             Ok(event) => event,
-            Err(error) => return Err(error),
+            Err(refused) => return Err(NoAnswer::Refused(refused)),
         };
         before = event.at;
         events.push(event)?;

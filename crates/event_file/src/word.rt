@@ -1,6 +1,6 @@
 // The words for what happens, and what they are said of.
 
-ghost use Rattle.std.specs.Prelude.{◌≡◌, IfSome, option_map};
+ghost use Rattle.std.specs.Prelude.{◌≡◌, IfSome};
 ghost use Rattle.sync_ql.specs.declared.levels.NetOption.{NetOption};
 ghost use Rattle.sync_topo.specs.Topology.{Topology};
 ghost use Rattle.sync_topo.specs.Events.{IsPart, MayHappen};

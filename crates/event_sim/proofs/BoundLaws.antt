@@ -165,7 +165,7 @@ turn-counts plan all rest next until now due is same busy steps steps_then stepp
 pub bound-more : (all : List Event) (until now : ℕ) (first net net_then : NetState) (ticks_first ticks ticks_then : ℕ)
     → first.next ≤ net.next → net.next ≤ now → net_then.next ≡ suc now → net.plan ≡ first.plan
     → IsBound all until first net ticks_first ticks
-    → net_then.later_steps ≤ net.later_steps + cond (is_busy first.plan all now || nat_eq now until) 1 0
+    → net_then.later_steps ≤ net.later_steps + cond (is_busy net.plan all now || nat_eq now until) 1 0
     → IsTurnBound all now net net_then ticks ticks_then
     → IsBound all until first net_then ticks_first ticks_then
 unfolding turns_in active_times active_pairs
@@ -175,7 +175,9 @@ bound-more all until now first net net_then ticks_first ticks ticks_then from la
       let here : sum_by (λ t. cond (is_busy first.plan all t || nat_eq t until) 1 0) (milliseconds first.next net_then.next)
       ≡ sum_by (λ t. cond (is_busy first.plan all t || nat_eq t until) 1 0) (milliseconds first.next (suc now)) =
       ap (λ (end : ℕ). sum_by (λ t. cond (is_busy first.plan all t || nat_eq t until) 1 0) (milliseconds first.next end)) next_then in
-      omega (arith, bound.turns, turn, span, here);
+      let more : net_then.later_steps ≤ net.later_steps + cond (is_busy first.plan all now || nat_eq now until) 1 0 =
+      subst (λ (plan : Topology). net_then.later_steps ≤ net.later_steps + cond (is_busy plan all now || nat_eq now until) 1 0) same turn in
+      omega (arith, bound.turns, more, span, here);
   work =
       let active : ℕ → ℕ = λ t. count_by (λ element. is_active first.plan all element t) (range_with_len 0 (length first.plan.elements)) in
       let span = counted active first.next net.next now from later in
@@ -194,12 +196,4 @@ bound-more all until now first net net_then ticks_first ticks ticks_then from la
       subst (λ (plan : Topology). element < length plan.elements → (slice_index_or net_then.elements element other).later_steps
       ≤ (slice_index_or net.elements element other).later_steps + cond (is_active plan all element now) 1 0) same (cost.counts element other) within in
       omega (arith, bound.counts element other within, more, span, here);
-}
-
--- before any step nothing was spent
-pub bound-none : (all : List Event) (until ticks : ℕ) (net : NetState) → IsBound all until net net ticks ticks
-bound-none all until ticks net = record {
-  turns = omega arith;
-  work = omega arith;
-  counts = λ element other within. omega arith;
 }

@@ -8,9 +8,6 @@ use Rattle.std.proofs.lemmas.List.{append-nil}
 use Rattle.sync_text.proofs.Each.{Each-map, Each-range, Each-filter}
 use Rattle.sync_text.specs.Each.{Each}
 use Rattle.sync_ql.proofs.SameMoments.{same_option}
-use Rattle.sync_ql.specs.declared.levels.NetOption.{NetOption}
-use Rattle.sync_ql.specs.declared.levels.NetOption.TheVariants.{I, II}
-use Rattle.sync_ql.specs.Messages.{is_same_option}
 use Rattle.sync_element.specs.ElementState.{ElementState}
 use Rattle.sync_topo.specs.declared.event.Event.{Event}
 use Rattle.sync_topo.specs.Topology.{Topology}

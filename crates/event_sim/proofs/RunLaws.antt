@@ -23,13 +23,12 @@ use Rattle.event_sim.specs.Changes.{IsChangeOf}
 use Rattle.sync_net.proofs.QuietGap.{some_element}
 use Rattle.event_sim.proofs.NotingLaws.{others-within}
 use Rattle.std.proofs.lemmas.List.Elements.{All-append, All-map}
-use Rattle.event_times.specs.EventTimes.{AreTold, IsNextTime, AreParted}
-use Rattle.event_times.specs.private.EventTimes.{AreHere}
+use Rattle.event_times.specs.EventTimes.{IsNextTime, AreHere, AreNext, AreAhead, MomentsLeft}
 use Rattle.event_sim.specs.private.Showing.{AreShown, AreShownIf, AreNoted, kept_in, others_in, rows_between}
-use Rattle.event_sim.specs.private.Running.{IsKeptBy, RunStands, IsAfterTurn, IsTurnBound}
+use Rattle.event_sim.specs.private.Running.{IsOpen, IsKeptBy, RunStands, IsAfterTurn, IsTurnBound, IsBound}
 use Rattle.event_sim.proofs.RowLaws.{HasElements, quiet-rows, turn-rows}
-use Rattle.event_times.proofs.EventTimes.{sooner, none-until, are-here}
-use Rattle.event_sim.proofs.BoundLaws.{turn-bound, turn-counts}
+use Rattle.event_times.proofs.EventTimes.{sooner}
+use Rattle.event_sim.proofs.BoundLaws.{turn-bound, turn-counts, bound-more}
 
 -- a step goes on from the millisecond before
 pub continued : (plan : Topology) (all : List Event) (now : ℕ) (told : List Event) → AreHere plan all now told → IsContinued plan all now now told
@@ -66,17 +65,6 @@ turn-noted law net net_then was now before after t told fits same steps shown sh
       full = subst (λ (all_rows : List Change). most_rows net_then.plan < length all_rows) (sym rows) noted.many;
     }
 
--- what it makes of a run whose changes aren't
-pub turn-unnoted : (net net_then : NetState) (changes : List Change) (t : ℕ) (told : List Event)
-    → ((all : List Event) (n : ℕ) → IsContinued net.plan all n t told → StandsFor net all n → StandsFor net_then all (t + 1))
-    → (all : List Event) → AreHere net.plan all t told → RunStands Nothing net changes all t → RunStands Nothing net_then changes all (suc t)
-turn-unnoted net net_then changes t told steps all here run = record {
-  stands =
-      let one : t + 1 ≡ suc t = omega arith in
-      subst (StandsFor net_then all) one (steps all t (continued net.plan all t told here) run.stands);
-  rows = run.rows;
-}
-
 -- what it costs
 pub turn-cost : (net net_then : NetState) (t : ℕ) (told : List Event) (ticks ticks_then : ℕ)
     → AreAloneEvaluated net net_then → ticks_then ≡ ticks + length net_then.evaluated
@@ -86,29 +74,26 @@ pub turn-cost : (net net_then : NetState) (t : ℕ) (told : List Event) (ticks t
 turn-cost net net_then t told ticks ticks_then alone ticked active all here stands =
     turn-bound all t net net_then ticks ticks_then alone ticked (active all t (continued net.plan all t told here) stands)
 
--- the next step is due: at its millisecond, and with the events that stand there
-pub record IsTurn (net : NetState) (plan : Topology) (given rest here later : List Event) (until now : ℕ) (due : Option ℕ) : Type 0 where
-  pub same : net.plan ≡ plan
-  pub next : IsNextTime net.next rest due until now
-  pub left : (t : ℕ) → net.next ≤ t → t ≤ until → events_at t given ≡ events_at t rest
-  pub parted : AreParted plan now until rest here later
-  pub gap : (all : List Event) (m n : ℕ) → StandsFor net all m → m ≤ n → (net.next ≡ 0 → n ≡ 0) → NoneFrom m n all
-      → IfSome due (λ d. n ≤ d) → StandsFor net all n
-  pub busy : IfSome due (λ d. (all : List Event) (n : ℕ) → StandsFor net all n → 0 < net.next → n ≤ d → NoneFrom n d all → is_busy net.plan all d ≡ true)
+-- the next step is due: at its millisecond, and with the events that stand there, of all events
+pub record IsTurn (net : NetState) (left : MomentsLeft) (due : Option ℕ) (now : ℕ) (here all : List Event) : Type 0 where
+  pub next : IsNextTime net.next left.rest due left.until now
+  pub told : AreNext net.plan all net.next now here
+  pub left_same : events_at now all ≡ events_at now left.rest
+  pub gap : (every : List Event) (m n : ℕ) → StandsFor net every m → m ≤ n → (net.next ≡ 0 → n ≡ 0) → NoneFrom m n every
+      → IfSome due (λ d. n ≤ d) → StandsFor net every n
+  pub busy : IfSome due (λ d. (every : List Event) (n : ℕ) → StandsFor net every n → 0 < net.next → n ≤ d → NoneFrom n d every → is_busy net.plan every d ≡ true)
 
-pub the-turn : (net : NetState) (plan : Topology) (given rest here later : List Event) (until now next : ℕ) (due : Option ℕ)
-    → net.plan ≡ plan → next ≡ net.next → IsNextTime next rest due until now
-    → ((t : ℕ) → next ≤ t → t ≤ until → events_at t given ≡ events_at t rest)
-    → AreParted plan now until rest here later
-    → ((all : List Event) (m n : ℕ) → StandsFor net all m → m ≤ n → (net.next ≡ 0 → n ≡ 0) → NoneFrom m n all
-    → IfSome due (λ d. n ≤ d) → StandsFor net all n)
-    → IfSome due (λ d. (all : List Event) (n : ℕ) → StandsFor net all n → 0 < net.next → n ≤ d → NoneFrom n d all → is_busy net.plan all d ≡ true)
-    → IsTurn net plan given rest here later until now due
-the-turn net plan given rest here later until now next due same at is left parted gap busy = record {
-  same = same;
-  next = subst (λ (n : ℕ). IsNextTime n rest due until now) at is;
-  left = subst (λ (n : ℕ). (t : ℕ) → n ≤ t → t ≤ until → events_at t given ≡ events_at t rest) at left;
-  parted = parted;
+pub the-turn : (net : NetState) (plan : Topology) (left : MomentsLeft) (due : Option ℕ) (now : ℕ) (here all : List Event)
+    → net.plan ≡ plan → left.next ≡ net.next → IsNextTime left.next left.rest due left.until now
+    → AreAhead plan all left → AreNext plan all left.next now here
+    → ((every : List Event) (m n : ℕ) → StandsFor net every m → m ≤ n → (net.next ≡ 0 → n ≡ 0) → NoneFrom m n every
+    → IfSome due (λ d. n ≤ d) → StandsFor net every n)
+    → IfSome due (λ d. (every : List Event) (n : ℕ) → StandsFor net every n → 0 < net.next → n ≤ d → NoneFrom n d every → is_busy net.plan every d ≡ true)
+    → IsTurn net left due now here all
+the-turn net plan left due now here all same at is ahead told gap busy = record {
+  next = subst (λ (n : ℕ). IsNextTime n left.rest due left.until now) at is;
+  told = subst (λ (p : Topology). AreNext p all net.next now here) (sym same) (subst (λ (n : ℕ). AreNext plan all n now here) at told);
+  left_same = ahead.here now is.later is.up_to;
   gap = gap;
   busy = busy;
 }
@@ -121,55 +106,51 @@ kept-more one two three first second = record {
   unwatched = λ none. second.unwatched (first.watch ∙ none) ∙ first.unwatched none;
 }
 
--- from the last step to the next one, for all events of which those that are given stand there
-module _ (net : NetState) (plan : Topology) (given rest here later : List Event) (until now : ℕ) (due : Option ℕ)
-    (turn : IsTurn net plan given rest here later until now due)
-    (all : List Event) (from : ℕ) (told : AreTold plan all from until given) (begun : from ≤ net.next) where
-  told-rest : AreTold plan all net.next until rest
-  told-rest = record {
-    ordered = told.ordered;
-    here = λ t low high. told.here t (omega (arith, low, begun)) high
-        ∙ turn.left t low high;
-  }
-
-  quiet : NoneFrom net.next now all
-  quiet = none-until plan all rest net.next until now due told-rest turn.next
-
+-- from the last step to the next one
+module _ (law : HasElements) (run : Run) (left : MomentsLeft) (due : Option ℕ) (now : ℕ) (here all : List Event)
+    (turn : IsTurn run.net left due now here all) where
   -- the network stands for each millisecond up to it
-  stands-until : StandsFor net all net.next → (k : ℕ) → net.next ≤ k → k ≤ now → StandsFor net all k
+  stands-until : StandsFor run.net all run.net.next → (k : ℕ) → run.net.next ≤ k → k ≤ now → StandsFor run.net all k
   stands-until stands k low high =
-      turn.gap all net.next k stands low (λ none. let first = turn.next.first none in omega (arith, first, high))
-      (λ t after before. quiet t after (omega (arith, before, high)))
+      turn.gap all run.net.next k stands low (λ none. let first = turn.next.first none in omega (arith, first, high))
+      (λ t after before. turn.told.none t after (omega (arith, before, high)))
       (sooner due k now high turn.next.until_due)
 
   -- and no row comes meanwhile
-  pub run-until : HasElements → (watch : Watch) (shown : List Shown) (changes : List Change) → AreShownIf watch net shown
-      → RunStands watch net changes all net.next → RunStands watch net changes all now
-  run-until law Nothing shown changes are run = record { stands = stands-until run.stands now turn.next.later (omega arith); rows = run.rows }
-  run-until law Changes shown changes are run = record {
-    stands = stands-until run.stands now turn.next.later (omega arith);
-    rows = run.rows ∙ sym (quiet-rows law net shown all net.next now are turn.next.later (λ k low high. stands-until run.stands k low high));
+  run-until : (watch : Watch) → AreShownIf watch run.net run.shown.items
+      → RunStands watch run.net run.changes.items all run.net.next → RunStands watch run.net run.changes.items all now
+  run-until Nothing are stood = record { stands = stands-until stood.stands now turn.next.later (omega arith); rows = stood.rows }
+  run-until Changes are stood = record {
+    stands = stands-until stood.stands now turn.next.later (omega arith);
+    rows = stood.rows ∙ sym (quiet-rows law run.net run.shown.items all run.net.next now are turn.next.later (λ k low high. stands-until stood.stands k low high));
   }
 
-  -- its events are those that stand there
-  pub turn-here : AreHere net.plan all now here
-  turn-here =
-      subst (λ (p : Topology). AreHere p all now here) (sym turn.same)
-      (are-here plan all rest net.next until now due told-rest turn.next here later turn.parted)
-
-  -- and the step at it is counted
-  pub turn-counted : StandsFor net all net.next → (net_then : NetState) → net_then.later_steps ≡ (if nat_eq net.next 0 then 0 else net.later_steps + 1)
-      → net_then.later_steps ≤ net.later_steps + cond (is_busy plan all now || nat_eq now until) 1 0
-  turn-counted stands net_then stepped =
-      turn-counts plan all rest net.next until now due turn.next
-      (told-rest.here now turn.next.later turn.next.up_to)
+  -- the step at it is counted
+  turn-counted : StandsFor run.net all run.net.next → (steps_then : ℕ) → steps_then ≡ (if nat_eq run.net.next 0 then 0 else run.net.later_steps + 1)
+      → steps_then ≤ run.net.later_steps + cond (is_busy run.net.plan all now || nat_eq now left.until) 1 0
+  turn-counted stands steps_then stepped =
+      turn-counts run.net.plan all left.rest run.net.next left.until now due turn.next turn.left_same
       (λ is_due started.
-      let busy : (every : List Event) (n : ℕ) → StandsFor net every n → 0 < net.next → n ≤ now → NoneFrom n now every → is_busy net.plan every now ≡ true =
-      subst (λ (o : Option ℕ). IfSome o (λ d. (every : List Event) (n : ℕ) → StandsFor net every n → 0 < net.next → n ≤ d → NoneFrom n d every → is_busy net.plan every d ≡ true))
+      let busy : (every : List Event) (n : ℕ) → StandsFor run.net every n → 0 < run.net.next → n ≤ now → NoneFrom n now every → is_busy run.net.plan every now ≡ true =
+      subst (λ (o : Option ℕ). IfSome o (λ d. (every : List Event) (n : ℕ) → StandsFor run.net every n → 0 < run.net.next → n ≤ d → NoneFrom n d every → is_busy run.net.plan every d ≡ true))
       is_due turn.busy in
-      subst (λ (p : Topology). is_busy p all now ≡ true) turn.same
-      (busy all net.next stands (omega (arith, started)) turn.next.later quiet))
-      net.later_steps net_then.later_steps stepped
+      busy all run.net.next stands (omega (arith, started)) turn.next.later turn.told.none)
+      run.net.later_steps steps_then stepped
+
+  -- and what it makes of the run, and costs
+  pub turned : (first run_then : Run) (fits : Bool) (ticks_first ticks ticks_then : ℕ) → IsOpen run → IsKeptBy first run → first.net.next ≤ run.net.next
+      → RunStands run.watch run.net run.changes.items all run.net.next → IsBound all left.until first.net run.net ticks_first ticks
+      → run_then.net.next ≡ now + 1 → run_then.net.later_steps ≡ (if nat_eq run.net.next 0 then 0 else run.net.later_steps + 1)
+      → ((every : List Event) → AreHere run.net.plan every now here → RunStands run.watch run.net run.changes.items every now
+      → IsAfterTurn fits run_then.watch run_then.net run_then.changes.items every now)
+      → ((every : List Event) → AreHere run.net.plan every now here → StandsFor run.net every now → IsTurnBound every now run.net run_then.net ticks ticks_then)
+      → IsAfterTurn fits run_then.watch run_then.net run_then.changes.items all now × IsBound all left.until first.net run_then.net ticks_first ticks_then
+  turned first run_then fits ticks_first ticks ticks_then may_go kept from stood bound next_then stepped noted cost =
+      let at_now = run-until run.watch may_go.shown stood in (
+        noted all turn.told.here at_now,
+        bound-more all left.until now first.net run.net run_then.net ticks_first ticks ticks_then from turn.next.later (omega (arith, next_then)) kept.plan bound
+            (turn-counted stood.stands run_then.net.later_steps stepped) (cost all turn.told.here at_now.stands),
+      )
 
 -- rows that don't fit come after the first millisecond
 pub turn-late : (plan : Topology) (t next : ℕ) (was now : List Shown) (before : List Change) → length plan.elements ≤ most_rows plan

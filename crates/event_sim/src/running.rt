@@ -6,8 +6,7 @@ ghost use Rattle.sync_topo.specs.Sizes.{most_rows};
 ghost use Rattle.sync_topo.specs.Events.{Fits};
 ghost use Rattle.sync_net.specs.NetState.{IsInTime};
 ghost use Rattle.sync_net.specs.Standing.{StandsFor};
-ghost use Rattle.event_times.specs.EventTimes.{AreTold, AreWithin};
-ghost use Rattle.event_times.specs.private.EventTimes.{AreHere};
+ghost use Rattle.event_times.specs.EventTimes.{AreTold, AreWithin, AreHere};
 ghost use Rattle.event_sim.specs.Changes.{IsChangeOf};
 ghost use Rattle.event_sim.specs.Answers.{OnUntil, IfStopped};
 ghost use Rattle.event_sim.specs.private.Running.{IsOpen, IsKeptBy, RunStands, IsCut, IsAfterTurn, IsTurnBound, IsBound};
@@ -15,7 +14,7 @@ ghost use Rattle.event_sim.specs.private.Running.{IsOpen, IsKeptBy, RunStands, I
 use crate::change::{Change, Reach, Watch};
 use crate::noting::note_changes;
 use crate::shown::Shown;
-use event_times::{next_time, split_at_time};
+use event_times::Moments;
 use std::alloc::Global;
 use std::sync::ledger::Ledger;
 use sync_net::{Net, elements_law};
@@ -158,16 +157,11 @@ impl Run<'_> {
             IsBound all until self.old.net self.new.net steps.old steps.new) }
     {
         elements_law();
-        let mut next = self.next();
-        let mut rest = events;
-        while next <= until {
-            let now = next_time(next, rest, self.net.due(), until);
-            let (here, later) = split_at_time(rest, now);
+        let mut moments = Moments::new(events, self.next(), until);
+        while let Some((now, here)) = moments.next_moment(self.net.due()) {
             if !self.take_turn(now, here, steps)? {
                 return Ok(Reach::Stopped(now.saturating_sub(1)));
             }
-            rest = later;
-            next = now + 1;
         }
         Ok(Reach::Until)
     }

@@ -1,6 +1,6 @@
 //! The simulator, as other crates see it.
 
-ghost use Rattle.std.specs.Prelude.{◌≡◌, ◌≤◌, ◌<◌, ◌+◌, ℕ, suc, false, List, [], IfOk, OnOk, Option, None, Some, is_err, All, length, slice_index_or};
+ghost use Rattle.std.specs.Prelude.{◌≡◌, ◌≤◌, ◌<◌, ◌+◌, ℕ, suc, false, List, [], IfOk, OnOk, None, Some, is_err, All, length, slice_index_or};
 ghost use Rattle.event_sim.specs.Changes.{IsChangeOf};
 ghost use Rattle.sync_element.specs.ElementState.{ElementState};
 ghost use Rattle.sync_topo.specs.declared.event.Event.{Event};

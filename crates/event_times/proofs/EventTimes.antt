@@ -1,11 +1,11 @@
 -- Which events come next, and how a list of events is parted by time.
-use Rattle.std.proofs.Common.{◌≡◌, ◌≢◌, ◌≤◌, ◌<◌, ◌+◌, ◌⊎◌, inl, inr, ℕ, suc, Bool, true, false, ◌||◌, List, [], ◌∷◌, ◌++◌, length, filter, take, drop, refl, ap, sym, subst, ◌∙◌, arith}
+use Rattle.std.proofs.Common.{◌≡◌, ◌≢◌, ◌≤◌, ◌<◌, ◌+◌, ◌⊎◌, inl, inr, ℕ, suc, Bool, true, false, ◌||◌, List, [], ◌∷◌, ◌++◌, length, filter, take, drop, refl, ap, sym, subst, ◌∙◌, arith, add-one}
 use Rattle.std.specs.Prelude.{nat_eq, slice_get, slice_index_or, Option, None, Some, IfSome}
 use Rattle.std.specs.List.{All, list_any}
-use Rattle.std.proofs.lemmas.Bool.{eq-eqb}
+use Rattle.std.proofs.lemmas.Bool.{eq-eqb, eqb-true}
 use Rattle.std.proofs.lemmas.Bool.Decides.{eqb_tells}
 use Rattle.std.proofs.lemmas.List.{get_or-drop, get_or-take, length-drop, length-take, append-nil, take-append-drop}
-use Rattle.std.proofs.lemmas.List.Elements.{All-take, All-drop, filter-append}
+use Rattle.std.proofs.lemmas.List.Elements.{All-drop, All-filter, filter-append, filter_passes}
 use Rattle.std.proofs.lemmas.List.Sorted.{IsNonDecreasingBy-from_all_adjacent, IsNonDecreasingBy-drop, all_adjacent_from_non_decreasing}
 use Rattle.sync_text.proofs.Each.{each-all, filter-none}
 use Rattle.sync_text.specs.Each.{Each}
@@ -13,8 +13,8 @@ use Rattle.sync_topo.specs.declared.event.Event.{Event}
 use Rattle.sync_topo.specs.Topology.{Topology}
 use Rattle.sync_topo.specs.Events.{Fits, IsInOrder}
 use Rattle.net_rules.specs.Signals.{events_at}
-use Rattle.event_times.specs.EventTimes.{AreWithin, AreTold, IsNextTime, AreParted}
-use Rattle.event_times.specs.private.EventTimes.{AreHere}
+use Rattle.event_times.specs.EventTimes.{AreWithin, AreTold, AreBetween, AreHere, AreNext, IsNextTime}
+use Rattle.event_times.specs.private.EventTimes.{AreParted}
 
 -- an earlier one of a list in order is no later
 pub in-order : (events : List Event) → IsInOrder events → (i j : ℕ) (other : Event) → i ≤ j
@@ -111,8 +111,8 @@ all-at t events all = filter-each (λ event. nat_eq event.at t) events
     (λ k other inside. eq-eqb (slice_index_or events k other).at t (all k other inside)))
 
 -- the events before the first later one, and those from it on
-module _ (plan : Topology) (now until count : ℕ) (events : List Event)
-    (within : AreWithin plan now until events) (few : count ≤ length events)
+module _ (now until count : ℕ) (events : List Event)
+    (between : AreBetween now until events) (few : count ≤ length events)
     (here : (k : ℕ) (other : Event) → k < count → (slice_index_or events k other).at ≤ now)
     (later : (other : Event) → count < length events → now < (slice_index_or events count other).at)
   where
@@ -121,7 +121,7 @@ module _ (plan : Topology) (now until count : ℕ) (events : List Event)
         let before : k < count = omega (arith, inside, length-take count events, few) in
         let same : slice_index_or (take count events) k other ≡ slice_index_or events k
         other = get_or-take count events k other before in
-        let low : now ≤ (slice_index_or events k other).at = within.later k other
+        let low : now ≤ (slice_index_or events k other).at = between.later k other
         (omega (arith, before, few)) in
         let high : (slice_index_or events k other).at ≤ now = here k other before in
         ap (λ (event : Event). event.at) same ∙ omega (arith, low, high)
@@ -136,7 +136,7 @@ module _ (plan : Topology) (now until count : ℕ) (events : List Event)
         (omega (arith, within_all)) in
         let order :
         (slice_index_or events count other).at ≤ (slice_index_or events (count + k) other).at =
-        in-order events within.list.in_order count (count + k) other (omega arith) within_all in
+        in-order events between.in_order count (count + k) other (omega arith) within_all in
         let result : suc now ≤ (slice_index_or events (count + k) other).at = omega
         (arith, first, order) in
         subst (λ (event : Event). suc now ≤ event.at) (sym same) result
@@ -146,7 +146,7 @@ module _ (plan : Topology) (now until count : ℕ) (events : List Event)
     whole t = ap (events_at t) (sym (take-append-drop count events))
         ∙ filter-append (λ (event : Event). nat_eq event.at t) (take count events) (drop count events)
 
-    pub parted : AreParted plan now until events (take count events) (drop count events)
+    pub parted : AreParted now until events (take count events) (drop count events)
     parted = record {
       here = whole now
           ∙ ap (λ (back : List Event). events_at now (take count events) ++ back)
@@ -160,53 +160,61 @@ module _ (plan : Topology) (now until count : ℕ) (events : List Event)
           (none-at t (take count events)
           (λ k other inside same. let at = front-at k other inside in absurd
           (omega (arith, at, same, after))));
-      within = record {
-        list = record {
-          fit = All-drop (Fits plan) count events within.list.fit;
-          in_order = all_adjacent_from_non_decreasing (λ (event : Event). event.at)
-              (drop count events)
-              (IsNonDecreasingBy-drop (λ (event : Event). event.at) count events
-              (IsNonDecreasingBy-from_all_adjacent (λ (event : Event). event.at) events
-              within.list.in_order));
-        };
+      between = record {
+        in_order = all_adjacent_from_non_decreasing (λ (event : Event). event.at)
+            (drop count events)
+            (IsNonDecreasingBy-drop (λ (event : Event). event.at) count events
+            (IsNonDecreasingBy-from_all_adjacent (λ (event : Event). event.at) events
+            between.in_order));
         later = back-later;
-        up_to = All-drop (λ event. event.at ≤ until) count events within.up_to;
+        up_to = All-drop (λ event. event.at ≤ until) count events between.up_to;
       };
-      fit = All-take (Fits plan) count events within.list.fit;
-      at = front-at;
     }
 
--- none of the events that are left is earlier than the next time
-pub within-from : (plan : Topology) (next until now : ℕ) (rest : List Event) (due : Option ℕ)
-    → IsNextTime next rest due until now
-    → AreWithin plan next until rest → AreWithin plan now until rest
-within-from plan next until now rest due is within = record
-    { list = within.list; later = is.until_event; up_to = within.up_to }
+-- events that stand within two milliseconds are all that a run between them is told
+pub told-itself : (plan : Topology) (from until : ℕ) (events : List Event)
+    → AreWithin plan from until events → AreTold plan events from until events
+told-itself plan from until events within = record
+    { ordered = within.list; here = λ t low high. refl }
 
--- from one millisecond to the next in which something happens, for all events of which those that are
--- left are told
-module _ (plan : Topology) (all rest : List Event) (next until now : ℕ) (due : Option ℕ)
-    (told : AreTold plan all next until rest)
-    (is : IsNextTime next rest due until now) where
-  -- there are no events in between
-  pub none-until : (t : ℕ) → next ≤ t → t < now → events_at t all ≡ []
-  none-until t low high =
-      told.here t low (omega (arith, high, is.up_to))
-      ∙ none-at t rest
-      (λ k other inside at. let late = is.until_event k other inside in absurd
-      (omega (arith, late, at, high)))
+-- from one millisecond to the next in which something happens
+module _ (rest here later : List Event) (next until now : ℕ) (due : Option ℕ)
+    (is : IsNextTime next rest due until now) (between : AreBetween next until rest)
+    (split : (end : ℕ) → AreBetween now end rest → AreParted now end rest here later) where
+  parts : AreParted now until rest here later
+  parts = split until
+      (record { in_order = between.in_order; later = is.until_event; up_to = between.up_to })
 
-  -- its events are those that stand there
-  pub are-here : (here later : List Event) → AreParted plan now until rest here later
-      → AreHere plan all now here
-  are-here here later parted = record
-      { ordered = told.ordered; here = told.here now is.later is.up_to ∙ parted.here }
+  -- the events that are left are later
+  pub later-between : AreBetween (now + 1) until later
+  later-between = subst (λ from. AreBetween from until later) (sym (add-one now)) parts.between
 
-  -- and the later ones are those that are left
-  pub later-told : (here later : List Event) → AreParted plan now until rest here later
-      → AreTold plan all (suc now) until later
-  later-told here later parted = record {
-    ordered = told.ordered;
-    here = λ t low high. told.here t (let first = is.later in omega (arith, first, low)) high
-        ∙ parted.rest t (omega (arith, low));
-  }
+  -- for all events of which those that are left are told
+  module _ (plan : Topology) (all : List Event) (told : AreTold plan all next until rest) where
+    are-here : AreHere plan all now here
+    are-here = record
+        { ordered = told.ordered; here = told.here now is.later is.up_to ∙ parts.here }
+
+    -- there are no events in between, and these stand there
+    pub are-next : AreNext plan all next now here
+    are-next = record {
+      none = λ t low high. told.here t low (omega (arith, high, is.up_to))
+          ∙ none-at t rest
+          (λ k other inside at. let late = is.until_event k other inside in absurd
+          (omega (arith, late, at, high)));
+      here = are-here;
+      fit = subst (All (Fits plan)) are-here.here
+          (All-filter (λ (event : Event). nat_eq event.at now) (Fits plan) all told.ordered.fit);
+      at = subst (All (λ event. event.at ≡ now)) are-here.here
+          (λ k other inside. eqb-true
+          (slice_index_or (events_at now all) k other).at now
+          (filter_passes (λ (event : Event). nat_eq event.at now) all k other inside));
+    }
+
+    -- and the later ones are those that are left
+    pub later-told : AreTold plan all (now + 1) until later
+    later-told = record {
+      ordered = told.ordered;
+      here = λ t low high. told.here t (let first = is.later in omega (arith, first, low)) high
+          ∙ parts.rest t (omega (arith, low));
+    }

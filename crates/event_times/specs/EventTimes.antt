@@ -1,9 +1,9 @@
 -- When the events of a plan stand, and which come next. This project's own.
-use Rattle.std.specs.Prelude.{◌≡◌, ◌≤◌, ◌<◌, ◌⊎◌, ℕ, suc, true, nat_eq, List, Option, Some, IfSome}
+use Rattle.std.specs.Prelude.{◌≡◌, ◌≤◌, ◌<◌, ◌⊎◌, ℕ, true, nat_eq, List, [], Option, Some, IfSome}
 use Rattle.std.specs.List.{All, list_any}
 use Rattle.sync_topo.specs.declared.event.Event.{Event}
 use Rattle.sync_topo.specs.Topology.{Topology}
-use Rattle.sync_topo.specs.Events.{IsEventList, Fits}
+use Rattle.sync_topo.specs.Events.{IsEventList, IsInOrder, Fits}
 use Rattle.net_rules.specs.Signals.{events_at}
 
 -- events stand in order from one millisecond up to another, which is included
@@ -30,11 +30,32 @@ pub record IsNextTime (next : ℕ) (rest : List Event) (due : Option ℕ) (until
   pub cause : (next ≡ 0) ⊎
       ((now ≡ until) ⊎ ((list_any (λ event. nat_eq event.at now) rest ≡ true) ⊎ (due ≡ Some now)))
 
--- the events at a millisecond, and the later ones
-pub record AreParted (plan : Topology) (now until : ℕ) (events told later : List Event) : Type 0
+-- of all events of a plan, these stand at a millisecond
+pub record AreHere (plan : Topology) (all : List Event) (t : ℕ) (told : List Event) : Type 0 where
+  pub ordered : IsEventList plan all
+  pub here : events_at t all ≡ told
+
+-- events stand in order from one millisecond up to another, which is included
+pub record AreBetween (from until : ℕ) (events : List Event) : Type 0 where
+  pub in_order : IsInOrder events
+  pub later : All (λ event. from ≤ event.at) events
+  pub up_to : All (λ event. event.at ≤ until) events
+
+-- a run on its way: the first millisecond that isn't passed, the events that are left, and the last
+-- millisecond
+pub record MomentsLeft : Type 0 where
+  pub next : ℕ
+  pub rest : List Event
+  pub until : ℕ
+
+-- of all events of a plan, those that are left are just those that are ahead
+abbrev pub AreAhead : Topology → List Event → MomentsLeft → Type 0
+AreAhead plan all left = AreTold plan all left.next left.until left.rest
+
+-- of all events of a plan, none stands from one millisecond up to another, and these stand at that one
+pub record AreNext (plan : Topology) (all : List Event) (next now : ℕ) (told : List Event) : Type 0
   where
-    pub here : events_at now events ≡ told
-    pub rest : (t : ℕ) → now < t → events_at t events ≡ events_at t later
-    pub within : AreWithin plan (suc now) until later
+    pub none : (t : ℕ) → next ≤ t → t < now → events_at t all ≡ []
+    pub here : AreHere plan all now told
     pub fit : All (Fits plan) told
     pub at : All (λ event. event.at ≡ now) told

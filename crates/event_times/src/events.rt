@@ -1,22 +1,20 @@
 //! Which events come next.
 
-ghost use Rattle.std.specs.Prelude.{◌≡◌, ◌≤◌, ◌<◌, ◌⊎◌, ℕ, List, IfSome, All, length, slice_index_or};
+ghost use Rattle.std.specs.Prelude.{◌≡◌, ◌≤◌, ◌<◌, ◌⊎◌, ℕ, IfSome, length, slice_index_or};
 ghost use Rattle.sync_topo.specs.declared.event.Event.{Event};
-ghost use Rattle.sync_topo.specs.Events.{IsEventList, IsInOrder};
+ghost use Rattle.sync_topo.specs.Events.{IsEventList};
 ghost use Rattle.sync_topo.specs.Topology.{Topology};
-ghost use Rattle.event_times.specs.EventTimes.{IsNextTime, AreParted, AreTold, AreWithin};
+ghost use Rattle.event_times.specs.EventTimes.{AreBetween, IsNextTime, AreTold, AreWithin};
+ghost use Rattle.event_times.specs.private.EventTimes.{AreParted};
 
 use sync_topo::Event;
 
 /// The next millisecond in which something happens: the first of all is 0, and a later one the least of
 /// the next event's, the due time and the end.
-///
-/// This project's own.
-pub fn next_time(next: u64, rest: &[Event], due: Option<u64>, until: u64) -> u64
+pub(crate) fn next_time(next: u64, rest: &[Event], due: Option<u64>, until: u64) -> u64
     requires later { next ≤ until }
     requires due { IfSome due (λ due. next ≤ due) }
-    requires events { All (λ event. next ≤ event.at) rest.now }
-    requires in_order { IsInOrder rest.now }
+    requires events { AreBetween next until rest.now }
     ensures { IsNextTime next rest.now due until result }
 {
     if next == 0 {
@@ -42,11 +40,9 @@ fn earlier(due: Option<u64>, until: u64) -> u64
 }
 
 /// The events at a millisecond, and the later ones.
-///
-/// This project's own.
-pub fn split_at_time(events: &[Event], now: u64) -> (&[Event], &[Event])
-    ensures { (plan : Topology) (until : ℕ) → AreWithin plan now until events.now →
-        AreParted plan now until events.now result.0.now result.1.now }
+pub(crate) fn split_at_time(events: &[Event], now: u64) -> (&[Event], &[Event])
+    ensures { (until : ℕ) → AreBetween now until events.now →
+        AreParted now until events.now result.0.now result.1.now }
 {
     events.split_at(count_at(events, now))
 }

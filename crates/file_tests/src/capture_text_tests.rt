@@ -20,7 +20,6 @@ fn captured_line_refusals_are_printed(rt: HostRuntime) -> Result<(), Fail> {
             CaptureErr::Row(20),
             "line 20: no row of three or seven fields",
         ),
-        (CaptureErr::NoMemory, "out of memory"),
     ] {
         assert!(rt; is_printed_as(rt.alloc(), error, text)?);
     }

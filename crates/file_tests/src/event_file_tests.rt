@@ -23,7 +23,6 @@ fn event_refusals_are_printed(rt: HostRuntime) -> Result<(), Fail> {
             EventErr::Apart(8),
             "row 8: apart from the other rows of its case",
         ),
-        (EventErr::NoMemory, "out of memory"),
     ] {
         assert!(rt; is_printed_as(rt.alloc(), error, text)?);
     }

@@ -44,7 +44,6 @@ fn capture_refusals_are_printed(rt: HostRuntime) -> Result<(), Fail> {
         (PcapErr::Header, "no header of a classic pcap file"),
         (PcapErr::Link, "the link type isn't 1, Ethernet"),
         (PcapErr::Record(7), "record 7 isn't whole"),
-        (PcapErr::NoMemory, "out of memory"),
     ] {
         assert!(rt; is_printed_as(rt.alloc(), error, text)?);
     }

@@ -31,7 +31,6 @@ fn plan_file_refusals_are_printed(rt: HostRuntime) -> Result<(), Fail> {
             PlanFileErr::Plan(PlanErr::Twice(LINK)),
             "link 2: a name stands twice",
         ),
-        (PlanFileErr::NoMemory, "out of memory"),
     ] {
         assert!(rt; is_printed_as(rt.alloc(), error, text)?);
     }

@@ -61,7 +61,6 @@ fn certificate_refusals_are_printed(rt: HostRuntime) -> Result<(), Fail> {
             "row 20: the line stands in an earlier row",
         ),
         (CertErr::Missing(LineId(2)), "line 2 has no row"),
-        (CertErr::NoMemory, "out of memory"),
     ] {
         assert!(rt; is_printed_as(rt.alloc(), error, text)?);
     }

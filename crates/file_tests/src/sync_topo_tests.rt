@@ -4,6 +4,7 @@ use plan_file::read_plan;
 use std::process::Abort;
 use std::test::Fail;
 use sync_ql::{NetOption, do_not_use};
+use sync_text::NoAnswer;
 use sync_topo::{Event, InputId, LineId, Part, Place, Plan, PlanErr, Section, Size, What};
 use test_makers::is_printed_as;
 
@@ -134,9 +135,11 @@ fn plan_refusals_are_printed(rt: HostRuntime) -> Result<(), Fail> {
             PlanErr::Name(HEAD),
             "head: a name breaks the rule for names",
         ),
-        (PlanErr::NoMemory, "out of memory"),
     ] {
         assert!(rt; is_printed_as(rt.alloc(), error, text)?);
+        assert!(rt; is_printed_as(rt.alloc(), NoAnswer::Refused(error), text)?);
     }
+    let short: NoAnswer<PlanErr> = NoAnswer::NoMemory;
+    assert!(rt; is_printed_as(rt.alloc(), short, "out of memory")?);
     Ok(())
 }

@@ -5,7 +5,9 @@ use Rattle.std.specs.Str.{bytes_eq}
 use Rattle.std.proofs.lemmas.Bool.{true≢false, lt-ltb, le-ltb}
 use Rattle.std.proofs.lemmas.List.{map-append, length-map}
 use Rattle.std.proofs.lemmas.Option.{same_Some, none-some}
-use Rattle.sync_text.specs.Gives.{UnlessNoMemory}
+use Rattle.sync_text.specs.declared.errors.NoAnswer.{NoAnswer}
+use Rattle.sync_text.specs.Gives.{IfRefusal, Refuses}
+use Rattle.sync_text.proofs.Failures.{refused-more}
 use Rattle.csv_records.proofs.FirstRefusals.{first_refusal-some, first_refusal-none}
 use Rattle.sync_topo.specs.Topology.{Topology}
 use Rattle.sync_topo.specs.Sizes.{event_limit}
@@ -15,7 +17,6 @@ use Rattle.event_file.specs.Rows.{Fields}
 use Rattle.event_file.specs.CaseRows.{case_in, case_before, is_apart}
 use Rattle.event_file.specs.CaseText.{names_of}
 use Rattle.event_file.proofs.CaseNames.{itself, differ, apart, case_before-more, names_of-more, names_of-named}
-use Rattle.event_file.proofs.CaseTaking.{unless-more}
 use Rattle.reach_rules.specs.declared.group.Group.{Group}
 use Rattle.reach_rules.specs.Protection.{is_among}
 use Rattle.group_file.specs.declared.error.GroupErr.{GroupErr}
@@ -24,7 +25,6 @@ use Rattle.group_file.specs.declared.kind.Kind.{Kind}
 use Rattle.group_file.specs.declared.kind.Kind.TheVariants.{Link, Source, Element}
 use Rattle.group_file.specs.declared.parts.PartsSoFar.{PartsSoFar}
 use Rattle.group_file.specs.declared.progress.GroupsSoFar.{GroupsSoFar}
-use Rattle.group_file.specs.Refusal.{is_no_memory}
 use Rattle.group_file.specs.Kinds.{kind_of, is_same_kind, part_of_name}
 use Rattle.group_file.specs.Rows.{three_of, part_in, parts_in, rows_of, row_refusal, refusal_at}
 use Rattle.group_file.specs.GroupText.{group_of, groups_in, unless_refused, groups_of_rows}
@@ -35,18 +35,6 @@ use Rattle.group_file.proofs.RowLaws.{rows_of-none, parts-here, groups-other, th
 never : (b : Bool) → (b && false) ≡ false
 never true = refl
 never false = refl
-
--- before any row
-pub AreGroupsTaken-none : (plan : Topology) (parts : PartsSoFar) → HasRoom plan parts
-    → AreGroupsTaken plan [] (record { rows = 0; names = []; whole = []; current = None; parts = parts })
-AreGroupsTaken-none plan parts room = record {
-  numbered = refl;
-  few = omega arith;
-  sound = λ place within. absurd (omega (arith, within));
-  all_names = refl;
-  room = room;
-  here = (refl, refl, refl);
-}
 
 -- the names so far are those of the rows so far
 names-are : (plan : Topology) (done : List Fields) (kept : GroupsSoFar) → AreGroupsTaken plan done kept → kept.names ≡ names_of done
@@ -177,13 +165,13 @@ module _ (plan : Topology) (done : List Fields) (row : Fields) (name kind part :
   name-broken other = rw (by_fields, le-ltb (event_limit plan) (length done + 1) within, other, numbered) refl
 
   module _ (is : is_name name ≡ true) where
-    pub apart-broken : (error : GroupErr) → UnlessNoMemory (is_no_memory error) ((is_apart done name ≡ true) × (error ≡ refusal.Apart (rows + 1)))
-        → UnlessNoMemory (is_no_memory error) (row_refusal plan done (length done + 1) row ≡ Some error)
+    pub apart-broken : (failed : NoAnswer GroupErr) → IfRefusal failed (λ error. (is_apart done name ≡ true) × (error ≡ refusal.Apart (rows + 1)))
+        → IfRefusal failed (λ error. row_refusal plan done (length done + 1) row ≡ Some error)
     unfolding row_refusal
-    apart-broken error stood =
+    apart-broken failed stood =
         let of_row : is_apart done name ≡ true → row_refusal plan done (length done + 1) row ≡ Some (refusal.Apart (rows + 1))
         = λ apart. rw (by_fields, le-ltb (event_limit plan) (length done + 1) within, is, apart, numbered) refl in
-        unless-more (is_no_memory error) (λ parts. of_row parts.0 ∙ ap Some (sym parts.1)) stood
+        refused-more failed (λ error parts. of_row parts.0 ∙ ap Some (sym parts.1)) stood
 
     module _ (together : is_apart done name ≡ false) where
       pub kind-broken : None ≡ kind_of kind → row_refusal plan done (length done + 1) row ≡ Some (refusal.Kind (rows + 1))
@@ -273,11 +261,11 @@ AreGroupsLeft-more plan rows row rest kept after left taken = record {
 }
 
 -- the first row that breaks a rule is the refusal of all
-pub groups_refused : (plan : Topology) (rows : List Fields) (row : Fields) (rest : List Fields) (kept : GroupsSoFar) (error : GroupErr)
+pub groups_refused : (plan : Topology) (rows : List Fields) (row : Fields) (rest : List Fields) (kept : GroupsSoFar) (failed : NoAnswer GroupErr)
     → AreGroupsLeft plan rows (row ∷ rest) kept
-    → ((done : List Fields) → AreGroupsTaken plan done kept → UnlessNoMemory (is_no_memory error) (row_refusal plan done (length done + 1) row ≡ Some error))
-    → UnlessNoMemory (is_no_memory error) (groups_of_rows plan rows ≡ Err error)
-groups_refused plan rows row rest kept error left broken = unless-more (is_no_memory error) answer (broken left.done left.taken)
+    → ((done : List Fields) → AreGroupsTaken plan done kept → IfRefusal failed (λ error. row_refusal plan done (length done + 1) row ≡ Some error))
+    → Refuses failed (groups_of_rows plan rows)
+groups_refused plan rows row rest kept failed left broken = refused-more failed answer (broken left.done left.taken)
   where
     within : length left.done < length rows
     within =
@@ -288,8 +276,8 @@ groups_refused plan rows row rest kept error left broken = unless-more (is_no_me
     sound place before =
         ap (λ list. refusal_at plan list place) left.parts ∙ refusal-before plan left.done (row ∷ rest) place before ∙ left.taken.sound place before
 
-    answer : row_refusal plan left.done (length left.done + 1) row ≡ Some error → groups_of_rows plan rows ≡ Err error
-    answer is =
+    answer : (error : GroupErr) → row_refusal plan left.done (length left.done + 1) row ≡ Some error → groups_of_rows plan rows ≡ Err error
+    answer error is =
         ap (λ found. unless_refused found (groups_in plan rows))
         (first_refusal-some (refusal_at plan rows) (length rows) (length left.done) error within
         (ap (λ list. refusal_at plan list (length left.done)) left.parts ∙ refusal-here plan left.done row rest ∙ is) sound)

@@ -1,9 +1,8 @@
 // Why a text gives no groups.
 
 ghost use Rattle.std.specs.Prelude.{◌≡◌};
-ghost use Rattle.group_file.specs.Refusal.{number_of};
+ghost use Rattle.group_file.specs.Refusal.{numbers_of};
 
-use sync_text::NoMemory;
 use thiserror::Error;
 
 /// The first rule that a text of groups breaks. Rows count from 1 after the header.
@@ -32,39 +31,24 @@ pub enum GroupErr {
     /// There are more rows than the plan may have: 100,000, or 5,000,000 where it is large.
     #[error("more rows than the plan may have")]
     Limit,
-    /// Out of memory.
-    #[error("out of memory")]
-    NoMemory,
 }
 
 impl GroupErr {
-    /// The number by which the refusal is printed: those of events and cases for what is the same, and
-    /// 53 for the kind.
+    /// The numbers by which the refusal is printed: its own, which is that of events and cases for what
+    /// is the same, and 53 for the kind, and then the row that is refused. `None` where it is none.
     ///
-    /// `None` when out of memory, which refuses no text.
     /// This project's own.
-    pub fn number(self) -> Option<u8>
-        ensures { result ≡ number_of self }
+    pub fn numbers(self) -> (u8, Option<u64>)
+        ensures { result ≡ numbers_of self }
     {
         match self {
-            GroupErr::Header => Some(26),
-            GroupErr::Fields(_) => Some(27),
-            GroupErr::Part(_) => Some(31),
-            GroupErr::Limit => Some(33),
-            GroupErr::Name(_) => Some(51),
-            GroupErr::Apart(_) => Some(52),
-            GroupErr::Kind(_) => Some(53),
-            GroupErr::NoMemory => None,
+            GroupErr::Header => (26, None),
+            GroupErr::Fields(row) => (27, Some(row)),
+            GroupErr::Part(row) => (31, Some(row)),
+            GroupErr::Limit => (33, None),
+            GroupErr::Name(row) => (51, Some(row)),
+            GroupErr::Apart(row) => (52, Some(row)),
+            GroupErr::Kind(row) => (53, Some(row)),
         }
-    }
-}
-
-impl From<NoMemory> for GroupErr {
-    ghost use Rattle.group_file.specs.declared.error.GroupErr.TheVariants as refusal;
-
-    ghost from_gives = { λ _ e. e ≡ refusal.NoMemory };
-
-    fn from(_: NoMemory) -> GroupErr {
-        GroupErr::NoMemory
     }
 }

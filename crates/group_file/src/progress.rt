@@ -1,13 +1,12 @@
 // The groups of the rows so far.
 
-ghost use Rattle.std.specs.Prelude.{◌≡◌, ◌≤◌, ◌<◌, ◌+◌, ◌^◌, [], ◌∷◌, ◌++◌, true, false, List, None, Some, IfOk, IfErr, OnOk, length, option_map};
-ghost use Rattle.sync_text.specs.Gives.{UnlessNoMemory};
+ghost use Rattle.std.specs.Prelude.{◌≡◌, ◌≤◌, ◌<◌, ◌+◌, ◌^◌, [], ◌∷◌, ◌++◌, true, false, List, None, Some, IfOk, OnOk, length, option_map};
+ghost use Rattle.sync_text.specs.Gives.{IfRefused};
 ghost use Rattle.sync_topo.specs.Names.{is_name, is_named};
 ghost use Rattle.sync_topo.specs.Sizes.{event_limit};
 ghost use Rattle.sync_topo.specs.Topology.{Topology};
 ghost use Rattle.event_file.specs.Rows.{Fields};
 ghost use Rattle.event_file.specs.CaseRows.{is_apart};
-ghost use Rattle.group_file.specs.Refusal.{is_no_memory};
 ghost use Rattle.group_file.specs.Rows.{three_of, row_refusal};
 ghost use Rattle.group_file.specs.private.PartsTaken.{HasRoom};
 ghost use Rattle.group_file.specs.private.GroupsTaken.{with_current, AreSorted, AreGroupsTaken, HasBegun};
@@ -18,7 +17,7 @@ use crate::parts::PartsSoFar;
 use csv_records::Record;
 use reach_rules::Group;
 use std::alloc::Global;
-use sync_text::{NoMemory, Rows, Text};
+use sync_text::{NoAnswer, NoMemory, Rows, Text};
 use sync_topo::{Names, Plan, is_name};
 
 /// What the rows so far gave.
@@ -56,38 +55,37 @@ impl GroupsSoFar {
         alloc: Global,
         plan: &Plan,
         row: &Record,
-    ) -> Result<(), GroupErr>
+    ) -> Result<(), NoAnswer<GroupErr>>
         requires few { self.old.rows ≤ event_limit plan.now }
         requires room { HasRoom plan.now self.old.parts }
         ensures taken { (done : List Fields) → AreGroupsTaken plan.now done self.old →
             OnOk result (AreGroupsTaken plan.now (done ++ row.now ∷ []) self.new) }
         ensures refused { (done : List Fields) → AreGroupsTaken plan.now done self.old →
-            IfErr result (λ error. UnlessNoMemory (is_no_memory error)
-            (row_refusal plan.now done (length done + 1) row.now ≡ Some error)) }
+            IfRefused result (λ error. row_refusal plan.now done (length done + 1) row.now ≡ Some error) }
     {
         let limit = plan.event_limit() as u64;
         let number = self.rows + 1;
         if limit < number {
-            return Err(GroupErr::Limit);
+            return Err(NoAnswer::Refused(GroupErr::Limit));
         }
         let Some((name, kind, part)) = three_of(row) else {
-            return Err(GroupErr::Fields(number));
+            return Err(NoAnswer::Refused(GroupErr::Fields(number)));
         };
         if !is_name(name) {
-            return Err(GroupErr::Name(number));
+            return Err(NoAnswer::Refused(GroupErr::Name(number)));
         }
         match self.come_to(alloc, number, name) {
             Ok(()) => {}
             Err(error) => return Err(error),
         }
         let Some(kind) = Kind::of(kind) else {
-            return Err(GroupErr::Kind(number));
+            return Err(NoAnswer::Refused(GroupErr::Kind(number)));
         };
         let Some(part) = kind.part_of_name(plan, part) else {
-            return Err(GroupErr::Part(number));
+            return Err(NoAnswer::Refused(GroupErr::Part(number)));
         };
         if self.parts.has(plan, kind, part) {
-            return Err(GroupErr::Part(number));
+            return Err(NoAnswer::Refused(GroupErr::Part(number)));
         }
         self.parts.put(plan, kind, part);
         self.rows = number;
@@ -95,7 +93,7 @@ impl GroupsSoFar {
     }
 
     /// Comes to the group of the row of this number, which is that of the row before it or a new one.
-    fn come_to(&mut self, alloc: Global, number: u64, name: &[u8]) -> Result<(), GroupErr>
+    fn come_to(&mut self, alloc: Global, number: u64, name: &[u8]) -> Result<(), NoAnswer<GroupErr>>
         requires { is_name name.now ≡ true }
         ensures room { (plan : Topology) → HasRoom plan self.old.parts →
             OnOk result (HasRoom plan self.new.parts) }
@@ -104,12 +102,11 @@ impl GroupsSoFar {
         ensures sorted { (plan : Topology) (done : List Fields) →
             AreGroupsTaken plan done self.old → OnOk result (AreSorted plan done name.now self.new) }
         ensures apart { (plan : Topology) (done : List Fields) → AreGroupsTaken plan done self.old →
-            IfErr result (λ error. UnlessNoMemory (is_no_memory error)
-            ((is_apart done name.now ≡ true) × (error ≡ GroupErr.Apart number))) }
+            IfRefused result (λ error. (is_apart done name.now ≡ true) × (error ≡ GroupErr.Apart number)) }
     {
         match self.names.place_of(name) {
             Some(place) if place == self.whole.as_slice().len() => Ok(()),
-            Some(_) => Err(GroupErr::Apart(number)),
+            Some(_) => Err(NoAnswer::Refused(GroupErr::Apart(number))),
             None => {
                 self.begin(alloc, name)?;
                 Ok(())

@@ -2,14 +2,14 @@
 
 ghost use Rattle.std.specs.Prelude.{◌≡◌, false, [], ◌∷◌};
 ghost use Rattle.group_file.specs.GroupText.{groups_of, groups_of_rows, is_header};
-ghost use Rattle.group_file.specs.Refusal.{Gives};
+ghost use Rattle.sync_text.specs.Gives.{Gives};
 
 use crate::error::GroupErr;
 use crate::progress::{GroupsSoFar, three_of};
 use csv_records::{Record, Records};
 use reach_rules::Group;
 use std::alloc::Global;
-use sync_text::Rows;
+use sync_text::{NoAnswer, Rows};
 use sync_topo::Plan;
 
 /// The groups of a text over a plan, in the order in which they stand.
@@ -20,12 +20,16 @@ use sync_topo::Plan;
 /// broken rule: `Header`, then for each row in order `Limit` at row 100,001, or at row 5,000,001 where
 /// the plan is large, `Fields`, `Name`, `Apart`, `Kind` or `Part`. Rows are read one after another, so a
 /// text that is wrong at its start is refused in little memory. This project's own.
-pub fn read_groups(alloc: Global, plan: &Plan, bytes: &[u8]) -> Result<Rows<Group>, GroupErr>
+pub fn read_groups(
+    alloc: Global,
+    plan: &Plan,
+    bytes: &[u8],
+) -> Result<Rows<Group>, NoAnswer<GroupErr>>
     ensures exact { Gives result (groups_of plan.now bytes.now) }
 {
     let mut records = Records::of(alloc, bytes);
     if !records.advance()? || !is_header(records.taken()) {
-        return Err(GroupErr::Header);
+        return Err(NoAnswer::Refused(GroupErr::Header));
     }
     take_rows(alloc, plan, &mut records)
 }
@@ -48,7 +52,11 @@ fn are_headings(group: &[u8], kind: &[u8], part: &[u8]) -> bool
 }
 
 /// The groups of all rows that are left.
-fn take_rows(alloc: Global, plan: &Plan, records: &mut Records<'_>) -> Result<Rows<Group>, GroupErr>
+fn take_rows(
+    alloc: Global,
+    plan: &Plan,
+    records: &mut Records<'_>,
+) -> Result<Rows<Group>, NoAnswer<GroupErr>>
     requires { records.old.spent ≡ false }
     ensures { Gives result (groups_of_rows plan.now records.old.left) }
 {

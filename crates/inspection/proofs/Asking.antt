@@ -1,8 +1,7 @@
 -- Which command an element gets of what happens.
-use Rattle.std.proofs.Common.{◌≡◌, ◌≢◌, ◌<◌, ℕ, length, Option, None, Some, IfSome, refl, ap, sym, subst, ◌∙◌}
+use Rattle.std.proofs.Common.{◌≡◌, ◌≢◌, ◌<◌, ℕ, Option, None, Some, refl, ap, sym, subst, ◌∙◌}
 use Rattle.std.specs.Prelude.{if◌then◌else◌, option_map}
 use Rattle.std.proofs.lemmas.Bool.{eq-eqb, ne_eqb}
-use Rattle.std.proofs.lemmas.List.Quantifiers.{position-Some}
 use Rattle.std.proofs.lemmas.Option.{same_Some, none-some}
 use Rattle.sync_ql.specs.declared.rules.Cmd.{Cmd}
 use Rattle.sync_ql.specs.declared.rules.Cmd.TheVariants as command
@@ -11,14 +10,14 @@ use Rattle.sync_topo.specs.declared.input.InputId.{InputId}
 use Rattle.sync_topo.specs.declared.event.What.{What}
 use Rattle.sync_topo.specs.declared.event.What.TheVariants as what
 use Rattle.sync_topo.specs.Topology.{Topology}
-use Rattle.sync_topo.specs.Lines.{inputs_of, element_of, place_at, is_same_input}
+use Rattle.sync_topo.specs.Lines.{element_of, place_at}
 use Rattle.net_rules.specs.Signals.{command_to}
 use Rattle.net_words.proofs.PlaceLemmas.{no-place-there}
 use Rattle.inspection.specs.declared.asked.Asked.{Asked}
 use Rattle.inspection.specs.declared.asked.Order.{Order}
 use Rattle.inspection.specs.declared.asked.Order.TheVariants.{Lockout, Unlock, Forced, Manual, Clear}
 use Rattle.inspection.specs.Commands.{asked_of, on_input}
-use Rattle.inspection.specs.private.Tables.{order_at, command_on, command_by, IsAskedIn}
+use Rattle.inspection.specs.private.Tables.{order_at, command_by}
 
 -- a command on an input is made by its place
 same-order : (order : Order) (make : ℕ → Cmd) → ((i : ℕ) → make i ≡ order_at order i) → (o : Option ℕ) → option_map make o ≡ option_map (order_at order) o
@@ -88,16 +87,3 @@ names Unlock i n within = within
 names Forced i n within = within
 names Manual i n within = within
 names Clear i n within = tt
-
-pub command-names : (plan : Topology) (asked : Asked) → IsAskedIn plan asked → IfSome (command_by plan asked) (NamesInput (length (inputs_of plan asked.element)))
-command-names plan asked is = by asked.input is.of_element
-  where
-    at : (input : InputId) (o : Option ℕ) → place_at plan (element_of plan input) input ≡ o → IfSome (option_map (order_at asked.order) o) (NamesInput (length (inputs_of plan (element_of plan input))))
-    at input None found = tt
-    at input (Some i) found = names asked.order i (length (inputs_of plan (element_of plan input))) (position-Some (is_same_input input) (inputs_of plan (element_of plan input)) i input found).0
-
-    by : (o : Option InputId) → IfSome o (λ input. element_of plan input ≡ asked.element) → IfSome (command_on plan asked.order o) (NamesInput (length (inputs_of plan asked.element)))
-    by None of = tt
-    by (Some input) of =
-        subst (λ e. IfSome (command_on plan asked.order (Some input)) (NamesInput (length (inputs_of plan e)))) of
-        (at input (place_at plan (element_of plan input) input) refl)

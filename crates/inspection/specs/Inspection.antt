@@ -33,15 +33,15 @@ element_after plan element settings past = record {
   state = state_at settings past;
 }
 
--- level,state
+-- level,state at the end of a row
 abbrev pub clock_text : Level → ClockState → List ℕ
-clock_text level state = name_of level ++ codes "," ++ state_word state
+clock_text level state = name_of level ++ codes "," ++ state_word state ++ codes "\n"
 
 -- an element: element,mode,switched,taken,level,state
 abbrev pub element_row : Topology → ℕ → InspectedElement → List ℕ
 element_row plan element it =
     choice_text plan element it.mode it.switched ++ codes "," ++ taken_name plan it.taken ++ codes ","
-    ++ clock_text it.level it.state ++ codes "\n"
+    ++ clock_text it.level it.state
 
 -- the name of a level, or that there is none
 abbrev pub level_word : Option Level → List ℕ

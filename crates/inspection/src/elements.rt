@@ -11,7 +11,7 @@ ghost use Rattle.sync_net.specs.Standing.{StandsFor};
 ghost use Rattle.inspection.specs.Inspection.{element_after, element_row, elements_part, clock_text};
 
 use net_words::taken_of;
-use shown_words::{put_choice, put_taken, state_word};
+use shown_words::{put_choice, put_taken, state_column};
 use std::alloc::Global;
 use sync_element::Element;
 use sync_net::Net;
@@ -103,15 +103,13 @@ fn put_row(
     text.put(b",")?;
     put_taken(alloc, text, plan, it.taken)?;
     text.put(b",")?;
-    put_clock(text, it.level, it.state)?;
-    text.put(b"\n")
+    put_clock(text, it.level, it.state)
 }
 
-/// Puts the level and what the clock follows.
+/// Puts the level and what the clock follows, which ends the row.
 fn put_clock(text: &mut Text, level: Level, state: ClockState) -> Result<(), NoMemory>
     ensures put { OnOk result (text.new ≡ text.old ++ clock_text level state) }
 {
     text.put(name_of(level).as_bytes())?;
-    text.put(b",")?;
-    text.put(state_word(state))
+    text.put(state_column(state))
 }

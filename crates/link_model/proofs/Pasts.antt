@@ -5,11 +5,9 @@ use Rattle.std.proofs.lemmas.List.{append-nil}
 use Rattle.sync_text.specs.Each.{Each}
 use Rattle.sync_ql.proofs.SameMoments.{same_level}
 use Rattle.sync_text.proofs.Each.{Each-map, Each-append}
-use Rattle.sync_ql.specs.declared.levels.NetOption.{NetOption}
-use Rattle.sync_ql.specs.declared.levels.NetOption.TheVariants.{I, II}
 use Rattle.sync_ql.specs.declared.levels.Level.{Level}
-use Rattle.sync_ql.specs.Messages.{LineMoment, Message, said_in, said, is_same_option, is_same_level, is_news, is_sent, was_up, came, delivered, message_in, news_since_down, unchanged, after_unchanged, second}
-use Rattle.link_model.proofs.Times.{within, equal, is_within}
+use Rattle.sync_ql.specs.Messages.{LineMoment, Message, said_in, said, is_news, is_sent, was_up, came, delivered, message_in, news_since_down, unchanged, after_unchanged, second}
+use Rattle.link_model.proofs.Times.{within, is_within}
 
 -- milliseconds in which nothing is told
 pub length-after : (j : ℕ) (past : List LineMoment) → length (after_unchanged j past) ≡ j + length past

@@ -23,9 +23,6 @@ next-is turn n low high = omega (arith, low, high)
 pub next-low : (turn : ℕ) → 4 * next_of turn ≤ turn + 3
 next-low turn = omega arith
 
-pub next-high : (turn : ℕ) → turn ≤ 4 * next_of turn
-next-high turn = omega arith
-
 -- what is taken in
 abbrev pub taken : ℕ → ℕ → WordsKept → WordsKept
 taken d now k = taken_in d now k.arrived k.on_way

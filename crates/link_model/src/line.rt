@@ -1,4 +1,4 @@
-ghost use Rattle.std.specs.Prelude.{◌≡◌, ◌≤◌, ◌<◌, ◌+◌, ◌*◌, [], ℕ, suc, true, ◌&&◌, not, List, Option, Some, None, All, IfSome, IfOk, OnOk, OnErr, length, map, ◌⊎◌};
+ghost use Rattle.std.specs.Prelude.{◌≡◌, ◌≤◌, ◌<◌, ◌+◌, ◌*◌, [], ℕ, suc, true, ◌&&◌, not, List, Some, None, All, IfSome, IfOk, OnOk, OnErr, length, map, ◌⊎◌};
 ghost use Rattle.sync_ql.specs.declared.levels.NetOption.{NetOption};
 ghost use Rattle.sync_ql.specs.Told.{IsOfOption};
 ghost use Rattle.sync_ql.specs.Messages.{LineMoment, said, came, heard_at, delivered, on_way_at, unchanged, after_unchanged, line_until, hearing_time, IsLineDue, is_same_level};

@@ -1,6 +1,6 @@
 //! The elements of a plan, which were told nothing.
 
-ghost use Rattle.std.specs.Prelude.{◌≡◌, ◌<◌, ℕ, List, IfOk, length, map};
+ghost use Rattle.std.specs.Prelude.{◌≡◌, ◌<◌, ℕ, IfOk, length, map};
 ghost use Rattle.sync_ql.specs.Told.{IsOfOption};
 ghost use Rattle.sync_topo.specs.Lines.{inputs_of, IsInput};
 ghost use Rattle.net_words.specs.NewElements.{AreEach, IsNewElement, one_level, setting_of};

@@ -1,3 +1,4 @@
+pub mod HalfLemmas
 pub mod LineCuts
 pub mod TopicLemmas
 pub mod Cuts

@@ -85,11 +85,6 @@ pub octets_read : (n : ℕ) (option : NetOption) (line : LineId) (given : Result
     → IsPut given is out → is ≡ true → frame_said n option line (reading_of out) ≡ octets_said n option line given
 octets_read n option line given is out put done = sym (octets_put n option line given is out put done)
 
-pub none_read : (n : ℕ) (option : NetOption) (line : LineId) (given : Result (List ℕ) FromHexError) (is : Bool) (out : List ℕ)
-    → IsPut given is out → is ≡ false → Err (refusal.Value n) ≡ octets_said n option line given
-none_read n option line (Ok octets) is out put none = cc
-none_read n option line (Err error) is out put none = refl
-
 -- a piece goes on behind its first part, or ends there
 pub piece_more : (piece front : List ℕ) (others : List (List ℕ)) → slice_split (λ byte. byte == 10) piece ≡ front ∷ others
     → (more : List ℕ) × (piece ≡ front ++ more)

@@ -1,10 +1,13 @@
 -- What was read, and what is refused, where more bytes come.
-use Rattle.std.proofs.Common.{◌≡◌, ◌≤◌, ◌<◌, ℕ, ◌+◌, true, false, List, [], ◌∷◌, ◌++◌, length, Option, Some, None, refl, ap, sym, subst, ◌∙◌, ◌⊎◌, inl, inr, arith, append_assoc, append-nil}
+use Rattle.std.proofs.Common.{◌≡◌, ◌≤◌, ◌<◌, ℕ, ◌+◌, true, false, List, [], ◌∷◌, ◌++◌, length, Option, Some, None, refl, ap, sym, subst, ◌∙◌, ◌⊎◌, arith, append_assoc, append-nil}
 use Rattle.std.specs.Prelude.{Result, Ok, Err, IfSome}
 use Rattle.std.specs.List.{filter_map}
 use Rattle.std.proofs.lemmas.Bool.{lt-ltb}
 use Rattle.std.proofs.lemmas.List.{length-append}
 use Rattle.sync_topo.specs.Topology.{Topology}
+use Rattle.sync_text.specs.declared.errors.NoAnswer.{NoAnswer}
+use Rattle.sync_text.specs.Gives.{IfRefusal}
+use Rattle.sync_text.proofs.Failures.{refused-more}
 use Rattle.node_file.specs.declared.error.NodeErr.{NodeErr}
 use Rattle.node_file.specs.declared.error.NodeErr.TheVariants as refusal
 use Rattle.node_file.specs.declared.row.NodeRow.{NodeRow}
@@ -173,12 +176,11 @@ last_refused s bytes rows error was broken =
     ap (rows_of_lines s.plan s.element) (all_lines bytes) ∙ rows_refused s.plan s.element (lines_ended bytes) (line_begun bytes) [] error was.sound here
 
 -- a refusal of the front of a piece is one of the piece
-pub refused_piece : (plan : Topology) (element : ℕ) (lines : LinesRead) (front more piece : List ℕ) (error : NodeErr) → piece ≡ front ++ more
-    → (error ≡ refusal.NoMemory) ⊎ ((bytes : List ℕ) (rows : List NodeRow) → HaveRead lines bytes rows → AreRefused plan element (bytes ++ front) error)
-    → (error ≡ refusal.NoMemory) ⊎ ((bytes : List ℕ) (rows : List NodeRow) → HaveRead lines bytes rows → AreRefused plan element (bytes ++ piece) error)
-refused_piece plan element lines front more piece error is (inl wants) = inl wants
-refused_piece plan element lines front more piece error is (inr refused) =
-    inr (λ bytes rows was.
+pub refused_piece : (plan : Topology) (element : ℕ) (lines : LinesRead) (front more piece : List ℕ) (failed : NoAnswer NodeErr) → piece ≡ front ++ more
+    → IfRefusal failed (λ error. (bytes : List ℕ) (rows : List NodeRow) → HaveRead lines bytes rows → AreRefused plan element (bytes ++ front) error)
+    → IfRefusal failed (λ error. (bytes : List ℕ) (rows : List NodeRow) → HaveRead lines bytes rows → AreRefused plan element (bytes ++ piece) error)
+refused_piece plan element lines front more piece failed is =
+    refused-more failed (λ error refused bytes rows was.
     subst (λ whole. AreRefused plan element whole error) (append_assoc bytes front more ∙ ap (λ p. bytes ++ p) (sym is))
     (refused_more plan element (bytes ++ front) more error (refused bytes rows was)))
 

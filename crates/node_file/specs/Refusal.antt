@@ -1,15 +1,15 @@
 -- What a refusal of a file of one element is printed with.
 use Rattle.std.specs.Prelude.{ℕ, Option, Some, None}
+use Rattle.esmc_frame.specs.Numbers.{number_of}
 use Rattle.node_file.specs.declared.error.NodeErr.{NodeErr}
-use Rattle.node_file.specs.declared.error.NodeErr.TheVariants.{Fields, Time, Order, What, Target, Value, Frame, NoMemory}
+use Rattle.node_file.specs.declared.error.NodeErr.TheVariants.{Fields, Time, Order, What, Target, Value, Frame}
 
--- the number by which a refusal is printed; out of memory has none. This project's own
-abbrev pub number_of : NodeErr → Option ℕ
-number_of (Fields n) = Some 43
-number_of (Time n) = Some 44
-number_of (Order n) = Some 45
-number_of (What n) = Some 46
-number_of (Target n) = Some 47
-number_of (Value n) = Some 48
-number_of (Frame n error) = Some 49
-number_of NoMemory = None
+-- the numbers by which a refusal is printed: its own, the line, and that of what is wrong with a frame. This project's own
+abbrev pub numbers_of : NodeErr → ℕ × ℕ × Option ℕ
+numbers_of (Fields n) = (43, n, None)
+numbers_of (Time n) = (44, n, None)
+numbers_of (Order n) = (45, n, None)
+numbers_of (What n) = (46, n, None)
+numbers_of (Target n) = (47, n, None)
+numbers_of (Value n) = (48, n, None)
+numbers_of (Frame n error) = (49, n, Some (number_of error))

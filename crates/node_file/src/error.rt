@@ -1,10 +1,9 @@
 // Why a file gives no rows.
 
 ghost use Rattle.std.specs.Prelude.{◌≡◌};
-ghost use Rattle.node_file.specs.Refusal.{number_of};
+ghost use Rattle.node_file.specs.Refusal.{numbers_of};
 
 use esmc_frame::FrameErr;
-use sync_text::NoMemory;
 use thiserror::Error;
 
 /// The first rule for a file of one element that its bytes break. Lines count from 1.
@@ -33,38 +32,24 @@ pub enum NodeErr {
     /// The octets of the fourth field are no ESMC frame.
     #[error("line {0}: {1}")]
     Frame(u64, FrameErr),
-    /// Out of memory.
-    #[error("out of memory")]
-    NoMemory,
 }
 
 impl NodeErr {
-    /// The number by which the refusal is printed, from 43 to 49.
+    /// The numbers by which the refusal is printed: its own, from 43 to 49, then the line that is
+    /// refused, and last that of what is wrong with a frame. `None` where that is none.
     ///
-    /// `None` when out of memory, which refuses no file.
     /// This project's own.
-    pub fn number(self) -> Option<u8>
-        ensures { result ≡ number_of self }
+    pub fn numbers(self) -> (u8, u64, Option<u8>)
+        ensures { result ≡ numbers_of self }
     {
         match self {
-            NodeErr::Fields(_) => Some(43),
-            NodeErr::Time(_) => Some(44),
-            NodeErr::Order(_) => Some(45),
-            NodeErr::What(_) => Some(46),
-            NodeErr::Target(_) => Some(47),
-            NodeErr::Value(_) => Some(48),
-            NodeErr::Frame(_, _) => Some(49),
-            NodeErr::NoMemory => None,
+            NodeErr::Fields(line) => (43, line, None),
+            NodeErr::Time(line) => (44, line, None),
+            NodeErr::Order(line) => (45, line, None),
+            NodeErr::What(line) => (46, line, None),
+            NodeErr::Target(line) => (47, line, None),
+            NodeErr::Value(line) => (48, line, None),
+            NodeErr::Frame(line, error) => (49, line, Some(error.number())),
         }
-    }
-}
-
-impl From<NoMemory> for NodeErr {
-    ghost use Rattle.node_file.specs.declared.error.NodeErr.TheVariants as refusal;
-
-    ghost from_gives = { λ _ e. e ≡ refusal.NoMemory };
-
-    fn from(_: NoMemory) -> NodeErr {
-        NodeErr::NoMemory
     }
 }

@@ -1,7 +1,8 @@
 //! The lines of a file that comes in pieces.
 
-ghost use Rattle.std.specs.Prelude.{◌≡◌, ◌≤◌, ◌<◌, ◌+◌, ◌++◌, ◌⊎◌, ◌==◌, ◌^◌, ◌∷◌, [], ℕ, List, Ok, Err, IfOk, IfErr, IfSome, OnOk, MatchOption, None, Some, IsTrue, true, false, length};
+ghost use Rattle.std.specs.Prelude.{◌≡◌, ◌≤◌, ◌<◌, ◌+◌, ◌++◌, ◌==◌, ◌^◌, ◌∷◌, [], ℕ, List, Ok, Err, IfOk, IfErr, IfSome, OnOk, MatchOption, None, Some, IsTrue, true, false, length};
 ghost use Rattle.std.specs.List.{slice_split};
+ghost use Rattle.sync_text.specs.Gives.{IfRefused};
 ghost use Rattle.node_file.specs.declared.row.NodeRow.{NodeRow};
 ghost use Rattle.node_file.specs.NodeRow.{IsRowOf};
 ghost use Rattle.node_file.specs.NodeFile.{line_limit, is_blank, time_in, line_refusal, row_in, rows_of};
@@ -13,7 +14,7 @@ use crate::row::NodeRow;
 use capture_text::cut_at;
 use std::alloc::Global;
 use std::marker::Model;
-use sync_text::NoMemory;
+use sync_text::{NoAnswer, NoMemory};
 use sync_topo::Plan;
 
 /// The lines of a file of one element, whose bytes come in pieces.
@@ -72,7 +73,7 @@ impl<'a> NodeLines<'a> {
     pub fn take<'b>(
         &mut self,
         piece: &'b [u8],
-    ) -> Result<(Option<NodeRow>, Option<&'b [u8]>), NodeErr>
+    ) -> Result<(Option<NodeRow>, Option<&'b [u8]>), NoAnswer<NodeErr>>
         requires room { self.old.ended + length piece.now < 2 ^ 63 }
         ensures plan { self.new.plan ≡ self.old.plan }
         ensures element { self.new.element ≡ self.old.element }
@@ -87,8 +88,8 @@ impl<'a> NodeLines<'a> {
         ensures later { IfOk result (λ taken. IfSome taken.0 (λ row. self.old.before ≤ row.at)) }
         ensures before { IfOk result (λ taken. self.new.before ≡ time_after self.old.before taken.0) }
         ensures shorter { IfOk result (λ taken. IfSome taken.1 (λ rest. length rest.now < length piece.now)) }
-        ensures refused { IfErr result (λ error. (error ≡ NodeErr.NoMemory) ⊎ ((bytes : List ℕ) (rows : List NodeRow) →
-            HaveRead self.old bytes rows → AreRefused self.old.plan self.old.element (bytes ++ piece.now) error)) }
+        ensures refused { IfRefused result (λ error. (bytes : List ℕ) (rows : List NodeRow) →
+            HaveRead self.old bytes rows → AreRefused self.old.plan self.old.element (bytes ++ piece.now) error) }
     {
         let (front, rest) = cut_at(piece, b'\n');
         if let Err(error) = self.put(front) {
@@ -99,7 +100,7 @@ impl<'a> NodeLines<'a> {
         };
         match self.end() {
             Ok(row) => Ok((row, Some(rest))),
-            Err(error) => Err(error),
+            Err(refused) => Err(NoAnswer::Refused(refused)),
         }
     }
 
@@ -145,7 +146,7 @@ impl<'a> NodeLines<'a> {
     }
 
     /// Puts bytes without a line feed behind the line that has begun.
-    fn put(&mut self, front: &[u8]) -> Result<(), NodeErr>
+    fn put(&mut self, front: &[u8]) -> Result<(), NoAnswer<NodeErr>>
         requires room { self.old.ended + 1 < 2 ^ 64 }
         requires no_end { slice_split (λ byte. byte == 10) front.now ≡ front.now ∷ [] }
         ensures plan { self.new.plan ≡ self.old.plan }
@@ -154,15 +155,15 @@ impl<'a> NodeLines<'a> {
         ensures before { self.new.before ≡ self.old.before }
         ensures read { OnOk result ((bytes : List ℕ) (rows : List NodeRow) → HaveRead self.old bytes rows →
             HaveRead self.new (bytes ++ front.now) rows) }
-        ensures refused { IfErr result (λ error. (error ≡ NodeErr.NoMemory) ⊎ ((bytes : List ℕ) (rows : List NodeRow) →
-            HaveRead self.old bytes rows → AreRefused self.old.plan self.old.element (bytes ++ front.now) error)) }
+        ensures refused { IfRefused result (λ error. (bytes : List ℕ) (rows : List NodeRow) →
+            HaveRead self.old bytes rows → AreRefused self.old.plan self.old.element (bytes ++ front.now) error) }
     {
         if !self.has_room(front) {
-            return Err(NodeErr::Fields(self.ended + 1));
+            return Err(NoAnswer::Refused(NodeErr::Fields(self.ended + 1)));
         }
         match self.go_on(front) {
             Ok(()) => Ok(()),
-            Err(NoMemory) => Err(NodeErr::NoMemory),
+            Err(NoMemory) => Err(NoAnswer::NoMemory),
         }
     }
 

@@ -1,12 +1,9 @@
 -- A run before its first millisecond.
-use Rattle.std.proofs.Common.{◌≡◌, ◌≤◌, ℕ, true, List, [], ◌∷◌, map, Option, None, Some, IfSome, slice_get, refl, ap, sym, subst, ◌∙◌, arith}
+use Rattle.std.proofs.Common.{◌≡◌, ◌≤◌, ℕ, true, List, [], ◌∷◌, map, Some, IfSome, refl, ap, sym, subst, ◌∙◌, arith}
 use Rattle.std.specs.Prelude.{unwrap_or}
-use Rattle.std.specs.Option.{option_map_or}
 use Rattle.sync_text.specs.Each.{Each}
 use Rattle.node_rules.proofs.OptionLaws.{planned-option}
 use Rattle.sync_text.proofs.Each.{Each-any, Each-made}
-use Rattle.sync_ql.specs.Level.{do_not_use_of}
-use Rattle.sync_ql.proofs.DoNotUse.{do_not_use-option}
 use Rattle.sync_element.specs.ElementState.{ElementState}
 use Rattle.sync_element.proofs.ElementSteps.{stands-new}
 use Rattle.sync_topo.specs.declared.source.Source as sources

@@ -6,10 +6,8 @@ use Rattle.std.proofs.lemmas.Bool.{eq-eqb}
 use Rattle.sync_text.proofs.Each.{Each-map}
 use Rattle.sync_text.specs.Each.{Each}
 use Rattle.sync_ql.proofs.SameMoments.{same_option}
-use Rattle.sync_ql.specs.declared.levels.NetOption.{NetOption}
-use Rattle.sync_ql.specs.declared.levels.NetOption.TheVariants.{I, II}
 use Rattle.sync_ql.specs.declared.levels.Level.{Level}
-use Rattle.sync_ql.specs.Messages.{second, is_same_option, is_same_level}
+use Rattle.sync_ql.specs.Messages.{second, is_same_level}
 use Rattle.sync_element.specs.ElementState.{IsInTime}
 use Rattle.sync_topo.specs.declared.input.LineId.{LineId}
 use Rattle.sync_topo.specs.declared.input.InputId.{InputId}

@@ -1,9 +1,8 @@
 -- The levels that are kept are of the plan's option, and the lines are lines of the plan.
-use Rattle.std.proofs.Common.{◌≡◌, ◌<◌, ◌-◌, ℕ, suc, Bool, true, false, List, [], ◌∷◌, map, Option, None, Some, IfSome, refl, sym, subst, arith}
+use Rattle.std.proofs.Common.{◌≡◌, ◌<◌, ◌-◌, ℕ, Bool, true, false, List, [], ◌∷◌, map, Option, None, Some, IfSome, refl, sym, subst, arith}
 use Rattle.std.specs.Prelude.{nat_lt, nat_eq, ◌==◌, if◌then◌else◌}
 use Rattle.std.specs.List.{All, cons_option, range_with_len}
 use Rattle.std.specs.Option.{option_or}
-use Rattle.std.proofs.lemmas.List.Elements.{All-nil, All-cons}
 use Rattle.sync_text.specs.Each.{Each}
 use Rattle.sync_text.proofs.Each.{all-each, Each-map, Each-made, Each-unmade, Each-range, Each-filter}
 use Rattle.sync_ql.specs.declared.levels.NetOption.{NetOption}

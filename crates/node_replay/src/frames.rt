@@ -1,9 +1,8 @@
 //! The frames that go out in a millisecond.
 
-ghost use Rattle.std.specs.Prelude.{◌≡◌, ◌++◌, ◌∷◌, [], ◌<◌, All, OnOk, IfOk, length, map};
+ghost use Rattle.std.specs.Prelude.{◌≡◌, ◌++◌, ◌∷◌, [], ◌<◌, All, OnOk, IfOk, map};
 ghost use Rattle.std.specs.List.{filter_map, cons_option, concat};
 ghost use Rattle.hex.specs.Hex.{encode_lower};
-ghost use Rattle.sync_ql.specs.Messages.{is_same_option, is_same_level};
 ghost use Rattle.sync_topo.specs.Lines.{line_count};
 ghost use Rattle.esmc_frame.specs.Frame.{written_frame};
 ghost use Rattle.node_rules.specs.NodeText.{address_of, extended_for, carried};

@@ -1,6 +1,7 @@
 //! One element of a plan, replayed on the bytes of a file.
 
-ghost use Rattle.std.specs.Prelude.{◌≡◌, ◌≤◌, ◌<◌, ◌+◌, ◌^◌, ◌++◌, ◌⊎◌, ℕ, [], true, false, List, length, Err, IfOk, IfErr, IfSome, OnOk, OnErr, MatchOption};
+ghost use Rattle.std.specs.Prelude.{◌≡◌, ◌≤◌, ◌<◌, ◌+◌, ◌^◌, ◌++◌, ℕ, [], true, false, List, length, Err, IfOk, IfSome, OnOk, OnErr, MatchOption};
+ghost use Rattle.sync_text.specs.Gives.{IfRefused};
 ghost use Rattle.sync_topo.specs.WellFormed.{IsWellFormed};
 ghost use Rattle.node_file.specs.NodeFile.{rows_of};
 ghost use Rattle.node_file.specs.declared.row.NodeRow.{NodeRow};
@@ -18,7 +19,7 @@ use node_file::{NodeErr, NodeLines, NodeRow};
 use std::alloc::Global;
 use std::marker::Model;
 use sync_ql::limits::LAST_MILLISECOND;
-use sync_text::NoMemory;
+use sync_text::{NoAnswer, NoMemory};
 use sync_topo::Plan;
 
 /// How many bytes of a file are fed at once.
@@ -80,7 +81,7 @@ impl<'a> Node<'a> {
     /// A refusal is that of the first line that breaks a rule; it comes with the piece that brings the
     /// line's end, or the first byte that is too many. `NoMemory` comes only when out of memory. After
     /// either it is spent. This project's own.
-    pub fn feed(&mut self, piece: &[u8]) -> Result<(), NodeErr>
+    pub fn feed(&mut self, piece: &[u8]) -> Result<(), NoAnswer<NodeErr>>
         requires live { self.old.spent ≡ false }
         requires room { self.old.lines.ended + length piece.now < 2 ^ 63 }
         ensures plan { self.new.lines.plan ≡ self.old.lines.plan }
@@ -90,8 +91,8 @@ impl<'a> Node<'a> {
         ensures spent { OnErr result (self.new.spent ≡ true) }
         ensures ended { OnOk result (self.new.lines.ended ≤ self.old.lines.ended + length piece.now) }
         ensures fed { OnOk result ((bytes : List ℕ) → WasFed self.old bytes → WasFed self.new (bytes ++ piece.now)) }
-        ensures refused { IfErr result (λ error. (error ≡ NodeErr.NoMemory) ⊎ ((bytes : List ℕ) → WasFed self.old bytes →
-            AreRefused self.old.lines.plan self.old.lines.element (bytes ++ piece.now) error)) }
+        ensures refused { IfRefused result (λ error. (bytes : List ℕ) → WasFed self.old bytes →
+            AreRefused self.old.lines.plan self.old.lines.element (bytes ++ piece.now) error) }
     {
         match take_all(&mut self.lines, &mut self.replay, piece) {
             Ok(()) => Ok(()),
@@ -113,7 +114,7 @@ impl<'a> Node<'a> {
     /// without a line feed.
     ///
     /// The frames are after G.8264; the rows are this project's own.
-    pub fn finish(self) -> Result<Replayed, NodeErr>
+    pub fn finish(self) -> Result<Replayed, NoAnswer<NodeErr>>
         requires live { self.spent ≡ false }
         requires room { self.lines.ended < 2 ^ 63 }
         ensures sent { IfOk result (λ replayed. (bytes : List ℕ) → WasFed self.entry bytes →
@@ -122,25 +123,29 @@ impl<'a> Node<'a> {
         ensures network { IfOk result (λ replayed. (bytes : List ℕ) → WasFed self.entry bytes →
             IsWellFormed self.entry.lines.plan → IsNetworkText self.entry.lines.plan self.entry.lines.element
             bytes self.entry.replay.until replayed) }
-        ensures refused { IfErr result (λ error. (error ≡ NodeErr.NoMemory) ⊎ ((bytes : List ℕ) → WasFed self.entry bytes →
-            rows_of self.entry.lines.plan self.entry.lines.element bytes ≡ Err error)) }
+        ensures refused { IfRefused result (λ error. (bytes : List ℕ) → WasFed self.entry bytes →
+            rows_of self.entry.lines.plan self.entry.lines.element bytes ≡ Err error) }
     {
         let node = self;
         let last = match node.lines.last_row() {
             Ok(last) => last,
-            Err(error) => return Err(error),
+            Err(refused) => return Err(NoAnswer::Refused(refused)),
         };
         let mut replay = node.replay;
         take_row(&mut replay, last)?;
         match replay.finish() {
             Ok(replayed) => Ok(replayed),
-            Err(_) => Err(NodeErr::NoMemory),
+            Err(_) => Err(NoAnswer::NoMemory),
         }
     }
 }
 
 /// Takes all lines that end in a piece, and the bytes of the one that begins last.
-fn take_all(lines: &mut NodeLines<'_>, replay: &mut Replay<'_>, piece: &[u8]) -> Result<(), NodeErr>
+fn take_all(
+    lines: &mut NodeLines<'_>,
+    replay: &mut Replay<'_>,
+    piece: &[u8],
+) -> Result<(), NoAnswer<NodeErr>>
     requires same_plan { replay.old.plan ≡ lines.old.plan }
     requires same_element { replay.old.element ≡ lines.old.element }
     requires live { replay.old.spent ≡ false }
@@ -154,8 +159,8 @@ fn take_all(lines: &mut NodeLines<'_>, replay: &mut Replay<'_>, piece: &[u8]) ->
     ensures ended { OnOk result (lines.new.ended ≤ lines.old.ended + length piece.now) }
     ensures fed { OnOk result ((bytes : List ℕ) → AreFed lines.old replay.old bytes →
         AreFed lines.new replay.new (bytes ++ piece.now)) }
-    ensures refused { IfErr result (λ error. (error ≡ NodeErr.NoMemory) ⊎ ((bytes : List ℕ) →
-        AreFed lines.old replay.old bytes → AreRefused lines.old.plan lines.old.element (bytes ++ piece.now) error)) }
+    ensures refused { IfRefused result (λ error. (bytes : List ℕ) →
+        AreFed lines.old replay.old bytes → AreRefused lines.old.plan lines.old.element (bytes ++ piece.now) error) }
 {
     let mut left = Some(piece);
     while let Some(bytes) = left {
@@ -173,7 +178,7 @@ fn take_line<'b>(
     lines: &mut NodeLines<'_>,
     replay: &mut Replay<'_>,
     piece: &'b [u8],
-) -> Result<Option<&'b [u8]>, NodeErr>
+) -> Result<Option<&'b [u8]>, NoAnswer<NodeErr>>
     requires same_plan { replay.old.plan ≡ lines.old.plan }
     requires same_element { replay.old.element ≡ lines.old.element }
     requires live { replay.old.spent ≡ false }
@@ -190,8 +195,8 @@ fn take_line<'b>(
     ensures fed { IfOk result (λ rest. (bytes : List ℕ) → AreFed lines.old replay.old bytes →
         MatchOption rest (AreFed lines.new replay.new (bytes ++ piece.now))
         (λ left. (front : List ℕ) × (piece.now ≡ front ++ left.now) × AreFed lines.new replay.new (bytes ++ front))) }
-    ensures refused { IfErr result (λ error. (error ≡ NodeErr.NoMemory) ⊎ ((bytes : List ℕ) →
-        AreFed lines.old replay.old bytes → AreRefused lines.old.plan lines.old.element (bytes ++ piece.now) error)) }
+    ensures refused { IfRefused result (λ error. (bytes : List ℕ) →
+        AreFed lines.old replay.old bytes → AreRefused lines.old.plan lines.old.element (bytes ++ piece.now) error) }
 {
     let (row, rest) = match lines.take(piece) {
         Ok(taken) => taken,
@@ -202,7 +207,7 @@ fn take_line<'b>(
 }
 
 /// Takes a row, if there is one.
-fn take_row(replay: &mut Replay<'_>, row: Option<NodeRow>) -> Result<(), NodeErr>
+fn take_row(replay: &mut Replay<'_>, row: Option<NodeRow>) -> Result<(), NoMemory>
     requires live { replay.old.spent ≡ false }
     requires row { IfSome row (IsRowOf replay.old.plan replay.old.element) }
     ensures plan { replay.new.plan ≡ replay.old.plan }
@@ -211,7 +216,6 @@ fn take_row(replay: &mut Replay<'_>, row: Option<NodeRow>) -> Result<(), NodeErr
     ensures live { OnOk result (replay.new.spent ≡ false) }
     ensures stands { OnOk result ((rows : List NodeRow) → StandsFor replay.old rows →
         IsRowList replay.old.plan replay.old.element (with_row rows row) → StandsFor replay.new (with_row rows row)) }
-    ensures memory { IfErr result (λ error. error ≡ NodeErr.NoMemory) }
 {
     if let Some(row) = row {
         replay.take(row)?;
@@ -230,12 +234,12 @@ pub fn replay(
     element: u32,
     bytes: &[u8],
     until: u64,
-) -> Result<Replayed, NodeErr>
+) -> Result<Replayed, NoAnswer<NodeErr>>
     requires within { element < length plan.now.elements }
     requires in_range { until ≤ LAST_MILLISECOND }
     ensures sent { IfOk result (IsSentText plan.now element bytes.now until) }
     ensures network { IfOk result (IsNetworkText plan.now element bytes.now until) }
-    ensures refused { IfErr result (λ error. (error ≡ NodeErr.NoMemory) ⊎ (rows_of plan.now element bytes.now ≡ Err error)) }
+    ensures refused { IfRefused result (λ error. rows_of plan.now element bytes.now ≡ Err error) }
 {
     let _elements = plan.elements();
     let mut node = Node::new(alloc, plan, element, until)?;

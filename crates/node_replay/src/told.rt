@@ -1,6 +1,6 @@
 //! What the element is told in a millisecond.
 
-ghost use Rattle.std.specs.Prelude.{◌≡◌, ◌++◌, ◌∷◌, [], ◌≤◌, ◌<◌, length, OnOk, IfSome, MatchOption};
+ghost use Rattle.std.specs.Prelude.{◌≡◌, ◌++◌, ◌∷◌, [], ◌≤◌, ◌<◌, length, OnOk};
 ghost use Rattle.std.specs.List.{filter_map};
 ghost use Rattle.sync_topo.specs.Lines.{is_same_input};
 ghost use Rattle.node_replay.specs.private.Telling.{place_in, word_of, row_word, told_from, all_told};

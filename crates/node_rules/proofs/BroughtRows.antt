@@ -3,7 +3,6 @@ use Rattle.std.proofs.Common.{◌≡◌, ◌≤◌, ◌<◌, ◌+◌, ℕ, zero,
 use Rattle.std.specs.Prelude.{if◌then◌else◌, nat_lt, nat_eq, ◌==◌}
 use Rattle.std.specs.List.{All, range_with_len}
 use Rattle.std.proofs.lemmas.Bool.{and_parts, eqb-true}
-use Rattle.std.proofs.lemmas.List.Elements.{All-nil, All-cons}
 use Rattle.sync_text.specs.Each.{Each}
 use Rattle.sync_text.proofs.Each.{all-each, Each-map, Each-both, Each-append, Each-made, Each-filter, each-all, Each-any}
 use Rattle.sync_ql.specs.declared.levels.NetOption.{NetOption}

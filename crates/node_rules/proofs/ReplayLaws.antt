@@ -5,10 +5,8 @@ use Rattle.std.proofs.Math.Bool.{and-false}
 use Rattle.sync_text.proofs.Each.{Each-map}
 use Rattle.sync_ql.proofs.SameMoments.{line_moment, input_moment, moment}
 use Rattle.sync_ql.specs.declared.levels.Level.{Level}
-use Rattle.sync_ql.specs.declared.rules.Cmd.{Cmd}
 use Rattle.sync_ql.specs.Pasts.{past_of, first_within}
 use Rattle.sync_ql.specs.Messages.{LineMoment, hearing_time, is_sent, was_up, said, came, arrivals, heard_at}
-use Rattle.sync_ql.specs.Moment.{InputMoment, Moment}
 use Rattle.sync_ql.specs.Output.{clock_level_at}
 use Rattle.sync_topo.specs.declared.input.InputId.{InputId}
 use Rattle.sync_topo.specs.declared.input.InputId.TheVariants.{Line, Source}

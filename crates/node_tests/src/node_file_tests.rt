@@ -24,7 +24,6 @@ fn line_refusals_are_printed(rt: HostRuntime) -> Result<(), Fail> {
             NodeErr::Frame(7, FrameErr::Version),
             "line 7: the version isn't 1",
         ),
-        (NodeErr::NoMemory, "out of memory"),
     ] {
         assert!(rt; is_printed_as(rt.alloc(), error, text)?);
     }

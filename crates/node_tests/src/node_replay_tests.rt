@@ -8,6 +8,7 @@ use std::alloc::Global;
 use std::process::Abort;
 use std::test::Fail;
 use sync_ql::limits::LAST_MILLISECOND;
+use sync_text::NoAnswer;
 use sync_topo::Plan;
 
 mod histories;
@@ -29,7 +30,7 @@ fn fed(
     bytes: &[u8],
     size: usize,
     until: u64,
-) -> Result<Replayed, NodeErr>
+) -> Result<Replayed, NoAnswer<NodeErr>>
     requires within { FED < length plan.now.elements }
     requires in_range { until ≤ LAST_MILLISECOND }
 {
@@ -61,7 +62,7 @@ fn last_piece_is_refused(
     let (before, piece) = file.split_at(file.len().saturating_sub(size));
     node.feed(before)?;
     assert!(rt; !node.spent());
-    assert!(rt; node.feed(piece) == Err(want));
+    assert!(rt; node.feed(piece) == Err(NoAnswer::Refused(want)));
     assert!(rt; node.spent());
     Ok(())
 }

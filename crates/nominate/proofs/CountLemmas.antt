@@ -31,11 +31,6 @@ count-within counts element hops is = elim (slice_get_cases counts element).1 [
   | inr past ↦ absurd (none-some hops (sym (count-past counts element past.0) ∙ is))
 ]
 
--- either there is a count or there is none
-pub count_cases : (o : Option ℕ) → (o ≡ None) ⊎ ((hops : ℕ) × (o ≡ Some hops))
-count_cases None = inl refl
-count_cases (Some hops) = inr (hops, refl)
-
 -- what is read at a place is the count there
 pub count-read : (counts : Counts) (n element : ℕ) (count : Option ℕ) → n ≡ length counts → element < n → count ≡ get_or counts element count → count_at counts element ≡ count
 count-read counts n element count long inside read = ap (λ o. option_flatten o) (slice_get_read counts n element count long inside read)

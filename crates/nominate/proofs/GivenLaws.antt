@@ -1,14 +1,10 @@
 -- Rows of a plan with any priorities of its lines say that plan, whether it keeps the rules or not.
-use Rattle.std.proofs.Common.{◌≡◌, ℕ, ◌+◌, ◌*◌, List, [], ◌∷◌, map, refl, sym, ap, ◌∙◌}
-use Rattle.std.specs.Prelude.{Bool, true, false, Ok}
-use Rattle.std.proofs.lemmas.Bool.{true≢false}
+use Rattle.std.proofs.Common.{◌≡◌, ℕ, ◌+◌, ◌*◌, List, [], ◌∷◌, map, refl, ap, ◌∙◌}
+use Rattle.std.specs.Prelude.{Ok, Err}
 use Rattle.sync_topo.specs.declared.element.Element.{Element}
 use Rattle.sync_topo.specs.declared.link.Link.{Link}
 use Rattle.sync_topo.specs.declared.rows.PlanRows.{PlanRows}
 use Rattle.sync_topo.specs.declared.error.PlanErr.{PlanErr}
-use Rattle.sync_topo.specs.declared.error.PlanErr.TheVariants.{NoMemory}
-use Rattle.sync_topo.specs.Gives.{is_no_memory}
-use Rattle.sync_topo.specs.private.Gives.{Refuses}
 use Rattle.sync_topo.specs.PlanRows.{plan_of_rows}
 use Rattle.sync_topo.specs.RowValues.{link_from, plan_from}
 use Rattle.sync_topo.specs.RowsOfPlan.{row_of_link, rows_of_plan}
@@ -16,7 +12,7 @@ use Rattle.sync_topo.specs.Topology.{Topology}
 use Rattle.sync_topo.specs.WellFormed.{IsWellFormed}
 use Rattle.sync_topo.proofs.RowsOfPlan.{plan_from-rows_of_plan}
 use Rattle.nominate.specs.Nomination.{with_priorities, plan_with}
-use Rattle.nominate.proofs.RowLemmas.{only_memory}
+use Rattle.nominate.proofs.RowLemmas.{not_both}
 
 -- what links with priorities say, through their rows, is what the links say, with these priorities
 with-said : (elements : List Element) (plan : Topology) (f : ℕ → ℕ) (k : ℕ) (links : List Link)
@@ -34,10 +30,9 @@ said-with plan f well =
     (with-said (plan_from (rows_of_plan plan)).elements plan f 0 plan.links)
     ∙ ap (λ (said : Topology). plan_with said f) (plan_from-rows_of_plan plan well)
 
--- rows that are refused, but when out of memory, say a plan that breaks a rule
+-- rows that are refused say a plan that breaks a rule
 pub refused-with : (plan : Topology) (f : ℕ → ℕ) (rows : PlanRows) (error : PlanErr) → rows ≡ rows_of_plan (plan_with plan f)
     → ((p : Topology) → IsWellFormed p → plan_of_rows (rows_of_plan p) ≡ Ok p)
-    → Refuses error (plan_of_rows rows) → is_no_memory error ≡ false → ¬ IsWellFormed (plan_with plan f)
-refused-with plan f rows error are again refuses wants well =
-    let wanted : error ≡ NoMemory = only_memory error (plan_of_rows rows) (plan_with plan f) (ap plan_of_rows are ∙ again (plan_with plan f) well) refuses in
-    true≢false (sym (ap is_no_memory wanted) ∙ wants)
+    → plan_of_rows rows ≡ Err error → ¬ IsWellFormed (plan_with plan f)
+refused-with plan f rows error are again refused well =
+    not_both (plan_of_rows rows) (plan_with plan f) error (ap plan_of_rows are ∙ again (plan_with plan f) well) refused

@@ -1,7 +1,7 @@
 -- What marks tell.
 use Rattle.std.proofs.Common.{◌≡◌, ◌↔◌, ℕ, zero, suc, ◌+◌, ◌<◌, Bool, true, false, List, length, Option, Some, None, refl, sym, ap, subst, ◌∙◌, arith}
 use Rattle.std.specs.Prelude.{slice_index_or, replicate}
-use Rattle.std.proofs.lemmas.Bool.{false≢true, eqb-true, eq-eqb}
+use Rattle.std.proofs.lemmas.Bool.{false≢true, eq-eqb}
 use Rattle.std.proofs.lemmas.Option.{none-some, same_Some}
 use Rattle.sync_topo.specs.Topology.{Topology}
 use Rattle.sync_topo.specs.Lines.{line_count, sender_of}
@@ -22,19 +22,9 @@ AreMarks-none plan counts n marks none element = (
   λ marked. absurd (omega (arith, marked.1)),
 )
 
-one_less-some : (o : Option ℕ) (hops : ℕ) → is_one_less o (Some (suc hops)) ≡ true → o ≡ Some hops
-one_less-some None hops is = absurd (false≢true is)
-one_less-some (Some one) hops is = let same : one + 1 ≡ suc hops = eqb-true (one + 1) (suc hops) is in ap Some (omega (arith, same))
-
 some-one_less : (o : Option ℕ) (hops : ℕ) → o ≡ Some hops → is_one_less o (Some (suc hops)) ≡ true
 some-one_less None hops is = absurd (none-some hops is)
 some-one_less (Some one) hops is = let same : one ≡ hops = same_Some one hops is in eq-eqb (one + 1) (suc hops) (omega (arith, same))
-
--- a marked element with a count above 0 has a neighbour with one less, and no other
-pub neighbour-marked : (plan : Topology) (counts : Counts) (element hops : ℕ) → count_at counts element ≡ Some (suc hops)
-    → IsMarked plan counts (line_count plan) element → HasNeighbour plan counts element hops
-neighbour-marked plan counts element hops is marked =
-    (marked.0, marked.1, marked.2, one_less-some (count_at counts (sender_of plan marked.0)) hops (subst (λ o. is_one_less (count_at counts (sender_of plan marked.0)) o ≡ true) is marked.3))
 
 marked-neighbour : (plan : Topology) (counts : Counts) (element hops : ℕ) → count_at counts element ≡ Some (suc hops)
     → HasNeighbour plan counts element hops → IsMarked plan counts (line_count plan) element

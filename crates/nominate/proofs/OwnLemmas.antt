@@ -1,9 +1,8 @@
 -- What the inputs of an element tell of its own sources.
-use Rattle.std.proofs.Common.{◌≡◌, ℕ, suc, ◌+◌, ◌<◌, List, [], ◌∷◌, ◌++◌, length, get_or, map, drop, refl, ap, ◌∙◌, arith, drop-cons, add-one}
+use Rattle.std.proofs.Common.{◌≡◌, ℕ, suc, ◌+◌, ◌<◌, List, [], ◌∷◌, ◌++◌, length, map, refl, ap, ◌∙◌, arith}
 use Rattle.std.specs.Prelude.{max, if◌then◌else◌}
 use Rattle.std.proofs.lemmas.List.Sums.{sum_by-cons}
 use Rattle.std.specs.List.{count_by}
-use Rattle.sync_topo.specs.declared.input.InputId.{InputId}
 use Rattle.sync_topo.specs.declared.input.InputId.TheVariants.{Source}
 use Rattle.sync_topo.specs.Topology.{Topology}
 use Rattle.sync_topo.specs.Lines.{line_input, source_priority, lines_into, sources_at, inputs_of}
@@ -32,11 +31,3 @@ count-inputs (line ∷ lines) sources = count-inputs lines sources
 
 pub count-own : (plan : Topology) (element : ℕ) → count_by is_source (inputs_of plan element) ≡ length (sources_at plan element)
 count-own plan element = count-inputs (lines_into plan element) (sources_at plan element)
-
--- the greatest so far, and one more
-pub greatest-more : (plan : Topology) (inputs : List InputId) (i greatest : ℕ) (d : InputId) → i < length inputs
-    → max (max (own_priority plan (get_or inputs i d)) greatest) (greatest_of (map (own_priority plan) (drop (i + 1) inputs)))
-    ≡ max greatest (greatest_of (map (own_priority plan) (drop i inputs)))
-greatest-more plan inputs i greatest d inside =
-    let next : drop i inputs ≡ get_or inputs i d ∷ drop (i + 1) inputs = rw (add-one, drop-cons inputs i d inside) refl in
-    rw next (omega arith)

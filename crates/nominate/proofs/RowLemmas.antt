@@ -1,11 +1,8 @@
 -- One more row.
-use Rattle.std.proofs.Common.{◌≡◌, ℕ, zero, suc, ◌+◌, ◌*◌, List, [], ◌∷◌, ◌++◌, map, drop, Some, refl, sym, ap, ◌∙◌, slice_get, arith, append_assoc}
+use Rattle.std.proofs.Common.{◌≡◌, ℕ, zero, suc, ◌+◌, ◌*◌, List, [], ◌∷◌, ◌++◌, map, drop, Some, sym, ap, ◌∙◌, slice_get, arith, append_assoc}
 use Rattle.std.proofs.lemmas.Option.{none-some, same_Some}
 use Rattle.sync_topo.specs.declared.link.Link.{Link}
-use Rattle.sync_topo.specs.declared.error.PlanErr.{PlanErr}
-use Rattle.sync_topo.specs.declared.error.PlanErr.TheVariants.{Limit, Name, Twice, NoElement, SelfLink, Range, Bundle, LevelName, NoMemory}
-use Rattle.sync_topo.specs.private.Gives.{Refuses}
-use Rattle.std.specs.Prelude.{Result, Ok}
+use Rattle.std.specs.Prelude.{Result, Ok, Err}
 use Rattle.nominate.specs.Nomination.{with_priorities}
 
 drop-at : {A : Type 0} (items : List A) (i : ℕ) (item : A) → slice_get items i ≡ Some item → drop i items ≡ item ∷ drop (i + 1) items
@@ -30,18 +27,11 @@ links-more make f links i link rows whole at is =
     ∙ sym (ap (λ rest. rows ++ map make (with_priorities f i rest)) (drop-at links i link at))
     ∙ is
 
--- where the rows give a plan, only NoMemory is left
-pub only_memory : {A : Type 0} (error : PlanErr) (answer : Result A PlanErr) (value : A) → answer ≡ Ok value → Refuses error answer → error ≡ NoMemory
-only_memory (Limit place) answer value is refuses = cc
-only_memory (Name place) answer value is refuses = cc
-only_memory (Twice place) answer value is refuses = cc
-only_memory (NoElement place) answer value is refuses = cc
-only_memory (SelfLink place) answer value is refuses = cc
-only_memory (Range place) answer value is refuses = cc
-only_memory (Bundle place) answer value is refuses = cc
-only_memory (LevelName place) answer value is refuses = cc
-only_memory NoMemory answer value is refuses = refl
-
 -- two answers of one call are one
 pub same_answer : {A E : Type 0} (answer : Result A E) (x y : A) → answer ≡ Ok x → answer ≡ Ok y → y ≡ x
 same_answer answer x y is also = cc
+
+-- and a call doesn't answer with a value and with a refusal
+pub not_both : {A E : Type 0} (answer : Result A E) (x : A) (e : E) → answer ≡ Ok x → answer ≡ Err e → ⊥
+not_both (Ok y) x e is also = absurd (cc also)
+not_both (Err d) x e is also = absurd (cc is)

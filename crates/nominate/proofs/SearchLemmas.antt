@@ -270,9 +270,6 @@ IsSearching-start plan search well start none zero_depth = record {
   bound = let size = start.size in let empty : length search.next.items ≡ 0 = ap length none in omega (arith, size, empty, zero_depth);
 }
 
-pub AreKept-start : (plan : Topology) (search : Search) → IsStart plan (length plan.elements) search.counts.items search.current.items → AreKept plan search
-AreKept-start plan search start element hops is = inr (inl (start.waits element hops is))
-
 -- where there is a count already, it is close
 pub close-there : (plan : Topology) (search : Search) (element hops : ℕ) → IsSearching plan search → count_at search.counts.items element ≡ Some hops
     → IsClose search.counts.items search.depth element

@@ -9,8 +9,8 @@ use crate::hops::least_hops;
 use crate::numbering::new_priorities;
 use crate::rows::rows_with;
 use std::alloc::Global;
-use sync_text::NoMemory;
-use sync_topo::{Plan, PlanErr};
+use sync_text::{NoAnswer, NoMemory};
+use sync_topo::Plan;
 
 /// The plan with priorities by fewest hops: all else is as it was.
 ///
@@ -38,14 +38,8 @@ pub fn nominate(alloc: Global, plan: &Plan) -> Result<Plan, NoMemory>
     let rows = rows_with(alloc, plan, priorities.as_slice())?;
     match Plan::new(alloc, rows) {
         Ok(nominated) => Ok(nominated),
-        Err(error) => Err(no_memory_left(error)),
+        Err(NoAnswer::NoMemory) => Err(NoMemory),
+        // The nominated plan keeps every rule.
+        Err(NoAnswer::Refused(_)) => unreachable!(),
     }
-}
-
-/// Out of memory, as the one reason that is left: the nominated plan keeps every rule.
-fn no_memory_left(error: PlanErr) -> NoMemory
-    requires { error ≡ PlanErr.NoMemory }
-{
-    let _ = error;
-    NoMemory
 }

@@ -1,13 +1,12 @@
 ghost use Rattle.std.specs.Prelude.{◌≡◌, length, slice_index, IfOk, IfSome, IsNone};
-ghost use Rattle.sync_topo.specs.Gives.{is_no_memory};
 ghost use Rattle.sync_topo.specs.Lines.{line_count};
 ghost use Rattle.sync_topo.specs.WellFormed.{IsWellFormed};
 ghost use Rattle.nominate.specs.Nomination.{plan_with};
 
 use crate::rows::rows_with;
 use std::alloc::Global;
-use sync_text::NoMemory;
-use sync_topo::{Plan, PlanErr};
+use sync_text::{NoAnswer, NoMemory};
+use sync_topo::Plan;
 
 /// The plan with these priorities of its lines, in order of line number: all else is as it was.
 ///
@@ -30,21 +29,7 @@ pub fn with_priorities(
     let rows = rows_with(alloc, plan, priorities)?;
     match Plan::new(alloc, rows) {
         Ok(other) => Ok(Some(other)),
-        Err(error) => {
-            if is_no_memory(error) {
-                return Err(NoMemory);
-            }
-            Ok(None)
-        }
-    }
-}
-
-/// Out of memory.
-fn is_no_memory(error: PlanErr) -> bool
-    ensures { result ≡ is_no_memory error }
-{
-    match error {
-        PlanErr::NoMemory => true,
-        _ => false,
+        Err(NoAnswer::NoMemory) => Err(NoMemory),
+        Err(NoAnswer::Refused(_)) => Ok(None),
     }
 }

@@ -5,7 +5,7 @@ ghost use Rattle.std.specs.List.{All};
 ghost use Rattle.esmc_frame.specs.Reading.{reading_of};
 ghost use Rattle.pcap_file.specs.Timed.{row_of_reading, text_of_packets, decoded_pcap};
 ghost use Rattle.pcap_file.specs.private.Steps.{passed_of};
-ghost use Rattle.pcap_file.specs.Refusal.{Gives};
+ghost use Rattle.sync_text.specs.Gives.{Gives};
 
 use crate::error::PcapErr;
 use crate::reading::{Packet, read_pcap};
@@ -13,14 +13,18 @@ use capture_text::put_row;
 use esmc_frame::{Pdu, decode};
 use std::alloc::Global;
 use sync_ql::NetOption;
-use sync_text::{NoMemory, Text};
+use sync_text::{NoAnswer, NoMemory, Text};
 
 /// The rows of the ESMC frames in a capture, in their order: `SEC,USEC,` and the row of the frame.
 ///
 /// A packet that is no such frame is passed over; the last line is `passed,N`, with how many are.
 /// Refusals as in `read_pcap`. This project's own; frames after G.8264, ESMC PDU format.
 #[tactic(auto, unfolding(crate::specs::Timed::decoded_pcap))]
-pub fn decode_pcap(alloc: Global, bytes: &[u8], option: NetOption) -> Result<Text, PcapErr>
+pub fn decode_pcap(
+    alloc: Global,
+    bytes: &[u8],
+    option: NetOption,
+) -> Result<Text, NoAnswer<PcapErr>>
     ensures exact { Gives result (decoded_pcap option bytes.now) }
 {
     let packets = match read_pcap(alloc, bytes) {

@@ -2,7 +2,7 @@
 
 ghost use Rattle.std.specs.Prelude.{◌≡◌, ◌<◌, ◌++◌, List, [], IfOk, OnOk, IfSome};
 ghost use Rattle.std.specs.List.{cons_option};
-ghost use Rattle.capture_text.specs.Gives.{Gives};
+ghost use Rattle.sync_text.specs.Gives.{Gives};
 ghost use Rattle.capture_text.specs.private.Steps.{GivesThat, with_front};
 ghost use Rattle.pcap_file.specs.declared.encoding.Timed.{Timed};
 ghost use Rattle.pcap_file.specs.Timed.{word_of, timed_of, record_of_line, encoded_pcap};
@@ -14,7 +14,7 @@ use capture_text::{CaptureErr, Lines, cut_at, read_row};
 use esmc_frame::{FRAME, Pdu, encode};
 use std::alloc::Global;
 use sync_ql::NetOption;
-use sync_text::{Text, read_number};
+use sync_text::{NoAnswer, Text, read_number};
 
 /// What a row with a time says.
 #[derive(Clone, Copy)]
@@ -30,7 +30,11 @@ pub(crate) struct Timed {
 /// with empty ones passed over. `Row` names the first line that is no such row; no other line is
 /// refused.
 /// This project's own; the capture after the file format of libpcap.
-pub fn encode_pcap(alloc: Global, bytes: &[u8], option: NetOption) -> Result<Text, CaptureErr>
+pub fn encode_pcap(
+    alloc: Global,
+    bytes: &[u8],
+    option: NetOption,
+) -> Result<Text, NoAnswer<CaptureErr>>
     ensures exact { Gives result (encoded_pcap option bytes.now) }
 
     // It is a capture of just the frames of the rows, in their order, with their times.
@@ -51,7 +55,7 @@ fn put_record_of(
     number: u64,
     line: &[u8],
     option: NetOption,
-) -> Result<(), CaptureErr>
+) -> Result<(), NoAnswer<CaptureErr>>
     ensures put { GivesThat result text.new (with_front text.old (record_of_line option number line.now)) }
     ensures captured { (rows : List Timed) → IsWrittenSoFar rows text.old →
         OnOk result (IsWrittenSoFar (rows ++ cons_option (timed_of option line.now) []) text.new) }
@@ -60,7 +64,7 @@ fn put_record_of(
         return Ok(());
     }
     let Some(timed) = timed_of(line, option) else {
-        return Err(CaptureErr::Row(number));
+        return Err(NoAnswer::Refused(CaptureErr::Row(number)));
     };
     let mut frame = [0; FRAME];
     encode(&timed.pdu, &mut frame);

@@ -1,9 +1,8 @@
 //! Why bytes are no capture.
 
 ghost use Rattle.std.specs.Prelude.{◌≡◌};
-ghost use Rattle.pcap_file.specs.Refusal.{number_of};
+ghost use Rattle.pcap_file.specs.Refusal.{numbers_of};
 
-use sync_text::NoMemory;
 use thiserror::Error;
 
 /// The first thing that is wrong with the bytes of a capture.
@@ -21,34 +20,20 @@ pub enum PcapErr {
     /// The record isn't whole. Records count from 1.
     #[error("record {0} isn't whole")]
     Record(u64),
-    /// Out of memory.
-    #[error("out of memory")]
-    NoMemory,
 }
 
 impl PcapErr {
-    /// The number by which the refusal is printed, from 40 to 42.
+    /// The numbers by which the refusal is printed: its own, from 40 to 42, and then the record that is
+    /// refused. `None` where it is none.
     ///
-    /// `None` when out of memory, which refuses no capture.
     /// This project's own.
-    pub fn number(self) -> Option<u8>
-        ensures { result ≡ number_of self }
+    pub fn numbers(self) -> (u8, Option<u64>)
+        ensures { result ≡ numbers_of self }
     {
         match self {
-            PcapErr::Header => Some(40),
-            PcapErr::Link => Some(41),
-            PcapErr::Record(_) => Some(42),
-            PcapErr::NoMemory => None,
+            PcapErr::Header => (40, None),
+            PcapErr::Link => (41, None),
+            PcapErr::Record(number) => (42, Some(number)),
         }
-    }
-}
-
-impl From<NoMemory> for PcapErr {
-    ghost use Rattle.pcap_file.specs.declared.error.PcapErr.TheVariants as refusal;
-
-    ghost from_gives = { λ _ e. e ≡ refusal.NoMemory };
-
-    fn from(_: NoMemory) -> PcapErr {
-        PcapErr::NoMemory
     }
 }

@@ -5,11 +5,11 @@ ghost use Rattle.std.specs.List.{All};
 ghost use Rattle.pcap_file.specs.declared.reading.Packet.{Packet};
 ghost use Rattle.pcap_file.specs.Pcap.{number_at, order_of, packets_from, packets_of};
 ghost use Rattle.pcap_file.specs.private.Pcap.{first_packet};
-ghost use Rattle.pcap_file.specs.Refusal.{Gives};
+ghost use Rattle.sync_text.specs.Gives.{Gives};
 
 use crate::error::PcapErr;
 use std::alloc::Global;
-use sync_text::Rows;
+use sync_text::{NoAnswer, Rows};
 
 /// The octets of a file header.
 const HEAD: usize = 24;
@@ -53,17 +53,17 @@ pub(crate) enum ByteOrder {
 /// exactly where the link type isn't Ethernet's, else `Record` with the first record that isn't
 /// whole.
 /// After the file format of libpcap.
-pub fn read_pcap(alloc: Global, bytes: &[u8]) -> Result<Rows<Packet>, PcapErr>
+pub fn read_pcap(alloc: Global, bytes: &[u8]) -> Result<Rows<Packet>, NoAnswer<PcapErr>>
     ensures exact { Gives result (packets_of bytes.now) }
 
     // All octets of the packets are there.
     ensures within { IfOk result (All (λ packet. packet.start + packet.len ≤ length bytes.now)) }
 {
     let Some(order) = order_of(bytes) else {
-        return Err(PcapErr::Header);
+        return Err(NoAnswer::Refused(PcapErr::Header));
     };
     if number_at(bytes, LINK_AT, order) != ETHERNET {
-        return Err(PcapErr::Link);
+        return Err(NoAnswer::Refused(PcapErr::Link));
     }
     read_records(alloc, bytes, order)
 }
@@ -100,7 +100,11 @@ fn number_at(octets: &[u8], at: usize, order: ByteOrder) -> u32
 }
 
 /// The packets of all records.
-fn read_records(alloc: Global, bytes: &[u8], order: ByteOrder) -> Result<Rows<Packet>, PcapErr>
+fn read_records(
+    alloc: Global,
+    bytes: &[u8],
+    order: ByteOrder,
+) -> Result<Rows<Packet>, NoAnswer<PcapErr>>
     requires { HEAD ≤ length bytes.now }
     ensures exact { Gives result (packets_from order 1 HEAD 0 (drop HEAD bytes.now)) }
     ensures within { IfOk result (All (λ packet. packet.start + packet.len ≤ length bytes.now)) }
@@ -112,7 +116,7 @@ fn read_records(alloc: Global, bytes: &[u8], order: ByteOrder) -> Result<Rows<Pa
         number += 1;
         let left = bytes.split_at(place).1;
         let Some(packet) = packet_of(left, place, order) else {
-            return Err(PcapErr::Record(number));
+            return Err(NoAnswer::Refused(PcapErr::Record(number)));
         };
         packets.push(packet)?;
         place = packet.start + packet.len;

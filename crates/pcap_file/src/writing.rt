@@ -1,9 +1,9 @@
 //! A capture as it is written.
 
 ghost use Rattle.std.specs.Prelude.{ℕ, ◌≡◌, ◌+◌, ◌≤◌, ◌<◌, ◌^◌, ◌++◌, [], ◌∷◌, List, length, take, OnOk, OnErr};
-ghost use Rattle.std.specs.Int.{w32, to_le_bytes};
+ghost use Rattle.std.specs.Int.{to_le_bytes};
 ghost use Rattle.pcap_file.specs.declared.reading.Packet.{Packet};
-ghost use Rattle.pcap_file.specs.Pcap.{packets_of, octets_of};
+ghost use Rattle.pcap_file.specs.Pcap.{octets_of};
 ghost use Rattle.pcap_file.specs.Written.{written_head, record_head, written_record, written_packet, IsLittleCapture};
 
 use esmc_frame::GREATEST_FRAME;

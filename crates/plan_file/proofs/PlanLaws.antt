@@ -4,21 +4,22 @@ use Rattle.std.specs.Prelude.{◌≢◌, ◌↔◌, IfOk, not, ◌&&◌, if◌th
 use Rattle.toml.specs.Data.{Data, string, integer, float, boolean, datetime, array, table, Members}
 use Rattle.sync_topo.specs.declared.place.Place.{Place}
 use Rattle.sync_topo.specs.declared.error.PlanErr.{PlanErr}
-use Rattle.sync_topo.specs.declared.error.PlanErr.TheVariants as rows
-use Rattle.sync_topo.specs.declared.rows.PlanRows.{PlanRows}
 use Rattle.sync_topo.specs.declared.sizes.Size.{Size}
 use Rattle.sync_topo.specs.PlanRows.{plan_of_sized}
 use Rattle.sync_topo.specs.Topology.{Topology}
 use Rattle.plan_rows.specs.declared.error.PlanFileErr.{PlanFileErr}
-use Rattle.plan_rows.specs.declared.error.PlanFileErr.TheVariants.{Syntax, Key as WrongKey, Kind as WrongKind, Plan, NoMemory}
+use Rattle.plan_rows.specs.declared.error.PlanFileErr.TheVariants.{Syntax, Key as WrongKey, Kind as WrongKind, Plan}
 use Rattle.sync_text.specs.Chain.{◌>>=◌, found, unless}
 use Rattle.plan_rows.specs.Format.{keys_of, version_of}
 use Rattle.plan_rows.specs.declared.version.Version.{Version}
 use Rattle.plan_rows.specs.Rules.{has_only, has_needed, keeps_kinds, refusal_of, refusal_at, value_at, IsFirstBroken, KeepsRules}
 use Rattle.plan_rows.specs.Rows.{said_rows, rows_of_document}
 use Rattle.plan_rows.specs.private.Rows.{first_refusal}
-use Rattle.plan_file.specs.PlanText.{document_of, of_rows, rows_in_file, plan_of_size, OfDocument, GivesRows}
-use Rattle.plan_rows.specs.Gives.{Gives, RefusesWhere}
+use Rattle.plan_file.specs.PlanText.{document_of, of_rows, plan_of_size, OfDocument, GivesRows}
+use Rattle.plan_rows.specs.Gives.{RefusesWhere}
+use Rattle.sync_text.specs.declared.errors.NoAnswer.{NoAnswer}
+use Rattle.sync_text.specs.declared.errors.NoAnswer.TheVariants.{NoMemory, Refused}
+use Rattle.sync_text.specs.Gives.{Gives}
 use Rattle.plan_file.proofs.FirstBroken.{keeps, some_at, is_first}
 
 -- the place of a refusal of a table
@@ -153,36 +154,17 @@ pub refused_rows_law : (size : Size) (bytes : List ℕ) (error : PlanErr) → (p
 refused_rows_law size bytes error = rows_law size bytes (Err error)
 
 -- what the definition refuses is refused, unless out of memory
-pub refuses_where : {A : Type 0} (result answer : Result A PlanFileErr) (refusal : PlanFileErr) (Fact : Type 0)
+pub refuses_where : {A : Type 0} (result : Result A (NoAnswer PlanFileErr)) (answer : Result A PlanFileErr) (refusal : PlanFileErr) (Fact : Type 0)
     → Gives result answer → ((answer ≡ Err refusal) ↔ Fact) → RefusesWhere result refusal Fact
 refuses_where (Ok value) answer refusal Fact gives law =
     inr (λ is. absurd (cc), λ fact. let is = law.1 fact in absurd (cc))
 refuses_where (Err NoMemory) answer refusal Fact gives law = inl refl
-refuses_where (Err error) answer refusal Fact gives law =
-    inr (λ is. law.0 (gives ∙ is), λ fact. sym gives ∙ law.1 fact)
+refuses_where (Err (Refused error)) answer refusal Fact gives law =
+    inr (
+      λ is. let same : error ≡ refusal = cc in law.0 (rw same at gives),
+      λ fact. let is = law.1 fact in let same : error ≡ refusal = cc in rw same refl,
+    )
 
--- the rows of a document are never refused as a plan's
-pub rows_no_memory : (document : Members) (result : Result PlanRows PlanFileErr) → Gives result (rows_of_document document) → result ≢ Err (Plan rows.NoMemory)
-unfolding rows_of_document
-rows_no_memory document result gives is = by (first_refusal document) refl (subst (λ r. Gives r (rows_of_document document)) is gives)
-  where
-    by : (first : Option PlanFileErr) → first_refusal document ≡ first → unless first (said_rows document) ≡ Err (Plan rows.NoMemory) → ⊥
-    by None first refused = absurd (cc)
-    by (Some own) first refused =
-        let (at, broken) = some_at document own first in
-        let same : own ≡ Plan rows.NoMemory = cc in
-        let named_at = names_place document at own broken.broken in
-        let none : place_in (Plan rows.NoMemory) ≡ Some at = subst (λ r. place_in r ≡ Some at) same named_at in
-        absurd (cc)
-
--- nor are those of a file
-pub file_rows_no_memory : (bytes : List ℕ) (result : Result PlanRows PlanFileErr) → Gives result (rows_in_file bytes) → result ≢ Err (Plan rows.NoMemory)
-file_rows_no_memory bytes result = by (document_of bytes)
-  where
-    by : (document : Option Members) → Gives result (found document Syntax >>= λ document. rows_of_document document) → result ≢ Err (Plan rows.NoMemory)
-    by None gives is = let none : Result PlanRows PlanFileErr = Err Syntax in let other : none ≡ Err (Plan rows.NoMemory) = subst (λ r. Gives r none) is gives in absurd (cc)
-    by (Some document) gives is = rows_no_memory document result gives is
-
-pub gives_plan : (size : Size) (bytes : List ℕ) (result : Result Topology PlanFileErr) → Gives result (plan_of_size size bytes) → IfOk result (λ plan. GivesRows size bytes (Ok plan))
+pub gives_plan : (size : Size) (bytes : List ℕ) (result : Result Topology (NoAnswer PlanFileErr)) → Gives result (plan_of_size size bytes) → IfOk result (λ plan. GivesRows size bytes (Ok plan))
 gives_plan size bytes (Ok plan) gives = (plan_law size bytes plan).0 gives
 gives_plan size bytes (Err error) gives = tt

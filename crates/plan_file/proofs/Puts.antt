@@ -4,7 +4,6 @@ use Rattle.std.specs.Prelude.{if◌then◌else◌}
 use Rattle.std.specs.List.{concat}
 use Rattle.std.proofs.lemmas.Bool.Decides.{nat_tests}
 use Rattle.std.proofs.lemmas.Option.{none-some, same_Some}
-use Rattle.std.proofs.lemmas.List.{take_all}
 use Rattle.std.proofs.lemmas.List.Folds.{concat-append}
 use Rattle.toml.specs.Data.{Data, string, integer, array, no_items, Members, no_members, member}
 use Rattle.sync_ql.specs.declared.levels.Level.{Level}
@@ -137,10 +136,6 @@ row_put {A} key fields items i item old before after at so_far this =
     let joined : concat (map row (take (i + 1) items)) ≡ concat (map row (take i items)) ++ row item
     = ap concat (map_take_more row items i item at) ∙ concat-append (map row (take i items)) (row item ∷ []) ∙ ap (λ t. concat (map row (take i items)) ++ t) (append-nil (row item)) in
     put_more old before after (rows_text key fields (take i items)) (row item) so_far this ∙ ap (λ t. old ++ t) (sym joined)
-
-pub rows_put : {A : Type 0} (key : List ℕ) (fields : A → Members) (items : List A) (count : ℕ) (old after : List ℕ) → count ≡ length items
-    → after ≡ old ++ rows_text key fields (take count items) → after ≡ old ++ rows_text key fields items
-rows_put key fields items count old after whole so_far = so_far ∙ ap (λ xs. old ++ rows_text key fields xs) (take_all count items (omega (arith, whole)))
 
 -- ---- the head and the whole
 

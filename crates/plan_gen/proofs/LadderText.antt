@@ -59,9 +59,6 @@ links_put j old before after so_far this =
 
 -- ---- the links up to one element
 
-pub none_up : (j : ℕ) (old : List ℕ) → j ≡ 0 → old ≡ old ++ rows_text (codes "link") table_up (links_up_to j)
-none_up j old is = rw is (sym (append-nil old))
-
 pub one_up : (j : ℕ) (old after : List ℕ) → j ≡ 1 → after ≡ old ++ row_text (codes "link") (table_up (step j)) → after ≡ old ++ rows_text (codes "link") table_up (links_up_to j)
 one_up zero old after is this = absurd (omega (arith, is))
 one_up (suc zero) old after is this = one_put (codes "link") table_up (step 1) old after this

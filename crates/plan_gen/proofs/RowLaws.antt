@@ -1,6 +1,6 @@
 -- What is said of the ladder gives the ladder.
 use Rattle.std.proofs.Common.{◌≡◌, ℕ, ◌+◌, ◌-◌, ◌<◌, ◌≤◌, zero, suc, true, List, [], ◌∷◌, ◌++◌, map, Some, slice_get, refl, sym, ap, subst, ◌∙◌, arith}
-use Rattle.std.specs.Prelude.{flat_map, codes, Ok, Result, pos, unwrap_or}
+use Rattle.std.specs.Prelude.{flat_map, codes, Ok, Err, Result, pos, unwrap_or}
 use Rattle.std.specs.List.{AllByRecursion, range_with_len}
 use Rattle.std.specs.Fmt.{digits}
 use Rattle.std.proofs.Math.Decide.{dec_lt}
@@ -11,13 +11,11 @@ use Rattle.std.proofs.lemmas.Simd.{map-map}
 use Rattle.sync_ql.specs.declared.levels.NetOption.TheVariants.{I}
 use Rattle.sync_topo.specs.declared.link.Link.{Link}
 use Rattle.sync_topo.specs.declared.error.PlanErr.{PlanErr}
-use Rattle.sync_topo.specs.declared.error.PlanErr.TheVariants.{Limit, Name, Twice, NoElement, SelfLink, Range, Bundle, LevelName, NoMemory}
 use Rattle.sync_topo.specs.Topology.{Topology}
 use Rattle.sync_topo.specs.Limits.{element_limit}
 use Rattle.sync_topo.specs.Names.{is_named, element_names}
 use Rattle.sync_topo.specs.RowValues.{element_of_name, element_from, link_from, plan_from}
 use Rattle.sync_topo.specs.PlanRows.{plan_of_rows}
-use Rattle.sync_topo.specs.private.Gives.{Refuses}
 use Rattle.sync_topo.specs.WellFormed.{IsWellFormed}
 use Rattle.sync_topo.proofs.RuleLemmas.{is_named-at}
 use Rattle.sync_topo.proofs.KeptRules.{ElementRowFits, LinkRowFits, RowsFit, plan_of_rows-kept}
@@ -122,18 +120,11 @@ plan_of_rows-ladder n low high =
     let same = said n low well in
     plan_of_rows-kept (ladder_rows n) (subst IsWellFormed (sym same) well) (fit n low) ∙ ap Ok same
 
--- where rows give a plan, only NoMemory can be answered in its place
-pub only_memory : (error : PlanErr) (answer : Result Topology PlanErr) (plan : Topology) → Refuses error answer → answer ≡ Ok plan → error ≡ NoMemory
-only_memory (Limit place) answer plan refused given = absurd (cc)
-only_memory (Name place) answer plan refused given = absurd (cc)
-only_memory (Twice place) answer plan refused given = absurd (cc)
-only_memory (NoElement place) answer plan refused given = absurd (cc)
-only_memory (SelfLink place) answer plan refused given = absurd (cc)
-only_memory (Range place) answer plan refused given = absurd (cc)
-only_memory (Bundle place) answer plan refused given = absurd (cc)
-only_memory (LevelName place) answer plan refused given = absurd (cc)
-only_memory NoMemory answer plan refused given = refl
-
 -- the plan that is given is the one that there is
 pub same_plan : (answer : Result Topology PlanErr) (plan other : Topology) → answer ≡ Ok plan → answer ≡ Ok other → plan ≡ other
 same_plan answer plan other given is = cc
+
+-- and a plan that is given is not refused
+pub not_refused : {E : Type 0} (answer : Result Topology E) (plan : Topology) (error : E) → answer ≡ Ok plan → answer ≡ Err error → ⊥
+not_refused (Ok plan) other error is also = absurd (cc also)
+not_refused (Err error) other refusal is also = absurd (cc is)

@@ -1,11 +1,10 @@
 ghost use Rattle.std.specs.Prelude.{◌≡◌, ◌≤◌, IfOk};
-ghost use Rattle.sync_topo.specs.declared.error.PlanErr.TheVariants as refusal;
 ghost use Rattle.plan_gen.specs.Ladder.{ladder};
 
 use crate::rows::ladder_rows;
 use std::alloc::Global;
-use sync_text::NoMemory;
-use sync_topo::{MOST_ELEMENTS, Plan, PlanErr};
+use sync_text::{NoAnswer, NoMemory};
+use sync_topo::{MOST_ELEMENTS, Plan};
 
 /// The ladder of `elements` elements, E0 at its foot.
 ///
@@ -22,14 +21,8 @@ pub fn generate(alloc: Global, elements: u32) -> Result<Plan, NoMemory>
     let rows = ladder_rows(alloc, elements)?;
     match Plan::new(alloc, rows) {
         Ok(plan) => Ok(plan),
-        Err(error) => Err(no_memory_left(error)),
+        Err(NoAnswer::NoMemory) => Err(NoMemory),
+        // The ladder's rows break no rule for plans.
+        Err(NoAnswer::Refused(_)) => unreachable!(),
     }
-}
-
-/// Out of memory, as the one reason that is left: the ladder's rows break no rule for plans.
-fn no_memory_left(error: PlanErr) -> NoMemory
-    requires { error ≡ refusal.NoMemory }
-{
-    let _ = error;
-    NoMemory
 }

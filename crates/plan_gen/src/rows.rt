@@ -1,9 +1,9 @@
 //! What a plan file would say of the ladder.
 
-ghost use Rattle.std.specs.Prelude.{◌≡◌, ◌+◌, ◌++◌, ◌<◌, ◌≤◌, map, flat_map, IfOk, OnOk, codes, None, Some, pos};
+ghost use Rattle.std.specs.Prelude.{◌≡◌, ◌+◌, ◌++◌, ◌<◌, ◌≤◌, map, flat_map, IfOk, OnOk, None, Some};
 ghost use Rattle.std.specs.List.{range_with_len};
 ghost use Rattle.plan_gen.specs.Ladder.{numbered};
-ghost use Rattle.plan_gen.specs.private.LadderRows.{element_row, link_row, step_row, rail_row, link_rows_up_to, source_row, ladder_rows};
+ghost use Rattle.plan_gen.specs.private.LadderRows.{element_row, link_row, link_rows_up_to, source_row, ladder_rows};
 
 use std::alloc::Global;
 use sync_ql::NetOption;

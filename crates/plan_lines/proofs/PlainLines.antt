@@ -181,9 +181,6 @@ pub record HasRead (text rest : List ℕ) (read : LinesRead) : Type 0 where
   pub reads : lines (suc (length text)) (no_nodes, []) text ≡ lines turns doc rest
   pub follows : Follows read doc
 
-pub nothing_read : (text : List ℕ) (read : LinesRead) → Follows read (no_nodes, []) → HasRead text text read
-nothing_read text read follows = record { doc = (no_nodes, []); turns = suc (length text); room = omega arith; reads = refl; follows = follows }
-
 pub line_more : (text rest after : List ℕ) (before read : LinesRead) → HasRead text rest before → (length (skip_blank rest) == 0) ≡ false → length after < length rest
     → ((doc : Document) → Follows before doc → Takes (line (skip_blank rest)) doc after read) → HasRead text after read
 line_more text rest after before read so_far some shorter takes =

@@ -1,6 +1,6 @@
 -- What the lines so far say after one value more, after what is open is closed, and after an entry opens.
 use Rattle.std.proofs.Common.{◌≡◌, ℕ, Bool, true, false, not, ◌||◌, List, [], ◌∷◌, ◌++◌, codes, Option, Some, None, Result, Ok, Err, refl, ap, sym, subst, ◌∙◌, inl, inr, ◌⊎◌}
-use Rattle.std.specs.Prelude.{⊤, is_some, is_none, option_map, IsOkAnd, if◌then◌else◌}
+use Rattle.std.specs.Prelude.{⊤, is_some, IsOkAnd, if◌then◌else◌}
 use Rattle.std.specs.Str.{bytes_eq}
 use Rattle.std.proofs.Math.Bool.{or-false}
 use Rattle.std.proofs.lemmas.Bool.{or_parts, false≢true}

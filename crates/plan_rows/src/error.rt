@@ -1,7 +1,6 @@
 ghost use Rattle.std.specs.Prelude.{◌≡◌};
 ghost use Rattle.plan_rows.specs.Refusal.{number_of};
 
-use sync_text::NoMemory;
 use sync_topo::{Place, PlanErr};
 use thiserror::Error;
 
@@ -22,48 +21,21 @@ pub enum PlanFileErr {
     /// The rows break a rule for plans.
     #[error("{0}")]
     Plan(PlanErr),
-    /// Out of memory.
-    #[error("out of memory")]
-    NoMemory,
 }
 
 impl PlanFileErr {
     /// The number by which the refusal is printed, from 22 to 25. That of a rule for plans, 25, is
     /// followed by the rule's own.
     ///
-    /// `None` when out of memory, which refuses no file. This project's own.
-    pub fn number(self) -> Option<u8>
+    /// This project's own.
+    pub fn number(self) -> u8
         ensures { result ≡ number_of self }
     {
         match self {
-            PlanFileErr::Syntax => Some(22),
-            PlanFileErr::Key(_) => Some(23),
-            PlanFileErr::Kind(_) => Some(24),
-            PlanFileErr::Plan(_) => Some(25),
-            PlanFileErr::NoMemory => None,
-        }
-    }
-}
-
-impl From<NoMemory> for PlanFileErr {
-    ghost use Rattle.plan_rows.specs.declared.error.PlanFileErr.TheVariants as refusal;
-
-    ghost from_gives = { λ _ e. e ≡ refusal.NoMemory };
-
-    fn from(_: NoMemory) -> PlanFileErr {
-        PlanFileErr::NoMemory
-    }
-}
-
-impl From<PlanErr> for PlanFileErr {
-    ghost use Rattle.plan_rows.specs.Gives.{file_error};
-
-    ghost from_gives = { λ e f. f ≡ file_error e };
-
-    fn from(error: PlanErr) -> PlanFileErr {
-        match error {
-            PlanErr::NoMemory => PlanFileErr::NoMemory,
-            refused => PlanFileErr::Plan(refused),
+            PlanFileErr::Syntax => 22,
+            PlanFileErr::Key(_) => 23,
+            PlanFileErr::Kind(_) => 24,
+            PlanFileErr::Plan(_) => 25,
         }
     }
 }

@@ -10,7 +10,7 @@ ghost use Rattle.plan_rows.specs.Format.{keys_of, is_version, is_option, option_
 ghost use Rattle.plan_rows.specs.Slots.{seen, fits, said_by};
 ghost use Rattle.plan_rows.specs.Values.{head_slots, version_in, option_in};
 ghost use Rattle.plan_rows.specs.private.Values.{head_said, head_seen, head_in};
-ghost use Rattle.plan_rows.specs.private.Gives.{GivesBy};
+ghost use Rattle.plan_rows.specs.private.Gives.{Sees};
 
 use crate::error::PlanFileErr;
 use crate::kinds::{entries_in, fits_array, refusal};
@@ -134,7 +134,7 @@ fn head_said(alloc: Global, values: HeadValues) -> Head
 
 /// The head that these values make.
 fn head_by(alloc: Global, place: Place, values: HeadValues) -> Result<Head, PlanFileErr>
-    ensures { GivesBy head_seen result (said_by place (keys_of Two section.Head) head_said (head_slots values)) }
+    ensures { Sees head_seen result (said_by place (keys_of Two section.Head) head_said (head_slots values)) }
 {
     match refusal(place, values.other, head_fits(&values)) {
         None => Ok(head_said(alloc, values)),
@@ -147,7 +147,7 @@ fn head_by(alloc: Global, place: Place, values: HeadValues) -> Result<Head, Plan
 
 /// The head of a document.
 pub(crate) fn head_of(alloc: Global, document: Table) -> Result<Head, PlanFileErr>
-    ensures { GivesBy head_seen result (head_in (table_view document)) }
+    ensures { Sees head_seen result (head_in (table_view document)) }
 {
     let place = Place {
         section: Section::Head,

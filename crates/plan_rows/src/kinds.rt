@@ -10,7 +10,7 @@ ghost use Rattle.plan_rows.specs.Rules.{data_of};
 ghost use Rattle.plan_rows.specs.Slots.{seen, text_in, integer_in, name_in};
 ghost use Rattle.plan_rows.specs.private.Slots.{entries_in};
 ghost use Rattle.plan_rows.specs.private.Values.{table_in};
-ghost use Rattle.plan_rows.specs.private.Gives.{GivesBy};
+ghost use Rattle.plan_rows.specs.private.Gives.{Sees};
 
 use crate::error::PlanFileErr;
 use std::alloc::Global;
@@ -127,7 +127,7 @@ pub(crate) fn entries_in(alloc: Global, slot: Option<Value>) -> Vec<Value>
 /// The table that an entry is.
 #[tactic(auto, using(crate::proofs::ValueFacts::views))]
 pub(crate) fn table_of(place: Place, entry: Value) -> Result<Table, PlanFileErr>
-    ensures { GivesBy table_view result (table_in place (view entry)) }
+    ensures { Sees table_view result (table_in place (view entry)) }
 {
     match entry {
         Value::Table(fields) => Ok(fields),

@@ -10,7 +10,7 @@ ghost use Rattle.plan_rows.specs.private.Rows.{row_at};
 ghost use Rattle.plan_rows.specs.Slots.{lacks, fits, said_by};
 ghost use Rattle.plan_rows.specs.Values.{element_slots, link_slots, source_slots, element_said, link_said, source_said};
 ghost use Rattle.plan_rows.specs.private.Values.{rows_from};
-ghost use Rattle.plan_rows.specs.Gives.{Gives};
+ghost use Rattle.sync_text.specs.Gives.{Gives};
 
 use crate::error::PlanFileErr;
 use crate::head::head_of;
@@ -18,7 +18,7 @@ use crate::kinds::{fits_integer, fits_text, integer_in, name_in, refusal, table_
 use crate::values::{ElementValues, LinkValues, SourceValues};
 use crate::version::Version;
 use std::alloc::Global;
-use sync_text::Rows;
+use sync_text::{NoAnswer, Rows};
 use sync_topo::{ElementRow, LinkRow, Place, PlanRows, Section, SourceRow};
 use toml::{Table, Value};
 
@@ -76,7 +76,7 @@ pub fn element_by(
 /// The row that an entry of `element` says.
 #[tactic(auto, using(crate::proofs::EntryFacts::element_in_entry))]
 fn element_row(alloc: Global, row: u64, entry: Value) -> Result<ElementRow, PlanFileErr>
-    ensures { Gives result (row_at One element_row section.Elements row (view entry)) }
+    ensures { result ≡ row_at One element_row section.Elements row (view entry) }
 {
     let place = Place {
         section: Section::Elements,
@@ -87,13 +87,19 @@ fn element_row(alloc: Global, row: u64, entry: Value) -> Result<ElementRow, Plan
 }
 
 /// The rows of the entries of `element`.
-fn element_rows(alloc: Global, entries: Vec<Value>) -> Result<Rows<ElementRow>, PlanFileErr>
+fn element_rows(
+    alloc: Global,
+    entries: Vec<Value>,
+) -> Result<Rows<ElementRow>, NoAnswer<PlanFileErr>>
     ensures { Gives result (rows_from One element_row section.Elements 1 (map view entries.items)) }
 {
     let mut rows = Rows::with_capacity(alloc, entries.len())?;
     let mut number = 1;
     for entry in entries {
-        rows.push(element_row(alloc, number, entry)?)?;
+        match element_row(alloc, number, entry) {
+            Ok(row) => rows.push(row)?,
+            Err(refused) => return Err(NoAnswer::Refused(refused)),
+        }
         number += 1;
     }
     Ok(rows)
@@ -155,7 +161,7 @@ pub fn link_by(alloc: Global, place: Place, values: LinkValues) -> Result<LinkRo
 /// The row that an entry of `link` says.
 #[tactic(auto, using(crate::proofs::EntryFacts::link_in_entry))]
 fn link_row(alloc: Global, version: Version, row: u64, entry: Value) -> Result<LinkRow, PlanFileErr>
-    ensures { Gives result (row_at version (link_row version) section.Links row (view entry)) }
+    ensures { result ≡ row_at version (link_row version) section.Links row (view entry) }
 {
     let place = Place {
         section: Section::Links,
@@ -174,13 +180,16 @@ fn link_rows(
     alloc: Global,
     version: Version,
     entries: Vec<Value>,
-) -> Result<Rows<LinkRow>, PlanFileErr>
+) -> Result<Rows<LinkRow>, NoAnswer<PlanFileErr>>
     ensures { Gives result (rows_from version (link_row version) section.Links 1 (map view entries.items)) }
 {
     let mut rows = Rows::with_capacity(alloc, entries.len())?;
     let mut number = 1;
     for entry in entries {
-        rows.push(link_row(alloc, version, number, entry)?)?;
+        match link_row(alloc, version, number, entry) {
+            Ok(row) => rows.push(row)?,
+            Err(refused) => return Err(NoAnswer::Refused(refused)),
+        }
         number += 1;
     }
     Ok(rows)
@@ -238,7 +247,7 @@ pub fn source_by(
 /// The row that an entry of `source` says.
 #[tactic(auto, using(crate::proofs::EntryFacts::source_in_entry))]
 fn source_row(alloc: Global, row: u64, entry: Value) -> Result<SourceRow, PlanFileErr>
-    ensures { Gives result (row_at One source_row section.Sources row (view entry)) }
+    ensures { result ≡ row_at One source_row section.Sources row (view entry) }
 {
     let place = Place {
         section: Section::Sources,
@@ -249,13 +258,16 @@ fn source_row(alloc: Global, row: u64, entry: Value) -> Result<SourceRow, PlanFi
 }
 
 /// The rows of the entries of `source`.
-fn source_rows(alloc: Global, entries: Vec<Value>) -> Result<Rows<SourceRow>, PlanFileErr>
+fn source_rows(alloc: Global, entries: Vec<Value>) -> Result<Rows<SourceRow>, NoAnswer<PlanFileErr>>
     ensures { Gives result (rows_from One source_row section.Sources 1 (map view entries.items)) }
 {
     let mut rows = Rows::with_capacity(alloc, entries.len())?;
     let mut number = 1;
     for entry in entries {
-        rows.push(source_row(alloc, number, entry)?)?;
+        match source_row(alloc, number, entry) {
+            Ok(row) => rows.push(row)?,
+            Err(refused) => return Err(NoAnswer::Refused(refused)),
+        }
         number += 1;
     }
     Ok(rows)
@@ -264,10 +276,13 @@ fn source_rows(alloc: Global, entries: Vec<Value>) -> Result<Rows<SourceRow>, Pl
 /// The rows that a document says: its head first, then each element in order, each link, and each
 /// source.
 #[tactic(auto, using(crate::proofs::RowsSoFar::document_is))]
-pub fn rows_of(alloc: Global, document: Table) -> Result<PlanRows, PlanFileErr>
+pub fn rows_of(alloc: Global, document: Table) -> Result<PlanRows, NoAnswer<PlanFileErr>>
     ensures { Gives result (rows_of_document (table_view document)) }
 {
-    let head = head_of(alloc, document)?;
+    let head = match head_of(alloc, document) {
+        Ok(head) => head,
+        Err(refused) => return Err(NoAnswer::Refused(refused)),
+    };
     let elements = element_rows(alloc, head.elements)?;
     let links = link_rows(alloc, head.version, head.links)?;
     let sources = source_rows(alloc, head.sources)?;

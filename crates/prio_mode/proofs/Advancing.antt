@@ -7,9 +7,8 @@ use Rattle.sync_topo.specs.declared.event.Event.{Event}
 use Rattle.sync_topo.specs.Topology.{Topology}
 use Rattle.sync_topo.specs.Events.{IsEventList}
 use Rattle.net_rules.specs.Signals.{events_at}
-use Rattle.event_times.specs.EventTimes.{IsNextTime, AreParted}
-use Rattle.event_times.specs.private.EventTimes.{AreHere}
-use Rattle.event_times.proofs.EventTimes.{sooner, none-until, are-here, later-told}
+use Rattle.event_times.specs.EventTimes.{IsNextTime, AreHere, AreNext, AreAhead, MomentsLeft}
+use Rattle.event_times.proofs.EventTimes.{sooner}
 use Rattle.net_words.specs.Words.{all_words}
 use Rattle.prio_mode.specs.declared.running.Run.{Run}
 use Rattle.prio_mode.specs.PriorityRows.{row_in, rows_until}
@@ -94,33 +93,32 @@ dues-from plan next run is e within =
     let ready = is.ready e (let count = is.counted.dues in omega (arith, count, within)) in
     subst (λ o. IfSome o (λ due. next ≤ due)) (sym ready.due) ready.in_time.until_due
 
--- a turn on, and the events after it
-pub on-way : (plan : Topology) (events rest here later : List Event) (next until now : ℕ)
-    (due : Option ℕ)
-    (before run run_then : Run) (first text text_then : List ℕ)
-    → IsOnWay plan events rest next until before run first text → IsNextTime next rest due until now
+-- a turn on
+pub on-way : (plan : Topology) (events here : List Event) (left left_then : MomentsLeft)
+    (until now : ℕ) (due : Option ℕ) (before run run_then : Run) (first text text_then : List ℕ)
+    → IsOnWay plan events left until before run first text
+    → IsNextTime left.next left.rest due left.until now
     → ((e : ℕ) → IfSome (due_in run.dues e) (λ due. now ≤ due))
-    → AreParted plan now until rest here later
+    → ((all : List Event) → AreAhead plan all left → AreNext plan all left.next now here)
+    → ((all : List Event) → AreAhead plan all left → AreAhead plan all left_then)
+    → left_then.next ≡ now + 1 → left_then.until ≡ left.until
     → IsRun plan (suc now) run_then
     → ((all : List Event) (front : List ℕ) → AreHere plan all now here
     → HasRun plan all now run front text
     → HasRun plan all (suc now) run_then front text_then)
-    → IsOnWay plan events later (now + 1) until before run_then first text_then
-on-way plan events rest here later next until now due before run run_then first text text_then
-    way time none_due parted is turned =
-    subst (λ n. IsOnWay plan events later n until before run_then first text_then)
-    (sym (add-one now)) (record {
-      run_is = is;
-      within = parted.within;
+    → IsOnWay plan events left_then until before run_then first text_then
+on-way plan events here left left_then until now due before run run_then first text text_then
+    way time none_due next ahead after same is turned =
+    let from : suc now ≡ left_then.next = sym (after ∙ add-one now) in
+    record {
+      run_is = subst (λ n. IsRun plan n run_then) from is;
+      until_same = same ∙ way.until_same;
+      ahead = λ all told. ahead all (way.ahead all told);
       stands = λ all told stood.
-          let so_far = way.stands all told stood in (
-            later-told plan all rest next until now due so_far.0 time here later parted,
-            turned all first
-                (are-here plan all rest next until now due so_far.0 time here later parted)
-                (quiet-until plan next now run way.run_is time.later time.first none_due all
-                told.ordered first text
-                (none-until plan all rest next until now due so_far.0 time) now time.later
-                (omega arith) so_far.1),
-          );
-      up_to = (let end = time.up_to in omega (arith, end));
-    })
+          let told_next = next all (way.ahead all told) in
+          subst (λ n. HasRun plan all n run_then first text_then) from
+          (turned all first told_next.here
+          (quiet-until plan left.next now run way.run_is time.later time.first none_due all
+          told_next.here.ordered first text told_next.none now time.later (omega arith)
+          (way.stands all told stood)));
+    }

@@ -18,7 +18,7 @@ use Rattle.sync_element.proofs.ElementSteps.{later-due, stepped-in_time, stands-
 use Rattle.sync_topo.specs.declared.event.Event.{Event}
 use Rattle.sync_topo.specs.Topology.{Topology}
 use Rattle.net_rules.specs.Signals.{signals_by}
-use Rattle.event_times.specs.private.EventTimes.{AreHere}
+use Rattle.event_times.specs.EventTimes.{AreHere}
 use Rattle.net_words.specs.Tellings.{is_active}
 use Rattle.net_words.specs.Words.{all_words}
 use Rattle.prio_mode.specs.declared.shown.Seen.{Seen}

@@ -5,7 +5,7 @@ ghost use Rattle.sync_topo.specs.Lines.{IsInput};
 ghost use Rattle.prio_mode.specs.PriorityRows.{change_row, row_between};
 
 use crate::shown::{Shown, shows_other};
-use shown_words::{put_choice, state_word};
+use shown_words::{put_choice, state_column};
 use std::alloc::Global;
 use sync_text::{NoMemory, Text};
 use sync_topo::Plan;
@@ -46,7 +46,5 @@ fn put_change(
     text.put_number(now)?;
     text.put(b",")?;
     put_choice(alloc, text, plan, element, shown.mode, shown.input)?;
-    text.put(b",")?;
-    text.put(state_word(shown.state))?;
-    text.put(b"\n")
+    text.put(state_column(shown.state))
 }

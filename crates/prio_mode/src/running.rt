@@ -5,8 +5,7 @@ ghost use Rattle.std.specs.List.{IsDistinct};
 ghost use Rattle.agenda.specs.Called.{is_marked};
 ghost use Rattle.sync_topo.specs.declared.event.Event.{Event};
 ghost use Rattle.sync_topo.specs.Events.{Fits};
-ghost use Rattle.event_times.specs.EventTimes.{AreTold, AreWithin};
-ghost use Rattle.event_times.specs.private.EventTimes.{AreHere};
+ghost use Rattle.event_times.specs.EventTimes.{AreTold, AreWithin, AreHere};
 ghost use Rattle.prio_mode.specs.private.Running.{AreCounted, IsRun, RunStands, HasRun, kept_at};
 ghost use Rattle.prio_mode.specs.private.Visiting.{CanStep, IsAloneVisited, AreVisited, AreCalled};
 
@@ -14,7 +13,7 @@ use crate::rows::put_if_other;
 use crate::shown::Seen;
 use crate::stepping::step_told;
 use agenda::{DueTimes, Marks, first_due, in_order, mark_all, mark_due};
-use event_times::{next_time, split_at_time};
+use event_times::Moments;
 use net_words::{Tellings, tell_events};
 use std::alloc::Global;
 use sync_ql::limits::LAST_MILLISECOND;
@@ -147,14 +146,9 @@ impl Run {
             RunStands plan.now all 0 self.old →
             HasRun plan.now all (suc until) self.new text.old text.new) }
     {
-        let mut next = 0;
-        let mut rest = events;
-        while next <= until {
-            let now = next_time(next, rest, first_due(&self.dues), until);
-            let (here, later) = split_at_time(rest, now);
+        let mut moments = Moments::new(events, 0, until);
+        while let Some((now, here)) = moments.next_moment(first_due(&self.dues)) {
             self.turn(alloc, plan, now, here, text)?;
-            rest = later;
-            next = now + 1;
         }
         Ok(())
     }

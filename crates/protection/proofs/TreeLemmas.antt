@@ -1,10 +1,10 @@
 -- The tree of fewest hops keeps every rule, is orderly, and serves everyone who is in reach of a clock.
 use Rattle.std.proofs.Common.{◌≡◌, ◌≢◌, ◌<◌, ◌≤◌, ◌+◌, ℕ, zero, suc, Bool, true, false, not, ◌&&◌, ◌==◌, List, [], ◌∷◌, length, map, filter, Option, None, Some, refl, sym, ap, subst, ◌∙◌, inl, inr, arith, length-append}
-use Rattle.std.specs.Prelude.{nat_eq, nat_lt, slice_index, slice_set, replicate, unwrap_or, if◌then◌else◌}
+use Rattle.std.specs.Prelude.{nat_eq, nat_lt, slice_index, slice_set, unwrap_or, if◌then◌else◌}
 use Rattle.std.specs.Option.{option_flatten, option_map_or}
 use Rattle.std.specs.List.{list_all, range_with_len}
-use Rattle.std.proofs.lemmas.Bool.{true≢false, false_from_ne_true, and_parts, cases_eq, eqb-true, eq-eqb, ltb-true}
-use Rattle.std.proofs.lemmas.List.{length-map, length-replicate, length-set}
+use Rattle.std.proofs.lemmas.Bool.{false_from_ne_true, and_parts, cases_eq, eqb-true, eq-eqb, ltb-true}
+use Rattle.std.proofs.lemmas.List.{length-map, length-set}
 use Rattle.std.proofs.lemmas.List.FromFn.{get_or-map-range_with_len, length-map-range_with_len}
 use Rattle.std.proofs.lemmas.Option.{none-some, same_Some}
 use Rattle.sync_text.specs.Each.{Each}
@@ -81,32 +81,6 @@ pick-set_same picks element line inside = ap option_flatten (slice_get-set_same 
 
 pick-set_other : (picks : List (Option ℕ)) (element other line : ℕ) → element ≢ other → pick_at (slice_set picks element (Some line)) other ≡ pick_at picks other
 pick-set_other picks element other line apart = ap option_flatten (slice_get-set_other picks element other (Some line) apart)
-
-pub ArePicks-none : (plan : Topology) (counts : Counts) (picks : List (Option ℕ)) → picks ≡ replicate (length plan.elements) None → ArePicks plan counts 0 picks
-ArePicks-none plan counts picks is = record {
-  counted = ap length is ∙ length-replicate (length plan.elements) None;
-  only = λ element line there. absurd (none-some line (sym (nothing element) ∙ there));
-  each = λ line low closer. absurd (omega (arith, low));
-}
-  where
-    nothing : (element : ℕ) → pick_at picks element ≡ None
-    nothing element = ap (λ xs. pick_at xs element) is ∙ of (length plan.elements) element
-      where
-        of : (n k : ℕ) → pick_at (replicate n None) k ≡ None
-        of zero k = refl
-        of (suc n) zero = refl
-        of (suc n) (suc k) = of n k
-
-pub ArePicks-same : (plan : Topology) (counts : Counts) (n : ℕ) (picks : List (Option ℕ)) → comes_closer plan counts n ≡ false → ArePicks plan counts n picks
-    → ArePicks plan counts (n + 1) picks
-ArePicks-same plan counts n picks not are = record {
-  counted = are.counted;
-  only = are.only;
-  each = λ line low closer. elim (cases_eq line n) [
-    | inl same ↦ absurd (true≢false (sym closer ∙ ap (comes_closer plan counts) same ∙ not))
-    | inr other ↦ are.each line (omega (arith, low, other)) closer
-  ];
-}
 
 pub ArePicks-next : (plan : Topology) (counts : Counts) (n : ℕ) (picks : List (Option ℕ)) (receiver : ℕ) → n < line_count plan → receiver ≡ receiver_of plan n
     → receiver < length plan.elements → comes_closer plan counts n ≡ true → ArePicks plan counts n picks

@@ -2,7 +2,7 @@
 
 ghost use Rattle.std.specs.Prelude.{◌≡◌, ◌<◌, ◌+◌, ◌*◌, ℕ, length, map, IfOk};
 ghost use Rattle.std.specs.List.{range_with_len};
-ghost use Rattle.sync_topo.specs.Lines.{line_count, receiver_of};
+ghost use Rattle.sync_topo.specs.Lines.{line_count};
 ghost use Rattle.reach_rules.specs.declared.failure.Failure.TheVariants as fails;
 ghost use Rattle.reach_rules.specs.Protection.{IsProtectedFrom};
 ghost use Rattle.nominate.specs.HopCount.{AreHopCounts};

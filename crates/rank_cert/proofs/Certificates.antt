@@ -1,5 +1,5 @@
 -- When records give a certificate, and what its ranks are.
-use Rattle.std.proofs.Common.{◌≡◌, ℕ, ◌+◌, ◌<◌, zero, suc, Bool, true, false, ◌&&◌, List, [], ◌∷◌, length, map, replicate, Option, Some, None, Ok, Err, refl, ap, sym, ◌∙◌, inl, inr, arith}
+use Rattle.std.proofs.Common.{◌≡◌, ℕ, ◌+◌, ◌<◌, suc, Bool, true, false, ◌&&◌, List, [], ◌∷◌, length, map, Option, Some, None, Ok, Err, refl, ap, sym, ◌∙◌, inl, inr, arith}
 use Rattle.std.specs.Prelude.{◌==◌, is_none, IsSome, if◌then◌else◌}
 use Rattle.std.specs.List.{range_with_len}
 use Rattle.std.specs.Option.{option_and_then, option_map_or}
@@ -18,18 +18,6 @@ use Rattle.rank_cert.specs.Ranks.{Ranks, rank_at, IsRanked, RanksNoOther}
 use Rattle.rank_cert.specs.Rows.{Fields, line_in_row, if_nominated, is_row_of, rank_by_rows, ranks_by_rows}
 use Rattle.rank_cert.specs.CertificateText.{is_header, refusal_at, first_without, certificate_of_records}
 use Rattle.rank_cert.specs.private.RowsTaken.{AreRanksBy}
-
--- no line has a rank before the first row
-pub AreRanksBy-none : (plan : Topology) (ranks : Ranks) → ranks ≡ replicate (line_count plan) None → length ranks ≡ line_count plan → AreRanksBy plan [] ranks
-AreRanksBy-none plan ranks all counted = record {
-  counted = counted;
-  each = λ line. rw all (none (line_count plan) line);
-}
-  where
-    none : (n line : ℕ) → rank_at (replicate n None) line ≡ None
-    none zero line = refl
-    none (suc n) zero = refl
-    none (suc n) (suc line) = none n line
 
 -- ranks are told by the rank of each line
 ranks-map : (ranks : Ranks) (f : ℕ → Option ℕ) (a : ℕ) → ((i : ℕ) → i < length ranks → rank_at ranks i ≡ f (a + i)) → ranks ≡ map f (range_with_len a (length ranks))

@@ -1,6 +1,6 @@
 -- A certificate is refused for the first broken rule, and taken where none is broken.
 use Rattle.std.proofs.Common.{◌≡◌, ℕ, ◌+◌, ◌<◌, ◌≤◌, zero, suc, Bool, true, false, ◌&&◌, List, [], ◌∷◌, length, map, take, find, Option, Some, None, Ok, Err, slice_get, refl, ap, sym, ◌∙◌, subst, inl, inr, arith}
-use Rattle.std.specs.Prelude.{◌≢◌, is_none, is_some, IsSome, IfOk, IfErr, if◌then◌else◌, Result}
+use Rattle.std.specs.Prelude.{◌≢◌, is_none, is_some, IsSome, IfOk, if◌then◌else◌, Result}
 use Rattle.std.specs.List.{range_with_len}
 use Rattle.std.specs.Option.{option_or, option_and_then}
 use Rattle.std.proofs.lemmas.Bool.{true≢false, and_parts, cases_lt}
@@ -16,11 +16,13 @@ use Rattle.sync_topo.specs.Topology.{Topology}
 use Rattle.sync_topo.specs.Lines.{line_count, is_nominated, IsNominated}
 use Rattle.sync_topo.proofs.LineLaws.{IsNominated-within}
 use Rattle.rank_cert.specs.declared.error.CertErr.{CertErr}
-use Rattle.rank_cert.specs.declared.error.CertErr.TheVariants.{Header, Row, Line, Twice, Missing, NoMemory}
+use Rattle.rank_cert.specs.declared.error.CertErr.TheVariants.{Header, Row, Line, Twice, Missing}
 use Rattle.rank_cert.specs.Ranks.{Ranks, rank_at}
 use Rattle.rank_cert.specs.Rows.{Fields, rank_in_row, line_in_row, is_row_of, rank_for, rank_by_rows, ranks_by_rows}
 use Rattle.rank_cert.specs.CertificateText.{is_header, refusal_of, row_refusal, refusal_at, first_without, certificate_of_records}
-use Rattle.rank_cert.specs.Refusal.{Gives}
+use Rattle.sync_text.specs.declared.errors.NoAnswer.{NoAnswer}
+use Rattle.sync_text.specs.declared.errors.NoAnswer.TheVariants.{NoMemory, Refused}
+use Rattle.sync_text.specs.Gives.{Gives, IfRefused}
 use Rattle.rank_cert.specs.Rules.{row_at, HasLine, HasRow, IsSoundRow, IsSoundBefore, IsReached, IsFirstBroken, NamesLine, IsCertificateOf}
 use Rattle.rank_cert.proofs.Certificates.{is_row_of-line, rank_by_rows-other}
 
@@ -465,12 +467,6 @@ lowest-missing plan records m n first second = elim (cases_lt m.0 n.0) [
 
 -- one rule is the first that is broken
 same-broken : (plan : Topology) (records : List Fields) (d e : CertErr) → IsFirstBroken plan records d → IsFirstBroken plan records e → d ≡ e
-same-broken plan records NoMemory e b c = absurd b
-same-broken plan records Header NoMemory b c = absurd c
-same-broken plan records (Row m) NoMemory b c = absurd c
-same-broken plan records (Line m) NoMemory b c = absurd c
-same-broken plan records (Twice m) NoMemory b c = absurd c
-same-broken plan records (Missing m) NoMemory b c = absurd c
 same-broken plan records Header Header b c = refl
 same-broken plan records Header (Row n) b c = absurd (b c.0.before.has_header)
 same-broken plan records Header (Line n) b c = absurd (b c.0.before.has_header)
@@ -510,7 +506,6 @@ never-broken plan records ranks (Row n) own broken = no-stop plan records n own.
 never-broken plan records ranks (Line n) own broken = no-stop plan records n own.sound (line-stops plan records n broken)
 never-broken plan records ranks (Twice n) own broken = no-stop plan records n own.sound (twice-stops plan records n broken)
 never-broken plan records ranks (Missing line) own broken = let has = own.ranked line.0 broken.1 in broken.2 (has.0, has.1)
-never-broken plan records ranks NoMemory own broken = broken
 
 -- the answer is that of the first broken rule, or else the certificate
 is-refused : (plan : Topology) (records : List Fields) (e : CertErr) → IsFirstBroken plan records e → certificate_of_records plan records ≡ Err e
@@ -528,33 +523,29 @@ is-accepted plan records ranks own = cases (certificate_of_records plan records)
     cases (Err e) is = absurd (never-broken plan records ranks e own (first-broken plan records e is))
 
 -- the same of what a call answers
-pub refused-from : (plan : Topology) (records : List Fields) (result : Result Ranks CertErr) → Gives result (certificate_of_records plan records)
-    → IfErr result (λ e. e ≢ NoMemory → IsFirstBroken plan records e)
+pub refused-from : (plan : Topology) (records : List Fields) (result : Result Ranks (NoAnswer CertErr)) → Gives result (certificate_of_records plan records)
+    → IfRefused result (IsFirstBroken plan records)
 refused-from plan records (Ok ranks) gives = tt
-refused-from plan records (Err Header) gives = λ numbered. first-broken plan records Header gives
-refused-from plan records (Err (Row n)) gives = λ numbered. first-broken plan records (Row n) gives
-refused-from plan records (Err (Line n)) gives = λ numbered. first-broken plan records (Line n) gives
-refused-from plan records (Err (Twice n)) gives = λ numbered. first-broken plan records (Twice n) gives
-refused-from plan records (Err (Missing line)) gives = λ numbered. first-broken plan records (Missing line) gives
-refused-from plan records (Err NoMemory) gives = λ numbered. absurd (numbered refl)
+refused-from plan records (Err NoMemory) gives = tt
+refused-from plan records (Err (Refused e)) gives = first-broken plan records e gives
 
-pub refuses-from : (plan : Topology) (records : List Fields) (result : Result Ranks CertErr) → Gives result (certificate_of_records plan records)
+pub refuses-from : (plan : Topology) (records : List Fields) (result : Result Ranks (NoAnswer CertErr)) → Gives result (certificate_of_records plan records)
     → (e : CertErr) → IsFirstBroken plan records e → Gives result (Err e)
 refuses-from plan records result gives e broken = rw (is-refused plan records e broken) at gives
 
-pub accepted-from : (plan : Topology) (records : List Fields) (result : Result Ranks CertErr) → Gives result (certificate_of_records plan records) → IfOk result (IsCertificateOf plan records)
+pub accepted-from : (plan : Topology) (records : List Fields) (result : Result Ranks (NoAnswer CertErr)) → Gives result (certificate_of_records plan records) → IfOk result (IsCertificateOf plan records)
 accepted-from plan records (Ok ranks) gives = certificate-sound plan records ranks gives
 accepted-from plan records (Err e) gives = tt
 
-pub accepts-from : (plan : Topology) (records : List Fields) (result : Result Ranks CertErr) → Gives result (certificate_of_records plan records)
+pub accepts-from : (plan : Topology) (records : List Fields) (result : Result Ranks (NoAnswer CertErr)) → Gives result (certificate_of_records plan records)
     → (ranks : Ranks) → IsCertificateOf plan records ranks → Gives result (Ok ranks)
 accepts-from plan records result gives ranks own = rw (is-accepted plan records ranks own) at gives
 
-pub named-from : (plan : Topology) (records : List Fields) (result : Result Ranks CertErr) → Gives result (certificate_of_records plan records) → IfErr result (NamesLine plan)
+pub named-from : (plan : Topology) (records : List Fields) (result : Result Ranks (NoAnswer CertErr)) → Gives result (certificate_of_records plan records) → IfRefused result (NamesLine plan)
 named-from plan records (Ok ranks) gives = tt
-named-from plan records (Err Header) gives = tt
-named-from plan records (Err (Row n)) gives = tt
-named-from plan records (Err (Line n)) gives = tt
-named-from plan records (Err (Twice n)) gives = tt
-named-from plan records (Err (Missing line)) gives = IsNominated-within plan line.0 (first-broken plan records (Missing line) gives).1
 named-from plan records (Err NoMemory) gives = tt
+named-from plan records (Err (Refused Header)) gives = tt
+named-from plan records (Err (Refused (Row n))) gives = tt
+named-from plan records (Err (Refused (Line n))) gives = tt
+named-from plan records (Err (Refused (Twice n))) gives = tt
+named-from plan records (Err (Refused (Missing line))) gives = IsNominated-within plan line.0 (first-broken plan records (Missing line) gives).1

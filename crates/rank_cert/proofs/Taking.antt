@@ -1,17 +1,13 @@
 -- What the rows of a certificate give, one after the other.
-use Rattle.std.proofs.Common.{◌≡◌, ℕ, ◌+◌, ◌<◌, ◌≤◌, zero, suc, Bool, true, false, List, [], ◌∷◌, ◌++◌, length, take, drop, Option, Some, None, Err, slice_get, refl, ap, sym, subst, ◌∙◌, inl, inr, arith}
+use Rattle.std.proofs.Common.{◌≡◌, ℕ, ◌+◌, ◌<◌, ◌≤◌, zero, suc, List, [], ◌∷◌, ◌++◌, length, take, drop, Option, Some, None, slice_get, refl, ap, sym, ◌∙◌, inl, inr, arith}
 use Rattle.std.specs.Option.{option_or}
 use Rattle.std.proofs.Math.Seq.{drop-nil}
 use Rattle.std.proofs.lemmas.Bool.Decides.{eqb_tells}
 use Rattle.std.proofs.lemmas.Option.{none-some, same_Some}
 use Rattle.sync_topo.specs.Topology.{Topology}
 use Rattle.rank_cert.specs.Ranks.{Ranks}
-use Rattle.sync_text.specs.Gives.{UnlessNoMemory}
-use Rattle.rank_cert.specs.declared.error.CertErr.{CertErr}
-use Rattle.rank_cert.specs.Refusal.{is_no_memory}
-use Rattle.rank_cert.specs.private.Refusal.{Refuses}
 use Rattle.rank_cert.specs.Rows.{Fields, rank_in_row, line_in_row, rank_for, rank_by_rows}
-use Rattle.rank_cert.specs.CertificateText.{row_refusal, refusal_at, unless}
+use Rattle.rank_cert.specs.CertificateText.{row_refusal, refusal_at}
 use Rattle.rank_cert.specs.private.RowsTaken.{refusal_after, AreRanksAfter, AreRanksBy, AreTaken}
 
 -- one item more from the front
@@ -85,11 +81,3 @@ pub all_taken : {A : Type 0} (all : List A) (n : ℕ) → drop n all ≡ [] → 
 all_taken [] n is = omega arith
 all_taken (y ∷ ys) zero is = absurd (cc is)
 all_taken (y ∷ ys) (suc n) is = omega (arith, all_taken ys n is)
-
--- the refusal of the first row that breaks a rule
-pub Refuses-first : (first : Option CertErr) (e : CertErr) → first ≡ Some e → Refuses e (unless first)
-Refuses-first first e is = rw is (same (is_no_memory e))
-  where
-    same : (want : Bool) → UnlessNoMemory want (unless (Some e) ≡ Err e)
-    same true = tt
-    same false = refl

@@ -3,7 +3,7 @@ use Rattle.std.specs.Prelude.{◌≡◌, ℕ, ◌≤◌, ◌<◌, IsTrue, IsSome
 use Rattle.sync_topo.specs.Topology.{Topology}
 use Rattle.sync_topo.specs.Lines.{line_count, IsNominated}
 use Rattle.rank_cert.specs.declared.error.CertErr.{CertErr}
-use Rattle.rank_cert.specs.declared.error.CertErr.TheVariants.{Header, Row, Line, Twice, Missing, NoMemory}
+use Rattle.rank_cert.specs.declared.error.CertErr.TheVariants.{Header, Row, Line, Twice, Missing}
 use Rattle.rank_cert.specs.Ranks.{Ranks, rank_at, RanksNoOther}
 use Rattle.rank_cert.specs.Rows.{Fields, rank_in_row, line_in_row}
 use Rattle.rank_cert.specs.CertificateText.{is_header}
@@ -55,7 +55,6 @@ IsFirstBroken plan records (Twice n) =
 IsFirstBroken plan records (Missing line) =
     IsSoundBefore plan records (length records) × IsNominated plan line.0 × (¬ HasRow plan records line.0)
     × ((lower : ℕ) → lower < line.0 → IsNominated plan lower → HasRow plan records lower)
-IsFirstBroken plan records NoMemory = ⊥
 
 -- the line that a refusal names is one of the plan
 abbrev pub NamesLine : Topology → CertErr → Type 0

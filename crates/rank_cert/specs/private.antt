@@ -2,6 +2,5 @@
 pub mod Examples
 pub mod FirstFall
 pub mod Ranks
-pub mod Refusal
 pub mod RowsTaken
 pub mod Written

@@ -3,7 +3,6 @@
 ghost use Rattle.std.specs.Prelude.{◌≡◌};
 ghost use Rattle.rank_cert.specs.Refusal.{refusal_number};
 
-use sync_text::NoMemory;
 use sync_topo::LineId;
 use thiserror::Error;
 
@@ -27,36 +26,21 @@ pub enum CertErr {
     /// No row has this nominated line, and each one of lower number has a row.
     #[error("line {} has no row", .0.0)]
     Missing(LineId),
-    /// Out of memory.
-    #[error("out of memory")]
-    NoMemory,
 }
 
 impl CertErr {
     /// The number by which the refusal is printed, from 34 to 38.
     ///
-    /// `None` when out of memory, which refuses no text.
     /// This project's own.
-    pub fn number(self) -> Option<u8>
+    pub fn number(self) -> u8
         ensures { result ≡ refusal_number self }
     {
         match self {
-            CertErr::Header => Some(34),
-            CertErr::Row(_) => Some(35),
-            CertErr::Line(_) => Some(36),
-            CertErr::Twice(_) => Some(37),
-            CertErr::Missing(_) => Some(38),
-            CertErr::NoMemory => None,
+            CertErr::Header => 34,
+            CertErr::Row(_) => 35,
+            CertErr::Line(_) => 36,
+            CertErr::Twice(_) => 37,
+            CertErr::Missing(_) => 38,
         }
-    }
-}
-
-impl From<NoMemory> for CertErr {
-    ghost use Rattle.rank_cert.specs.declared.error.CertErr.TheVariants as refusal;
-
-    ghost from_gives = { λ _ e. e ≡ refusal.NoMemory };
-
-    fn from(_: NoMemory) -> CertErr {
-        CertErr::NoMemory
     }
 }

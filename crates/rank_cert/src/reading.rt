@@ -9,14 +9,13 @@ ghost use Rattle.rank_cert.specs.CertificateText.{certificate_of, certificate_of
 ghost use Rattle.csv_records.specs.Records.{records_of};
 ghost use Rattle.rank_cert.specs.Rules.{IsFirstBroken, NamesLine, IsCertificateOf};
 ghost use Rattle.rank_cert.specs.private.RowsTaken.{refusal_after, AreRanksAfter, AreRanksBy};
-ghost use Rattle.rank_cert.specs.Refusal.{Gives};
-ghost use Rattle.rank_cert.specs.private.Refusal.{Refuses};
+ghost use Rattle.sync_text.specs.Gives.{Gives, IfRefused, Refuses};
 
 use crate::cert::Cert;
 use crate::error::CertErr;
 use csv_records::{Record, Records};
 use std::alloc::Global;
-use sync_text::read_number;
+use sync_text::{NoAnswer, read_number};
 use sync_topo::{InputId, LineId, Plan};
 
 /// The certificate of a text: a rank for each nominated line of the plan, and for no other line.
@@ -25,15 +24,15 @@ use sync_topo::{InputId, LineId, Plan};
 /// of a nominated line and a rank from 0 to 2^64 - 1, in any order of lines. The refusal is the
 /// first broken rule: `Header`, then for each row in order `Row`, `Line` or `Twice`, and after all
 /// rows `Missing` for the lowest-numbered nominated line without a row. This project's own.
-pub fn read_cert(alloc: Global, plan: &Plan, bytes: &[u8]) -> Result<Cert, CertErr>
+pub fn read_cert(alloc: Global, plan: &Plan, bytes: &[u8]) -> Result<Cert, NoAnswer<CertErr>>
     ensures exact { Gives result (certificate_of plan.now bytes.now) }
     ensures ranked { IfOk result (IsRanked plan.now) }
     ensures no_other { IfOk result (RanksNoOther plan.now) }
 
     // A refusal comes exactly where its rule is the first that is broken, unless out of memory.
-    ensures refused { IfErr result (λ e. e ≢ CertErr.NoMemory → IsFirstBroken plan.now (records_of bytes.now) e) }
+    ensures refused { IfRefused result (IsFirstBroken plan.now (records_of bytes.now)) }
     ensures refuses { (e : CertErr) → IsFirstBroken plan.now (records_of bytes.now) e → Gives result (Err e) }
-    ensures named { IfErr result (NamesLine plan.now) }
+    ensures named { IfRefused result (NamesLine plan.now) }
 
     // Where no rule is broken, each nominated line has the rank of its row.
     ensures accepted { IfOk result (IsCertificateOf plan.now (records_of bytes.now)) }
@@ -45,7 +44,7 @@ pub fn read_cert(alloc: Global, plan: &Plan, bytes: &[u8]) -> Result<Cert, CertE
 
 /// The certificate of the records that are left.
 #[tactic(auto, unfolding(crate::specs::CertificateText::certificate_of_records))]
-fn cert_of(alloc: Global, plan: &Plan, records: &mut Records<'_>) -> Result<Cert, CertErr>
+fn cert_of(alloc: Global, plan: &Plan, records: &mut Records<'_>) -> Result<Cert, NoAnswer<CertErr>>
     requires fresh { records.old.spent ≡ false }
     requires few { length records.old.left < 2 ^ 64 }
     ensures exact { Gives result (certificate_of_records plan.now records.old.left) }
@@ -53,7 +52,7 @@ fn cert_of(alloc: Global, plan: &Plan, records: &mut Records<'_>) -> Result<Cert
     ensures no_other { IfOk result (RanksNoOther plan.now) }
 {
     if !records.advance()? || !is_header(records.taken()) {
-        return Err(CertErr::Header);
+        return Err(NoAnswer::Refused(CertErr::Header));
     }
     let mut cert = Cert::new(alloc, plan)?;
     match take_rows(&mut cert, plan, records) {
@@ -61,7 +60,7 @@ fn cert_of(alloc: Global, plan: &Plan, records: &mut Records<'_>) -> Result<Cert
         Err(error) => return Err(error),
     }
     match first_without(&cert, plan) {
-        Some(line) => Err(CertErr::Missing(line)),
+        Some(line) => Err(NoAnswer::Refused(CertErr::Missing(line))),
         None => Ok(cert),
     }
 }
@@ -77,7 +76,11 @@ fn is_header(first: &Record) -> bool
 }
 
 /// Takes the ranks of all rows that are left.
-fn take_rows(cert: &mut Cert, plan: &Plan, records: &mut Records<'_>) -> Result<(), CertErr>
+fn take_rows(
+    cert: &mut Cert,
+    plan: &Plan,
+    records: &mut Records<'_>,
+) -> Result<(), NoAnswer<CertErr>>
     requires begun { AreRanksBy plan.now [] cert.old }
     requires fresh { records.old.spent ≡ false }
     requires few { length records.old.left < 2 ^ 64 }
@@ -92,7 +95,7 @@ fn take_rows(cert: &mut Cert, plan: &Plan, records: &mut Records<'_>) -> Result<
         number += 1;
         match take_row(cert, plan, records.taken(), number) {
             Ok(()) => {}
-            Err(error) => return Err(error),
+            Err(refused) => return Err(NoAnswer::Refused(refused)),
         }
     }
     Ok(())

@@ -12,7 +12,7 @@ ghost use Rattle.net_rules.specs.Settled.{IsSettled};
 ghost use Rattle.net_rules.specs.Settling.{IsOneWay};
 ghost use Rattle.net_rules.specs.Staying.{IsQuietAfter};
 ghost use Rattle.reach_rules.specs.Reaching.{IsBestReaching};
-ghost use Rattle.reach_rules.specs.Agreement.{IsAgreeing, IsAgreedBound, AreAuto, IsTimed, AreTimed, IsSteadyAt, ComesToRest};
+ghost use Rattle.reach_rules.specs.Agreement.{IsAgreeing, IsAgreedBound, AreAuto, IsTimed, IsSteadyAt, ComesToRest};
 
 /// The law of agreement, after the last event and without a forced or manual switch, in a plan with
 /// an agreed bound. An element that a level reaches which is better than every own clock takes the

@@ -8,9 +8,9 @@
 #[derive(Clone, Copy, Debug, PartialEq, Eq)]
 pub struct Chain {
     /// The lines in all.
-    pub links: u32,
+    pub links: u64,
     /// The lines since the last one that begins at a filter, this one included.
-    pub since: u32,
+    pub since: u64,
     /// The lines that begin at a filter.
-    pub clocks: u32,
+    pub clocks: u64,
 }

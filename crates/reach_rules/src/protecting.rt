@@ -2,7 +2,7 @@
 //!
 //! The function does nothing: its contract is the law. This project's own.
 
-ghost use Rattle.std.specs.Prelude.{◌≡◌, ◌<◌, ℕ, true, List, length};
+ghost use Rattle.std.specs.Prelude.{◌≡◌, ◌<◌, ℕ, true, List};
 ghost use Rattle.sync_ql.specs.declared.levels.Level.{Level};
 ghost use Rattle.sync_topo.specs.Topology.{Topology};
 ghost use Rattle.sync_topo.specs.WellFormed.{IsWellFormed};

@@ -2,7 +2,7 @@
 //!
 //! The function does nothing: its contract is the law. This project's own.
 
-ghost use Rattle.std.specs.Prelude.{◌≡◌, ◌<◌, ℕ, List, length, IsSome};
+ghost use Rattle.std.specs.Prelude.{◌≡◌, ◌<◌, ℕ, List, IsSome};
 ghost use Rattle.sync_ql.specs.Level.{IsBetter};
 ghost use Rattle.sync_topo.specs.Topology.{Topology};
 ghost use Rattle.sync_topo.specs.Hops.{IsRising};

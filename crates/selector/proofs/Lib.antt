@@ -3,4 +3,4 @@ pub mod Eligible
 pub mod FirstBest
 pub mod BestChoice
 pub mod ManualSwitch
-pub mod Standings
+pub mod OneOption

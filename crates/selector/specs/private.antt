@@ -1,4 +1,3 @@
 -- What no public clause rests on: who reads contracts alone need not read it.
 pub mod Scanned
-pub mod Precedence
 pub mod Table

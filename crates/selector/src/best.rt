@@ -1,6 +1,6 @@
 //! The best of an element's inputs, without any switch.
 
-ghost use Rattle.std.specs.Prelude.{◌≡◌, ◌≤◌, ◌<◌, ◌+◌, IfSome, length};
+ghost use Rattle.std.specs.Prelude.{◌≡◌, ◌≤◌, ◌<◌, ◌+◌, length};
 ghost use Rattle.sync_ql.specs.Selection.{candidate, is_eligible, is_better, beats, SameOption, AreOfOneOption};
 ghost use Rattle.selector.specs.private.Scanned.{IsFirstBest};
 

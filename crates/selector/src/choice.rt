@@ -1,5 +1,5 @@
-ghost use Rattle.std.specs.Prelude.{◌≡◌, ◌≤◌, ◌<◌, ◌⊎◌, ◌↔◌, ℕ, ◌&&◌, not, false, None, IsTrue, IsNone, IfSome, MatchOption, length};
-ghost use Rattle.sync_ql.specs.Selection.{choice, standing_manual, manual_stands, best_choice, candidate, is_eligible, beats, IsEligible, IsBestChoice, ManualStands, AreOfOneOption};
+ghost use Rattle.std.specs.Prelude.{◌≡◌, ◌≤◌, ◌<◌, ◌⊎◌, ◌↔◌, ℕ, ◌&&◌, not, false, None, IsNone, IfSome, length};
+ghost use Rattle.sync_ql.specs.Selection.{manual_stands, best_choice, candidate, is_eligible, beats, AreOfOneOption};
 ghost use Rattle.selector.specs.Choices.{IsChoice};
 ghost use Rattle.selector.specs.private.Scanned.{IsFirstBest};
 
@@ -41,25 +41,6 @@ pub fn choose(
     ensures { IsChoice inputs.now forced manual taken result }
 {
     let best = first_best(inputs);
-    choose_by(inputs, best, forced, manual, taken)
-}
-
-/// The same, where the first of the best is known.
-pub(crate) fn choose_by(
-    inputs: &[Candidate],
-    best: Option<u32>,
-    forced: Option<u32>,
-    manual: Option<u32>,
-    taken: Option<u32>,
-) -> Choice
-    requires one_option { AreOfOneOption inputs.now }
-    requires best { IsFirstBest inputs.now (length inputs.now) best }
-    requires forced_place { IfSome forced (λ i. i < length inputs.now) }
-    requires manual_place { IfSome manual (λ i. i < length inputs.now) }
-    requires taken_place { IfSome taken (λ i. i < length inputs.now) }
-    requires one_switch { IsNone forced ⊎ IsNone manual }
-    ensures { IsChoice inputs.now forced manual taken result }
-{
     let manual_stands = stands(inputs, best, manual);
     let input = match forced {
         Some(forced) if is_eligible(&inputs[forced as usize]) => Some(forced),

@@ -3,8 +3,8 @@
 //! [`choose`] looks at one [`Candidate`] for each input, at the operator's forced or manual switch,
 //! and at the input taken so far. Contracts say which input that is by `choice`, and in facts: the
 //! one taken may be taken, and no input that may be taken beats it (`IsBestChoice`). It is one pass
-//! over at most 64 inputs, and takes no memory. A [`Table`] keeps the candidates, and gives the
-//! same choice without that pass, however few of them were renewed; contracts see it as their list.
+//! over at most 64 inputs, and takes no memory. A [`Table`] keeps the candidates, four of them in
+//! place; contracts see it as their list.
 //!
 //! After ITU-T G.781, selection by quality level and priority. That the one taken so far stays on a
 //! tie is of the standard; that the least place is taken else is this project's own. The tests go
@@ -13,7 +13,6 @@
 
 mod best;
 mod choice;
-mod precedence;
 mod table;
 
 pub use choice::{Choice, choose};

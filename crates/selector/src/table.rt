@@ -1,26 +1,24 @@
-ghost use Rattle.std.specs.Prelude.{◌≡◌, ◌≤◌, ◌<◌, ◌+◌, ◌⊎◌, ℕ, None, IsNone, IfSome, IfOk, length, replicate, slice_set};
+ghost use Rattle.std.specs.Prelude.{◌≡◌, ◌≤◌, ◌<◌, ◌⊎◌, ℕ, None, IsNone, IfSome, IfOk, length, replicate, slice_set};
 ghost use Rattle.sync_ql.specs.Selection.{candidate, choice, IsBestChoice, SameOption};
 ghost use Rattle.selector.specs.Choices.{unusable, IsChoice};
-ghost use Rattle.selector.specs.private.Scanned.{IsFirstBest};
 
-use crate::choice::{Choice, choose_by, stay_or_take};
-use crate::precedence::{Precedence, precedence_of, renew};
+use crate::best::first_best;
+use crate::choice::{Choice, choose, stay_or_take};
+use smallvec::SmallVec;
 use std::alloc::Global;
 use std::marker::Model;
 use sync_ql::limits::MOST_INPUTS;
 use sync_ql::rules::Candidate;
 use sync_text::NoMemory;
 
-/// The candidates of an element's inputs, by place, of which the best is at hand.
+/// The candidates of an element's inputs, by place.
 ///
 /// All levels are of one network option.
 /// After G.781, selection by quality level and priority.
 #[derive(Debug, Drop)]
 pub struct Table {
-    inputs: Vec<Candidate>,
-    /// A tournament among the inputs: their standings in the second half, and before each two the
-    /// one that is ahead; at place 1 the best.
-    standings: Vec<Option<Precedence>>,
+    /// Four of them in place: most elements have no more.
+    inputs: SmallVec<Candidate, 4>,
 }
 
 impl Model for Table {
@@ -46,25 +44,20 @@ impl Table {
         ensures { IfOk result (λ table. table ≡ replicate count unusable) }
     {
         let inputs = new_inputs(alloc, count as usize)?;
-        let standings = no_standings(alloc, count as usize)?;
-        Ok(Table { inputs, standings })
+        Ok(Table { inputs })
     }
 
     /// The same candidates once more. It takes memory for them. This project's own.
     pub fn try_clone(&self, alloc: Global) -> Result<Table, NoMemory>
         ensures { IfOk result (λ table. table ≡ self.now) }
     {
-        let Ok(inputs) = Vec::from_slice(alloc, self.inputs.as_slice()) else {
-            return Err(NoMemory);
-        };
-        let Ok(standings) = Vec::from_slice(alloc, self.standings.as_slice()) else {
-            return Err(NoMemory);
-        };
-        Ok(Table { inputs, standings })
+        match SmallVec::from_slice(alloc, self.inputs.as_slice()) {
+            Ok(inputs) => Ok(Table { inputs }),
+            Err(_) => Err(NoMemory),
+        }
     }
 
-    /// Renews the candidate at a place. It takes time by the logarithm of the number of inputs, and
-    /// no memory.
+    /// Renews the candidate at a place. It takes the same time for any number of inputs, and no memory.
     ///
     /// After G.781, quality level and priority of an input.
     pub fn set(&mut self, input: u32, to: Candidate)
@@ -72,14 +65,7 @@ impl Table {
         requires one_option { (k : ℕ) → SameOption to.level (candidate self.old k).level }
         ensures { self.new ≡ slice_set self.old input to }
     {
-        let count = self.inputs.len();
-        self.inputs[input as usize] = to;
-        renew(
-            self.standings.as_mut_slice(),
-            count,
-            input as usize,
-            precedence_of(input, &to),
-        );
+        self.inputs.as_mut_slice()[input as usize] = to;
     }
 
     /// The candidates, by place.
@@ -91,8 +77,8 @@ impl Table {
         self.inputs.as_slice()
     }
 
-    /// The input to take without a switch: what `choose` gives without a forced and a manual one.
-    /// It takes the same time for any number of inputs, and no memory.
+    /// The input to take without a switch: what `choose` gives without a forced and a manual one. It
+    /// is one pass over the inputs, and takes no memory.
     ///
     /// `None` exactly where no input may be taken. The one taken so far stays where none beats it;
     /// else the first of the best is taken.
@@ -103,12 +89,11 @@ impl Table {
         ensures place { IfSome result (λ i. i < length self.now) }
         ensures best { IsBestChoice self.now taken result }
     {
-        let best = self.first();
-        stay_or_take(self.inputs.as_slice(), best, taken)
+        let inputs = self.inputs.as_slice();
+        stay_or_take(inputs, first_best(inputs), taken)
     }
 
-    /// The input to take with a forced or manual switch, exactly as `choose` does, in the same time
-    /// for any number of inputs.
+    /// The input to take with a forced or manual switch, exactly as `choose` does.
     ///
     /// After G.781, selection by quality level and priority, forced switch and manual switch.
     pub fn choose(&self, forced: Option<u32>, manual: Option<u32>, taken: Option<u32>) -> Choice
@@ -118,26 +103,12 @@ impl Table {
         requires one_switch { IsNone forced ⊎ IsNone manual }
         ensures { IsChoice self.now forced manual taken result }
     {
-        let best = self.first();
-        choose_by(self.inputs.as_slice(), best, forced, manual, taken)
-    }
-
-    /// The first of the inputs that no other beats.
-    fn first(&self) -> Option<u32>
-        ensures { IsFirstBest self.now (length self.now) result }
-    {
-        if self.inputs.is_empty() {
-            return None;
-        }
-        match self.standings[1] {
-            Some(standing) => Some(standing.place),
-            None => None,
-        }
+        choose(self.inputs.as_slice(), forced, manual, taken)
     }
 }
 
 /// So many inputs that can't be taken.
-fn new_inputs(alloc: Global, count: usize) -> Result<Vec<Candidate>, NoMemory>
+fn new_inputs(alloc: Global, count: usize) -> Result<SmallVec<Candidate, 4>, NoMemory>
     ensures { IfOk result (λ inputs. inputs.items ≡ replicate count unusable) }
 {
     let unusable = Candidate {
@@ -145,19 +116,8 @@ fn new_inputs(alloc: Global, count: usize) -> Result<Vec<Candidate>, NoMemory>
         priority: 0,
         usable: false,
     };
-    match vec![in alloc; unusable; count] {
+    match SmallVec::from_elem(alloc, unusable, count) {
         Ok(inputs) => Ok(inputs),
-        Err(_) => Err(NoMemory),
-    }
-}
-
-/// The rounds of a tournament of so many inputs, none of which has a standing.
-fn no_standings(alloc: Global, count: usize) -> Result<Vec<Option<Precedence>>, NoMemory>
-    requires few { count ≤ MOST_INPUTS }
-    ensures { IfOk result (λ standings. standings.items ≡ replicate (count + count) None) }
-{
-    match vec![in alloc; None; count + count] {
-        Ok(standings) => Ok(standings),
         Err(_) => Err(NoMemory),
     }
 }

@@ -7,7 +7,7 @@ ghost use Rattle.sync_topo.specs.declared.event.Event.{Event};
 ghost use Rattle.sync_topo.specs.declared.input.InputId.{InputId};
 ghost use Rattle.sync_topo.specs.Lines.{IsNominated, IsInput, is_nominated_input, line_count};
 ghost use Rattle.sync_element.specs.StandsFor.{StandsFor as ElementStandsFor};
-ghost use Rattle.sync_element.specs.Due.{NoneEnds, IsLastPlusLeast};
+ghost use Rattle.sync_element.specs.Due.{NoneEnds};
 ghost use Rattle.sync_topo.specs.Hops.{IsRising};
 ghost use Rattle.sync_topo.specs.WellFormed.{IsWellFormed};
 ghost use Rattle.net_rules.specs.History.{level_at};

@@ -1,7 +1,6 @@
 //! What each element takes in the millisecond of the last step.
 
 ghost use Rattle.std.specs.Prelude.{◌≡◌, ◌<◌, ℕ, false, List, length, option_and_then, slice_get, slice_index_or, IfOk, IfSome};
-ghost use Rattle.std.specs.List.{All};
 ghost use Rattle.sync_topo.specs.declared.event.Event.{Event};
 ghost use Rattle.net_rules.specs.Inputs.{IsInputOf};
 ghost use Rattle.sync_net.specs.Standing.{StandsFor};

@@ -1,6 +1,6 @@
 //! The words for what an element shows.
 
-ghost use Rattle.std.specs.Prelude.{◌≡◌, ◌++◌, ◌<◌, length, IfSome, OnOk};
+ghost use Rattle.std.specs.Prelude.{◌≡◌, ◌++◌, ◌<◌, codes, length, IfSome, OnOk};
 ghost use Rattle.sync_topo.specs.Lines.{IsInput};
 ghost use Rattle.shown_words.specs.Words.{mode_word, state_word, taken_name, choice_text};
 
@@ -9,29 +9,28 @@ use sync_ql::rules::{ClockState, Mode};
 use sync_text::{NoMemory, Text};
 use sync_topo::{InputId, Plan};
 
-/// How an element chooses, as a word.
-///
-/// This project's own; the terms are those of G.781.
-pub fn mode_word(mode: Mode) -> &'static [u8]
-    ensures { result.now ≡ mode_word mode }
+/// How an element chooses, as a column between two others: a word between commas.
+fn mode_column(mode: Mode) -> &'static [u8]
+    ensures { result.now ≡ codes "," ++ mode_word mode ++ codes "," }
 {
     match mode {
-        Mode::Auto => b"auto",
-        Mode::Forced => b"forced",
-        Mode::Manual => b"manual",
+        Mode::Auto => b",auto,",
+        Mode::Forced => b",forced,",
+        Mode::Manual => b",manual,",
     }
 }
 
-/// What an element's clock follows, as a word.
+/// What an element's clock follows, as the last column of a row: a word behind a comma, and the row's
+/// end.
 ///
 /// This project's own; the terms are those of G.781.
-pub fn state_word(state: ClockState) -> &'static [u8]
-    ensures { result.now ≡ state_word state }
+pub fn state_column(state: ClockState) -> &'static [u8]
+    ensures { result.now ≡ codes "," ++ state_word state ++ codes "\n" }
 {
     match state {
-        ClockState::FreeRun => b"freerun",
-        ClockState::Locked => b"locked",
-        ClockState::Holdover => b"holdover",
+        ClockState::FreeRun => b",freerun\n",
+        ClockState::Locked => b",locked\n",
+        ClockState::Holdover => b",holdover\n",
     }
 }
 
@@ -53,9 +52,7 @@ pub fn put_choice(
     ensures put { OnOk result (text.new ≡ text.old ++ choice_text plan.now element mode taken) }
 {
     text.put(plan.element(element).name.bytes())?;
-    text.put(b",")?;
-    text.put(mode_word(mode))?;
-    text.put(b",")?;
+    text.put(mode_column(mode))?;
     put_taken(alloc, text, plan, taken)
 }
 

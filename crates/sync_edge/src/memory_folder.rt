@@ -1,4 +1,4 @@
-ghost use Rattle.std.specs.Prelude.{◌≡◌, ◌<◌, ◌≤◌, ◌||◌, min, false, None, if◌then◌else◌, [], length, slice_get, position, take, drop, IsTrue, Option, option_map, is_none, is_err, IfOk, OnOk, OnErr};
+ghost use Rattle.std.specs.Prelude.{◌≡◌, ◌<◌, ◌≤◌, ◌||◌, min, false, None, if◌then◌else◌, [], length, slice_get, position, take, drop, IsTrue, option_map, is_none, is_err, IfOk, OnOk, OnErr};
 ghost use Rattle.std.specs.Io.{ReadsAtMost};
 ghost use Rattle.std.specs.Io.KnownBytes.{ReadConsumes};
 ghost use Rattle.sync_edge.specs.Contents.{HasName, Starts, IsSpent, KeepsFolder};

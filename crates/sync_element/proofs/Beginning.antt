@@ -27,6 +27,7 @@ use Rattle.sync_element.specs.ElementState.{ElementState}
 use Rattle.sync_element.specs.private.Whole.{IsAtRest, IsWhole}
 use Rattle.sync_element.specs.StandsFor.{IsAfter}
 use Rattle.sync_element.specs.private.Starting.{HasFirst, AreNew, first_candidate}
+use Rattle.sync_element.proofs.FirstTimes.{length_dues, due_there}
 
 abbrev pub new_state : Config → InputsKept → Switches → ElementState
 new_state config inputs switches = record {
@@ -113,7 +114,7 @@ at_rest_new config inputs switches new i within =
       ends = HasEnd-new config first w has;
       up = has.up ∙ sym (ap up_of has.condition);
       cleared = has.cleared;
-      due_is = rw new.new.dues (get_or-replicate {A = Option ℕ} (length config.inputs) i None None within) ∙ sym has.due;
+      due_is = ap (λ l. due_in l i) new.new.dues ∙ due_there inputs.watched i (omega (arith, within, new.new.count));
       due_later = rw has.due tt;
       candidate_is =
           ap (λ l. candidate l i) new.new.candidates
@@ -136,7 +137,7 @@ IsWhole-new config inputs switches new =
       holdoff = omega (arith, new.holdoff);
       few = omega (arith, count, new.few);
       watched_length = new.new.count ∙ sym count;
-      dues_length = ap length new.new.dues ∙ length-replicate {A = Option ℕ} (length config.inputs) None ∙ sym count;
+      dues_length = ap length new.new.dues ∙ length_dues inputs.watched ∙ new.new.count ∙ sym count;
       candidates_length = ap length new.new.candidates ∙ length-map config.inputs (first_candidate config.floor) ∙ sym count;
       locked_length = rw new.switches_are (length-replicate (length config.inputs) false ∙ sym count);
       at_rest = λ i within. at_rest_new config inputs switches new i (omega (arith, within, count));

@@ -1,4 +1,5 @@
 pub mod Following
+pub mod FirstTimes
 pub mod Renewed
 pub mod Waiting
 pub mod Answering

@@ -49,7 +49,7 @@ quiet_is now w none =
 pub quiet_back : (now : ℕ) (w : Watched) → IsQuiet now w → must_step now w ≡ false
 quiet_back now w is = rw (is.cleared, answer-same w.up (up_of w.monitor.condition) is.up, is.not_due) refl
 
-after_now : (now : ℕ) (o : Option ℕ) → ends_at now o ≡ false → IfSome o (λ d. now ≤ d) → IfSome o (λ d. now < d)
+pub after_now : (now : ℕ) (o : Option ℕ) → ends_at now o ≡ false → IfSome o (λ d. now ≤ d) → IfSome o (λ d. now < d)
 after_now now None none in_time = tt
 after_now now (Some due) none in_time = grind (arith, nat_tests)
 
@@ -170,7 +170,7 @@ done_unstepped at i told w before c due pending none next ends later seen =
     })
 
 -- the input at a place, in the three lists, after it or another is renewed
-same_place : (at : Renewal) (i k : ℕ) (x x_then : InputsKept) → IsRenewed at i x x_then → ¬ (k ≡ i) → (watched_in x_then.watched k ≡ watched_in x.watched k) × (due_in x_then.dues k ≡ due_in x.dues k) × (candidate x_then.candidates k ≡ candidate x.candidates k)
+pub same_place : (at : Renewal) (i k : ℕ) (x x_then : InputsKept) → IsRenewed at i x x_then → ¬ (k ≡ i) → (watched_in x_then.watched k ≡ watched_in x.watched k) × (due_in x_then.dues k ≡ due_in x.dues k) × (candidate x_then.candidates k ≡ candidate x.candidates k)
 same_place at i k x x_then renewed apart = (
   ap (λ l. watched_in l k) renewed.watched ∙ get_or-set_other x.watched i k renewed.input unused apart,
   ap (λ l. due_in l k) renewed.dues ∙ get_or-set_other x.dues i k renewed.input.monitor.due None apart,
@@ -314,9 +314,14 @@ kept_one at option told before i x x_then can all within renewed = record {
       ]
     ]
 
--- of inputs that stay as they are, all stays
-pub kept_same : (at : Renewal) (told : List Watched) (before : List Candidate) (x : InputsKept) → AreRenewed at told before x → AreKept at told before x x
-kept_same at told before x all = record { renewed = all; done = λ k inside done. done }
+-- inputs are told what they are told
+told_all : (at : Renewal) (option : NetOption) (x : InputsKept) → CanRenew at.now option x → AreRenewed at x.watched x.candidates x
+told_all at option x can = record {
+  watched_length = refl;
+  dues_length = can.dues_length;
+  candidates_length = can.candidates_length;
+  each = λ i within. inr (record { watched = refl; due_is = can.dues i within; candidate_is = refl });
+}
 
 -- one event more is taken
 pub taken_more : (at : Renewal) (told : List Watched) (before : List Candidate) (all left : List InputEvent) (event : InputEvent) (x x_then : InputsKept) → AreTaken at told before all (event ∷ left) x → AreKept at told before x x_then → ((i : ℕ) → i < length told → touches i event ≡ true → IsDoneAt at told before i x_then) → AreTaken at told before all left x_then

@@ -20,21 +20,21 @@ use Rattle.sync_ql.proofs.Staying.{length-signals_of, length-quiet_moments, sign
 use Rattle.input_monitor.specs.Monitored.{up_of}
 use Rattle.sync_ql.specs.declared.limits.TheConstants.{LAST_MILLISECOND}
 use Rattle.sync_element.specs.declared.watched.Watched.{Watched}
-use Rattle.agenda.specs.DueTimes.{due_in}
-use Rattle.sync_element.specs.private.FirstTime.{IsFirstTime}
-use Rattle.sync_element.specs.Kept.{InputsKept, watched_in, Follows}
+use Rattle.agenda.specs.DueTimes.{due_in, IsFirstTime}
+use Rattle.sync_element.specs.Kept.{InputsKept, watched_in, Follows, dues_of}
 use Rattle.sync_element.specs.private.Kept.{HasEnd}
 use Rattle.sync_element.specs.ElementState.{ElementState, inputs_of, IsInTime}
 use Rattle.sync_element.specs.private.Whole.{watched_of, monitor_of, IsAtRest, IsFirstDue, IsWhole}
 use Rattle.sync_element.specs.StandsFor.{IsAfter}
 use Rattle.sync_element.specs.private.Telling.{IsToldSoFar}
 use Rattle.sync_element.specs.private.Renewing as renewing
-use Rattle.sync_element.specs.private.Renewing.{touches, must_step, IsReady, CanRenew, IsDone, IsPending, IsDoneAt, AreRenewed, AreTaken, AreKept}
+use Rattle.sync_element.specs.private.Renewing.{touches, must_step, CanRenew, IsPending, IsDoneAt, AreRenewed, AreTaken, AreKept}
 use Rattle.sync_element.proofs.Following.{follows-up, follows-failed}
 use Rattle.sync_element.proofs.Renewed.{quiet_is, quiet_back, not_now, done_unstepped}
 use Rattle.sync_element.proofs.Untouched.{up-untouched, level-untouched, clear-untouched, locked-untouched}
 use Rattle.sync_element.proofs.Evaluating.{candidates_seen, Evaluation, IsEvaluated, switches_evaluated, selection_evaluated, was_locked_evaluated}
 use Rattle.sync_element.proofs.Waiting.{stays_until, until_due, length-input}
+use Rattle.sync_element.proofs.FirstTimes.{length_dues, due_there}
 
 -- what a step makes on its way: the inputs and switches as they are told, and the inputs after those
 -- that are touched are renewed; and what it keeps
@@ -102,14 +102,14 @@ length-waited e past now stands in_time = omega (arith, length-quiet_moments e.s
 
 -- before anything is renewed, each input is as it was told
 pub all_pending : (e : ElementState) (now : ℕ) (events : List InputEvent) (told : List Watched) (commands : Switches) → IsWhole e → IsToldSoFar events [] (record { watched = e.kept.inputs.watched; switches = e.kept.switches }) (record { watched = told; switches = commands }) →
-    AreRenewed (record { now = now; switches = commands; floor = e.settings.floor }) told e.kept.inputs.candidates (record { watched = told; dues = e.kept.inputs.dues; candidates = e.kept.inputs.candidates })
+    AreRenewed (record { now = now; switches = commands; floor = e.settings.floor }) told e.kept.inputs.candidates (record { watched = told; dues = dues_of told; candidates = e.kept.inputs.candidates })
 all_pending e now events told commands whole is_told = record {
   watched_length = refl;
-  dues_length = whole.dues_length ∙ sym whole.watched_length ∙ sym is_told.count;
+  dues_length = length_dues told;
   candidates_length = whole.candidates_length ∙ sym whole.watched_length ∙ sym is_told.count;
   each = λ i within. inr (record {
     watched = refl;
-    due_is = (whole.at_rest i (omega (arith, within, is_told.count, whole.watched_length))).due_is ∙ sym (ap (λ m. m.due) (is_told.same_monitor i));
+    due_is = due_there told i within;
     candidate_is = refl;
   });
 }
@@ -295,16 +295,16 @@ told_option e events told commands whole fits so_far i =
 -- what is told can be renewed
 pub can_first : (e : ElementState) (now : ℕ) (events : List InputEvent) (told : List Watched) (commands : Switches) → IsWhole e → IsInTime e now → All (FitsElement e.settings) events → IsToldSoFar events [] (record { watched = e.kept.inputs.watched; switches = e.kept.switches }) (record { watched = told; switches = commands }) →
     ((i : ℕ) → IsOfOption e.settings.own.option (candidate e.kept.inputs.candidates i).level) →
-    CanRenew now e.settings.own.option (record { watched = told; dues = e.kept.inputs.dues; candidates = e.kept.inputs.candidates })
+    CanRenew now e.settings.own.option (record { watched = told; dues = dues_of told; candidates = e.kept.inputs.candidates })
 can_first e now events told commands whole in_time fits is_told levels = record {
   few = omega (arith, is_told.count, whole.watched_length, whole.few);
-  dues_length = whole.dues_length ∙ sym whole.watched_length ∙ sym is_told.count;
+  dues_length = length_dues told;
   candidates_length = whole.candidates_length ∙ sym whole.watched_length ∙ sym is_told.count;
   ready = λ i inside must. record { later = next i (place i inside); in_time = until i (place i inside) };
   ends = λ i inside. subst HasEnd (sym (is_told.same_monitor i)) (whole.at_rest i (place i inside)).ends;
   not_later = λ i inside. let before = next i (place i inside) in omega arith;
   in_time = λ i inside. until i (place i inside);
-  dues = λ i inside. (whole.at_rest i (place i inside)).due_is ∙ sym (ap (λ m. m.due) (is_told.same_monitor i));
+  dues = λ i inside. due_there told i inside;
   levels = told_option e events told commands whole fits is_told;
   candidate_levels = levels;
 }

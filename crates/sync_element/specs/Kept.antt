@@ -1,5 +1,5 @@
 -- What an element keeps of its inputs. No clause elsewhere looks into it.
-use Rattle.std.specs.Prelude.{◌≡◌, ◌≤◌, ℕ, Bool, true, false, List, length, slice_index_or, Option, None}
+use Rattle.std.specs.Prelude.{◌≡◌, ◌≤◌, ℕ, Bool, true, false, List, length, map, slice_index_or, Option, None}
 use Rattle.sync_ql.specs.declared.rules.Cond.TheVariants.{Good}
 use Rattle.sync_ql.specs.declared.rules.Candidate.{Candidate}
 use Rattle.sync_ql.specs.Condition.{Signal, continued}
@@ -14,6 +14,10 @@ pub record InputsKept : Type 0 where
   pub watched : List Watched
   pub dues : List (Option ℕ)
   pub candidates : List Candidate
+
+-- when the running time of each input ends
+abbrev pub dues_of : List Watched → List (Option ℕ)
+dues_of watched = map (λ w. w.monitor.due) watched
 
 -- the inputs; the switches; the input that is taken, and whether there was one in any millisecond
 pub record Kept : Type 0 where

@@ -2,11 +2,11 @@
 use Rattle.sync_element.specs.declared.element.Element.TheInside.{Inside}
 use Rattle.sync_element.specs.declared.inputs.Inputs.{Inputs}
 use Rattle.sync_element.specs.Configured.{settings_of}
-use Rattle.sync_element.specs.Kept.{InputsKept}
+use Rattle.sync_element.specs.Kept.{InputsKept, dues_of}
 use Rattle.sync_element.specs.ElementState.{ElementState}
 
 abbrev pub inputs_kept : Inputs → InputsKept
-inputs_kept x = record { watched = x.watched.items; dues = x.dues; candidates = x.table }
+inputs_kept x = record { watched = x.watched.items; dues = dues_of x.watched.items; candidates = x.table }
 
 abbrev pub element_state : Inside → ElementState
 element_state e = record {

@@ -1,11 +1,9 @@
-ghost use Rattle.std.specs.Prelude.{◌≡◌, ◌≤◌, ◌<◌, ◌+◌, ◌-◌, ◌*◌, ◌∷◌, [], ℕ, List, Option, All, IfSome, IfOk, IsNone, MatchOption, None, length, unwrap_or, option_and_then, if◌then◌else◌, nat_eq, ◌↔◌};
-ghost use Rattle.sync_ql.specs.Level.{do_not_use_of};
+ghost use Rattle.std.specs.Prelude.{◌≡◌, ◌≤◌, ◌<◌, ◌+◌, ◌-◌, ◌*◌, ◌∷◌, [], ℕ, List, All, IfSome, IfOk, IsNone, None, length, if◌then◌else◌, nat_eq, ◌↔◌};
 ghost use Rattle.sync_ql.specs.Condition.{condition_at, IsSameKind};
-ghost use Rattle.sync_ql.specs.Selection.{candidate};
 ghost use Rattle.sync_ql.specs.Switches.{is_locked};
-ghost use Rattle.sync_ql.specs.Moment.{Moment, Settings, signals_of, level_now, switches_at, selection_at};
+ghost use Rattle.sync_ql.specs.Moment.{Moment, signals_of, level_now, switches_at, selection_at};
 ghost use Rattle.sync_ql.specs.Told.{moment_after, moments_until, FitsElement, IsOfOption};
-ghost use Rattle.sync_ql.specs.Output.{clock_level_at, sent_back_at, mode_at, switched_at, state_at, goes_back, mode_of, state_of};
+ghost use Rattle.sync_ql.specs.Output.{clock_level_at, sent_back_at, mode_at, switched_at, state_at, mode_of, state_of};
 ghost use Rattle.sync_element.specs.Configured.{settings_of};
 ghost use Rattle.sync_element.specs.StandsFor.{StandsFor};
 ghost use Rattle.sync_ql.specs.Quiet.{IsElementDue};
@@ -14,10 +12,10 @@ ghost use Rattle.sync_element.specs.Due.{IsLastPlusLeast, NoneEnds};
 ghost use Rattle.sync_element.specs.ElementState.{inputs_of, IsInTime};
 
 use crate::config::Config;
-use crate::inputs::{Inputs, tell_all};
+use crate::inputs::{Inputs, first_due, tell_all};
 use crate::renewing::{renew_due, renew_told};
 use crate::selection::{
-    evaluate, first_due, level_back, level_of, mode_of, state_of, steps_after, was_ever_locked,
+    evaluate, level_back, level_of, mode_of, state_of, steps_after, was_ever_locked,
 };
 use crate::starting::new_inputs;
 use operator_cmds::Cmds;
@@ -356,7 +354,7 @@ impl Element {
         tell_all(self.inputs.watched.as_mut_slice(), &mut self.commands, told);
         renew_told(&mut self.inputs, told, now, &self.commands, &self.config);
         renew_due(&mut self.inputs, now, &self.commands, &self.config);
-        self.due = first_due(&self.inputs.dues);
+        self.due = first_due(&self.inputs);
         self.selected = evaluate(&self.inputs.table, &mut self.commands, self.selected);
         self.was_locked = was_ever_locked(self.selected, self.was_locked);
         self.later_steps = steps_after(self.next, self.later_steps);

@@ -1,16 +1,17 @@
 //! The inputs of an element: what is told of them, and their conditions a step on.
 
-ghost use Rattle.std.specs.Prelude.{◌≡◌, ◌≤◌, ◌<◌, ℕ, [], length, All, IfOk};
+ghost use Rattle.std.specs.Prelude.{◌≡◌, ◌≤◌, ◌<◌, ℕ, [], None, length, All, IfOk, MatchOption};
 ghost use Rattle.sync_ql.specs.Selection.{is_better, SameOption};
 ghost use Rattle.sync_ql.specs.Told.{IsOfOption};
+ghost use Rattle.agenda.specs.DueTimes.{due_in, IsFirstTime};
+ghost use Rattle.sync_element.specs.private.FirstTime.{earlier_of};
 ghost use Rattle.sync_element.specs.private.Telling.{Fits, IsTold, IsToldSoFar};
-ghost use Rattle.sync_element.specs.private.Renewing.{IsRenewed, CanRenew};
+ghost use Rattle.sync_element.specs.private.Renewing.{candidate_of, IsRenewed, CanRenew};
 ghost use Rattle.sync_element.specs.Whole.{inputs_kept};
 
 use crate::candidates::set_if_other;
 use crate::config::Config;
 use crate::watched::{Watched, step_if_told, try_clone_all};
-use agenda::DueTimes;
 use operator_cmds::Cmds;
 use selector::Table;
 use smallvec::SmallVec;
@@ -25,7 +26,6 @@ use sync_text::NoMemory;
 pub struct Inputs {
     /// Four of them in place: most elements have no more.
     pub watched: SmallVec<Watched, 4>,
-    pub dues: DueTimes,
     pub table: Table,
 }
 
@@ -35,13 +35,8 @@ impl Inputs {
         ensures { IfOk result (λ inputs. inputs_kept inputs ≡ inputs_kept self.now) }
     {
         let watched = try_clone_all(alloc, self.watched.as_slice())?;
-        let dues = self.dues.try_clone(alloc)?;
         let table = self.table.try_clone(alloc)?;
-        Ok(Inputs {
-            watched,
-            dues,
-            table,
-        })
+        Ok(Inputs { watched, table })
     }
 }
 
@@ -75,8 +70,31 @@ fn tell(watched: &mut [Watched], commands: &mut Cmds, event: InputEvent)
     }
 }
 
-/// Renews an input: its monitor where something happens to it, when its running time ends, and what
-/// the choice looks at.
+/// The first millisecond at which a running time ends.
+pub(crate) fn first_due(inputs: &Inputs) -> Option<u64>
+    ensures { MatchOption result
+        ((i : ℕ) → i < length (inputs_kept inputs.now).dues → due_in (inputs_kept inputs.now).dues i ≡ None)
+        (IsFirstTime (inputs_kept inputs.now).dues) }
+{
+    let mut first = None;
+    for input in inputs.watched.as_slice() {
+        first = earlier(first, input.monitor.due());
+    }
+    first
+}
+
+/// The earlier of two milliseconds, where there are.
+fn earlier(one: Option<u64>, other: Option<u64>) -> Option<u64>
+    ensures { result ≡ earlier_of one other }
+{
+    match (one, other) {
+        (Some(one), Some(other)) => Some(one.min(other)),
+        (None, other) => other,
+        (one, None) => one,
+    }
+}
+
+/// Renews an input: its monitor where something happens to it, and what the choice looks at.
 pub(crate) fn renew(inputs: &mut Inputs, i: u32, now: u64, commands: &Cmds, config: &Config)
     requires place { i < length inputs.old.watched.items }
     requires can { CanRenew now config.now.own.option (inputs_kept inputs.old) }
@@ -89,16 +107,31 @@ pub(crate) fn renew(inputs: &mut Inputs, i: u32, now: u64, commands: &Cmds, conf
     let place = i as usize;
     let priority = inputs.table.inputs()[place].priority;
     let input = &mut inputs.watched.as_mut_slice()[place];
-    let due = step_if_told(input, now);
+    step_if_told(input, now);
+    let candidate = candidate_of(input, i, priority, commands, config);
+    set_if_other(&mut inputs.table, i, candidate);
+}
+
+/// What the choice looks at in an input.
+fn candidate_of(
+    input: &Watched,
+    i: u32,
+    priority: u8,
+    commands: &Cmds,
+    config: &Config,
+) -> Candidate
+    requires place { i < length commands.now.locked }
+    requires option { SameOption config.now.floor input.now.level }
+    ensures level { result.level ≡ input.now.level }
+    ensures candidate { (now : ℕ) → result ≡ candidate_of
+        (record { now = now; switches = commands.now; floor = config.now.floor }) i priority input.now }
+{
     let level = input.level;
-    let usable = !commands.locked(i) && !input.monitor.failed() && !is_below(config.floor, level);
-    let candidate = Candidate {
+    Candidate {
         level,
         priority,
-        usable,
-    };
-    inputs.dues.set(i, due);
-    set_if_other(&mut inputs.table, i, candidate);
+        usable: !commands.locked(i) && !input.monitor.failed() && !is_below(config.floor, level),
+    }
 }
 
 /// Whether the floor is better than the level; a level equal to it is not below.

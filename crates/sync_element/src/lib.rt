@@ -4,8 +4,8 @@
 //! and only where something happens or is due. It keeps no list of the past. Contracts see it as a
 //! record (`ElementState`) and say for which past it stands (`StandsFor`): each step makes that past
 //! longer, and each answer is what the rules say of it, from the last step up to but not at `due`.
-//! Only [`Element::new`] and [`Element::try_clone`] take memory. A step's work is by the inputs that it is told of and those
-//! whose running time ends, each for the logarithm of the number of inputs.
+//! Only [`Element::new`] and [`Element::try_clone`] take memory. A step's work is by the inputs, of
+//! which there are at most 64.
 //!
 //! After ITU-T G.781: hold-off and wait-to-restore, external commands, selection by quality level
 //! and priority, and do-not-use on the way back. The tests go through

@@ -1,6 +1,6 @@
 //! Which inputs a step renews: those that an event touches, and those whose running time ends.
 
-ghost use Rattle.std.specs.Prelude.{◌≡◌, ◌≤◌, ◌<◌, ℕ, List, [], length, All, IsNone, IfSome, Some};
+ghost use Rattle.std.specs.Prelude.{◌≡◌, ◌≤◌, ◌<◌, ℕ, List, [], length, All, IfSome, Some};
 ghost use Rattle.sync_ql.specs.declared.rules.Candidate.{Candidate};
 ghost use Rattle.sync_ql.specs.Told.{IsOfOption};
 ghost use Rattle.sync_element.specs.declared.watched.Watched.{Watched};
@@ -11,7 +11,7 @@ ghost use Rattle.sync_element.specs.Whole.{inputs_kept};
 
 use crate::config::Config;
 use crate::inputs::{Inputs, renew};
-use agenda::DueTimes;
+use crate::watched::ends_at;
 use operator_cmds::Cmds;
 use sync_ql::limits::LAST_MILLISECOND;
 use sync_ql::rules::{Cmd, InputEvent};
@@ -84,28 +84,38 @@ pub(crate) fn renew_due(inputs: &mut Inputs, now: u64, commands: &Cmds, config: 
     ensures can { CanRenew now config.now.own.option (inputs_kept inputs.new) }
     ensures count { length inputs.new.watched.items ≡ length inputs.old.watched.items }
     ensures later { (i : ℕ) → i < length inputs.new.watched.items →
-        IfSome (due_in inputs.new.dues i) (λ due. now < due) }
+        IfSome (due_in (inputs_kept inputs.new).dues i) (λ due. now < due) }
     ensures renewed { (watched : List Watched) (before : List Candidate) →
         AreRenewed (record { now = now; switches = commands.now; floor = config.now.floor })
         watched before (inputs_kept inputs.old) →
         AreKept (record { now = now; switches = commands.now; floor = config.now.floor })
         watched before (inputs_kept inputs.old) (inputs_kept inputs.new) }
 {
-    while let Some(i) = due_now(&inputs.dues, now) {
-        renew(inputs, i, now, commands, config);
+    let count = inputs.watched.len();
+    for i in 0..count {
+        renew_if_due(inputs, i as u32, now, commands, config);
     }
 }
 
-/// An input whose running time ends now, if there is one.
-fn due_now(dues: &DueTimes, now: u64) -> Option<u32>
-    ensures some { IfSome result (λ i. i < length dues.now) }
-    ensures due { IfSome result (λ i. due_in dues.now i ≡ Some now) }
-    ensures none { IsNone result →
-        ((i : ℕ) → i < length dues.now → IfSome (due_in dues.now i) (λ due. now ≤ due)) →
-        (i : ℕ) → i < length dues.now → IfSome (due_in dues.now i) (λ due. now < due) }
+/// Renews an input if its running time ends now.
+fn renew_if_due(inputs: &mut Inputs, i: u32, now: u64, commands: &Cmds, config: &Config)
+    requires place { i < length inputs.old.watched.items }
+    requires can { CanRenew now config.now.own.option (inputs_kept inputs.old) }
+    requires in_range { now ≤ LAST_MILLISECOND }
+    requires locked_length { length commands.now.locked ≡ length inputs.old.watched.items }
+    requires floor { IsOfOption config.now.own.option config.now.floor }
+    ensures can { CanRenew now config.now.own.option (inputs_kept inputs.new) }
+    ensures count { length inputs.new.watched.items ≡ length inputs.old.watched.items }
+    ensures here { IfSome (due_in (inputs_kept inputs.new).dues i) (λ due. now < due) }
+    ensures others { (k : ℕ) → ¬ (k ≡ i) →
+        due_in (inputs_kept inputs.new).dues k ≡ due_in (inputs_kept inputs.old).dues k }
+    ensures kept { (watched : List Watched) (before : List Candidate) →
+        AreRenewed (record { now = now; switches = commands.now; floor = config.now.floor })
+        watched before (inputs_kept inputs.old) →
+        AreKept (record { now = now; switches = commands.now; floor = config.now.floor })
+        watched before (inputs_kept inputs.old) (inputs_kept inputs.new) }
 {
-    match dues.first() {
-        Some(due) if due.at == now => Some(due.place),
-        _ => None,
+    if ends_at(&inputs.watched.as_slice()[i as usize], now) {
+        renew(inputs, i, now, commands, config);
     }
 }

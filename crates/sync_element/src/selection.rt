@@ -1,16 +1,13 @@
 //! What is decided at the end of a millisecond.
 
-ghost use Rattle.std.specs.Prelude.{◌≡◌, ◌≤◌, ◌<◌, ◌+◌, ℕ, None, nat_eq, MatchOption, IfSome, length, ◌||◌, is_some, unwrap_or, option_and_then, if◌then◌else◌};
+ghost use Rattle.std.specs.Prelude.{◌≡◌, ◌≤◌, ◌<◌, ◌+◌, ℕ, nat_eq, IfSome, length, ◌||◌, is_some, unwrap_or, option_and_then, if◌then◌else◌};
 ghost use Rattle.sync_ql.specs.Selection.{candidate, choice};
 ghost use Rattle.sync_ql.specs.Level.{do_not_use_of};
 ghost use Rattle.sync_ql.specs.Moment.{at_end};
 ghost use Rattle.sync_ql.specs.Output.{bundle_of, goes_back, mode_of, state_of};
 ghost use Rattle.sync_element.specs.Configured.{settings_of};
-ghost use Rattle.agenda.specs.DueTimes.{due_in};
-ghost use Rattle.sync_element.specs.private.FirstTime.{IsFirstTime};
 
 use crate::config::Config;
-use agenda::DueTimes;
 use operator_cmds::Cmds;
 use selector::Table;
 use sync_ql::limits::LAST_MILLISECOND;
@@ -31,17 +28,6 @@ pub(crate) fn evaluate(table: &Table, commands: &mut Cmds, taken: Option<u32>) -
         commands.drop_manual();
     }
     choice.input
-}
-
-/// The first millisecond at which a running time ends.
-pub(crate) fn first_due(dues: &DueTimes) -> Option<u64>
-    ensures { MatchOption result ((i : ℕ) → i < length dues.now → due_in dues.now i ≡ None)
-        (IsFirstTime dues.now) }
-{
-    match dues.first() {
-        Some(due) => Some(due.at),
-        None => None,
-    }
 }
 
 /// The number of steps after the first, where there is one more.

@@ -10,7 +10,6 @@ ghost use Rattle.sync_element.specs.Whole.{inputs_kept};
 use crate::config::{Config, InputConfig};
 use crate::inputs::{Inputs, is_below};
 use crate::watched::Watched;
-use agenda::DueTimes;
 use input_monitor::Monitor;
 use selector::Table;
 use smallvec::SmallVec;
@@ -31,13 +30,8 @@ pub(crate) fn new_inputs(alloc: Global, config: &Config) -> Result<Inputs, NoMem
     ensures { IfOk result (λ inputs. AreNew config.now (inputs_kept inputs)) }
 {
     let watched = new_watched(alloc, config)?;
-    let dues = DueTimes::new(alloc, config.inputs.as_slice().len())?;
     let table = new_table(alloc, config)?;
-    Ok(Inputs {
-        watched,
-        dues,
-        table,
-    })
+    Ok(Inputs { watched, table })
 }
 
 /// Each input with a monitor that was told nothing.

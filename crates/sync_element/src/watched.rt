@@ -2,7 +2,7 @@
 
 ghost use Rattle.std.specs.Prelude.{◌≡◌, ◌≤◌, true, IfOk};
 ghost use Rattle.sync_element.specs.private.Kept.{HasEnd};
-ghost use Rattle.sync_element.specs.private.Renewing.{must_step, IsReady, IsStepped};
+ghost use Rattle.sync_element.specs.private.Renewing.{ends_at, must_step, IsReady, IsStepped};
 
 use input_monitor::Monitor;
 use smallvec::SmallVec;
@@ -58,26 +58,32 @@ pub(crate) fn try_clone_all(
     Ok(copies)
 }
 
+/// Whether the running time of an input ends in a millisecond.
+pub(crate) fn ends_at(input: &Watched, now: u64) -> bool
+    ensures { result ≡ ends_at now input.now.monitor.due }
+{
+    input.monitor.due() == Some(now)
+}
+
 /// Whether something happens to the input in a millisecond: its wait-to-restore time is cleared, it
 /// goes up or down, or its running time ends.
 fn must_step(input: &Watched, now: u64) -> bool
     ensures { result ≡ must_step now input.now }
 {
-    input.cleared || input.up != input.monitor.up() || input.monitor.due() == Some(now)
+    input.cleared || input.up != input.monitor.up() || ends_at(input, now)
 }
 
-/// Tells the monitor of a millisecond in which something happens. It gives when the running time
-/// ends.
-pub(crate) fn step_if_told(input: &mut Watched, now: u64) -> Option<u64>
+/// Tells the monitor of a millisecond in which something happens.
+pub(crate) fn step_if_told(input: &mut Watched, now: u64)
     requires ready { must_step now input.old ≡ true → IsReady now input.old.monitor }
     requires in_range { now ≤ LAST_MILLISECOND }
     requires ends { HasEnd input.old.monitor }
-    ensures stepped { IsStepped now input.old input.new }
-    ensures due { result ≡ input.new.monitor.due }
+    ensures { IsStepped now input.old input.new }
 {
     if must_step(input, now) {
         input.monitor.step(now, input.up, input.cleared);
         input.cleared = false;
     }
-    input.monitor.due()
+    // What is known of the end of its running time.
+    let _due = input.monitor.due();
 }

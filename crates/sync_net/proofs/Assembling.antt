@@ -19,9 +19,9 @@ use Rattle.sync_topo.specs.Topology.{Topology}
 use Rattle.sync_topo.specs.Lines.{line_count, inputs_of, is_nominated, IsNominated}
 use Rattle.sync_topo.proofs.LineLaws.{IsNominated-within}
 use Rattle.sync_net.specs.declared.parts.NetParts.{NetParts}
-use Rattle.sync_net.specs.Kept.{Kept, line_signal, heard_on}
+use Rattle.sync_net.specs.Kept.{Kept}
 use Rattle.sync_net.specs.private.Kept.{kept_up, kept_level}
-use Rattle.sync_net.specs.NetState.{NetState, line_in, NoneDueBefore}
+use Rattle.sync_net.specs.NetState.{line_in}
 use Rattle.sync_net.specs.NetState as Net
 use Rattle.sync_net.specs.private.Telling.{IsTold}
 use Rattle.sync_net.specs.private.Noting.{line_at, names_line}

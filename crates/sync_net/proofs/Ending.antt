@@ -20,7 +20,7 @@ use Rattle.sync_topo.proofs.LineLaws.{IsNominated-within}
 use Rattle.net_rules.proofs.PlanLaws.{sender-within}
 use Rattle.sync_net.specs.declared.parts.NetParts.{NetParts}
 use Rattle.sync_net.specs.Kept.{line_signal, source_signal, heard_on}
-use Rattle.sync_net.specs.NetState.{NetState, line_in}
+use Rattle.sync_net.specs.NetState.{line_in}
 use Rattle.sync_net.specs.NetState as Net
 use Rattle.sync_net.specs.private.Noted.{AreNoted}
 use Rattle.sync_net.specs.private.Noting.{line_at, source_at, AreOfOption}

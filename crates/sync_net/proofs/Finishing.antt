@@ -16,7 +16,7 @@ use Rattle.sync_topo.specs.private.Lines.{IsLineOut}
 use Rattle.sync_topo.proofs.LineLaws.{IsNominated-within}
 use Rattle.net_rules.specs.History.{settings_of}
 use Rattle.sync_net.specs.declared.parts.NetParts.{NetParts}
-use Rattle.sync_net.specs.NetState.{NetState, line_in}
+use Rattle.sync_net.specs.NetState.{line_in}
 use Rattle.sync_net.specs.NetState as Net
 use Rattle.sync_net.specs.private.Telling.{IsTold}
 use Rattle.sync_net.specs.private.Noting.{line_at}

@@ -18,7 +18,7 @@ use Rattle.net_rules.specs.Activity.{touches, is_active, is_touched}
 use Rattle.net_rules.proofs.IdleLaws.{inactive-is}
 use Rattle.sync_net.specs.declared.parts.NetParts.{NetParts}
 use Rattle.sync_net.specs.Kept.{heard_on}
-use Rattle.sync_net.specs.NetState.{NetState, line_in, NoneDueBefore, IsDueAt}
+use Rattle.sync_net.specs.NetState.{line_in, NoneDueBefore, IsDueAt}
 use Rattle.sync_net.specs.NetState as Net
 use Rattle.sync_net.specs.Standing.{IsOfPast}
 use Rattle.sync_net.specs.Sound.{IsSoundLine, AreSound}

@@ -1,11 +1,10 @@
 -- The laws of a network, as contracts see it.
 use Rattle.std.proofs.Common.{◌≡◌, ◌≤◌, ◌<◌, ◌+◌, ◌-◌, ◌*◌, ℕ, suc, Bool, true, false, List, length, Option, None, Some, IfSome, ap, sym, subst, ◌∙◌, inl, inr, arith}
-use Rattle.std.specs.Prelude.{slice_index_or}
+use Rattle.std.specs.Prelude.{slice_index_or, IsNone, MatchOption}
 use Rattle.std.specs.List.{All}
 use Rattle.std.proofs.Math.Decide.{dec_lt}
 use Rattle.std.proofs.lemmas.List.{get_or_default}
-use Rattle.agenda.specs.declared.due_times.Due.{Due}
-use Rattle.agenda.specs.DueTimes.{due_in, IsFirst}
+use Rattle.agenda.specs.DueTimes.{due_in, IsFirstTime}
 use Rattle.sync_element.specs.ElementState.{ElementState}
 use Rattle.link_model.specs.LineState.{LineState}
 use Rattle.sync_topo.specs.declared.event.Event.{Event}
@@ -145,14 +144,34 @@ module _ (net : NetState) (plan : Topology) (spent : Bool) (p : NetParts) (view 
   pub seen_least : (n : ℕ) → ((i : ℕ) → i < length p.dues → IfSome (due_in p.dues i) (λ due. n ≤ due)) → NoneDueBefore net n
   seen_least n none = subst (λ s. NoneDueBefore s n) seen (first_least plan p whole n none)
 
-  seen_before : (due : Due) → IsFirst p.dues due → (n : ℕ) → n ≤ due.at → NoneDueBefore net n
-  seen_before due first n early = seen_least n (λ i inside. if-some (λ other. due.at ≤ other) (λ other. n ≤ other) (λ other later. omega (arith, early, later)) (due_in p.dues i) (first.first i inside))
+  seen_before : (at : ℕ) → IsFirstTime p.dues at → (n : ℕ) → n ≤ at → NoneDueBefore net n
+  seen_before at first n early = seen_least n (λ i inside. if-some (λ other. at ≤ other) (λ other. n ≤ other) (λ other later. omega (arith, early, later)) (due_in p.dues i) (first.first i inside))
 
-  pub seen_due : (due : Due) → IsFirst p.dues due → IsDueAt net due.at
-  seen_due due first = subst (λ s. IsDueAt s due.at) seen (due_here plan p whole due.place due.at first.within first.ends)
+  seen_here : (at : ℕ) → IsFirstTime p.dues at → IsDueAt (state_of plan false p) at
+  seen_here at first = due_here plan p whole first.some.0 at first.some.1 first.some.2
 
-  pub seen_later : (due : Due) → IsFirst p.dues due → net.next ≤ due.at
-  seen_later due first = due-later net net.next due.at (subst (λ s. NoneDueBefore s s.next) seen (whole-later plan false p whole)) (seen_due due first)
+  seen_at : (at : ℕ) → IsFirstTime p.dues at → IsDueAt net at
+  seen_at at first = subst (λ s. IsDueAt s at) seen (seen_here at first)
+
+  -- none is due before any time, where none is due
+  seen_idle : ((i : ℕ) → i < length p.dues → due_in p.dues i ≡ None) → (n : ℕ) → NoneDueBefore net n
+  seen_idle idle n = seen_least n (λ i inside. subst (λ o. IfSome o (λ due. n ≤ due)) (sym (idle i inside)) tt)
+
+  -- what is answered of the first time
+  abbrev IsFound : Option ℕ → Type 0
+  IsFound found = MatchOption found ((i : ℕ) → i < length p.dues → due_in p.dues i ≡ None) (IsFirstTime p.dues)
+
+  pub seen_until : (found : Option ℕ) → IsFound found → (n : ℕ) → IfSome found (λ due. n ≤ due) → NoneDueBefore net n
+  seen_until None idle n until = seen_idle idle n
+  seen_until (Some at) first n until = seen_before at first n until
+
+  pub seen_due : (found : Option ℕ) → IsFound found → IfSome found (IsDueAt net)
+  seen_due None idle = tt
+  seen_due (Some at) first = seen_at at first
+
+  pub seen_later : (found : Option ℕ) → IsFound found → IfSome found (λ due. net.next ≤ due)
+  seen_later None idle = tt
+  seen_later (Some at) first = due-later net net.next at (subst (λ s. NoneDueBefore s s.next) seen (whole-later plan false p whole)) (seen_at at first)
 
   seen_gap_of : (all : List Event) (m n : ℕ) → IsOfPast net all m → m ≤ n → (net.next ≡ 0 → n ≡ 0) → NoneFrom m n all → NoneDueBefore net n → IsOfPast net all n
   seen_gap_of all m n is early begun none before =
@@ -160,25 +179,22 @@ module _ (net : NetState) (plan : Topology) (spent : Bool) (p : NetParts) (view 
       (stands-later (state_of plan false p) all m n whole.well_formed (whole-sound plan false p whole) (subst (λ s. IsOfPast s all m) (sym seen) is) early
       (λ never. begun (ap (λ s. s.next) (sym seen) ∙ never)) none (subst (λ s. NoneDueBefore s n) (sym seen) before))
 
-  pub seen_gap : (due : Due) → IsFirst p.dues due → (all : List Event) (m n : ℕ) → IsOfPast net all m → m ≤ n → (net.next ≡ 0 → n ≡ 0) → NoneFrom m n all → n ≤ due.at → IsOfPast net all n
-  seen_gap due first all m n is early begun none until = seen_gap_of all m n is early begun none (seen_before due first n until)
+  pub seen_gap : (found : Option ℕ) → IsFound found → (all : List Event) (m n : ℕ) → IsOfPast net all m → m ≤ n → (net.next ≡ 0 → n ≡ 0) → NoneFrom m n all → IfSome found (λ due. n ≤ due) → IsOfPast net all n
+  seen_gap found is all m n past early begun none until = seen_gap_of all m n past early begun none (seen_until found is n until)
 
-  pub seen_gap_idle : ((i : ℕ) → i < length p.dues → due_in p.dues i ≡ None) → (all : List Event) (m n : ℕ) → IsOfPast net all m → m ≤ n → (net.next ≡ 0 → n ≡ 0) → NoneFrom m n all → IsOfPast net all n
-  seen_gap_idle idle all m n is early begun none =
-      seen_gap_of all m n is early begun none (seen_least n (λ i inside. subst (λ o. IfSome o (λ due. n ≤ due)) (sym (idle i inside)) tt))
-
-  pub seen_settled : ((i : ℕ) → i < length p.dues → due_in p.dues i ≡ None) → 0 < net.next → (all : List Event) → IsOfPast net all net.next
+  pub seen_settled : (found : Option ℕ) → IsFound found → IsNone found → 0 < net.next → (all : List Event) → IsOfPast net all net.next
       → IsSettled net.plan (signals_by net.plan all) (out_at net.plan (signals_by net.plan all)) (net.next - 1)
-  seen_settled idle begun all is =
-      settled-idle net all (subst (λ s. IsWellFormed s.plan) seen whole.well_formed) (subst AreSound seen (whole-sound plan false p whole)) begun is
-      (λ n. seen_least n (λ i inside. subst (λ o. IfSome o (λ due. n ≤ due)) (sym (idle i inside)) tt))
+  seen_settled (Some at) first none begun all is = absurd (cc)
+  seen_settled None idle none begun all is =
+      settled-idle net all (subst (λ s. IsWellFormed s.plan) seen whole.well_formed) (subst AreSound seen (whole-sound plan false p whole)) begun is (seen_idle idle)
 
-  pub seen_busy : (due : Due) → IsFirst p.dues due → (all : List Event) (n : ℕ) → IsOfPast net all n → 0 < net.next → n ≤ due.at → NoneFrom n due.at all → is_busy net.plan all due.at ≡ true
-  seen_busy due first all n is begun early none =
-      subst (λ s. is_busy s.plan all due.at ≡ true) seen
-      (due-busy (state_of plan false p) all n due.at whole.well_formed (whole-sound plan false p whole) (subst (λ s. IsOfPast s all n) (sym seen) is)
-      (subst (λ s. 0 < s.next) (sym seen) begun) early none (subst (λ s. NoneDueBefore s due.at) (sym seen) (seen_before due first due.at (omega arith)))
-      (due_here plan p whole due.place due.at first.within first.ends))
+  pub seen_busy : (found : Option ℕ) → IsFound found → IfSome found (λ due. (all : List Event) (n : ℕ) → IsOfPast net all n → 0 < net.next → n ≤ due → NoneFrom n due all → is_busy net.plan all due ≡ true)
+  seen_busy None idle = tt
+  seen_busy (Some at) first = λ all n is begun early none.
+      subst (λ s. is_busy s.plan all at ≡ true) seen
+      (due-busy (state_of plan false p) all n at whole.well_formed (whole-sound plan false p whole) (subst (λ s. IsOfPast s all n) (sym seen) is)
+      (subst (λ s. 0 < s.next) (sym seen) begun) early none (subst (λ s. NoneDueBefore s at) (sym seen) (seen_before at first at (omega arith)))
+      (seen_here at first))
 
   -- the plan is well formed
   well : IsWellFormed net.plan

@@ -1,5 +1,5 @@
 -- The level that a line is given is the one that the rules send.
-use Rattle.std.proofs.Common.{◌≡◌, ℕ, true, false, List, Option, slice_get, ap, sym, subst, ◌∙◌}
+use Rattle.std.proofs.Common.{◌≡◌, ℕ, false, List, Option, slice_get, ap, sym, subst, ◌∙◌}
 use Rattle.std.specs.Prelude.{option_and_then, if◌then◌else◌}
 use Rattle.sync_ql.specs.declared.levels.Level.{Level}
 use Rattle.sync_ql.specs.Level.{do_not_use_of}
@@ -27,17 +27,3 @@ own-sent plan line sender selected level settings takes has onward past n stands
     subst (λ s. is_way_back plan (option_and_then (slice_get (inputs_of plan e)) s) line ≡ false) selection onward in
     has past n stands in_time ∙ ap (λ s. clock_level_at s p) settings
     ∙ sym (ap (λ b. if b then do_not_use_of plan.option else clock_level_at (settings_of plan e) p) is_own)
-
--- and do-not-use, where it does
-pub back-sent : (plan : Topology) (line : ℕ) (sender : ElementState) (selected : Option ℕ) →
-    sender.settings ≡ settings_of plan (sender_of plan line) →
-    ((past : List Moment) (n : ℕ) → Element.StandsFor sender past → IsInTime sender n → selected ≡ selection_at sender.settings (moments_until sender.settings n past)) →
-    is_way_back plan (option_and_then (slice_get (inputs_of plan (sender_of plan line))) selected) line ≡ true →
-    (past : List Moment) (n : ℕ) → Element.StandsFor sender past → IsInTime sender n → do_not_use_of plan.option ≡ sent_by plan line (moments_until sender.settings n past)
-back-sent plan line sender selected settings takes back past n stands in_time =
-    let p : List Moment = moments_until sender.settings n past in
-    let e : ℕ = sender_of plan line in
-    let selection : selected ≡ selection_at (settings_of plan e) p = takes past n stands in_time ∙ ap (λ s. selection_at s p) settings in
-    let is_back : is_way_back plan (taken_by plan e p) line ≡ true =
-    subst (λ s. is_way_back plan (option_and_then (slice_get (inputs_of plan e)) s) line ≡ true) selection back in
-    sym (ap (λ b. if b then do_not_use_of plan.option else clock_level_at (settings_of plan e) p) is_back)

@@ -105,18 +105,6 @@ evaluated-next now n m place is_out done done_then s t u fresh next all same one
     apart e before false is = is
     apart e before true is = absurd (let same : e ≡ place = is-place e place is in let other : done e ≡ false = ap done same ∙ fresh in cc)
 
-pub evaluated-none : (now n : ℕ) (is_out : ℕ → ℕ → Bool) (done : ℕ → Bool) (s : Workplace) → ((e : ℕ) → done e ≡ false) → AreEvaluated now n is_out done s s
-evaluated-none now n is_out done s none = record {
-  elements_count = refl;
-  changes_count = refl;
-  dues_count = refl;
-  called = keeps-same s.called;
-  cause = λ l is. inl is;
-  evaluated = λ e within is. absurd (let no = none e in cc);
-  others = λ e within is. record { element = λ other. refl; changes = refl; due = refl };
-  lines = λ k high. refl;
-}
-
 -- an element that isn't done yet can still make its step
 pub can-step-still : (now n e : ℕ) (is_out : ℕ → ℕ → Bool) (done : ℕ → Bool) (s t : Workplace) (other : ElementState) → e < n → done e ≡ false → AreEvaluated now n is_out done s t →
     CanStep now (slice_index_or s.elements e other) (changes_of s.changes e) → CanStep now (slice_index_or t.elements e other) (changes_of t.changes e)
@@ -176,15 +164,6 @@ sent-next plan elements now place done done_then s t u fresh next all one = reco
     apart : (e : ℕ) → done e ≡ true → (b : Bool) → nat_eq e place ≡ b → nat_eq e place ≡ false
     apart e before false is = is
     apart e before true is = absurd (let same : e ≡ place = is-place e place is in let other : done e ≡ false = ap done same ∙ fresh in cc)
-
-pub sent-none : (plan : Topology) (elements : List ElementState) (now : ℕ) (done : ℕ → Bool) (s : Wires) → ((e : ℕ) → done e ≡ false) → AreSent plan elements now done s s
-sent-none plan elements now done s none = record {
-  lines_count = refl;
-  dues_count = refl;
-  sent = λ l within is. absurd (let no = none l in cc);
-  others = λ l within is. record { same = refl; due = refl };
-  elements_left = λ k low. refl;
-}
 
 -- one line alone
 pub sent-one : (plan : Topology) (elements : List ElementState) (now line : ℕ) (level : Level) (n : ℕ) (s t : Wires) → n ≡ length plan.elements →

@@ -7,7 +7,7 @@ ghost use Rattle.sync_element.specs.StandsAfter.{IsStepped};
 ghost use Rattle.sync_net.specs.private.Steps.{IsSteady, IsLineTold, IsLineSaid};
 
 use crate::signals::LineSignal;
-use link_model::Line;
+use link_model::{Line, calls_law};
 use std::sync::ledger::Ledger;
 use sync_element::{Element, InputEvent};
 use sync_ql::Level;
@@ -15,13 +15,18 @@ use sync_ql::limits::LAST_MILLISECOND;
 use sync_text::{NoMemory, Steps};
 
 /// Tells a line whether it is up and its ESMC is on, takes what arrives, and answers the level that
-/// is heard then.
+/// is heard then. A line that speaks and goes on needn't be told.
 pub(crate) fn tell_line(line: &mut Line, now: u64, signal: LineSignal) -> Option<Level>
     requires turn { line.old.turn ≤ 4 * now }
     requires in_time { IfSome line.old.due (λ due. now ≤ due) }
     requires in_range { now ≤ LAST_MILLISECOND }
     ensures { IsLineTold now signal line.old line.new result }
 {
+    calls_law();
+    if line.speaking() && signal.up && signal.esmc {
+        let _message = line.take_due(now);
+        return line.heard(now);
+    }
     line.set_up(now, signal.up);
     line.set_esmc(now, signal.esmc);
     let _message = line.take_due(now);

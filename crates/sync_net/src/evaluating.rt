@@ -2,7 +2,6 @@
 
 ghost use Rattle.std.specs.Prelude.{◌≡◌, ◌≤◌, ◌<◌, ◌+◌, ℕ, ◌^◌, length, slice_index_or, nat_eq, All, OnOk};
 ghost use Rattle.std.specs.List.{list_any};
-ghost use Rattle.agenda.specs.Marked.{AreListed};
 ghost use Rattle.sync_element.specs.ElementState.{ElementState};
 ghost use Rattle.sync_topo.specs.Lines.{lines_out};
 ghost use Rattle.sync_net.specs.private.Stages.{AreEvaluated, CanStep, changes_of, is_out_of};

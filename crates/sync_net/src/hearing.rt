@@ -3,7 +3,6 @@
 
 ghost use Rattle.std.specs.Prelude.{◌≡◌, ◌≤◌, ◌<◌, ◌+◌, ℕ, true, nat_eq, length, IfOk, OnOk, IsSomeAnd};
 ghost use Rattle.std.specs.List.{list_any};
-ghost use Rattle.sync_ql.specs.Messages.{is_same_level};
 ghost use Rattle.sync_ql.specs.Told.{IsOfOption};
 ghost use Rattle.sync_topo.specs.Lines.{line_count, IsNominated};
 ghost use Rattle.sync_topo.specs.WellFormed.{IsWellFormed};

@@ -1,7 +1,6 @@
 //! Which elements and lines are looked at in a millisecond.
 
-ghost use Rattle.std.specs.Prelude.{◌≡◌, ◌≤◌, ◌<◌, ◌⊎◌, ◌+◌, ◌-◌, ℕ, true, nat_eq, length, slice_set, All};
-ghost use Rattle.std.specs.List.{list_any};
+ghost use Rattle.std.specs.Prelude.{◌≡◌, ◌≤◌, ◌<◌, ◌⊎◌, ◌+◌, ◌-◌, ℕ, true, length, slice_set, All};
 ghost use Rattle.agenda.specs.DueTimes.{AreLater};
 ghost use Rattle.sync_topo.specs.Lines.{line_count, IsNominated};
 ghost use Rattle.sync_net.specs.private.PartSteps.{IsFirstMarked};

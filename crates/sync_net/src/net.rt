@@ -1,6 +1,6 @@
 //! The network, as other crates see it.
 
-ghost use Rattle.std.specs.Prelude.{◌≡◌, ◌≤◌, ◌<◌, ◌+◌, ◌-◌, ◌*◌, ℕ, true, false, nat_eq, if◌then◌else◌, List, [], All, IfOk, OnOk, IfSome, IsNone, OnErr, Option, None, Some, length, slice_index_or};
+ghost use Rattle.std.specs.Prelude.{◌≡◌, ◌≤◌, ◌<◌, ◌+◌, ◌-◌, ◌*◌, ℕ, true, false, nat_eq, if◌then◌else◌, List, [], All, IfOk, OnOk, IfSome, IsNone, OnErr, None, Some, length, slice_index_or};
 ghost use Rattle.std.specs.List.{list_any};
 ghost use Rattle.sync_topo.specs.declared.event.Event.{Event};
 ghost use Rattle.sync_topo.specs.Events.{Fits};
@@ -286,10 +286,7 @@ impl<'a> Net<'a> {
             StandsFor self.now all self.now.next → IsSettled self.now.plan (signals_by self.now.plan all)
             (out_at self.now.plan (signals_by self.now.plan all)) (self.now.next - 1) }
     {
-        match self.parts.dues.first() {
-            Some(due) => Some(due.at),
-            None => None,
-        }
+        self.parts.dues.first_time()
     }
 
     /// The number of steps after the first.

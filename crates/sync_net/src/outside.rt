@@ -2,8 +2,8 @@
 
 ghost use Rattle.std.specs.Prelude.{◌≡◌, ◌<◌, ◌+◌, ◌*◌, [], ◌∷◌, length};
 ghost use Rattle.std.specs.List.{All};
-ghost use Rattle.sync_topo.specs.Events.{Fits, IsPart, MayHappen};
-ghost use Rattle.sync_topo.specs.Lines.{line_count, is_nominated};
+ghost use Rattle.sync_topo.specs.Events.{Fits};
+ghost use Rattle.sync_topo.specs.Lines.{line_count};
 ghost use Rattle.sync_net.specs.private.Noting.{with_up, with_esmc, with_mark, AreOfOption, AreLinesNoted, AreSourcesNoted};
 
 use crate::signals::{LineSignal, SourceSignal};

@@ -2,9 +2,7 @@
 
 ghost use Rattle.std.specs.Prelude.{◌≡◌, ◌≤◌, ◌<◌, ◌+◌, ◌^◌, ℕ, length, slice_index_or, slice_get, true, nat_eq, option_and_then, IfSome, IsSomeAnd, OnOk};
 ghost use Rattle.std.specs.List.{list_any};
-ghost use Rattle.sync_ql.specs.Moment.{Moment};
-ghost use Rattle.sync_ql.specs.Told.{moments_until};
-ghost use Rattle.sync_element.specs.ElementState.{ElementState, IsInTime};
+ghost use Rattle.sync_element.specs.ElementState.{ElementState};
 ghost use Rattle.sync_element.specs.StandsFor as ElementPast;
 ghost use Rattle.sync_topo.specs.Lines.{line_count, sender_of, inputs_of, IsInput};
 ghost use Rattle.net_rules.specs.History.{settings_of, is_way_back};

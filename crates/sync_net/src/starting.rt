@@ -1,9 +1,8 @@
 //! A network before its first step.
 
-ghost use Rattle.std.specs.Prelude.{◌≡◌, ◌≤◌, ◌<◌, ◌+◌, ℕ, true, false, List, [], ◌∷◌, ◌++◌, IfOk, OnOk, None, length, map, replicate};
-ghost use Rattle.agenda.specs.Marked.{none_marked};
+ghost use Rattle.std.specs.Prelude.{◌≡◌, ◌≤◌, ◌<◌, ◌+◌, ℕ, true, false, List, [], ◌∷◌, ◌++◌, IfOk, None, length, replicate};
 ghost use Rattle.sync_topo.specs.declared.event.Event.{Event};
-ghost use Rattle.sync_topo.specs.Lines.{line_count, inputs_of, IsInput};
+ghost use Rattle.sync_topo.specs.Lines.{line_count};
 ghost use Rattle.sync_net.specs.private.Beginning.{IsBegun, IsNewPlace, IsNewSource};
 ghost use Rattle.net_rules.specs.History.{by_levels};
 ghost use Rattle.net_words.specs.NewElements.{AreEach, IsNewElement};

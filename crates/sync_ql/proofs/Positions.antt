@@ -1,12 +1,11 @@
 -- The first place in a list at which a test passes.
-use Rattle.std.proofs.Common.{◌≡◌, ◌<◌, ℕ, ◌+◌, Bool, true, cond, List, [], ◌∷◌, map, length, refl, ap, nat_lt, Option, None, Some, IsSome, IfSome, Any, get_or, arith, position, sym, ◌∙◌}
+use Rattle.std.proofs.Common.{◌≡◌, ◌<◌, ℕ, ◌+◌, Bool, true, cond, List, [], ◌∷◌, map, length, refl, ap, nat_lt, Option, None, Some, IfSome, get_or, arith, position, sym, ◌∙◌}
 use Rattle.std.specs.Prelude.{not}
 use Rattle.std.specs.List.{prefix_len, position_or_len}
 use Rattle.std.proofs.Math.Decide.{dec_lt}
 use Rattle.std.proofs.lemmas.List.{length-map}
 use Rattle.std.proofs.lemmas.List.Quantifiers.{position-Some}
 use Rattle.std.proofs.lemmas.List.Sums.{fails_before_first}
-use Rattle.std.proofs.lemmas.Bool.Decides.{nat_tests}
 
 prefix_len-map : {X Y : Type 0} (p : Y → Bool) (f : X → Y) (xs : List X) → prefix_len p (map f xs) ≡ prefix_len (λ x. p (f x)) xs
 prefix_len-map p f [] = refl
@@ -29,10 +28,3 @@ first_within p xs k d within passes =
       | yes before ↦ let fails = fails_before_first p xs k d before in cc
       | no reached ↦ omega arith
     ]
-
-is_found : {X : Type 0} (p : X → Bool) (xs : List X) → position_or_len p xs < length xs → IsSome (position p xs)
-is_found p xs within = grind (arith, nat_tests)
-
--- where some element has what the test decides, a place is found
-pub position-Any : {X : Type 0} (p : X → Bool) (P : X → Type 0) → ((x : X) → P x → p x ≡ true) → (xs : List X) → Any P xs → IsSome (position p xs)
-position-Any p P passes xs (k, x, within, here, holds) = is_found p xs (first_within p xs k x within (ap p here ∙ passes x holds))

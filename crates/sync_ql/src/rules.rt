@@ -42,7 +42,7 @@ pub enum Cmd {
 /// What the choice among an element's inputs looks at in one input.
 ///
 /// After G.781, quality level and priority.
-#[derive(Clone, Copy, Debug, PartialEq, Eq)]
+#[derive(Clone, Copy, Debug, Default, PartialEq, Eq)]
 pub struct Candidate {
     /// The level that the input has, if it has one.
     pub level: Option<Level>,

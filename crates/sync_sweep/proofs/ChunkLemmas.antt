@@ -1,14 +1,13 @@
 -- The rows of parts are those of the whole.
 use Rattle.std.proofs.Common.{◌≡◌, ℕ, zero, suc, ◌+◌, ◌*◌, ◌/◌, ◌%◌, ◌<◌, ◌≤◌, min, List, [], ◌∷◌, ◌++◌, length, take, drop, Option, Some, None, Result, Ok, Err, refl, sym, ap, subst, ◌∙◌, arith}
 use Rattle.std.specs.Prelude.{slice_get, slice_index_or}
-use Rattle.std.specs.List.{All, AllZip}
+use Rattle.std.specs.List.{AllZip}
 use Rattle.std.specs.Option.{option_map}
 use Rattle.std.specs.Fork.{slice_chunk}
 use Rattle.std.proofs.Math.Decide.{dec_lt}
 use Rattle.std.proofs.lemmas.Nat.{div-add-mod', mod_below}
 use Rattle.std.proofs.lemmas.Option.{same_Some, none-some}
 use Rattle.std.proofs.lemmas.List.{take-append-drop, length-drop, drop-drop}
-use Rattle.std.proofs.lemmas.List.Elements.{All-take, All-drop}
 use Rattle.sync_sweep.specs.private.Chunks.{joined}
 
 -- relations of two lists, place by place
@@ -78,10 +77,6 @@ joined_whole R size (Ok rows ∷ parts) xs items enough each join =
 
     later : (n : ℕ) → drop (suc n * size) xs ≡ drop (n * size) (drop size xs)
     later n = ap (λ k. drop k xs) (omega (arith, times n)) ∙ sym (drop-drop (n * size) size xs)
-
--- what all have, those of a chunk have
-pub chunk-has : {A : Type 0} (P : A → Type 0) (xs : List A) (size start : ℕ) (chunk : List A) → chunk ≡ take size (drop start xs) → All P xs → All P chunk
-chunk-has P xs size start chunk is all = subst (All P) (sym is) (All-take P size (drop start xs) (All-drop P start xs all))
 
 -- what is got at a place stands there
 pub got : {A : Type 0} (xs : List A) (n : ℕ) (x other : A) → slice_get xs n ≡ Some x → (n < length xs) × (slice_index_or xs n other ≡ x)

@@ -1,9 +1,7 @@
 -- The settling bound after one millisecond, by the one after another.
-use Rattle.std.proofs.Common.{◌≤◌, ◌-◌, ◌+◌, ℕ, Option, None, Some, arith}
-use Rattle.std.specs.Prelude.{IfSome}
+use Rattle.std.proofs.Common.{◌≤◌, ◌-◌, ◌+◌, ℕ, arith}
 use Rattle.sync_topo.specs.Topology.{Topology}
 use Rattle.net_rules.specs.Settling.{IsSettlingBound}
-use Rattle.sync_sweep.specs.Outcomes.{IsBoundAfter}
 
 -- it is later by as much as the millisecond
 later-bound : (plan : Topology) (last until bound : ℕ) → last ≤ until → IsSettlingBound plan last bound → IsSettlingBound plan until (bound + (until - last))
@@ -35,8 +33,3 @@ earlier-bound plan last until bound early is = record {
 
 pub none-earlier : (plan : Topology) (last until : ℕ) → last ≤ until → ((other : ℕ) → ¬ IsSettlingBound plan until other) → (other : ℕ) → ¬ IsSettlingBound plan last other
 none-earlier plan last until early none other is = none (other + (until - last)) (later-bound plan last until other early is)
-
--- and not before its millisecond
-pub bound-late : (plan : Topology) (last : ℕ) (bound : Option ℕ) → IsBoundAfter plan last bound → IfSome bound (λ bound. last ≤ bound)
-bound-late plan last None is = tt
-bound-late plan last (Some bound) is = omega (arith, is.is)

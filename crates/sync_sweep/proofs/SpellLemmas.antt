@@ -1,6 +1,6 @@
 -- For how long elements are worse, over the steps of a run.
-use Rattle.std.proofs.Common.{◌≡◌, ◌≤◌, ◌<◌, ℕ, zero, suc, ◌+◌, ◌-◌, Bool, true, false, cond, set, List, [], ◌∷◌, ◌++◌, length, Option, None, Some, inl, inr, refl, sym, ap, subst, ◌∙◌, arith, get_or-set_other, length-set}
-use Rattle.std.specs.Prelude.{if◌then◌else◌, nat_eq, nat_lt, slice_index_or, IfSome}
+use Rattle.std.proofs.Common.{◌≡◌, ◌≤◌, ◌<◌, ℕ, zero, suc, ◌+◌, ◌-◌, Bool, true, false, cond, set, List, [], ◌∷◌, ◌++◌, length, inl, inr, refl, sym, ap, subst, ◌∙◌, arith, get_or-set_other, length-set}
+use Rattle.std.specs.Prelude.{if◌then◌else◌, nat_eq, nat_lt, slice_index_or}
 use Rattle.std.specs.List.{count_by, list_any, range_with_len}
 use Rattle.std.proofs.lemmas.Bool.Decides.{eqb_tells, nat_tests}
 use Rattle.std.proofs.lemmas.List.{map-id, get_or-set_same}
@@ -85,11 +85,6 @@ counted-noted plan all before now element spell more after noted is counted =
     counted-later plan all before now (now + 1) element more after (omega arith)
     (λ t low high. subst (λ m. is_worse_in plan all before element m ≡ more.worse) (let same : now ≡ t = omega (arith, low, high) in same) is)
     (record { in_time = kept.0; is = kept.1 ∙ counted.is })
-
--- what is due isn't before an earlier millisecond
-pub due-later : (due : Option ℕ) (now n : ℕ) → IfSome due (λ d. now ≤ d) → n ≤ now → IfSome due (λ d. n ≤ d)
-due-later None now n until early = tt
-due-later (Some d) now n until early = omega (arith, until, early)
 
 -- what is noted of one place is noted of all
 pub noted-set : (now : ℕ) (before spells : List Spell) (place : ℕ) (spell more : Spell) → length spells ≡ length before → place < length before

@@ -1,9 +1,9 @@
 -- States and levels, and how many of them are alike.
-use Rattle.std.proofs.Common.{◌≡◌, ◌≢◌, ◌≤◌, ◌<◌, ℕ, suc, ◌+◌, ◌-◌, Bool, true, false, nat_eq, cond, List, [], ◌∷◌, ◌++◌, length, set, refl, ap, sym, ◌∙◌, arith, subst, get_or-set_other, length-set}
+use Rattle.std.proofs.Common.{◌≡◌, ◌≢◌, ◌≤◌, ◌<◌, ℕ, suc, ◌+◌, ◌-◌, Bool, true, false, nat_eq, cond, List, [], ◌∷◌, ◌++◌, length, set, refl, ap, ◌∙◌, arith, subst, get_or-set_other, length-set}
 use Rattle.std.specs.Prelude.{slice_index_or}
 use Rattle.std.proofs.lemmas.Bool.Decides.{nat_tests}
 use Rattle.std.proofs.lemmas.List.{get_or-set_same}
-use Rattle.std.proofs.lemmas.List.Sums.{get_or-le-sum_by, count_by-le-length, sum_by-set, sum_by_push, sum_by-cons}
+use Rattle.std.proofs.lemmas.List.Sums.{get_or-le-sum_by, count_by-le-length, sum_by-set, sum_by-cons}
 use Rattle.sync_ql.specs.declared.levels.Level.{Level}
 use Rattle.sync_ql.specs.declared.levels.NetOption.{NetOption}
 use Rattle.sync_ql.specs.declared.levels.NetOption.TheVariants.{I, II}
@@ -80,30 +80,9 @@ by_place-less counts many here all within = record {
 by_place-same : (counts : List ℕ) (many more : ℕ → ℕ) → AreByPlace counts many → ((place : ℕ) → many place ≡ more place) → AreByPlace counts more
 by_place-same counts many more all same = record { room = all.room; each = λ place inside. all.each place inside ∙ same place }
 
--- one more level at the end
-pub by_place-push : (levels : List Level) (level : Level) (counts : List ℕ) → AreByPlace counts (with_place levels)
-    → AreByPlace (set counts level.place (slice_index_or counts level.place 0 + 1)) (with_place (levels ++ level ∷ []))
-by_place-push levels level counts all =
-    by_place-same (set counts level.place (slice_index_or counts level.place 0 + 1)) (λ place. with_place levels place + cond (nat_eq level.place place) 1 0) (with_place (levels ++ level ∷ []))
-    (by_place-more counts (with_place levels) level.place all (few-places level)) (λ place. sym (sum_by_push (at_place place) levels level))
-
 -- no more have a place than there are
 pub few-with : (levels : List Level) (place : ℕ) → with_place levels place ≤ length levels
 few-with levels place = count_by-le-length (λ level. nat_eq level.place place) levels
-
-at_own : (n : ℕ) → nat_eq n n ≡ true
-at_own n = of (nat_eq n n) refl
-  where
-    of : (b : Bool) → nat_eq n n ≡ b → nat_eq n n ≡ true
-    of true is = is
-    of false is = absurd (grind (arith, nat_tests))
-
--- the place of a level of the list is counted
-pub some-with : (levels : List Level) (i : ℕ) (other : Level) → i < length levels → 0 < with_place levels (slice_index_or levels i other).place
-some-with levels i other within =
-    let here : ℕ = (slice_index_or levels i other).place in
-    let one : at_place here (slice_index_or levels i other) ≡ 1 = ap (λ b. cond b 1 0) (at_own here) in
-    omega (arith, one, get_or-le-sum_by (at_place here) levels i other within)
 
 -- another level at a place of the list
 pub by_place-set : (levels : List Level) (i : ℕ) (level before : Level) (counts : List ℕ) → i < length levels → before ≡ slice_index_or levels i before → AreByPlace counts (with_place levels)
@@ -139,11 +118,6 @@ has-place (level ∷ levels) place some = of (nat_eq level.place place) refl (ha
         let none : at_place place level ≡ 0 = ap (λ b. cond b 1 0) is in
         let rest = later (omega (arith, some, none, sum_by-cons (at_place place) level levels)) in
         record { element = suc rest.element; within = omega (arith, rest.within); has = λ other. rest.has other }
-
--- where it isn't, none has
-pub none-with : (levels : List Level) (place : ℕ) → with_place levels place ≡ 0 → (k : ℕ) (other : Level) → k < length levels → ¬ ((slice_index_or levels k other).place ≡ place)
-none-with levels place zero k other within is =
-    omega (arith, zero, subst (λ p. 0 < with_place levels p) is (some-with levels k other within))
 
 -- a list with a level has a level
 pub any-level : (levels : List Level) → 0 < length levels → (Level → ⊥) → ⊥

@@ -1,12 +1,11 @@
 -- One trace more is counted.
-use Rattle.std.proofs.Common.{◌≡◌, ◌⊎◌, inl, inr, ◌≤◌, ◌<◌, ℕ, zero, suc, ◌+◌, true, false, cond, List, [], ◌∷◌, ◌++◌, length, take, Option, Some, None, is_some, slice_get, refl, ap, sym, subst, ◌∙◌, arith}
+use Rattle.std.proofs.Common.{◌≡◌, ◌⊎◌, inl, inr, ◌≤◌, ◌<◌, ℕ, zero, suc, ◌+◌, true, false, List, [], ◌∷◌, ◌++◌, length, take, Option, Some, None, is_some, slice_get, refl, ap, sym, subst, ◌∙◌, arith}
 use Rattle.std.specs.Prelude.{IfSome, slice_index_or, if◌then◌else◌}
 use Rattle.std.specs.Option.{option_or}
 use Rattle.std.specs.List.{count_by, position}
 use Rattle.std.proofs.lemmas.Bool.{true≢false}
 use Rattle.std.proofs.lemmas.Option.{same_Some, none-some}
 use Rattle.std.proofs.lemmas.List.{take_more}
-use Rattle.std.proofs.lemmas.List.Sums.{sum_by_push}
 use Rattle.std.proofs.lemmas.List.Quantifiers.{position-Some}
 use Rattle.sync_topo.proofs.Lists.{position-push}
 use Rattle.sync_topo.specs.Topology.{Topology}
@@ -16,9 +15,6 @@ use Rattle.closed_walks.specs.declared.traced.Ending.{Ending}
 use Rattle.closed_walks.specs.declared.traced.End.TheVariants.{Loop}
 use Rattle.sync_sweep.specs.declared.timings.Timing.{Timing}
 use Rattle.sync_sweep.specs.Timing.{is_lost, has_ended, IsCounted, IsLengthIn, IsTiming}
-
-pub more-lost : (front : List Ending) (ending : Ending) → count_by is_lost (front ++ ending ∷ []) ≡ count_by is_lost front + cond (is_lost ending) 1 0
-more-lost front ending = sum_by_push (λ (e : Ending). cond (is_lost e) 1 0) front ending
 
 -- the first that is lost, where none was
 pub first-lost : (front : List Ending) (ending : Ending) (element : ℕ) (first : Option ℕ) → is_some first ≡ false → is_lost ending ≡ true → element ≡ length front

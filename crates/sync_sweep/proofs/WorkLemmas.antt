@@ -26,7 +26,6 @@ use Rattle.sync_sweep.specs.private.Base.{AreCommonBefore}
 use Rattle.sync_sweep.specs.Cases.{merged}
 use Rattle.sync_sweep.specs.declared.timings.Timing.{Timing}
 use Rattle.sync_sweep.specs.declared.timed.Timed.{Timed}
-use Rattle.closed_walks.specs.Taking.{AreTaken}
 use Rattle.sync_sweep.specs.private.ShownNow.{AreAlikeBut}
 use Rattle.sync_sweep.specs.private.Timed.{IsTimed}
 use Rattle.sync_sweep.specs.Outcomes.{taken_by}
@@ -66,15 +65,6 @@ timing-by base net plan all until timed places None same of_base now stands is_t
 timing-by base net plan all until timed places (Some timing) same of_base now stands is_timed alike is =
     subst (λ (p : Topology). IsTiming p (taken_by p all until) timing) same
     (subst (λ t. IsTiming net.plan (taken_by net.plan all t) timing) now (is base all of_base is_timed alike stands))
-
--- what serves to time the cases of a base serves a branch of it
-pub timed-own : (base : NetState) (plan : Topology) (timed : Option Timed) → base.plan ≡ plan → IfSome timed (IsTimed base) → IfSome timed (λ some. AreTaken plan some.taken.items)
-timed-own base plan None same is = tt
-timed-own base plan (Some timed) same is = subst (λ p. AreTaken p timed.taken.items) same is.taken.own
-
-pub timed-same : (base : NetState) (timed : Option Timed) → IfSome timed (IsTimed base) → IfSome timed (λ some. some.now.items ≡ some.taken.items)
-timed-same base None is = tt
-timed-same base (Some timed) is = is.same
 
 -- a plan to which something happens has elements
 some-source : (plan : Topology) (source : ℕ) → IsWellFormed plan → source < length plan.sources → 0 < length plan.elements

@@ -1,12 +1,8 @@
 //! A network that runs on from another, and goes back to it.
 
-ghost use Rattle.std.specs.Prelude.{◌≡◌, ◌≤◌, ◌<◌, ◌+◌, ◌-◌, ℕ, true, false, nat_eq, List, [], length, slice_index_or, All, IfOk, OnOk, IfSome};
-ghost use Rattle.std.specs.List.{list_any};
-ghost use Rattle.agenda.specs.Marked.{none_marked};
+ghost use Rattle.std.specs.Prelude.{◌≡◌, ◌≤◌, ◌<◌, ◌+◌, ◌-◌, ℕ, false, List, [], length, All, IfOk, OnOk};
 ghost use Rattle.sync_topo.specs.declared.event.Event.{Event};
 ghost use Rattle.sync_topo.specs.Events.{Fits};
-ghost use Rattle.sync_topo.specs.Lines.{line_count};
-ghost use Rattle.sync_topo.specs.WellFormed.{IsWellFormed};
 ghost use Rattle.sync_net.specs.NetState.{NetState, IsInTime};
 ghost use Rattle.event_times.specs.EventTimes.{AreTold, AreWithin};
 ghost use Rattle.sync_net.specs.Standing.{StandsFor};
@@ -18,9 +14,9 @@ ghost use Rattle.sync_sweep.specs.private.Spells.{AreNone, AreNoneUnmarked, AreN
 use crate::shown::{Shown, all_shown, note_shown};
 use crate::spells::{Spell, no_spells, note_worse};
 use crate::touched::{Touched, forget, mark_all, mark_named, none_touched};
-use event_times::{next_time, split_at_time};
+use event_times::Moments;
 use std::alloc::Global;
-use std::sync::ledger::Ledger;
+use std::sync::ledger::{Blank, Ledger};
 use sync_net::Net;
 use sync_ql::limits::LAST_MILLISECOND;
 use sync_text::{NoMemory, Steps};
@@ -121,14 +117,18 @@ fn step<L: Ledger>(
     Ok(())
 }
 
-/// All steps from a millisecond up to and with another, which are told the events that stand there.
+/// All steps from a millisecond up to and with another, which are told the events that stand there, and
+/// are counted on a ledger.
 pub(crate) fn run_events<L: Ledger>(
     branch: &mut Branch<'_>,
     from: u64,
     events: &[Event],
     until: u64,
-    steps: &mut Steps<L>,
+    blank: Blank,
 ) -> Result<(), NoMemory>
+    requires name { blank.name ≡ L.name }
+    requires parts { blank.parts ≡ L.parts }
+    requires some { 0 < blank.parts }
     requires live { branch.old.net.spent ≡ false }
     requires from { branch.old.net.next ≡ from }
     requires before { from ≤ until + 1 }
@@ -156,14 +156,10 @@ pub(crate) fn run_events<L: Ledger>(
         IsBranch base branch.new.net branch.new.touched) }
 {
     sync_net::elements_law();
-    let mut next = from;
-    let mut rest = events;
-    while next <= until {
-        let now = next_time(next, rest, branch.net.due(), until);
-        let (here, later) = split_at_time(rest, now);
-        step(branch, now, here, steps)?;
-        rest = later;
-        next = now + 1;
+    let mut steps = Steps::<L>::new(blank);
+    let mut moments = Moments::new(events, from, until);
+    while let Some((now, here)) = moments.next_moment(branch.net.due()) {
+        step(branch, now, here, &mut steps)?;
     }
     Ok(())
 }

@@ -9,7 +9,7 @@ ghost use Rattle.net_rules.specs.Walks.{Taken};
 ghost use Rattle.closed_walks.specs.Taking.{taken_in_list, AreTaken};
 ghost use Rattle.closed_walks.specs.Following.{is_met};
 ghost use Rattle.sync_sweep.specs.Timing.{IsTiming};
-ghost use Rattle.sync_sweep.specs.private.Ends.{lines_at, AreEndsNoted, IsNumberIn};
+ghost use Rattle.sync_sweep.specs.private.Ends.{AreEndsNoted, IsNumberIn};
 
 use crate::timings::{Timing, is_lost};
 use closed_walks::{Ending, Next, next_of};

@@ -8,7 +8,7 @@ ghost use Rattle.sync_net.specs.Standing.{StandsFor};
 ghost use Rattle.sync_sweep.specs.OnWay.{IsOnWay};
 ghost use Rattle.sync_sweep.specs.private.Branching.{IsBranch, AreMarksOf};
 ghost use Rattle.sync_sweep.specs.private.ShownNow.{AreShown};
-ghost use Rattle.sync_sweep.specs.private.Spells.{AreNone, AreNoneUnmarked, AreCountedSo};
+ghost use Rattle.sync_sweep.specs.private.Spells.{AreNone};
 
 use crate::branch::{Branch, run_events, show};
 use crate::cases::events_from;
@@ -16,51 +16,10 @@ use crate::on_way::OnWay;
 use crate::spells::take_way;
 use event_times::events_until;
 use std::marker::Brand;
-use std::sync::ledger::{Blank, Ledger};
+use std::sync::ledger::Blank;
 use sync_ql::limits::LAST_MILLISECOND;
-use sync_text::{NoMemory, Steps};
+use sync_text::NoMemory;
 use sync_topo::Event;
-
-/// The network runs to its end; its steps are counted on a ledger.
-fn run_out<L: Ledger>(
-    branch: &mut Branch<'_>,
-    from: u64,
-    told: &[Event],
-    until: u64,
-    blank: Blank,
-) -> Result<(), NoMemory>
-    requires name { blank.name ≡ L.name }
-    requires parts { blank.parts ≡ L.parts }
-    requires some { 0 < blank.parts }
-    requires live { branch.old.net.spent ≡ false }
-    requires from { branch.old.net.next ≡ from }
-    requires before { from ≤ until + 1 }
-    requires in_range { until ≤ LAST_MILLISECOND }
-    requires events { AreWithin branch.old.net.plan from until told.now }
-    requires marks { AreMarksOf branch.old.net.plan branch.old.touched }
-    requires levels { length branch.old.shown.levels ≡ length branch.old.net.plan.elements }
-    requires spells { length branch.old.spells.items ≡ length branch.old.net.plan.elements }
-    ensures plan { branch.new.net.plan ≡ branch.old.net.plan }
-    ensures shown { branch.new.shown ≡ branch.old.shown }
-    ensures spells { length branch.new.spells.items ≡ length branch.old.spells.items }
-    ensures unmarked { OnOk result (AreNoneUnmarked branch.old.touched branch.old.spells.items →
-        AreNoneUnmarked branch.new.touched branch.new.spells.items) }
-    ensures counted { OnOk result ((all : List Event) (before : ℕ) →
-        AreTold branch.old.net.plan all from until told.now → StandsFor branch.old.net all from →
-        AreCountedSo branch.old.net branch.old.shown.levels all before from branch.old.spells.items →
-        AreCountedSo branch.new.net branch.old.shown.levels all before (until + 1) branch.new.spells.items) }
-    ensures live { OnOk result (branch.new.net.spent ≡ false) }
-    ensures next { OnOk result (branch.new.net.next ≡ until + 1) }
-    ensures stands { OnOk result ((all : List Event) →
-        AreTold branch.old.net.plan all from until told.now →
-        StandsFor branch.old.net all from → StandsFor branch.new.net all (until + 1)) }
-    ensures branch { OnOk result ((base : NetState) →
-        IsBranch base branch.old.net branch.old.touched →
-        IsBranch base branch.new.net branch.new.touched) }
-{
-    let mut steps = Steps::<L>::new(blank);
-    run_events(branch, from, told, until, &mut steps)
-}
 
 /// The network runs on to the end of a millisecond, and what it shows then is renewed.
 fn run_to(branch: &mut Branch<'_>, from: u64, told: &[Event], until: u64) -> Result<OnWay, NoMemory>
@@ -90,7 +49,7 @@ fn run_to(branch: &mut Branch<'_>, from: u64, told: &[Event], until: u64) -> Res
 {
     sync_net::elements_law();
     let _element = branch.net.element(0);
-    run_out::<Brand>(branch, from, told, until, Blank::new(1))?;
+    run_events::<Brand>(branch, from, told, until, Blank::new(1))?;
     let _elements = branch.net.plan().elements();
     let way = take_way(
         branch.spells.as_mut_slice(),

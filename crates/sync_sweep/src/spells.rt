@@ -1,7 +1,7 @@
 //! For how long each element is worse than it was, counted by what changes: the milliseconds in between
 //! cost nothing, and no more does an element that is left alone.
 
-ghost use Rattle.std.specs.Prelude.{◌≡◌, ◌<◌, ◌≤◌, ◌+◌, ℕ, true, false, cond, nat_eq, nat_lt, length, slice_index_or, IfOk};
+ghost use Rattle.std.specs.Prelude.{◌≡◌, ◌<◌, ◌≤◌, ◌+◌, ℕ, false, cond, nat_eq, length, slice_index_or, IfOk};
 ghost use Rattle.std.specs.List.{All, list_any};
 ghost use Rattle.sync_ql.specs.declared.levels.Level.{Level};
 ghost use Rattle.sync_net.specs.NetState.{NetState};

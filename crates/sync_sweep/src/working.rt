@@ -4,12 +4,9 @@ ghost use Rattle.std.specs.Prelude.{◌≡◌, ◌≤◌, ◌<◌, ◌+◌, ℕ,
 ghost use Rattle.std.specs.List.{All};
 ghost use Rattle.sync_topo.specs.declared.event.Event.{Event};
 ghost use Rattle.sync_topo.specs.Events.{IsCase, IsEventList};
-ghost use Rattle.sync_topo.specs.Lines.{line_count};
-ghost use Rattle.event_times.specs.EventTimes.{AreTold, AreWithin};
-ghost use Rattle.sync_net.specs.NetState.{NetState};
 ghost use Rattle.sync_net.specs.Standing.{StandsFor};
 ghost use Rattle.sync_sweep.specs.private.Base.{AreCommonBefore};
-ghost use Rattle.sync_sweep.specs.private.Branching.{IsBranch, AreMarksOf};
+ghost use Rattle.sync_sweep.specs.private.Branching.{IsBranch};
 ghost use Rattle.sync_sweep.specs.Cases.{merged};
 ghost use Rattle.sync_sweep.specs.OnWay.{before_own};
 ghost use Rattle.sync_sweep.specs.Outcomes.{IsBoundAfter};

@@ -1,16 +1,23 @@
--- What a call answers that may refuse, or be out of memory, where `is_no_memory` tells the error for it.
-use Rattle.std.specs.Prelude.{◌≡◌, ⊤, Bool, true, false, Result, Ok, Err}
+-- What a call answers that may refuse what it is given, or be out of memory, by what its definition gives.
+use Rattle.std.specs.Prelude.{◌≡◌, ⊤, Result, Ok, Err}
+use Rattle.sync_text.specs.declared.errors.NoAnswer.{NoAnswer}
+use Rattle.sync_text.specs.declared.errors.NoAnswer.TheVariants.{NoMemory, Refused}
 
--- the fact holds, unless out of memory
-abbrev pub UnlessNoMemory : Bool → Type 0 → Type 0
-UnlessNoMemory true Fact = ⊤
-UnlessNoMemory false Fact = Fact
+-- what holds of the refusal; out of memory says nothing
+abbrev pub IfRefusal : {E : Type 0} → NoAnswer E → (E → Type 0) → Type 0
+IfRefusal NoMemory Fact = ⊤
+IfRefusal (Refused error) Fact = Fact error
+
+-- the same of an answer; a value says nothing
+abbrev pub IfRefused : {A E : Type 0} → Result A (NoAnswer E) → (E → Type 0) → Type 0
+IfRefused (Ok value) Fact = ⊤
+IfRefused (Err failed) Fact = IfRefusal failed Fact
 
 -- the refusal is the definition's; out of memory says nothing
-abbrev pub RefusesBut : {A E : Type 0} → (E → Bool) → E → Result A E → Type 0
-RefusesBut is_no_memory error answer = UnlessNoMemory (is_no_memory error) (answer ≡ Err error)
+abbrev pub Refuses : {A E : Type 0} → NoAnswer E → Result A E → Type 0
+Refuses failed answer = IfRefusal failed (λ error. answer ≡ Err error)
 
 -- the answer is the definition's, value or refusal; out of memory says nothing
-abbrev pub GivesBut : {A E : Type 0} → (E → Bool) → Result A E → Result A E → Type 0
-GivesBut is_no_memory (Ok value) answer = answer ≡ Ok value
-GivesBut is_no_memory (Err error) answer = RefusesBut is_no_memory error answer
+abbrev pub Gives : {A E : Type 0} → Result A (NoAnswer E) → Result A E → Type 0
+Gives (Ok value) answer = answer ≡ Ok value
+Gives (Err failed) answer = Refuses failed answer

@@ -13,7 +13,7 @@ mod numbers;
 mod short;
 mod steps;
 
-pub use errors::NoMemory;
+pub use errors::{NoAnswer, NoMemory};
 pub use lists::{Rows, Text};
 pub use numbers::read_number;
 pub use steps::Steps;

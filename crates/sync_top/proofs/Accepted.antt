@@ -9,15 +9,14 @@ use Rattle.sync_topo.specs.declared.sizes.Size.{Size}
 use Rattle.sync_topo.specs.Sizes.{size_of}
 use Rattle.plan_rows.specs.declared.error.PlanFileErr.{PlanFileErr}
 use Rattle.plan_file.specs.PlanText.{plan_of_size}
-use Rattle.rank_cert.specs.Ranks.{Ranks}
-use Rattle.rank_cert.specs.CertificateText.{certificate_of}
+use Rattle.plan_texts.specs.Lines.{text_line}
 use Rattle.sync_top.specs.declared.status.Status.{Status}
 use Rattle.sync_top.specs.declared.status.Status.TheVariants.{Done}
 use Rattle.sync_top.specs.Form.{PlanName, is_file_word, form_in}
-use Rattle.sync_top.specs.Reading.{End, no_file, answered, file, file_limit, text_line, plan_in, Answered}
-use Rattle.sync_top.specs.Forms.Check.{ranks_in, documents, IsVerdict}
+use Rattle.sync_top.specs.Reading.{End, no_file, answered, file, file_limit, plan_in, plan_and_file, Answered}
 use Rattle.sync_top.specs.Forms.Rank.{IsPlanned}
-use Rattle.sync_top.specs.Answer.{FormAnswer}
+use Rattle.sync_top.specs.declared.form.RanksForm.TheVariants.{Check}
+use Rattle.sync_top.specs.Answer.{FormAnswer, IsRanksReply}
 
 -- a file that isn't too long is read
 file_is : (size : Size) (name text : List ℕ) (files : Contents) → get files name ≡ Some text → length text ≤ file_limit size → file size name files ≡ Ok text
@@ -25,34 +24,37 @@ file_is size name text files there short =
     let fits : nat_lt (file_limit size) (length text) ≡ false = le-ltb _ _ short in
     rw (there, fits) refl
 
--- so its ranks are read
-ranks_are : (plan : Topology) (name text : List ℕ) (files : Contents) (ranks : Ranks) → get files name ≡ Some text → length text ≤ file_limit (size_of plan)
-    → certificate_of plan text ≡ Ok ranks → ranks_in plan name files ≡ Ok ranks
-ranks_are plan name text files ranks there short back = rw (file_is (size_of plan) name text files there short, back) refl
-
--- what ends the reading of a plan is no answer that was done
-pub never_done : (plan : PlanName) (files : Contents) (known : Status) (said : List ℕ) → plan_in plan files ≡ Err (answered known said) → known ≡ Done → ⊥
-never_done plan files known said is done = there (get files plan.name) refl
+-- what ends the reading of a file is no answer that was done
+pub file_never_done : (size : Size) (name : List ℕ) (files : Contents) (known : Status) (said : List ℕ) → file size name files ≡ Err (answered known said) → known ≡ Done → ⊥
+file_never_done size name files known said is done = there (get files name) refl
   where
-    refused : (bytes : List ℕ) (read : Result Topology PlanFileErr) → plan_of_size plan.size bytes ≡ read → get files plan.name ≡ Some bytes
-        → nat_lt (file_limit plan.size) (length bytes) ≡ false → ⊥
-    refused bytes (Ok plan) gives found fits = cc (rw (found, fits, gives) at is)
-    refused bytes (Err error) gives found fits = cc (rw (found, fits, gives) at is, done)
-
-    long : (bytes : List ℕ) (b : Bool) → nat_lt (file_limit plan.size) (length bytes) ≡ b → get files plan.name ≡ Some bytes → ⊥
+    long : (bytes : List ℕ) (b : Bool) → nat_lt (file_limit size) (length bytes) ≡ b → get files name ≡ Some bytes → ⊥
     long bytes true over found = cc (rw (found, over) at is, done)
-    long bytes false fits found = refused bytes (plan_of_size plan.size bytes) refl found fits
+    long bytes false fits found = cc (rw (found, fits) at is)
 
-    there : (o : Option (List ℕ)) → get files plan.name ≡ o → ⊥
+    there : (o : Option (List ℕ)) → get files name ≡ o → ⊥
     there None absent = cc (rw absent at is)
-    there (Some bytes) found = long bytes (nat_lt (file_limit plan.size) (length bytes)) refl found
+    there (Some bytes) found = long bytes (nat_lt (file_limit size) (length bytes)) refl found
+
+-- nor is what ends the reading of a plan
+pub never_done : (plan : PlanName) (files : Contents) (known : Status) (said : List ℕ) → plan_in plan files ≡ Err (answered known said) → known ≡ Done → ⊥
+never_done plan files known said is done = by (file plan.size plan.name files) refl
+  where
+    refused : (bytes : List ℕ) (read : Result Topology PlanFileErr) → plan_of_size plan.size bytes ≡ read → file plan.size plan.name files ≡ Ok bytes → ⊥
+    refused bytes (Ok topology) gives found = cc (rw (found, gives) at is)
+    refused bytes (Err error) gives found = cc (rw (found, gives) at is, done)
+
+    by : (read : Result (List ℕ) End) → file plan.size plan.name files ≡ read → ⊥
+    by (Ok bytes) found = refused bytes (plan_of_size plan.size bytes) refl found
+    by (Err no_file) found = cc (rw found at is)
+    by (Err (answered status text)) found = file_never_done plan.size plan.name files status text found (cc (rw found at is, done))
 
 -- what the planner wrote for a plan is accepted with this plan
 accepted : (plan_name : PlanName) (name text : List ℕ) (files : Contents) → get files name ≡ Some text → (read : Result Topology End) → plan_in plan_name files ≡ read
     → Answered IsPlanned read Done text
-    → Answered (λ both. IsVerdict both.0 both.1) (documents plan_name name files) Done (text_line (codes "accepted"))
+    → Answered (λ read. IsRanksReply Check read.0 read.1) (plan_and_file plan_name name files) Done (text_line (codes "accepted"))
 accepted plan_name name text files there (Ok plan) is (ranks, least, rising, written, back, short) =
-    rw (is, ranks_are plan name text files ranks there short back) (rising, refl)
+    rw (is, file_is (size_of plan) name text files there short, back) (rising, refl)
 accepted plan_name name text files there (Err no_file) is planned = absurd planned
 accepted plan_name name text files there (Err (answered known said)) is planned = absurd (never_done plan_name files known said is (sym planned.0))
 

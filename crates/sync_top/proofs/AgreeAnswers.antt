@@ -1,6 +1,6 @@
 -- That `agree` has one answer.
-use Rattle.std.proofs.Common.{◌≡◌, ◌≤◌, ℕ, List, refl, sym, subst, ◌∙◌, ap, inl, inr, arith}
-use Rattle.std.specs.Prelude.{◌⊎◌, codes}
+use Rattle.std.proofs.Common.{◌≡◌, ◌≤◌, ℕ, List, sym, subst, ◌∙◌, ap, inl, inr, arith}
+use Rattle.std.specs.Prelude.{codes}
 use Rattle.std.proofs.lemmas.Bool.{cases_lt}
 use Rattle.sync_topo.specs.Topology.{Topology}
 use Rattle.sync_topo.specs.Hops.{bears_on}
@@ -13,11 +13,10 @@ use Rattle.cycle_plan.proofs.AgreedLemmas.{bears-nominates}
 use Rattle.cycle_plan.proofs.BoundLemmas.{cyclic-none}
 use Rattle.cycle_plan.proofs.OneCycle.{one_cycle}
 use Rattle.sync_sweep.proofs.OneOutcome.{one-greatest}
-use Rattle.sync_top.specs.declared.status.Status.{Status}
-use Rattle.sync_top.specs.declared.status.Status.TheVariants.{Done, Refuted, Usage, BadPlan, BadCert, BadEvents, BadFrames, ReadFault, WriteFault, TooLong, NoMemory, Stopped}
-use Rattle.sync_top.specs.Forms.Rank.{lines_text}
-use Rattle.sync_top.specs.Forms.Agree.{agreed_text, IsBoundText, IsAgreedText}
-use Rattle.sync_top.proofs.Verdicts.{IsOne}
+use Rattle.plan_texts.specs.Lines.{lines_text}
+use Rattle.plan_texts.specs.Bounds.{agreed_text}
+use Rattle.sync_top.specs.Forms.Agree.{IsBoundText, IsClashText, IsAgreedText}
+use Rattle.sync_top.proofs.OneEnd.{IsOne, one-refuted}
 
 -- so many levels are high
 not-more : (plan : Topology) (one other : ℕ) → IsHighCount plan one → IsHighCount plan other → one ≤ other
@@ -53,44 +52,12 @@ one-text plan text another first second =
     ∙ ap (agreed_text second.bound) (only-one (is_planned plan) plan first.failures second.failures first.well_formed first.failed second.failed)
     ∙ sym second.is
 
--- what may be found
-abbrev Agrees : Topology → Status → List ℕ → Type 0
-Agrees plan status text = (status ≡ Done) × IsBoundText plan text
-
-abbrev Clashes : Topology → Status → List ℕ → Type 0
-Clashes plan status text =
-    (status ≡ Refuted) × ((lines : List ℕ) × IsFirstCycle (bears_on plan) lines × (text ≡ lines_text (codes "clash") plan lines))
-
-either_found : (plan : Topology) (status : Status) (text : List ℕ) → IsAgreedText plan status text → Agrees plan status text ⊎ Clashes plan status text
-either_found plan Done text found = inl (refl, found)
-either_found plan Refuted text found = inr (refl, found)
-either_found plan Usage text found = absurd found
-either_found plan BadPlan text found = absurd found
-either_found plan BadCert text found = absurd found
-either_found plan BadEvents text found = absurd found
-either_found plan BadFrames text found = absurd found
-either_found plan ReadFault text found = absurd found
-either_found plan WriteFault text found = absurd found
-either_found plan TooLong text found = absurd found
-either_found plan NoMemory text found = absurd found
-either_found plan Stopped text found = absurd found
-
 not-both : (plan : Topology) (bound : ℕ) (lines : List ℕ) → IsAgreedBound plan bound → IsFirstCycle (bears_on plan) lines → ⊥
 not-both plan bound lines agreed first = cyclic-none (bears_on plan) plan lines (bears-nominates plan) first agreed.ranked
 
 -- one thing is found
 pub one_agreed : (plan : Topology) → IsOne (IsAgreedText plan)
-one_agreed plan status other text another first second =
-    elim (either_found plan status text first) [
-      | inl agrees ↦ elim (either_found plan other another second) [
-        | inl also ↦ (agrees.0 ∙ sym also.0, one-text plan text another agrees.1 also.1)
-        | inr clashes ↦ absurd (not-both plan agrees.1.bound clashes.1.0 agrees.1.agreed clashes.1.1)
-      ]
-      | inr clashes ↦ elim (either_found plan other another second) [
-        | inl agrees ↦ absurd (not-both plan agrees.1.bound clashes.1.0 agrees.1.agreed clashes.1.1)
-        | inr also ↦ (
-          clashes.0 ∙ sym also.0,
-          clashes.1.2 ∙ ap (lines_text (codes "clash") plan) (one_cycle (bears_on plan) clashes.1.0 also.1.0 clashes.1.1 also.1.1) ∙ sym also.1.2,
-        )
-      ]
-    ]
+one_agreed plan =
+    one-refuted (IsBoundText plan) (IsClashText plan) (one-text plan)
+    (λ text another one two. one.2 ∙ ap (lines_text (codes "clash") plan) (one_cycle (bears_on plan) one.0 two.0 one.1 two.1) ∙ sym two.2)
+    (λ text another agrees clash. not-both plan agrees.bound clash.0 agrees.agreed clash.1)

@@ -3,6 +3,7 @@ use Rattle.std.proofs.Common.{◌≡◌, ℕ, Bool, List, Option, None, Some, Re
 use Rattle.std.specs.Prelude.{⊤, IfOk, IfSome, codes}
 use Rattle.sync_text.specs.declared.errors.NoMemory as wanting
 use Rattle.sync_edge.specs.Contents.{Contents}
+use Rattle.plan_texts.specs.Lines.{text_line}
 use Rattle.sync_top.specs.declared.status.Status.{Status}
 use Rattle.sync_top.specs.declared.status.Status.TheVariants.{Done, Refuted, Usage, BadPlan, BadCert, BadEvents, BadFrames, ReadFault, WriteFault, TooLong, NoMemory, Stopped}
 use Rattle.sync_top.specs.declared.found.Finding.{Finding}
@@ -12,7 +13,7 @@ use Rattle.sync_top.specs.declared.reply.Reply.{Reply}
 use Rattle.sync_top.specs.declared.reply.Stop.{Stop}
 use Rattle.sync_top.specs.declared.reply.Stop.TheVariants.{Ended, NoMemory}
 use Rattle.sync_top.specs.Form.{Form}
-use Rattle.sync_top.specs.Reading.{End, no_file, answered, one_file, no_files, text_line}
+use Rattle.sync_top.specs.Reading.{End, no_file, answered, one_file, no_files}
 use Rattle.sync_top.specs.Answer.{Outside, meaning, FormAnswer, FormMissesFile, IsAnswer, MissesFile}
 use Rattle.sync_top.proofs.Cuts.{outside}
 use Rattle.sync_top.specs.private.Work.{EndsIn, Gets, HasRead, WorkFacts, Works, ends_in, replied}
@@ -65,6 +66,8 @@ module _ (form : Form) (outside : Outside) where
   ends-found value finding.Done text is calm answers = (answers-read outside.told value Done text is answers, calm)
   ends-found value finding.Refuted text is calm answers = (answers-read outside.told value Refuted text is answers, calm)
   ends-found value finding.Stopped text is calm answers = (answers-read outside.told value Stopped text is answers, calm)
+  ends-found value finding.BadCert text is calm answers = (answers-read outside.told value BadCert text is answers, calm)
+  ends-found value finding.BadEvents text is calm answers = (answers-read outside.told value BadEvents text is answers, calm)
   ends-found value finding.BadFrames text is calm answers = (answers-read outside.told value BadFrames text is answers, calm)
 
   -- what ended the reading ends the work
@@ -89,12 +92,16 @@ never-usage : (f : Finding) → ends_in f ≡ Usage → ⊥
 never-usage finding.Done is = cc
 never-usage finding.Refuted is = cc
 never-usage finding.Stopped is = cc
+never-usage finding.BadCert is = cc
+never-usage finding.BadEvents is = cc
 never-usage finding.BadFrames is = cc
 
 never-bad_plan : (f : Finding) → ends_in f ≡ BadPlan → ⊥
 never-bad_plan finding.Done is = cc
 never-bad_plan finding.Refuted is = cc
 never-bad_plan finding.Stopped is = cc
+never-bad_plan finding.BadCert is = cc
+never-bad_plan finding.BadEvents is = cc
 never-bad_plan finding.BadFrames is = cc
 
 -- all was read, and what was found of it is replied

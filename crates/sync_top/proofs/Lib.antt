@@ -1,5 +1,6 @@
 pub mod Cuts
 pub mod OneText
+pub mod OneEnd
 pub mod Verdicts
 pub mod PriorityAnswers
 pub mod ChainAnswers
@@ -10,7 +11,6 @@ pub mod Accepted
 pub mod LoopFree
 pub mod Surviving
 pub mod Reports
-pub mod RowsOfHops
 pub mod LadderRises
 pub mod LastFits
 pub mod OneTrial

@@ -1,8 +1,7 @@
 -- What a done answer says of the plan that was read: no timing loop can form in it, its rows of chains are bounds, and it
 -- holds out.
-use Rattle.std.proofs.Common.{◌≡◌, ℕ, Bool, true, false, List, length, Option, Some, None, Result, Ok, Err, refl, sym, ◌∙◌}
-use Rattle.std.specs.Prelude.{nat_lt, IfSome}
-use Rattle.std.specs.FinMap.{get}
+use Rattle.std.proofs.Common.{◌≡◌, ℕ, Bool, List, Option, Some, None, Result, Ok, Err, refl, sym, ◌∙◌}
+use Rattle.std.specs.Prelude.{IfSome}
 use Rattle.sync_edge.specs.Contents.{Contents}
 use Rattle.sync_topo.specs.declared.error.PlanErr.{PlanErr}
 use Rattle.sync_topo.specs.declared.rows.PlanRows.{PlanRows}
@@ -16,23 +15,24 @@ use Rattle.net_rules.proofs.FinalLaws.{loop_free}
 use Rattle.plan_rows.specs.declared.error.PlanFileErr.{PlanFileErr}
 use Rattle.sync_text.specs.Chain.{◌>>=◌}
 use Rattle.plan_file.specs.PlanText.{rows_in_file, of_rows, plan_of_size}
-use Rattle.rank_cert.specs.declared.error.CertErr.{CertErr}
 use Rattle.rank_cert.specs.Ranks.{Ranks, rank_of}
 use Rattle.rank_cert.specs.CertificateText.{certificate_of}
 use Rattle.sync_top.specs.declared.status.Status.{Status}
-use Rattle.sync_top.specs.declared.status.Status.TheVariants.{Done}
+use Rattle.sync_top.specs.declared.status.Status.TheVariants.{Done, BadCert, BadEvents}
 use Rattle.sync_top.specs.declared.form.PlanForm.TheVariants.{Rank, Chains, Protected, Protect, Agree, Hops, Nominate, PrioRank, Sweep}
+use Rattle.sync_top.specs.declared.form.FileForm.TheVariants as asks
+use Rattle.sync_top.specs.declared.form.RanksForm.{RanksForm}
 use Rattle.sync_top.specs.declared.form.RanksForm.TheVariants.{Check, PrioCheck}
 use Rattle.sync_top.specs.declared.form.LadderForm.TheVariants.{Gen, Trial}
-use Rattle.sync_top.specs.Form.{Form, PlanName, form_of, on_plan, on_ranks, on_events, study, on_groups, on_frames, on_ladder, node}
-use Rattle.sync_top.specs.Reading.{End, no_file, answered, file_limit, plan_in, Answered}
-use Rattle.sync_top.specs.Forms.Check.{ranks_in, documents, IsVerdictOver}
-use Rattle.sync_top.specs.Answer.{FormAnswer, IsAnswer, MissesFile}
+use Rattle.sync_top.specs.Form.{Form, PlanName, form_of, on_plan, on_file, on_frames, on_ladder, node}
+use Rattle.sync_top.specs.Reading.{End, no_file, answered, file, plan_in, plan_and_file, Answered, OrRefused}
+use Rattle.sync_top.specs.Forms.Check.{certificate_refusal}
+use Rattle.sync_top.specs.Answer.{FormAnswer, IsAnswer, IsRanksReply, MissesFile, RanksAnswer}
 use Rattle.sync_top.specs.LoopFree.{IsCheckedLoopFree}
 use Rattle.sync_top.specs.Forms.Priority.{IsCheckedForPriority}
 use Rattle.prio_mode.proofs.LoopLaws.{never_loops}
 use Rattle.sync_top.specs.private.Work.{EndsIn}
-use Rattle.sync_top.proofs.Accepted.{never_done}
+use Rattle.sync_top.proofs.Accepted.{file_never_done, never_done}
 use Rattle.sync_top.proofs.Cuts.{outside}
 use Rattle.sync_top.proofs.Endings.{done-from}
 use Rattle.sync_top.specs.ChainBounds.{IsBoundedByChains}
@@ -43,10 +43,8 @@ use Rattle.reach_rules.specs.Failing.{is_planned}
 use Rattle.reach_rules.proofs.AgreedLaws.{comes-to-rest}
 use Rattle.reach_rules.proofs.FailingLaws.{rests-soon, sooner}
 use Rattle.sync_top.specs.Forms.Protected.{IsProtectedText}
-use Rattle.sync_top.specs.Forms.Groups.{groups_in, plan_and_groups, IsGroupsText}
-use Rattle.reach_rules.specs.declared.group.Group.{Group}
+use Rattle.sync_top.specs.Forms.Groups.{group_refusal, IsGroupsReply, IsGroupsText}
 use Rattle.reach_rules.specs.Protection.{IsProtectedWith}
-use Rattle.group_file.specs.declared.error.GroupErr.{GroupErr}
 use Rattle.group_file.specs.GroupText.{groups_of}
 use Rattle.reach_rules.proofs.ProtectionLaws.{protected-holds, with-holds}
 use Rattle.reach_rules.proofs.SurvivalLaws.{survives-with, survives-soon_with}
@@ -70,52 +68,15 @@ plan-well size bytes plan is = by (rows_in_file bytes) is
 
 -- so is the plan of a file
 pub file-well : (name : PlanName) (files : Contents) (plan : Topology) → plan_in name files ≡ Ok plan → IsWellFormed plan
-file-well name files plan is = there (get files name.name) refl
+file-well name files plan is = by (file name.size name.name files) refl
   where
-    read : (bytes : List ℕ) (o : Result Topology PlanFileErr) → plan_of_size name.size bytes ≡ o → get files name.name ≡ Some bytes
-        → nat_lt (file_limit name.size) (length bytes) ≡ false → IsWellFormed plan
-    read bytes (Ok own) gives found fits = plan-well name.size bytes plan (gives ∙ cc (rw (found, fits, gives) at is))
-    read bytes (Err error) gives found fits = cc (rw (found, fits, gives) at is)
+    read : (bytes : List ℕ) (o : Result Topology PlanFileErr) → plan_of_size name.size bytes ≡ o → file name.size name.name files ≡ Ok bytes → IsWellFormed plan
+    read bytes (Ok own) gives found = plan-well name.size bytes plan (gives ∙ cc (rw (found, gives) at is))
+    read bytes (Err error) gives found = cc (rw (found, gives) at is)
 
-    long : (bytes : List ℕ) (b : Bool) → nat_lt (file_limit name.size) (length bytes) ≡ b → get files name.name ≡ Some bytes → IsWellFormed plan
-    long bytes true over found = cc (rw (found, over) at is)
-    long bytes false fits found = read bytes (plan_of_size name.size bytes) refl found fits
-
-    there : (o : Option (List ℕ)) → get files name.name ≡ o → IsWellFormed plan
-    there None absent = cc (rw absent at is)
-    there (Some bytes) found = long bytes (nat_lt (file_limit name.size) (length bytes)) refl found
-
--- what ends the reading of a certificate is no answer that was done
-ranks_never_done : (plan : Topology) (name : List ℕ) (files : Contents) (known : Status) (said : List ℕ) → ranks_in plan name files ≡ Err (answered known said) → known ≡ Done → ⊥
-ranks_never_done plan name files known said is done = there (get files name) refl
-  where
-    refused : (bytes : List ℕ) (read : Result Ranks CertErr) → certificate_of plan bytes ≡ read → get files name ≡ Some bytes → nat_lt (file_limit (size_of plan)) (length bytes) ≡ false → ⊥
-    refused bytes (Ok ranks) gives found fits = cc (rw (found, fits, gives) at is)
-    refused bytes (Err error) gives found fits = cc (rw (found, fits, gives) at is, done)
-
-    long : (bytes : List ℕ) (b : Bool) → nat_lt (file_limit (size_of plan)) (length bytes) ≡ b → get files name ≡ Some bytes → ⊥
-    long bytes true over found = cc (rw (found, over) at is, done)
-    long bytes false fits found = refused bytes (certificate_of plan bytes) refl found fits
-
-    there : (o : Option (List ℕ)) → get files name ≡ o → ⊥
-    there None absent = cc (rw absent at is)
-    there (Some bytes) found = long bytes (nat_lt (file_limit (size_of plan)) (length bytes)) refl found
-
--- nor is what ends the reading of groups
-groups_never_done : (plan : Topology) (name : List ℕ) (files : Contents) (known : Status) (said : List ℕ) → groups_in plan name files ≡ Err (answered known said) → known ≡ Done → ⊥
-groups_never_done plan name files known said is done = there (get files name) refl
-  where
-    refused : (bytes : List ℕ) (read : Result (List Group) GroupErr) → groups_of plan bytes ≡ read → get files name ≡ Some bytes → nat_lt (file_limit (size_of plan)) (length bytes) ≡ false → ⊥
-    refused bytes (Ok groups) gives found fits = cc (rw (found, fits, gives) at is)
-    refused bytes (Err error) gives found fits = cc (rw (found, fits, gives) at is, done)
-
-    long : (bytes : List ℕ) (b : Bool) → nat_lt (file_limit (size_of plan)) (length bytes) ≡ b → get files name ≡ Some bytes → ⊥
-    long bytes true over found = cc (rw (found, over) at is, done)
-    long bytes false fits found = refused bytes (groups_of plan bytes) refl found fits
-
-    there : (o : Option (List ℕ)) → get files name ≡ o → ⊥
-    there None absent = cc (rw absent at is)
-    there (Some bytes) found = long bytes (nat_lt (file_limit (size_of plan)) (length bytes)) refl found
+    by : (o : Result (List ℕ) End) → file name.size name.name files ≡ o → IsWellFormed plan
+    by (Ok bytes) found = read bytes (plan_of_size name.size bytes) refl found
+    by (Err end) found = cc (rw found at is)
 
 -- what was read where the answer is done, and the answer to it
 pub done-read : {A : Type 0} (Answers : A → Status → List ℕ → Type 0) (read : Result A End) (text : List ℕ)
@@ -133,26 +94,41 @@ done-first Answers (Ok value) next text never answer = (value, refl, answer)
 done-first Answers (Err no_file) next text never answer = absurd answer
 done-first Answers (Err (answered known said)) next text never answer = absurd (never known said refl (sym answer.0))
 
+-- what was made of what was given where the answer is done, and the answer to it
+done-given : {A E : Type 0} (Answers : A → Status → List ℕ → Type 0) (known : Status) (line : E → List ℕ) (made : Result A E) (text : List ℕ) → (known ≡ Done → ⊥)
+    → OrRefused Answers known line made Done text → (value : A) × (made ≡ Ok value) × Answers value Done text
+done-given Answers known line (Ok value) text never answer = (value, refl, answer)
+done-given Answers known line (Err refused) text never answer = absurd (never (sym answer.0))
+
+-- where the answer to a plan and the bytes of a file is done, they were read
+done-file : (Answers : Topology × List ℕ → Status → List ℕ → Type 0) (plan_name : PlanName) (name text : List ℕ) (files : Contents)
+    → Answered Answers (plan_and_file plan_name name files) Done text
+    → (plan : Topology) × (plan_in plan_name files ≡ Ok plan) × ((bytes : List ℕ) × (file (size_of plan) name files ≡ Ok bytes) × Answers (plan, bytes) Done text)
+done-file Answers plan_name name text files answer =
+    let first = done-first Answers (plan_in plan_name files) (λ plan. file (size_of plan) name files >>= λ bytes. Ok (plan, bytes)) text (never_done plan_name files) answer in
+    (first.0, first.1, done-first Answers (file (size_of first.0) name files) (λ bytes. Ok (first.0, bytes)) text (file_never_done (size_of first.0) name files) first.2)
+
 -- where ranks are accepted over some hops, a plan was read, and they rise
-rising : (hop : Topology → HopTest) (plan_name : PlanName) (name text : List ℕ) (files : Contents)
-    → Answered (λ (read : Topology × Ranks). IsVerdictOver (hop read.0) read.0 read.1) (documents plan_name name files) Done text
+rising : (what : RanksForm) (hop : Topology → HopTest) (plan_name : PlanName) (name text : List ℕ) (files : Contents)
+    → ((plan : Topology) (ranks : Ranks) → RanksAnswer what plan ranks Done text → Rises (hop plan) (rank_of ranks))
+    → Answered (λ (read : Topology × List ℕ). IsRanksReply what read.0 read.1) (plan_and_file plan_name name files) Done text
     → (plan : Topology) × (plan_in plan_name files ≡ Ok plan) × ((ranks : Ranks) × Rises (hop plan) (rank_of ranks))
-rising hop plan_name name text files answer =
-    let Verdict : Topology × Ranks → Status → List ℕ → Type 0 = λ read. IsVerdictOver (hop read.0) read.0 read.1 in
-    let first = done-first Verdict (plan_in plan_name files) (λ plan. ranks_in plan name files >>= λ ranks. Ok (plan, ranks)) text (never_done plan_name files) answer in
-    let second = done-first Verdict (ranks_in first.0 name files) (λ ranks. Ok (first.0, ranks)) text (ranks_never_done first.0 name files) first.2 in
-    (first.0, first.1, (second.0, second.2.0))
+rising what hop plan_name name text files rises answer =
+    let read = done-file (λ read. IsRanksReply what read.0 read.1) plan_name name text files answer in
+    let plan = read.0 in
+    let given = done-given (RanksAnswer what plan) BadCert (certificate_refusal plan) (certificate_of plan read.2.0) text (λ done. cc) read.2.2 in
+    (plan, read.1, (given.0, rises plan given.0 given.2))
 
 form-loop_free : (form : Option Form) (files : Contents) (text : List ℕ) → FormAnswer form files Done text → IsCheckedLoopFree form files
 form-loop_free None files text answer = tt
 form-loop_free (Some (on_plan what plan)) files text answer = tt
-form-loop_free (Some (on_ranks Check plan name)) files text answer =
-    let found = rising hops plan name text files answer in
+form-loop_free (Some (on_file (asks.Ranks Check) plan name)) files text answer =
+    let found = rising Check hops plan name text files (λ plan ranks verdict. verdict.0) answer in
     (found.0, found.1, loop_free found.0 (rank_of found.2.0) (file-well plan files found.0 found.1) found.2.1)
-form-loop_free (Some (on_ranks PrioCheck plan name)) files text answer = tt
-form-loop_free (Some (on_events what plan events until)) files text answer = tt
-form-loop_free (Some (study plan cases until)) files text answer = tt
-form-loop_free (Some (on_groups plan groups)) files text answer = tt
+form-loop_free (Some (on_file (asks.Ranks PrioCheck) plan name)) files text answer = tt
+form-loop_free (Some (on_file (asks.Events what until) plan name)) files text answer = tt
+form-loop_free (Some (on_file (asks.Study until) plan name)) files text answer = tt
+form-loop_free (Some (on_file asks.Groups plan name)) files text answer = tt
 form-loop_free (Some (on_frames what option name)) files text answer = tt
 form-loop_free (Some (on_ladder Gen n)) files text answer = tt
 form-loop_free (Some (on_ladder Trial n)) files text answer = answer.1.accepted
@@ -161,13 +137,13 @@ form-loop_free (Some (node plan element name until)) files text answer = tt
 form-never_loops : (form : Option Form) (files : Contents) (text : List ℕ) → FormAnswer form files Done text → IsCheckedForPriority form files
 form-never_loops None files text answer = tt
 form-never_loops (Some (on_plan what plan)) files text answer = tt
-form-never_loops (Some (on_ranks Check plan name)) files text answer = tt
-form-never_loops (Some (on_ranks PrioCheck plan name)) files text answer =
-    let found = rising hops_any plan name text files answer in
+form-never_loops (Some (on_file (asks.Ranks Check) plan name)) files text answer = tt
+form-never_loops (Some (on_file (asks.Ranks PrioCheck) plan name)) files text answer =
+    let found = rising PrioCheck hops_any plan name text files (λ plan ranks verdict. verdict.0) answer in
     (found.0, found.1, never_loops found.0 (rank_of found.2.0) found.2.1)
-form-never_loops (Some (on_events what plan events until)) files text answer = tt
-form-never_loops (Some (study plan cases until)) files text answer = tt
-form-never_loops (Some (on_groups plan groups)) files text answer = tt
+form-never_loops (Some (on_file (asks.Events what until) plan name)) files text answer = tt
+form-never_loops (Some (on_file (asks.Study until) plan name)) files text answer = tt
+form-never_loops (Some (on_file asks.Groups plan name)) files text answer = tt
 form-never_loops (Some (on_frames what option name)) files text answer = tt
 form-never_loops (Some (on_ladder what n)) files text answer = tt
 form-never_loops (Some (node plan element name until)) files text answer = tt
@@ -190,10 +166,7 @@ form-bounds (Some (on_plan Hops plan)) files text answer = tt
 form-bounds (Some (on_plan Nominate plan)) files text answer = tt
 form-bounds (Some (on_plan PrioRank plan)) files text answer = tt
 form-bounds (Some (on_plan (Sweep at until) plan)) files text answer = tt
-form-bounds (Some (on_ranks what plan name)) files text answer = tt
-form-bounds (Some (on_events what plan events until)) files text answer = tt
-form-bounds (Some (study plan cases until)) files text answer = tt
-form-bounds (Some (on_groups plan groups)) files text answer = tt
+form-bounds (Some (on_file what plan name)) files text answer = tt
 form-bounds (Some (on_frames what option name)) files text answer = tt
 form-bounds (Some (on_ladder what n)) files text answer = tt
 form-bounds (Some (node plan element name until)) files text answer = tt
@@ -207,26 +180,30 @@ protected-holds_out name text files answer =
 
 -- and with groups, a plan and groups were read, and it withstands them
 groups-hold_out : (plan_name : PlanName) (name text : List ℕ) (files : Contents)
-    → Answered (λ (read : Topology × List Group). IsGroupsText read.0 read.1) (plan_and_groups plan_name name files) Done text
-    → IsHoldingOut (Some (on_groups plan_name name)) files
+    → Answered (λ (read : Topology × List ℕ). IsGroupsReply read.0 read.1) (plan_and_file plan_name name files) Done text
+    → IsHoldingOut (Some (on_file asks.Groups plan_name name)) files
 groups-hold_out plan_name name text files answer =
-    let Protects : Topology × List Group → Status → List ℕ → Type 0 = λ read. IsGroupsText read.0 read.1 in
-    let first = done-first Protects (plan_in plan_name files) (λ plan. groups_in plan name files >>= λ groups. Ok (plan, groups)) text (never_done plan_name files) answer in
-    let second = done-first Protects (groups_in first.0 name files) (λ groups. Ok (first.0, groups)) text (groups_never_done first.0 name files) first.2 in
-    let plan = first.0 in
-    let groups = second.0 in
-    let well = file-well plan_name files plan first.1 in
-    let protected : IsProtectedWith plan groups = second.2.0 in (
+    let read = done-file (λ read. IsGroupsReply read.0 read.1) plan_name name text files answer in
+    let plan = read.0 in
+    let bytes = read.2.0 in
+    let given = done-given (IsGroupsText plan) BadEvents group_refusal (groups_of plan bytes) text (λ done. cc) read.2.2 in
+    let groups = given.0 in
+    let well = file-well plan_name files plan read.1 in
+    let protected : IsProtectedWith plan groups = given.2.0 in (
       plan,
-      first.1,
+      read.1,
       (
-        groups,
-        second.1,
-        record {
-          holds = with-holds plan groups well protected;
-          survives = λ bound agreed. survives-with plan bound groups well agreed protected;
-          soon = λ bound failed. survives-soon_with plan bound groups well failed protected;
-        },
+        bytes,
+        read.2.1,
+        (
+          groups,
+          given.1,
+          record {
+            holds = with-holds plan groups well protected;
+            survives = λ bound agreed. survives-with plan bound groups well agreed protected;
+            soon = λ bound failed. survives-soon_with plan bound groups well failed protected;
+          },
+        ),
       ),
     )
 
@@ -241,10 +218,10 @@ form-holds_out (Some (on_plan Hops plan)) files text answer = tt
 form-holds_out (Some (on_plan Nominate plan)) files text answer = tt
 form-holds_out (Some (on_plan PrioRank plan)) files text answer = tt
 form-holds_out (Some (on_plan (Sweep at until) plan)) files text answer = tt
-form-holds_out (Some (on_ranks what plan name)) files text answer = tt
-form-holds_out (Some (on_events what plan events until)) files text answer = tt
-form-holds_out (Some (study plan cases until)) files text answer = tt
-form-holds_out (Some (on_groups plan groups)) files text answer = groups-hold_out plan groups text files answer
+form-holds_out (Some (on_file (asks.Ranks what) plan name)) files text answer = tt
+form-holds_out (Some (on_file (asks.Events what until) plan name)) files text answer = tt
+form-holds_out (Some (on_file (asks.Study until) plan name)) files text answer = tt
+form-holds_out (Some (on_file asks.Groups plan name)) files text answer = groups-hold_out plan name text files answer
 form-holds_out (Some (on_frames what option name)) files text answer = tt
 form-holds_out (Some (on_ladder what n)) files text answer = tt
 form-holds_out (Some (node plan element name until)) files text answer = tt
@@ -280,10 +257,7 @@ form-rests (Some (on_plan Hops plan)) files text answer = tt
 form-rests (Some (on_plan Nominate plan)) files text answer = tt
 form-rests (Some (on_plan PrioRank plan)) files text answer = tt
 form-rests (Some (on_plan (Sweep at until) plan)) files text answer = tt
-form-rests (Some (on_ranks what plan name)) files text answer = tt
-form-rests (Some (on_events what plan events until)) files text answer = tt
-form-rests (Some (study plan cases until)) files text answer = tt
-form-rests (Some (on_groups plan groups)) files text answer = tt
+form-rests (Some (on_file what plan name)) files text answer = tt
 form-rests (Some (on_frames what option name)) files text answer = tt
 form-rests (Some (on_ladder what n)) files text answer = tt
 form-rests (Some (node plan element name until)) files text answer = tt

@@ -12,7 +12,7 @@ use Rattle.protection.specs.Orderly.{IsFound}
 use Rattle.sync_top.specs.declared.status.Status.{Status}
 use Rattle.sync_top.specs.declared.status.Status.TheVariants.{Done}
 use Rattle.sync_top.specs.declared.form.PlanForm.TheVariants.{Rank, Chains, Protected, Protect, Agree, Hops, Nominate, PrioRank, Sweep}
-use Rattle.sync_top.specs.Form.{Form, PlanName, form_of, on_plan, on_ranks, on_events, study, on_groups, on_frames, on_ladder, node}
+use Rattle.sync_top.specs.Form.{Form, PlanName, form_of, on_plan, on_file, on_frames, on_ladder, node}
 use Rattle.sync_top.specs.Reading.{plan_in, Answered}
 use Rattle.sync_top.specs.Forms.Protect.{IsProtectingText}
 use Rattle.sync_top.specs.Answer.{FormAnswer, IsAnswer, MissesFile}
@@ -46,10 +46,7 @@ module _ (P : Topology → Type 0) (holds : (plan found : Topology) → IsFound 
     form-protects (Some (on_plan Nominate plan)) files text appends answer = tt
     form-protects (Some (on_plan PrioRank plan)) files text appends answer = tt
     form-protects (Some (on_plan (Sweep at until) plan)) files text appends answer = tt
-    form-protects (Some (on_ranks what plan name)) files text appends answer = tt
-    form-protects (Some (on_events what plan events until)) files text appends answer = tt
-    form-protects (Some (study plan cases until)) files text appends answer = tt
-    form-protects (Some (on_groups plan groups)) files text appends answer = tt
+    form-protects (Some (on_file what plan name)) files text appends answer = tt
     form-protects (Some (on_frames what option name)) files text appends answer = tt
     form-protects (Some (on_ladder what n)) files text appends answer = tt
     form-protects (Some (node plan element name until)) files text appends answer = tt

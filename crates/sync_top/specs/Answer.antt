@@ -5,16 +5,21 @@ use Rattle.std.specs.Io.KnownBytes.{Appends}
 use Rattle.sync_edge.specs.Faults.{Rose}
 use Rattle.sync_edge.specs.Transfers.{AppendsFront}
 use Rattle.sync_edge.specs.Contents.{Contents}
+use Rattle.plan_texts.specs.Lines.{text_line}
 use Rattle.sync_top.specs.declared.status.Status.{Status}
-use Rattle.sync_top.specs.declared.status.Status.TheVariants.{Usage}
+use Rattle.sync_top.specs.declared.status.Status.TheVariants.{Usage, BadCert, BadEvents}
 use Rattle.sync_ql.specs.declared.levels.NetOption.{NetOption}
 use Rattle.sync_topo.specs.Topology.{Topology}
 use Rattle.sync_topo.specs.declared.event.Event.{Event}
-use Rattle.rank_cert.specs.Ranks.{Ranks}
+use Rattle.rank_cert.specs.Ranks as cert
+use Rattle.rank_cert.specs.CertificateText.{certificate_of}
+use Rattle.event_file.specs.EventText.{events_of}
 use Rattle.capture_text.specs.Capture.{decoded_text, encoded_text}
 use Rattle.pcap_file.specs.Timed.{decoded_pcap, encoded_pcap}
 use Rattle.sync_top.specs.declared.form.PlanForm.{PlanForm}
 use Rattle.sync_top.specs.declared.form.PlanForm.TheVariants.{Rank, Chains, Protected, Protect, Agree, Hops, Nominate, PrioRank, Sweep}
+use Rattle.sync_top.specs.declared.form.FileForm.{FileForm}
+use Rattle.sync_top.specs.declared.form.FileForm.TheVariants.{Ranks, Groups, Events, Study}
 use Rattle.sync_top.specs.declared.form.RanksForm.{RanksForm}
 use Rattle.sync_top.specs.declared.form.RanksForm.TheVariants.{Check, PrioCheck}
 use Rattle.sync_top.specs.declared.form.EventsForm.{EventsForm}
@@ -24,13 +29,13 @@ use Rattle.sync_top.specs.declared.form.FramesForm.TheVariants.{Decode, Encode, 
 use Rattle.sync_top.specs.declared.form.LadderForm.{LadderForm}
 use Rattle.sync_top.specs.declared.form.LadderForm.TheVariants.{Gen, Trial}
 use Rattle.sync_topo.specs.declared.sizes.Size.TheVariants.{Standard}
-use Rattle.sync_top.specs.Form.{Form, on_plan, on_ranks, on_events, study, on_groups, on_frames, on_ladder, node, form_of}
-use Rattle.sync_top.specs.Reading.{Reading, one_file, two_files, no_files, Answered, text_line, no_file, file, plan_in}
-use Rattle.sync_top.specs.Forms.Check.{documents, IsVerdict}
+use Rattle.sync_top.specs.Form.{Form, on_plan, on_file, on_frames, on_ladder, node, form_of}
+use Rattle.sync_top.specs.Reading.{Reading, one_file, two_files, no_files, Answered, OrRefused, no_file, file, plan_in, plan_and_file}
+use Rattle.sync_top.specs.Forms.Check.{certificate_refusal, IsVerdict}
 use Rattle.sync_top.specs.Forms.Rank.{IsPlanned}
 use Rattle.sync_top.specs.Forms.Chains.{IsChained}
 use Rattle.sync_top.specs.Forms.Protected.{IsProtectedText}
-use Rattle.sync_top.specs.Forms.Groups.{plan_and_groups, IsGroupsText}
+use Rattle.sync_top.specs.Forms.Groups.{IsGroupsReply}
 use Rattle.sync_top.specs.Forms.Protect.{IsProtectingText}
 use Rattle.sync_top.specs.Forms.Agree.{IsAgreedText}
 use Rattle.sync_top.specs.Forms.Hops.{AreHopRows}
@@ -38,9 +43,9 @@ use Rattle.sync_top.specs.Forms.Nominate.{IsNominatedText}
 use Rattle.sync_top.specs.Forms.Captures.{IsCaptured, IsCapture}
 use Rattle.sync_top.specs.Forms.Gen.{IsLadderText}
 use Rattle.sync_top.specs.Forms.Trial.{IsTrial}
-use Rattle.sync_top.specs.Forms.Sim.{plan_and_events, IsReport}
+use Rattle.sync_top.specs.Forms.Sim.{event_refusal, IsReport}
 use Rattle.sync_top.specs.Forms.Sweep.{IsSweepTable}
-use Rattle.sync_top.specs.Forms.Study.{plan_and_cases, IsStudyTable}
+use Rattle.sync_top.specs.Forms.Study.{IsStudyReply}
 use Rattle.sync_top.specs.Forms.Priority.{IsPriorityVerdict, IsPriorityPlanned, IsPriorityRun}
 use Rattle.sync_top.specs.Forms.Inspect.{IsInspected}
 use Rattle.sync_top.specs.Forms.Node.{element_of_plan, node_bytes, IsNodeReply}
@@ -58,7 +63,7 @@ PlanAnswer PrioRank plan status text = IsPriorityPlanned plan status text
 PlanAnswer (Sweep at until) plan status text = IsSweepTable plan at until status text
 
 -- what answers the ranks of a certificate
-abbrev pub RanksAnswer : RanksForm → Topology → Ranks → Status → List ℕ → Type 0
+abbrev pub RanksAnswer : RanksForm → Topology → cert.Ranks → Status → List ℕ → Type 0
 RanksAnswer Check plan ranks status text = IsVerdict plan ranks status text
 RanksAnswer PrioCheck plan ranks status text = IsPriorityVerdict plan ranks status text
 
@@ -67,6 +72,22 @@ abbrev pub EventsAnswer : EventsForm → Topology → List Event → ℕ → Sta
 EventsAnswer Sim plan events until status text = IsReport plan events until status text
 EventsAnswer PrioSim plan events until status text = IsPriorityRun plan events until status text
 EventsAnswer Inspect plan events until status text = IsInspected plan events until status text
+
+-- what answers the bytes of a certificate, and of events
+abbrev pub IsRanksReply : RanksForm → Topology → List ℕ → Status → List ℕ → Type 0
+IsRanksReply what plan bytes status text =
+    OrRefused (RanksAnswer what plan) BadCert (certificate_refusal plan) (certificate_of plan bytes) status text
+
+abbrev pub IsEventsReply : EventsForm → Topology → List ℕ → ℕ → Status → List ℕ → Type 0
+IsEventsReply what plan bytes until status text =
+    OrRefused (λ events. EventsAnswer what plan events until) BadEvents event_refusal (events_of plan bytes) status text
+
+-- what answers the bytes of a file that goes with a plan
+abbrev pub FileAnswer : FileForm → Topology → List ℕ → Status → List ℕ → Type 0
+FileAnswer (Ranks what) plan bytes status text = IsRanksReply what plan bytes status text
+FileAnswer Groups plan bytes status text = IsGroupsReply plan bytes status text
+FileAnswer (Events what until) plan bytes status text = IsEventsReply what plan bytes until status text
+FileAnswer (Study until) plan bytes status text = IsStudyReply plan bytes until status text
 
 -- what answers the bytes of captured frames or of rows
 abbrev pub FramesAnswer : FramesForm → NetOption → List ℕ → Status → List ℕ → Type 0
@@ -87,21 +108,9 @@ pub record Meaning : Type 1 where
 
 abbrev pub meaning : Form → Meaning
 meaning (on_plan what plan) = record { reading = one_file (plan_in plan); Answers = PlanAnswer what }
-meaning (on_ranks what plan certificate) = record {
-  reading = two_files (plan_in plan) (documents plan certificate);
-  Answers = λ read. RanksAnswer what read.0 read.1;
-}
-meaning (on_events what plan events until) = record {
-  reading = two_files (plan_in plan) (plan_and_events plan events);
-  Answers = λ read. EventsAnswer what read.0 read.1 until;
-}
-meaning (study plan cases until) = record {
-  reading = two_files (plan_in plan) (plan_and_cases plan cases);
-  Answers = λ read. IsStudyTable read.0 read.1 until;
-}
-meaning (on_groups plan groups) = record {
-  reading = two_files (plan_in plan) (plan_and_groups plan groups);
-  Answers = λ read. IsGroupsText read.0 read.1;
+meaning (on_file what plan name) = record {
+  reading = two_files (plan_in plan) (plan_and_file plan name);
+  Answers = λ read. FileAnswer what read.0 read.1;
 }
 meaning (on_frames what option name) = record { reading = one_file (file Standard name); Answers = FramesAnswer what option }
 meaning (on_ladder what n) = record { reading = no_files; Answers = λ _. LadderAnswer what n }

@@ -11,9 +11,9 @@ use Rattle.sync_ql.specs.declared.limits.TheConstants.{LAST_MILLISECOND}
 use Rattle.sync_ql.specs.declared.levels.NetOption.TheVariants.{I, II}
 use Rattle.sync_top.specs.declared.form.PlanForm.{PlanForm}
 use Rattle.sync_top.specs.declared.form.PlanForm.TheVariants.{Rank, Chains, Protected, Protect, Agree, Hops, Nominate, PrioRank, Sweep}
-use Rattle.sync_top.specs.declared.form.RanksForm.{RanksForm}
+use Rattle.sync_top.specs.declared.form.FileForm.{FileForm}
+use Rattle.sync_top.specs.declared.form.FileForm.TheVariants.{Ranks, Groups, Events, Study}
 use Rattle.sync_top.specs.declared.form.RanksForm.TheVariants.{Check, PrioCheck}
-use Rattle.sync_top.specs.declared.form.EventsForm.{EventsForm}
 use Rattle.sync_top.specs.declared.form.EventsForm.TheVariants.{Sim, PrioSim, Inspect}
 use Rattle.sync_top.specs.declared.form.FramesForm.{FramesForm}
 use Rattle.sync_top.specs.declared.form.FramesForm.TheVariants.{Decode, Encode, PcapDecode, PcapEncode}
@@ -29,14 +29,8 @@ pub record PlanName : Type 0 where
 pub data Form : Type 0 where
   -- of a plan
   on_plan : PlanForm → PlanName → Form
-  -- of the ranks of a certificate on a plan
-  on_ranks : RanksForm → PlanName → List ℕ → Form
-  -- of a run of a plan with events, up to a millisecond
-  on_events : EventsForm → PlanName → List ℕ → ℕ → Form
-  -- of the runs of a plan in many cases, up to a millisecond
-  study : PlanName → List ℕ → ℕ → Form
-  -- of a plan and groups of parts that fail together: whether it is protected with them
-  on_groups : PlanName → List ℕ → Form
+  -- of a plan and a file that goes with it
+  on_file : FileForm → PlanName → List ℕ → Form
   -- of captured frames, or of rows
   on_frames : FramesForm → NetOption → List ℕ → Form
   -- of the ladder of so many elements
@@ -90,11 +84,21 @@ ladder_word word =
     else if bytes_eq word (codes "trial") then Some Trial
     else None
 
--- what a word asks of the ranks of a certificate
-abbrev pub ranks_word : List ℕ → Option RanksForm
-ranks_word word =
-    if bytes_eq word (codes "check") then Some Check
-    else if bytes_eq word (codes "prio-check") then Some PrioCheck
+-- what a word asks of a plan and a file
+abbrev pub file_word : List ℕ → Option FileForm
+file_word word =
+    if bytes_eq word (codes "check") then Some (Ranks Check)
+    else if bytes_eq word (codes "prio-check") then Some (Ranks PrioCheck)
+    else if bytes_eq word (codes "protected") then Some Groups
+    else None
+
+-- what a word asks of a plan, a file and a millisecond
+abbrev pub run_word : List ℕ → ℕ → Option FileForm
+run_word word until =
+    if bytes_eq word (codes "sim") then Some (Events Sim until)
+    else if bytes_eq word (codes "prio-sim") then Some (Events PrioSim until)
+    else if bytes_eq word (codes "inspect") then Some (Events Inspect until)
+    else if bytes_eq word (codes "study") then Some (Study until)
     else None
 
 -- what a word asks of captured frames or rows
@@ -111,32 +115,22 @@ abbrev pub frames_word_in : Size → List ℕ → Option FramesForm
 frames_word_in Standard word = frames_word word
 frames_word_in Large word = None
 
--- what a word asks of a run
-abbrev pub events_word : List ℕ → Option EventsForm
-events_word word =
-    if bytes_eq word (codes "sim") then Some Sim
-    else if bytes_eq word (codes "prio-sim") then Some PrioSim
-    else if bytes_eq word (codes "inspect") then Some Inspect
-    else None
-
 -- a form on a plan, if the word may name its file; on a ladder, if the word is such a number
 abbrev pub form_of_two : Size → Option PlanForm → Option LadderForm → List ℕ → Option Form
 form_of_two size (Some what) ladder second = if is_file_word second then Some (on_plan what (record { size = size; name = second })) else None
 form_of_two size None (Some what) second = option_map (on_ladder what) (ladder_size size second)
 form_of_two size None None second = None
 
--- a form on a certificate, if both words may name files; on captured frames, if the words are an option and one that may
--- name a file
-abbrev pub form_of_three : Size → Option RanksForm → Option FramesForm → List ℕ → List ℕ → Option Form
-form_of_three size (Some what) frames second third =
-    if is_file_word second && is_file_word third then Some (on_ranks what (record { size = size; name = second }) third) else None
+-- a form on a plan and a file, if both words may name files
+abbrev pub file_form : Size → FileForm → List ℕ → List ℕ → Option Form
+file_form size what plan name = if is_file_word plan && is_file_word name then Some (on_file what (record { size = size; name = plan }) name) else None
+
+-- a form on a plan and a file; on captured frames, if the words are an option and one that may name a file
+abbrev pub form_of_three : Size → Option FileForm → Option FramesForm → List ℕ → List ℕ → Option Form
+form_of_three size (Some what) frames second third = file_form size what second third
 form_of_three size None (Some what) second third =
     if is_file_word third then option_map (λ option. on_frames what option third) (option_of second) else None
 form_of_three size None None second third = None
-
--- the form `protected` with groups, if both words may name files
-abbrev pub groups_form : Size → List ℕ → List ℕ → Option Form
-groups_form size plan groups = if is_file_word plan && is_file_word groups then Some (on_groups (record { size = size; name = plan }) groups) else None
 
 -- the form `sweep`, if the word may name a file and is followed by two milliseconds up to the last one, the first of
 -- them not the later
@@ -149,32 +143,25 @@ sweep_form size plan at_word until_word = if is_file_word plan then option_and_t
     from : ℕ → Option Form
     from at = option_and_then (up_to at) (millisecond_of until_word)
 
--- a form of a plan and another file, if the words may name files and are followed by a millisecond up to the last one
-abbrev pub run_form : Size → (PlanName → List ℕ → ℕ → Form) → List ℕ → List ℕ → List ℕ → Option Form
-run_form size form plan other word =
-    if is_file_word plan && is_file_word other then option_map (form (record { size = size; name = plan }) other) (millisecond_of word) else None
-
--- a form on events, `study` or `sweep`
-abbrev pub form_of_four : Size → Option EventsForm → List ℕ → List ℕ → List ℕ → List ℕ → Option Form
-form_of_four size (Some what) word second third fourth = run_form size (on_events what) second third fourth
-form_of_four size None word second third fourth =
-    if bytes_eq word (codes "study") then run_form size study second third fourth
-    else if bytes_eq word (codes "sweep") then sweep_form size second third fourth
-    else None
+-- a form on a plan and a file, up to a millisecond up to the last one; or `sweep`
+abbrev pub form_of_four : Size → List ℕ → List ℕ → List ℕ → List ℕ → Option Form
+form_of_four size word second third fourth =
+    if bytes_eq word (codes "sweep") then sweep_form size second third fourth else option_and_then asked (millisecond_of fourth)
+  where
+    asked : ℕ → Option Form
+    asked until = option_and_then (λ what. file_form size what second third) (run_word word until)
 
 -- the form `node`, if its first and third word may name files and are followed by a millisecond up to the last one; the
 -- element's word may be any
 abbrev pub node_form : Size → List ℕ → List ℕ → List ℕ → List ℕ → Option Form
-node_form size plan element name word = run_form size (λ plan name. node plan element name) plan name word
+node_form size plan element name word =
+    if is_file_word plan && is_file_word name then option_map (node (record { size = size; name = plan }) element name) (millisecond_of word) else None
 
 -- the form of the words where plans may be of a size, if they have one
 abbrev pub form_in : Size → List (List ℕ) → Option Form
 form_in size (word ∷ second ∷ []) = form_of_two size (plan_word word) (ladder_word word) second
-form_in size (word ∷ second ∷ third ∷ []) =
-    if bytes_eq word (codes "protected") then groups_form size second third
-    else form_of_three size (ranks_word word) (frames_word_in size word) second third
-form_in size (word ∷ second ∷ third ∷ fourth ∷ []) =
-    form_of_four size (events_word word) word second third fourth
+form_in size (word ∷ second ∷ third ∷ []) = form_of_three size (file_word word) (frames_word_in size word) second third
+form_in size (word ∷ second ∷ third ∷ fourth ∷ []) = form_of_four size word second third fourth
 form_in size (word ∷ second ∷ third ∷ fourth ∷ fifth ∷ []) =
     if bytes_eq word (codes "node") then node_form size second third fourth fifth else None
 form_in size _ = None

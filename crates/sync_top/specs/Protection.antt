@@ -2,15 +2,17 @@
 use Rattle.std.specs.Prelude.{◌≡◌, ⊤, ℕ, List, Option, Some, Ok}
 use Rattle.sync_edge.specs.Contents.{Contents}
 use Rattle.sync_topo.specs.Topology.{Topology}
+use Rattle.sync_topo.specs.Sizes.{size_of}
 use Rattle.reach_rules.specs.declared.group.Group.{Group}
+use Rattle.group_file.specs.GroupText.{groups_of}
 use Rattle.reach_rules.specs.Agreement.{IsAgreedBound}
 use Rattle.reach_rules.specs.Failing.{IsFailureBound, is_planned, SurvivesSoonWith}
 use Rattle.reach_rules.specs.Protection.{HoldsOut, HoldsOutWith}
 use Rattle.reach_rules.specs.Survival.{SurvivesWith}
+use Rattle.sync_top.specs.declared.form.FileForm.TheVariants.{Groups}
 use Rattle.sync_top.specs.declared.form.PlanForm.TheVariants.{Protected}
-use Rattle.sync_top.specs.Form.{Form, on_plan, on_groups}
-use Rattle.sync_top.specs.Reading.{plan_in}
-use Rattle.sync_top.specs.Forms.Groups.{groups_in}
+use Rattle.sync_top.specs.Form.{Form, on_plan, on_file}
+use Rattle.sync_top.specs.Reading.{file, plan_in}
 
 -- a plan holds out with groups; where it has an agreed bound, it survives each failure and each group by it, and where it has a
 -- bound after failures, by that one out of a settled network, where their parts only go down
@@ -24,7 +26,8 @@ pub record Withstands (plan : Topology) (groups : List Group) : Type 0 where
 abbrev pub IsHoldingOut : Option Form → Contents → Type 0
 IsHoldingOut (Some (on_plan Protected plan_name)) files =
     (plan : Topology) × (plan_in plan_name files ≡ Ok plan) × HoldsOut plan
-IsHoldingOut (Some (on_groups plan_name groups_name)) files =
+IsHoldingOut (Some (on_file Groups plan_name groups_name)) files =
     (plan : Topology) × (plan_in plan_name files ≡ Ok plan)
-    × ((groups : List Group) × (groups_in plan groups_name files ≡ Ok groups) × Withstands plan groups)
+    × ((bytes : List ℕ) × (file (size_of plan) groups_name files ≡ Ok bytes)
+    × ((groups : List Group) × (groups_of plan bytes ≡ Ok groups) × Withstands plan groups))
 IsHoldingOut form files = ⊤

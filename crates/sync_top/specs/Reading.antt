@@ -11,8 +11,10 @@ use Rattle.plan_rows.specs.declared.error.PlanFileErr.{PlanFileErr}
 use Rattle.plan_rows.specs.declared.error.PlanFileErr.TheVariants as plan
 use Rattle.sync_text.specs.Chain.{◌>>=◌}
 use Rattle.plan_file.specs.PlanText.{plan_of_size}
+use Rattle.sync_topo.specs.Sizes.{size_of}
 use Rattle.sync_topo.specs.declared.sizes.Size.{Size}
 use Rattle.sync_topo.specs.declared.sizes.Size.TheVariants.{Standard, Large}
+use Rattle.plan_texts.specs.Lines.{text_line}
 use Rattle.sync_top.specs.declared.input.TheConstants.{STANDARD_BYTES, LARGE_BYTES}
 use Rattle.sync_top.specs.Form.{PlanName}
 use Rattle.sync_top.specs.declared.status.Status.{Status}
@@ -20,10 +22,6 @@ use Rattle.sync_top.specs.declared.status.Status.TheVariants.{Done, BadPlan, Too
 use Rattle.std.specs.Fmt.{decimal}
 use Rattle.plan_rows.specs.Refusal.{number_of as file_number}
 use Rattle.sync_topo.specs.declared.error.PlanErr.{PlanErr}
-
--- a text of one line
-abbrev pub text_line : List ℕ → List ℕ
-text_line words = words ++ codes "\n"
 
 -- how the reading of the files can end the work
 pub data End : Type 0 where
@@ -42,6 +40,11 @@ abbrev pub Answered : {A : Type 0} → (A → Status → List ℕ → Type 0) �
 Answered Answers (Ok read) status text = Answers read status text
 Answered Answers (Err no_file) status text = ⊥
 Answered Answers (Err (answered known written)) status text = (status ≡ known) × (text ≡ written)
+
+-- the answer to what was given: that to what is made of it, or in a status of its own the line on why it is refused
+abbrev pub OrRefused : {A E : Type 0} → (A → Status → List ℕ → Type 0) → Status → (E → List ℕ) → Result A E → Status → List ℕ → Type 0
+OrRefused Answers known line (Ok made) status text = Answers made status text
+OrRefused Answers known line (Err refused) status text = (status ≡ known) × (text ≡ text_line (line refused))
 
 -- what a form reads: how many files it names, what its first file gives, and what all of them give
 pub record Reading : Type 1 where
@@ -68,10 +71,18 @@ file size name files = within (get files name)
     within None = Err no_file
     within (Some bytes) = if nat_lt (file_limit size) (length bytes) then Err (answered TooLong (text_line (codes "too long"))) else Ok bytes
 
--- the line on a refusal: what is refused, the refusal's number, and where; out of memory has no number and no line
-abbrev pub refusal_line : List ℕ → Option ℕ → List ℕ → List ℕ
-refusal_line what None place = []
-refusal_line what (Some number) place = what ++ decimal number ++ place
+-- the line on a refusal: what is refused, the refusal's number, and where
+abbrev pub refusal_line : List ℕ → ℕ → List ℕ → List ℕ
+refusal_line what number place = what ++ decimal number ++ place
+
+-- a number behind a space, where there is one
+abbrev pub spaced : Option ℕ → List ℕ
+spaced None = []
+spaced (Some number) = codes " " ++ decimal number
+
+-- the line on a refusal by numbers alone: its own, that of the row or line, and that of what is wrong in it
+abbrev pub numbered_refusal : List ℕ → ℕ → Option ℕ → Option ℕ → List ℕ
+numbered_refusal what number row part = what ++ decimal number ++ spaced row ++ spaced part
 
 -- a section by its name, and a place by its section and row
 abbrev pub section_name : Section → List ℕ
@@ -85,11 +96,7 @@ place_text place = section_name place.section ++ codes " " ++ decimal place.row
 
 -- the refusal of a plan's rows: its number, and the row that breaks the rule
 abbrev pub rows_refusal : PlanErr → List ℕ
-rows_refusal error = refusal_line (codes " ") (refusal_number error) (place_after (refused_place error))
-  where
-    place_after : Option Place → List ℕ
-    place_after None = []
-    place_after (Some place) = codes " " ++ place_text place
+rows_refusal error = refusal_line (codes " ") (refusal_number error) (codes " " ++ place_text (refused_place error))
 
 -- where a plan is refused
 abbrev pub plan_place : PlanFileErr → List ℕ
@@ -97,7 +104,6 @@ plan_place plan.Syntax = []
 plan_place (plan.Key place) = codes " " ++ place_text place
 plan_place (plan.Kind place) = codes " " ++ place_text place
 plan_place (plan.Plan error) = rows_refusal error
-plan_place plan.NoMemory = []
 
 -- the line on a plan that is refused
 abbrev pub plan_refusal : PlanFileErr → List ℕ
@@ -113,6 +119,13 @@ abbrev pub plan_in : PlanName → Contents → Result Topology End
 plan_in asked files = do
   bytes ← file asked.size asked.name files
   accepted_plan (plan_of_size asked.size bytes)
+
+-- the plan first, and then the bytes of a file, which may be as long as the plan's size says
+abbrev pub plan_and_file : PlanName → List ℕ → Contents → Result (Topology × List ℕ) End
+plan_and_file plan_name name files = do
+  plan ← plan_in plan_name files
+  bytes ← file (size_of plan) name files
+  Ok (plan, bytes)
 
 -- the text that was asked for
 abbrev pub IsText : List ℕ → Status → List ℕ → Type 0

@@ -24,3 +24,15 @@ OnAnswer ReadFault P = ⊤
 OnAnswer WriteFault P = ⊤
 OnAnswer NoMemory P = ⊤
 OnAnswer status P = P
+
+-- a fact where the work is done and one where it is refuted, and none with another status
+abbrev pub OnDoneOrRefuted : Status → Type 0 → Type 0 → Type 0
+OnDoneOrRefuted Done Found Against = Found
+OnDoneOrRefuted Refuted Found Against = Against
+OnDoneOrRefuted status Found Against = ⊥
+
+-- the same where it is done and where it stopped
+abbrev pub OnDoneOrStopped : Status → Type 0 → Type 0 → Type 0
+OnDoneOrStopped Done Found Short = Found
+OnDoneOrStopped Stopped Found Short = Short
+OnDoneOrStopped status Found Short = ⊥

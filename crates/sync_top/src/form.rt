@@ -1,9 +1,9 @@
-ghost use Rattle.std.specs.Prelude.{◌≡◌, ◌≤◌, false, IsTrue, length, map, codes, Some, None, IfSome, if◌then◌else◌};
+ghost use Rattle.std.specs.Prelude.{◌≡◌, ◌≤◌, false, IsTrue, length, map, Some, None, IfSome, if◌then◌else◌};
 ghost use Rattle.std.specs.Option.{option_map};
 ghost use Rattle.std.specs.String.{string_bytes};
-ghost use Rattle.sync_top.specs.Form.{form_of, form_in, are_large, form_of_two, form_of_three, form_of_four, run_form, groups_form, sweep_form, node_form, on_events, study, ladder_size, millisecond_of, option_of, is_file_word, plan_word, ranks_word, events_word, frames_word, frames_word_in, ladder_word};
+ghost use Rattle.sync_top.specs.Form.{form_of, form_in, are_large, form_of_two, form_of_three, form_of_four, file_form, sweep_form, node_form, ladder_size, millisecond_of, option_of, is_file_word, plan_word, file_word, run_word, frames_word, frames_word_in, ladder_word};
 ghost use Rattle.sync_topo.specs.Sizes.{most_elements};
-ghost use Rattle.sync_top.specs.private.FormSeen.{seen, IsSized};
+ghost use Rattle.sync_top.specs.private.FormSeen.{seen, IsFileTimed, IsSized};
 
 use sync_ql::NetOption;
 use sync_ql::limits::LAST_MILLISECOND;
@@ -60,6 +60,19 @@ pub(crate) enum EventsForm {
     Inspect,
 }
 
+/// What is asked of a plan and a file that goes with it.
+#[derive(Clone, Copy, Drop)]
+pub(crate) enum FileForm {
+    /// Of the ranks of a certificate.
+    Ranks(RanksForm),
+    /// Of groups of parts that fail together: whether the plan is protected with them.
+    Groups,
+    /// Of events: a run up to a millisecond, at most 86,400,000.
+    Events(EventsForm, u64),
+    /// Of cases: runs up to such a millisecond.
+    Study(u64),
+}
+
 /// What is asked of captured frames or rows.
 #[derive(Clone, Copy, Drop)]
 pub(crate) enum FramesForm {
@@ -96,30 +109,8 @@ pub(crate) struct PlanName<'a> {
 pub(crate) enum Form<'a> {
     /// Of a plan, by the name of its file.
     OnPlan(PlanForm, PlanName<'a>),
-    /// Of a plan and a certificate, by the names of their files.
-    OnRanks(RanksForm, PlanName<'a>, &'a str),
-    /// Of a run.
-    OnEvents {
-        /// What is asked.
-        what: EventsForm,
-        /// The plan's file.
-        plan: PlanName<'a>,
-        /// The events' file.
-        events: &'a str,
-        /// The last millisecond, at most 86,400,000.
-        until: u64,
-    },
-    /// Of runs in many cases.
-    Study {
-        /// The plan's file.
-        plan: PlanName<'a>,
-        /// The cases' file.
-        cases: &'a str,
-        /// The last millisecond, at most 86,400,000.
-        until: u64,
-    },
-    /// Of a plan and groups of parts that fail together, by the names of their files.
-    OnGroups(PlanName<'a>, &'a str),
+    /// Of a plan and a file that goes with it, by the names of both files.
+    OnFile(FileForm, PlanName<'a>, &'a str),
     /// Of captured frames or rows, by the option of their levels and the name of their file.
     OnFrames(FramesForm, NetOption, &'a str),
     /// Of the ladder of so many elements, 2 to 2,000, or to 100,000 where plans may be large.
@@ -168,9 +159,6 @@ fn form_in(size: Size, words: &[String]) -> Option<Form<'_>>
 {
     match words {
         [word, second] => form_of_two(size, word.as_str(), second.as_str()),
-        [word, second, third] if word.as_str() == "protected" => {
-            groups_form(size, second.as_str(), third.as_str())
-        }
         [word, second, third] => {
             form_of_three(size, word.as_str(), second.as_str(), third.as_str())
         }
@@ -220,13 +208,30 @@ fn ladder_word(word: &str) -> Option<LadderForm>
     }
 }
 
-/// What a word asks of the ranks of a certificate.
-fn ranks_word(word: &str) -> Option<RanksForm>
-    ensures { result ≡ ranks_word word.now }
+/// What a word asks of a plan and a file.
+fn file_word(word: &str) -> Option<FileForm>
+    ensures word { result ≡ file_word word.now }
+    ensures timed { IfSome result IsFileTimed }
 {
     match word {
-        "check" => Some(RanksForm::Check),
-        "prio-check" => Some(RanksForm::PrioCheck),
+        "check" => Some(FileForm::Ranks(RanksForm::Check)),
+        "prio-check" => Some(FileForm::Ranks(RanksForm::PrioCheck)),
+        "protected" => Some(FileForm::Groups),
+        _ => None,
+    }
+}
+
+/// What a word asks of a plan, a file and a millisecond.
+fn run_word(word: &str, until: u64) -> Option<FileForm>
+    requires in_range { until ≤ LAST_MILLISECOND }
+    ensures word { result ≡ run_word word.now until }
+    ensures timed { IfSome result IsFileTimed }
+{
+    match word {
+        "sim" => Some(FileForm::Events(EventsForm::Sim, until)),
+        "prio-sim" => Some(FileForm::Events(EventsForm::PrioSim, until)),
+        "inspect" => Some(FileForm::Events(EventsForm::Inspect, until)),
+        "study" => Some(FileForm::Study(until)),
         _ => None,
     }
 }
@@ -255,18 +260,6 @@ fn frames_word_in(size: Size, word: &str) -> Option<FramesForm>
     }
 }
 
-/// What a word asks of a run.
-fn events_word(word: &str) -> Option<EventsForm>
-    ensures { result ≡ events_word word.now }
-{
-    match word {
-        "sim" => Some(EventsForm::Sim),
-        "prio-sim" => Some(EventsForm::PrioSim),
-        "inspect" => Some(EventsForm::Inspect),
-        _ => None,
-    }
-}
-
 /// The form of two words, if they have one.
 fn form_of_two<'a>(size: Size, word: &str, second: &'a str) -> Option<Form<'a>>
     ensures form { option_map seen result ≡ form_of_two size (plan_word word.now) (ladder_word word.now) second.now }
@@ -286,14 +279,11 @@ fn form_of_two<'a>(size: Size, word: &str, second: &'a str) -> Option<Form<'a>>
 /// The form of three words, if they have one.
 fn form_of_three<'a>(size: Size, word: &str, second: &'a str, third: &'a str) -> Option<Form<'a>>
     ensures form { option_map seen result
-        ≡ form_of_three size (ranks_word word.now) (frames_word_in size word.now) second.now third.now }
+        ≡ form_of_three size (file_word word.now) (frames_word_in size word.now) second.now third.now }
     ensures sized { IfSome result IsSized }
 {
-    if let Some(what) = ranks_word(word) {
-        if second.is_empty() || third.is_empty() {
-            return None;
-        }
-        return Some(Form::OnRanks(what, PlanName { size, name: second }, third));
+    if let Some(what) = file_word(word) {
+        return file_form(size, what, second, third);
     }
     let what = frames_word_in(size, word)?;
     let option = option_with(second, third)?;
@@ -308,68 +298,27 @@ fn form_of_four<'a>(
     third: &'a str,
     fourth: &str,
 ) -> Option<Form<'a>>
-    ensures form { option_map seen result ≡ form_of_four size (events_word word.now) word.now second.now
-        third.now fourth.now }
+    ensures form { option_map seen result ≡ form_of_four size word.now second.now third.now fourth.now }
     ensures sized { IfSome result IsSized }
 {
-    if let Some(what) = events_word(word) {
-        return events_form(size, what, second, third, fourth);
+    if word == "sweep" {
+        return sweep_form(size, second, third, fourth);
     }
-    match word {
-        "study" => study_form(size, second, third, fourth),
-        "sweep" => sweep_form(size, second, third, fourth),
-        _ => None,
-    }
+    let until = millisecond_of(fourth)?;
+    let what = run_word(word, until)?;
+    file_form(size, what, second, third)
 }
 
-/// The form on events, if the words may name files and are followed by such a millisecond.
-fn events_form<'a>(
-    size: Size,
-    what: EventsForm,
-    plan: &'a str,
-    events: &'a str,
-    until: &str,
-) -> Option<Form<'a>>
-    ensures form { option_map seen result ≡ run_form size (on_events what) plan.now events.now until.now }
+/// The form on a plan and a file, if both words may name files.
+fn file_form<'a>(size: Size, what: FileForm, plan: &'a str, name: &'a str) -> Option<Form<'a>>
+    requires timed { IsFileTimed what }
+    ensures form { option_map seen result ≡ file_form size what plan.now name.now }
     ensures sized { IfSome result IsSized }
 {
-    if plan.is_empty() || events.is_empty() {
+    if plan.is_empty() || name.is_empty() {
         return None;
     }
-    let until = millisecond_of(until)?;
-    Some(Form::OnEvents {
-        what,
-        plan: PlanName { size, name: plan },
-        events,
-        until,
-    })
-}
-
-/// The form `protected` with groups, if both words may name files.
-fn groups_form<'a>(size: Size, plan: &'a str, groups: &'a str) -> Option<Form<'a>>
-    ensures form { option_map seen result ≡ groups_form size plan.now groups.now }
-    ensures sized { IfSome result IsSized }
-{
-    if plan.is_empty() || groups.is_empty() {
-        return None;
-    }
-    Some(Form::OnGroups(PlanName { size, name: plan }, groups))
-}
-
-/// The form `study`, if its words may name files and are followed by such a millisecond.
-fn study_form<'a>(size: Size, plan: &'a str, cases: &'a str, until: &str) -> Option<Form<'a>>
-    ensures form { option_map seen result ≡ run_form size study plan.now cases.now until.now }
-    ensures sized { IfSome result IsSized }
-{
-    if plan.is_empty() || cases.is_empty() {
-        return None;
-    }
-    let until = millisecond_of(until)?;
-    Some(Form::Study {
-        plan: PlanName { size, name: plan },
-        cases,
-        until,
-    })
+    Some(Form::OnFile(what, PlanName { size, name: plan }, name))
 }
 
 /// The form `sweep`, if the word may name a file and is followed by two such milliseconds, the

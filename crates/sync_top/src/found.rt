@@ -16,6 +16,10 @@ pub(crate) enum Finding {
     Refuted,
     /// A report ends before what doesn't fit any more.
     Stopped,
+    /// A certificate is refused.
+    BadCert,
+    /// Events, cases or groups are refused.
+    BadEvents,
     /// A frame, a row, a capture or what an element received is refused.
     BadFrames,
 }
@@ -31,6 +35,8 @@ impl Finding {
             Finding::Done => Status::Done,
             Finding::Refuted => Status::Refuted,
             Finding::Stopped => Status::Stopped,
+            Finding::BadCert => Status::BadCert,
+            Finding::BadEvents => Status::BadEvents,
             Finding::BadFrames => Status::BadFrames,
         }
     }

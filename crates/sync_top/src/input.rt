@@ -1,16 +1,16 @@
 ghost use Rattle.std.specs.Prelude.{◌≡◌, ◌≢◌, Some};
 ghost use Rattle.sync_edge.specs.Contents.{KeepsFolder};
 ghost use Rattle.sync_top.specs.Reading.{file, file_limit};
-ghost use Rattle.sync_topo.specs.Sizes.{size_of};
 ghost use Rattle.sync_top.specs.Answer.{outside_of};
 ghost use Rattle.sync_top.specs.private.Work.{Gets, stopped_in};
 
-use crate::reply::{Reply, Stop, line_text};
+use crate::reply::{Reply, Stop};
 use crate::status::Status;
+use plan_texts::line_text;
 use std::alloc::Global;
 use sync_edge::{Folder, ReadErr, read_all};
 use sync_text::Text;
-use sync_topo::{Plan, Size};
+use sync_topo::Size;
 
 /// The most bytes of a plan's file, and of a file that goes with a plan, where the plan is of standard
 /// size.
@@ -53,19 +53,4 @@ pub(crate) fn file<F: Folder>(
         })),
         Err(ReadErr::NoMemory) => Err(Stop::NoMemory),
     }
-}
-
-/// The bytes of a file that goes with a plan, and may be as long as the plan's size says.
-pub(crate) fn file_beside<F: Folder>(
-    alloc: Global,
-    folder: &mut F,
-    plan: &Plan,
-    name: &str,
-) -> Result<Text, Stop>
-    ensures gets { Gets (λ text. text) (outside_of F.contents F.steady F.faults folder.old folder.new)
-        (F.tries folder.old) (F.tries folder.new) result (file (size_of plan.now) name.now) }
-    ensures no_plan { stopped_in result ≢ Some Status.BadPlan }
-    ensures keeps { KeepsFolder F.contents F.steady F.faults folder.old folder.new }
-{
-    file(alloc, folder, plan.size(), name)
 }

@@ -3,8 +3,8 @@
 ghost use Rattle.std.specs.Prelude.{◌≡◌, ◌↔◌, ◌<◌, ℕ, List, [], ◌∷◌, length, codes, Some};
 ghost use Rattle.std.specs.FinMap.{get};
 ghost use Rattle.sync_edge.specs.Contents.{Contents};
+ghost use Rattle.plan_texts.specs.Lines.{text_line};
 ghost use Rattle.sync_top.specs.declared.status.Status.{Status};
-ghost use Rattle.sync_top.specs.Reading.{text_line};
 ghost use Rattle.sync_top.specs.Answer.{HasOneAnswer, IsAnswer};
 ghost use Rattle.sync_top.specs.Form.{form_of};
 ghost use Rattle.sync_topo.specs.Topology.{Topology};

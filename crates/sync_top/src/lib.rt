@@ -8,23 +8,16 @@
 //! [`no_groups_law`]. No clause says that memory is found; docs/verify/promises.md tells what shows it.
 #![tactic(auto)]
 
-mod agreeing;
-mod answers;
 mod captures;
-mod chains;
 mod check;
 mod form;
 mod found;
-mod grouping;
-mod hops;
 mod input;
 mod ladder;
 mod laws;
 mod node;
-mod nomination;
 mod plan_input;
-mod planner;
-mod priority;
+mod plans;
 mod program;
 mod protecting;
 mod reply;
@@ -32,7 +25,6 @@ mod running;
 mod sim;
 mod status;
 mod studying;
-mod sweep;
 mod trial;
 mod works;
 mod written;

@@ -1,81 +1,29 @@
-ghost use Rattle.std.specs.Prelude.{◌≡◌, ◌≢◌, ◌<◌, ◌++◌, ◌≤◌, ℕ, List, [], codes, Some, IfOk, IsErr, OnOk, length};
+ghost use Rattle.std.specs.Prelude.{◌≢◌, ◌<◌, ◌≤◌, ℕ, List, Some, IfOk, IsErr, length};
 ghost use Rattle.sync_edge.specs.Contents.{KeepsFolder};
-ghost use Rattle.sync_top.specs.Reading.{text_line, refusal_line, two_files};
+ghost use Rattle.sync_top.specs.Reading.{two_files};
 ghost use Rattle.sync_topo.specs.Topology.{Topology};
 ghost use Rattle.node_replay.specs.Sent.{IsSentText};
-ghost use Rattle.sync_top.specs.Forms.Node.{unknown_element, node_place, node_refusal, element_in, element_of_plan, received_in, node_bytes, IsNodeReply};
+ghost use Rattle.sync_top.specs.Forms.Node.{element_in, element_of_plan, received_in, node_bytes, IsNodeReply};
 ghost use Rattle.sync_top.specs.Answer.{outside_of};
 ghost use Rattle.sync_top.specs.private.FormSeen.{named};
 ghost use Rattle.sync_top.specs.private.Work.{Gets, HasRead, ends_in, stopped_in};
 
 use crate::form::PlanName;
 use crate::found::{Finding, Found, done};
-use crate::input::file_beside;
+use crate::input::file;
 use crate::plan_input::plan_in;
-use crate::reply::{Reply, Stop, put_number, refusal};
+use crate::reply::{Reply, Stop, numbered_refusal};
 use crate::status::Status;
-use node_file::NodeErr;
 use node_replay::{NodeEnd, Replayed, replay};
 use std::alloc::Global;
 use sync_edge::Folder;
 use sync_ql::limits::LAST_MILLISECOND;
-use sync_text::{NoMemory, Text};
+use sync_text::{NoAnswer, NoMemory, Text};
 use sync_topo::Plan;
 
-/// The line on a file of an element that is refused.
-fn refusal_text(alloc: Global, refused: NodeErr) -> Result<Text, NoMemory>
-    requires numbered { refused ≢ NodeErr.NoMemory }
-    ensures { IfOk result (λ text. text ≡ text_line (node_refusal refused)) }
-{
-    let Some(number) = refused.number() else {
-        unreachable!()
-    };
-    let mut text = refusal(alloc, b"bad node ", number)?;
-    put_place(&mut text, refused)?;
-    text.put(b"\n")?;
-    Ok(text)
-}
-
-/// Puts the line that is refused, and for a frame the number of its first wrong part.
-fn put_place(text: &mut Text, refused: NodeErr) -> Result<(), NoMemory>
-    ensures { OnOk result (text.new ≡ text.old ++ node_place refused) }
-{
-    match refused {
-        NodeErr::Fields(line)
-        | NodeErr::Time(line)
-        | NodeErr::Order(line)
-        | NodeErr::What(line)
-        | NodeErr::Target(line)
-        | NodeErr::Value(line) => put_number(text, line),
-        NodeErr::Frame(line, error) => {
-            put_number(text, line)?;
-            put_number(text, u64::from(error.number()))
-        }
-        NodeErr::NoMemory => Ok(()),
-    }
-}
-
-/// The name that was given is that of no element of the plan.
-#[derive(Clone, Copy, Drop)]
-struct UnknownElement;
-
-impl UnknownElement {
-    /// The number by which this is printed, behind those of a file's refusals. This project's own.
-    fn number(self) -> u8
-        ensures { result ≡ unknown_element }
-    {
-        50
-    }
-}
-
-/// The line on a name that no element of the plan has.
-fn unknown_element_text(alloc: Global) -> Result<Text, NoMemory>
-    ensures { IfOk result (λ text. text ≡ text_line (refusal_line (codes "bad node ") (Some unknown_element) [])) }
-{
-    let mut text = refusal(alloc, b"bad node ", UnknownElement.number())?;
-    text.put(b"\n")?;
-    Ok(text)
-}
+/// The number by which it is printed that no element of the plan has the name that was given, behind
+/// those of a file's refusals. This project's own.
+pub(crate) const UNKNOWN_ELEMENT: u8 = 50;
 
 /// An element of a plan, and then the bytes of a file.
 fn received_in<F: Folder>(
@@ -95,10 +43,10 @@ fn received_in<F: Folder>(
     let Some(element) = plan.element_of_name(element.as_bytes()) else {
         return Err(Stop::Ended(Reply {
             status: Status::BadFrames,
-            text: unknown_element_text(alloc)?,
+            text: numbered_refusal(alloc, b"bad node ", UNKNOWN_ELEMENT, None, None)?,
         }));
     };
-    match file_beside(alloc, folder, plan, name) {
+    match file(alloc, folder, plan.size(), name) {
         Ok(bytes) => Ok((element, bytes)),
         Err(stop) => Err(stop),
     }
@@ -138,11 +86,14 @@ pub(crate) fn replayed(
 {
     match replay(alloc, plan, element, bytes, until) {
         Ok(frames) => Ok(sent(frames)),
-        Err(NodeErr::NoMemory) => Err(NoMemory),
-        Err(refused) => Ok(Found {
-            finding: Finding::BadFrames,
-            text: refusal_text(alloc, refused)?,
-        }),
+        Err(NoAnswer::NoMemory) => Err(NoMemory),
+        Err(NoAnswer::Refused(refused)) => {
+            let (number, line, error) = refused.numbers();
+            Ok(Found {
+                finding: Finding::BadFrames,
+                text: numbered_refusal(alloc, b"bad node ", number, Some(line), error)?,
+            })
+        }
     }
 }
 

@@ -18,9 +18,7 @@ ghost use Rattle.sync_top.specs.private.Work.{EndsIn, Works};
 use crate::form::{Form, form_of};
 use crate::reply::{Reply, Stop};
 use crate::status::Status;
-use crate::works::{
-    no_form, node, on_events, on_frames, on_groups, on_ladder, on_plan, on_ranks, study,
-};
+use crate::works::{no_form, node, on_file, on_frames, on_ladder, on_plan};
 use std::alloc::Global;
 use std::thread::Threads;
 use sync_edge::{Folder, Sink, write_all};
@@ -42,19 +40,9 @@ fn work<R: Threads + Sync, F: Folder, G: Gate + Sync>(
 {
     match form_of(words) {
         Some(Form::OnPlan(what, plan)) => on_plan(rt, alloc, folder, what, plan, gate),
-        Some(Form::OnRanks(what, plan, cert)) => on_ranks(alloc, folder, what, plan, cert),
-        Some(
-            Form::OnEvents {
-                what,
-                plan,
-                events,
-                until,
-            },
-        ) => on_events(alloc, folder, what, plan, events, until),
-        Some(Form::Study { plan, cases, until }) => {
-            study(rt, alloc, folder, plan, cases, until, gate)
+        Some(Form::OnFile(what, plan, name)) => {
+            on_file(rt, alloc, folder, what, plan, name, gate)
         }
-        Some(Form::OnGroups(plan, groups)) => on_groups(alloc, folder, plan, groups),
         Some(Form::OnFrames(what, option, name)) => on_frames(alloc, folder, what, option, name),
         Some(
             Form::Node {

@@ -1,112 +1,77 @@
-ghost use Rattle.std.specs.Prelude.{◌≡◌, ◌≢◌, ◌++◌, ◌≤◌, Some, IfOk, OnOk};
+ghost use Rattle.std.specs.Prelude.{◌≡◌, ◌≤◌, IfOk};
 ghost use Rattle.std.specs.List.{All};
-ghost use Rattle.sync_edge.specs.Contents.{KeepsFolder};
 ghost use Rattle.sync_topo.specs.Events.{Fits, IsInOrder};
-ghost use Rattle.sync_top.specs.Reading.{text_line, two_files, plan_in};
-ghost use Rattle.sync_top.specs.Forms.Sim.{event_place, event_refusal, events_in, plan_and_events, IsReport};
-ghost use Rattle.sync_top.specs.Answer.{outside_of};
-ghost use Rattle.sync_top.specs.private.FormSeen.{named};
-ghost use Rattle.sync_top.specs.private.Work.{Gets, HasRead, ends_in, stopped_in};
+ghost use Rattle.plan_texts.specs.Lines.{text_line};
+ghost use Rattle.sync_top.specs.Answer.{EventsAnswer, IsEventsReply};
+ghost use Rattle.sync_top.specs.Forms.Sim.{event_refusal, IsReport};
+ghost use Rattle.sync_top.specs.private.Work.{ends_in};
 
-use crate::form::PlanName;
+use crate::form::EventsForm;
 use crate::found::{Finding, Found, done};
-use crate::input::file_beside;
-use crate::plan_input::plan_in;
-use crate::reply::{Reply, Stop, put_number, refusal};
+use crate::reply::numbered_refusal;
 use crate::running::run_to;
-use crate::status::Status;
 use event_file::{EventErr, read_events};
 use event_sim::{Reach, Watch};
+use inspection::inspect;
+use prio_mode::prio_sim;
 use std::alloc::Global;
-use sync_edge::Folder;
 use sync_ql::limits::LAST_MILLISECOND;
-use sync_text::{NoMemory, Rows, Text};
+use sync_text::{NoAnswer, NoMemory, Text};
 use sync_topo::{Event, Plan};
 use trace_report::report;
 
 /// The line on events that are refused.
 pub(crate) fn refusal_text(alloc: Global, refused: EventErr) -> Result<Text, NoMemory>
-    requires numbered { refused ≢ EventErr.NoMemory }
     ensures { IfOk result (λ text. text ≡ text_line (event_refusal refused)) }
 {
-    let Some(number) = refused.number() else {
-        unreachable!()
-    };
-    let mut text = refusal(alloc, b"bad events ", number)?;
-    put_place(&mut text, refused)?;
-    text.put(b"\n")?;
-    Ok(text)
+    let (number, row) = refused.numbers();
+    numbered_refusal(alloc, b"bad events ", number, row, None)
 }
 
-/// Puts the row of an event that is refused.
-fn put_place(text: &mut Text, refused: EventErr) -> Result<(), NoMemory>
-    ensures { OnOk result (text.new ≡ text.old ++ event_place refused) }
-{
-    match refused {
-        EventErr::Header | EventErr::Limit | EventErr::NoMemory => Ok(()),
-        EventErr::Fields(row)
-        | EventErr::Time(row)
-        | EventErr::Order(row)
-        | EventErr::What(row)
-        | EventErr::Target(row)
-        | EventErr::Value(row)
-        | EventErr::Name(row)
-        | EventErr::Apart(row) => put_number(text, row),
-    }
-}
-
-/// The events of a file over a plan.
-fn events_in<F: Folder>(
+/// What is found of the bytes of events: what is asked of their run up to a millisecond, or the line on
+/// why they are refused.
+pub(crate) fn events_found(
     alloc: Global,
-    folder: &mut F,
+    what: EventsForm,
     plan: &Plan,
-    name: &str,
-) -> Result<Rows<Event>, Stop>
-    ensures gets { Gets (λ events. events) (outside_of F.contents F.steady F.faults folder.old folder.new)
-        (F.tries folder.old) (F.tries folder.new) result (events_in plan.now name.now) }
-    ensures no_plan { stopped_in result ≢ Some Status.BadPlan }
-    ensures keeps { KeepsFolder F.contents F.steady F.faults folder.old folder.new }
-    ensures fit { IfOk result (All (Fits plan.now)) }
-    ensures in_order { IfOk result IsInOrder }
+    bytes: &[u8],
+    until: u64,
+) -> Result<Found, NoMemory>
+    requires in_range { until ≤ LAST_MILLISECOND }
+    ensures { IfOk result (λ found. IsEventsReply what plan.now bytes.now until (ends_in found.finding) found.text) }
 {
-    let bytes = file_beside(alloc, folder, plan, name)?;
-    match read_events(alloc, plan, bytes.bytes()) {
-        Ok(events) => Ok(events),
-        Err(EventErr::NoMemory) => Err(Stop::NoMemory),
-        Err(refused) => Err(Stop::Ended(Reply {
-            status: Status::BadEvents,
+    match read_events(alloc, plan, bytes) {
+        Ok(events) => ran(alloc, what, plan, events.as_slice(), until),
+        Err(NoAnswer::NoMemory) => Err(NoMemory),
+        Err(NoAnswer::Refused(refused)) => Ok(Found {
+            finding: Finding::BadEvents,
             text: refusal_text(alloc, refused)?,
-        })),
+        }),
     }
 }
 
-/// The plan and the events of two files, in this order.
-pub(crate) fn plan_and_events<F: Folder>(
+/// What is found of a run up to a millisecond.
+fn ran(
     alloc: Global,
-    folder: &mut F,
-    plan: PlanName<'_>,
-    events: &str,
-) -> Result<(Plan, Rows<Event>), Stop>
-    ensures read { HasRead (two_files (plan_in (named plan.entry)) (plan_and_events (named plan.entry) events.now))
-        (λ read. (read.0, read.1)) (outside_of F.contents F.steady F.faults folder.old folder.new) (F.tries folder.old) (F.tries folder.new) result }
-    ensures keeps { KeepsFolder F.contents F.steady F.faults folder.old folder.new }
-    ensures fit { IfOk result (λ read. All (Fits read.0) read.1) }
-    ensures in_order { IfOk result (λ read. IsInOrder read.1) }
-{
-    let plan = plan_in(alloc, folder, plan)?;
-    match events_in(alloc, folder, &plan, events) {
-        Ok(events) => Ok((plan, events)),
-        Err(stop) => Err(stop),
-    }
-}
-
-/// What is found of a plan and events: the report of the run up to a millisecond.
-pub(crate) fn simulated(
-    alloc: Global,
+    what: EventsForm,
     plan: &Plan,
     events: &[Event],
     until: u64,
 ) -> Result<Found, NoMemory>
+    requires fit { All (Fits plan.now) events.now }
+    requires in_order { IsInOrder events.now }
+    requires in_range { until ≤ LAST_MILLISECOND }
+    ensures { IfOk result (λ found. EventsAnswer what plan.now events.now until (ends_in found.finding) found.text) }
+{
+    match what {
+        EventsForm::Sim => simulated(alloc, plan, events, until),
+        EventsForm::PrioSim => Ok(done(prio_sim(alloc, plan, events, until)?)),
+        EventsForm::Inspect => Ok(done(inspect(alloc, plan, events, until)?)),
+    }
+}
+
+/// What is found of a plan and events: the report of the run up to a millisecond.
+fn simulated(alloc: Global, plan: &Plan, events: &[Event], until: u64) -> Result<Found, NoMemory>
     requires fit { All (Fits plan.now) events.now }
     requires in_order { IsInOrder events.now }
     requires in_range { until ≤ LAST_MILLISECOND }

@@ -1,32 +1,35 @@
 // The work of the forms: what they read, and the reply with what is found of that.
 
-ghost use Rattle.std.specs.Prelude.{◌≡◌, ◌≤◌, ℕ, Some, None};
+ghost use Rattle.std.specs.Prelude.{◌≡◌, ◌≤◌, ℕ, Some, None, IfOk};
 ghost use Rattle.sync_edge.specs.Contents.{KeepsFolder};
-ghost use Rattle.sync_top.specs.Form.{on_plan, on_ranks, on_events, study, on_groups, on_frames, on_ladder, node};
-ghost use Rattle.sync_top.specs.private.FormSeen.{named, IsTimed};
-ghost use Rattle.sync_top.specs.Answer.{outside_of, Outside};
-ghost use Rattle.sync_top.specs.private.Work.{Works};
+ghost use Rattle.sync_top.specs.Form.{on_plan, on_file, on_frames, on_ladder, node};
+ghost use Rattle.sync_top.specs.private.FormSeen.{named, IsFileTimed, IsTimed};
+ghost use Rattle.sync_top.specs.Answer.{outside_of, FileAnswer, Outside};
+ghost use Rattle.sync_top.specs.private.Work.{ends_in, Works};
 
-use crate::answers::{events_found, frames_found, ladder_found, plan_found, ranks_found};
-use crate::check::documents;
-use crate::form::{EventsForm, FramesForm, LadderForm, PlanForm, PlanName, RanksForm};
-use crate::found::replied;
-use crate::grouping::plan_and_groups;
+use crate::captures::frames_found;
+use crate::check::ranks_found;
+use crate::form::{FileForm, FramesForm, LadderForm, PlanForm, PlanName};
+use crate::found::{Found, replied};
 use crate::input::file;
+use crate::ladder::ladder_found;
 use crate::node::{node_bytes, replayed};
-use crate::plan_input::plan_in;
-use crate::protecting::gaps_found_with;
-use crate::reply::{Reply, Stop, line_text};
-use crate::sim::plan_and_events;
+use crate::plan_input::{plan_and_file, plan_in};
+use crate::plans::plan_found;
+use crate::protecting::groups_found;
+use crate::reply::{Reply, Stop};
+use crate::sim::events_found;
 use crate::status::Status;
-use crate::studying::{plan_and_cases, studied};
+use crate::studying::cases_found;
+use plan_texts::line_text;
 use std::alloc::Global;
 use std::thread::Threads;
 use sync_edge::Folder;
 use sync_ql::NetOption;
 use sync_ql::limits::LAST_MILLISECOND;
 use sync_sweep::Gate;
-use sync_topo::{MOST_ELEMENTS, Size};
+use sync_text::NoMemory;
+use sync_topo::{MOST_ELEMENTS, Plan, Size};
 
 /// The work of a form on a plan.
 pub(crate) fn on_plan<R: Threads + Sync, F: Folder, G: Gate + Sync>(
@@ -48,81 +51,44 @@ pub(crate) fn on_plan<R: Threads + Sync, F: Folder, G: Gate + Sync>(
     }
 }
 
-/// The work of a form on a certificate.
-pub(crate) fn on_ranks<F: Folder>(
-    alloc: Global,
-    folder: &mut F,
-    what: RanksForm,
-    plan: PlanName<'_>,
-    cert: &str,
-) -> Result<Reply, Stop>
-    ensures works { Works (Some (on_ranks what (named plan.entry) cert.now))
-        (outside_of F.contents F.steady F.faults folder.old folder.new) (F.tries folder.old) (F.tries folder.new) result }
-    ensures keeps { KeepsFolder F.contents F.steady F.faults folder.old folder.new }
-{
-    match documents(alloc, folder, plan, cert) {
-        Ok((plan, cert)) => replied(ranks_found(alloc, what, &plan, &cert)),
-        Err(stop) => Err(stop),
-    }
-}
-
-/// The work of a form on events.
-pub(crate) fn on_events<F: Folder>(
-    alloc: Global,
-    folder: &mut F,
-    what: EventsForm,
-    plan: PlanName<'_>,
-    events: &str,
-    until: u64,
-) -> Result<Reply, Stop>
-    requires in_range { until ≤ LAST_MILLISECOND }
-    ensures works { Works (Some (on_events what (named plan.entry) events.now until))
-        (outside_of F.contents F.steady F.faults folder.old folder.new) (F.tries folder.old) (F.tries folder.new) result }
-    ensures keeps { KeepsFolder F.contents F.steady F.faults folder.old folder.new }
-{
-    match plan_and_events(alloc, folder, plan, events) {
-        Ok((plan, events)) => {
-            replied(events_found(alloc, what, &plan, events.as_slice(), until))
-        }
-        Err(stop) => Err(stop),
-    }
-}
-
-/// The work of `study`.
-pub(crate) fn study<R: Threads + Sync, F: Folder, G: Gate + Sync>(
+/// The work of a form on a plan and a file.
+pub(crate) fn on_file<R: Threads + Sync, F: Folder, G: Gate + Sync>(
     rt: &R,
     alloc: Global,
     folder: &mut F,
+    what: FileForm,
     plan: PlanName<'_>,
-    cases: &str,
-    until: u64,
+    name: &str,
     gate: &G,
 ) -> Result<Reply, Stop>
-    requires in_range { until ≤ LAST_MILLISECOND }
-    ensures works { Works (Some (study (named plan.entry) cases.now until))
+    requires timed { IsFileTimed what }
+    ensures works { Works (Some (on_file what (named plan.entry) name.now))
         (outside_of F.contents F.steady F.faults folder.old folder.new) (F.tries folder.old) (F.tries folder.new) result }
     ensures keeps { KeepsFolder F.contents F.steady F.faults folder.old folder.new }
 {
-    match plan_and_cases(alloc, folder, plan, cases) {
-        Ok((plan, cases)) => replied(studied(rt, alloc, &plan, &cases, until, gate)),
+    match plan_and_file(alloc, folder, plan, name) {
+        Ok((plan, bytes)) => replied(file_found(rt, alloc, what, &plan, bytes.bytes(), gate)),
         Err(stop) => Err(stop),
     }
 }
 
-/// The work of `protected` with groups.
-pub(crate) fn on_groups<F: Folder>(
+/// What is found of the bytes of a file that goes with a plan.
+fn file_found<R: Threads + Sync, G: Gate + Sync>(
+    rt: &R,
     alloc: Global,
-    folder: &mut F,
-    plan: PlanName<'_>,
-    groups: &str,
-) -> Result<Reply, Stop>
-    ensures works { Works (Some (on_groups (named plan.entry) groups.now))
-        (outside_of F.contents F.steady F.faults folder.old folder.new) (F.tries folder.old) (F.tries folder.new) result }
-    ensures keeps { KeepsFolder F.contents F.steady F.faults folder.old folder.new }
+    what: FileForm,
+    plan: &Plan,
+    bytes: &[u8],
+    gate: &G,
+) -> Result<Found, NoMemory>
+    requires timed { IsFileTimed what }
+    ensures { IfOk result (λ found. FileAnswer what plan.now bytes.now (ends_in found.finding) found.text) }
 {
-    match plan_and_groups(alloc, folder, plan, groups) {
-        Ok((plan, groups)) => replied(gaps_found_with(alloc, &plan, groups)),
-        Err(stop) => Err(stop),
+    match what {
+        FileForm::Ranks(what) => ranks_found(alloc, what, plan, bytes),
+        FileForm::Groups => groups_found(alloc, plan, bytes),
+        FileForm::Events(what, until) => events_found(alloc, what, plan, bytes, until),
+        FileForm::Study(until) => cases_found(rt, alloc, plan, bytes, until, gate),
     }
 }
 

@@ -244,7 +244,3 @@ on-Ok P Q (Err error) give told = tt
 pub kept-as : (names names_now : List (List ℕ)) (firsts firsts_now numbers numbers_now : List ℕ) (links : List Link)
     → names_now ≡ names → firsts_now ≡ firsts → numbers_now ≡ numbers → AreBundlesOf names firsts numbers links → AreBundlesOf names_now firsts_now numbers_now links
 kept-as names names_now firsts firsts_now numbers numbers_now links same_names same_firsts same_numbers are = rw (same_names, same_firsts, same_numbers) are
-
--- no links have no bundles
-pub no-bundles : AreBundlesOf [] [] [] []
-no-bundles = record { paired = refl; found = λ name. refl; counted = refl; kept = λ link within. absurd (omega arith) }

@@ -5,6 +5,7 @@ use Rattle.sync_topo.specs.declared.rows.LinkRow.{LinkRow}
 use Rattle.sync_topo.specs.declared.rows.SourceRow.{SourceRow}
 use Rattle.sync_topo.specs.declared.place.Place.{Place}
 use Rattle.sync_topo.specs.declared.place.Section.TheVariants.{Links, Sources}
+use Rattle.sync_text.specs.declared.errors.NoAnswer.{NoAnswer}
 use Rattle.sync_topo.specs.declared.error.PlanErr.{PlanErr}
 use Rattle.sync_topo.specs.declared.error.PlanErr.TheVariants.{Limit, Bundle}
 use Rattle.sync_topo.specs.Topology.{Topology}
@@ -16,7 +17,7 @@ use Rattle.sync_topo.specs.private.Steps.{Tells}
 use Rattle.sync_topo.proofs.RowLoops.{Tells-front, kept-front}
 
 -- what is told of the rules for the ends of a link is told of all of its rules
-pub link-ends-told : (plan : Topology) (row : LinkRow) (error : PlanErr)
+pub link-ends-told : (plan : Topology) (row : LinkRow) (error : NoAnswer PlanErr)
     → Tells error (first_broken (end_rules (link_rules plan row))) → Tells error (first_broken (link_rules plan row))
 link-ends-told plan row error = Tells-front error (end_rules (link_rules plan row)) (drop 5 (link_rules plan row))
 
@@ -39,7 +40,7 @@ no-room-told plan row place here kept good full =
     kept-front (end_rules (link_rules plan row)) (drop 5 (link_rules plan row)) kept ∙ (rw good (rw full (rw here refl)))
 
 -- the same for a source
-pub source-ends-told : (plan : Topology) (row : SourceRow) (error : PlanErr)
+pub source-ends-told : (plan : Topology) (row : SourceRow) (error : NoAnswer PlanErr)
     → Tells error (first_broken (end_rules (source_rules plan row))) → Tells error (first_broken (source_rules plan row))
 source-ends-told plan row error = Tells-front error (end_rules (source_rules plan row)) (drop 5 (source_rules plan row))
 

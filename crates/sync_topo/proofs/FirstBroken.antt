@@ -5,13 +5,14 @@ use Rattle.std.specs.List.{list_all}
 use Rattle.std.proofs.lemmas.Bool.{and_parts, true≢false}
 use Rattle.std.proofs.lemmas.Option.{none-some, same_Some}
 use Rattle.sync_topo.specs.declared.error.PlanErr.{PlanErr}
-use Rattle.sync_topo.specs.declared.error.PlanErr.TheVariants.{Limit, Name, Twice, NoElement, SelfLink, Range, Bundle, LevelName, NoMemory}
+use Rattle.sync_text.specs.declared.errors.NoAnswer.{NoAnswer}
+use Rattle.sync_text.specs.declared.errors.NoAnswer.TheVariants.{NoMemory, Refused}
 use Rattle.sync_topo.specs.declared.rows.PlanRows.{PlanRows}
 use Rattle.sync_topo.specs.Topology.{Topology}
 use Rattle.sync_topo.specs.Rules.{Rule, rule}
 use Rattle.sync_topo.specs.RowValues.{plan_from}
 use Rattle.sync_topo.specs.PlanRows.{rules_of, first_broken, or_refusal, plan_of_rows, AreKept, IsFirstBroken}
-use Rattle.sync_topo.specs.private.Gives.{Refuses}
+use Rattle.sync_text.specs.Gives.{Refuses}
 use Rattle.sync_topo.specs.private.Steps.{Tells}
 use Rattle.sync_topo.proofs.RowLoops.{kept-front}
 
@@ -77,17 +78,10 @@ refused-first rows refusal = (
     was (Some other) h = cc
 
 -- what a step tells of all rules is what the rows are refused with
-pub Tells-all : (rows : PlanRows) (error : PlanErr) → Tells error (first_broken (rules_of rows)) → Refuses error (plan_of_rows rows)
+pub Tells-all : (rows : PlanRows) (error : NoAnswer PlanErr) → Tells error (first_broken (rules_of rows)) → Refuses error (plan_of_rows rows)
 unfolding plan_of_rows
-Tells-all rows (Limit place) t = rw t refl
-Tells-all rows (Name place) t = rw t refl
-Tells-all rows (Twice place) t = rw t refl
-Tells-all rows (NoElement place) t = rw t refl
-Tells-all rows (SelfLink place) t = rw t refl
-Tells-all rows (Range place) t = rw t refl
-Tells-all rows (Bundle place) t = rw t refl
-Tells-all rows (LevelName place) t = rw t refl
 Tells-all rows NoMemory t = tt
+Tells-all rows (Refused error) t = rw t refl
 
 -- the plan of rows that break no rule is what they say
 pub kept-plan : (rows : PlanRows) (plan : Topology) → first_broken (rules_of rows) ≡ None → plan ≡ plan_from rows → plan_of_rows rows ≡ Ok plan

@@ -1,14 +1,14 @@
 -- What is kept for each element when one more input or element comes.
-use Rattle.std.proofs.Common.{◌≡◌, ℕ, ◌<◌, true, nat_lt, List, [], ◌∷◌, ◌++◌, length, Some, None, slice_get, slice_set, get_or, refl, sym, arith, Vec}
-use Rattle.std.proofs.Common.{inl, inr, length-append}
-use Rattle.std.proofs.lemmas.Bool.{cases_lt, lt-ltb}
+use Rattle.std.proofs.Common.{◌≡◌, ℕ, ◌<◌, true, nat_lt, List, [], ◌∷◌, ◌++◌, length, Some, slice_get, slice_set, get_or, refl, sym, Vec}
+use Rattle.std.proofs.Common.{inl, inr}
+use Rattle.std.proofs.lemmas.Bool.{lt-ltb}
 use Rattle.std.specs.declared.alloc.Global.{Global}
 use Rattle.std.proofs.lemmas.Bool.Decides.{eqb_tells}
 use Rattle.std.proofs.lemmas.List.{append-nil}
-use Rattle.std.proofs.lemmas.Option.{slice_get_past, slice_get_read}
+use Rattle.std.proofs.lemmas.Option.{slice_get_read}
 use Rattle.sync_topo.specs.Held.{held}
 use Rattle.sync_topo.specs.private.Held.{taken}
-use Rattle.sync_topo.proofs.Lists.{slice_get-set_same, slice_get-set_other, slice_get-push_before, slice_get-push_last}
+use Rattle.sync_topo.proofs.Lists.{slice_get-set_same, slice_get-set_other}
 
 -- an input with a priority is kept for its element, and for no other
 pub held-take : {A : Type 0} (inputs : List (Vec A Global)) (own taken_too : Vec A Global) (receiver priority : ℕ) (input : A) (element : ℕ)
@@ -27,22 +27,4 @@ held-take inputs own taken_too receiver priority input element inside nominated 
           rw (at, before, given, same.0, pushed) refl
       | inr other ↦
           rw (slice_get-set_other inputs receiver element taken_too other.1, given, other.0) (sym (append-nil (held inputs element)))
-    ]
-
--- a new element has no inputs yet
-pub held-new : {A : Type 0} (inputs : List (Vec A Global)) (none : Vec A Global) (element : ℕ) → none.items ≡ []
-    → held (inputs ++ none ∷ []) element ≡ held inputs element
-held-new inputs none element empty =
-    elim (cases_lt element (length inputs)) [
-      | inl before ↦ rw (slice_get-push_before inputs none element before) refl
-      | inr beyond ↦ elim (cases_lt (length inputs) element) [
-        | inl past ↦
-            let far : slice_get (inputs ++ none ∷ []) element ≡ None = slice_get_past _ element (omega (arith, length-append inputs (none ∷ []))) in
-            let none_there : slice_get inputs element ≡ None = slice_get_past inputs element (omega arith) in
-            rw (far, none_there) refl
-        | inr end ↦
-            let e : element ≡ length inputs = omega arith in
-            let none_there : slice_get inputs element ≡ None = slice_get_past inputs element (omega arith) in
-            rw (slice_get-push_last inputs none element e, none_there, empty) refl
-      ]
     ]

@@ -4,7 +4,8 @@ use Rattle.std.specs.Prelude.{if◌then◌else◌}
 use Rattle.std.specs.Option.{option_or}
 use Rattle.std.proofs.lemmas.List.{map-append}
 use Rattle.sync_topo.specs.declared.error.PlanErr.{PlanErr}
-use Rattle.sync_topo.specs.declared.error.PlanErr.TheVariants.{Limit, Name, Twice, NoElement, SelfLink, Range, Bundle, LevelName, NoMemory}
+use Rattle.sync_text.specs.declared.errors.NoAnswer.{NoAnswer}
+use Rattle.sync_text.specs.declared.errors.NoAnswer.TheVariants.{NoMemory, Refused}
 use Rattle.sync_topo.specs.Rules.{Rule}
 use Rattle.sync_topo.specs.PlanRows.{first_broken}
 use Rattle.sync_topo.specs.private.Steps.{Tells, rows_from}
@@ -16,16 +17,9 @@ first_broken-append (x ∷ xs) ys =
     rw (first_broken-append xs ys) (elim (x.broken) as (λ b. (if b then Some x.refusal else option_or (first_broken xs) (first_broken ys)) ≡ option_or (if b then Some x.refusal else first_broken xs) (first_broken ys)) [ true ↦ refl | false ↦ refl ])
 
 -- what is told of a list of rules is told of it and what comes after it
-pub Tells-front : (error : PlanErr) (xs ys : List Rule) → Tells error (first_broken xs) → Tells error (first_broken (xs ++ ys))
-Tells-front (Limit place) xs ys t = first_broken-append xs ys ∙ (rw t refl)
-Tells-front (Name place) xs ys t = first_broken-append xs ys ∙ (rw t refl)
-Tells-front (Twice place) xs ys t = first_broken-append xs ys ∙ (rw t refl)
-Tells-front (NoElement place) xs ys t = first_broken-append xs ys ∙ (rw t refl)
-Tells-front (SelfLink place) xs ys t = first_broken-append xs ys ∙ (rw t refl)
-Tells-front (Range place) xs ys t = first_broken-append xs ys ∙ (rw t refl)
-Tells-front (Bundle place) xs ys t = first_broken-append xs ys ∙ (rw t refl)
-Tells-front (LevelName place) xs ys t = first_broken-append xs ys ∙ (rw t refl)
+pub Tells-front : (error : NoAnswer PlanErr) (xs ys : List Rule) → Tells error (first_broken xs) → Tells error (first_broken (xs ++ ys))
 Tells-front NoMemory xs ys t = tt
+Tells-front (Refused error) xs ys t = first_broken-append xs ys ∙ (rw t refl)
 
 -- rules that are kept change nothing for those after them
 pub kept-front : (xs ys : List Rule) → first_broken xs ≡ None → first_broken (xs ++ ys) ≡ first_broken ys
@@ -39,7 +33,7 @@ loop-kept rules own before row rest items total is next so_far kept =
     sym (kept-front (rules before row) (rows_from rules (before ++ row ∷ []) rest) (rw is at kept)) ∙ rw next at so_far
 
 -- or to one that does: its refusal is that of all rows
-pub loop-refused : {A : Type 0} (rules : List A → A → List Rule) (own : List Rule) (before : List A) (row : A) (rest items : List A) (total : Option PlanErr) (error : PlanErr)
+pub loop-refused : {A : Type 0} (rules : List A → A → List Rule) (own : List Rule) (before : List A) (row : A) (rest items : List A) (total : Option PlanErr) (error : NoAnswer PlanErr)
     → own ≡ rules before row → items ≡ row ∷ rest → first_broken (rows_from rules before items) ≡ total → Tells error (first_broken own) → Tells error total
 loop-refused rules own before row rest items total error is next so_far tells =
     let here : Tells error (first_broken (rules before row)) = rw is at tells in

@@ -8,6 +8,7 @@ use Rattle.sync_topo.specs.declared.rows.ElementRow.{ElementRow}
 use Rattle.sync_topo.specs.declared.rows.LinkRow.{LinkRow}
 use Rattle.sync_topo.specs.declared.rows.SourceRow.{SourceRow}
 use Rattle.sync_topo.specs.declared.rows.PlanRows.{PlanRows}
+use Rattle.sync_text.specs.declared.errors.NoAnswer.{NoAnswer}
 use Rattle.sync_topo.specs.declared.error.PlanErr.{PlanErr}
 use Rattle.sync_topo.specs.Topology.{Topology}
 use Rattle.sync_topo.specs.RowValues.{element_from, link_from, source_from}
@@ -69,7 +70,7 @@ source_rules-are rows option elements links o e l =
     ∙ rows_from-each (source_row_rules rows) rows.sources
 
 -- what is told of the limits, and then of each section, is told of all rules
-pub limits-told : (rows : PlanRows) (error : PlanErr) → Tells error (first_broken (limits_of rows)) → Tells error (first_broken (rules_of rows))
+pub limits-told : (rows : PlanRows) (error : NoAnswer PlanErr) → Tells error (first_broken (limits_of rows)) → Tells error (first_broken (rules_of rows))
 limits-told rows error tells =
     let A = limits_of rows in
     let B = each_row (element_row_rules rows) rows.elements in
@@ -77,7 +78,7 @@ limits-told rows error tells =
     let D = each_row (source_row_rules rows) rows.sources in
     Tells-front error (A ++ B ++ C) D (Tells-front error (A ++ B) C (Tells-front error A B tells))
 
-pub elements-told : (rows : PlanRows) (error : PlanErr) (own : List Rule) → first_broken (limits_of rows) ≡ None
+pub elements-told : (rows : PlanRows) (error : NoAnswer PlanErr) (own : List Rule) → first_broken (limits_of rows) ≡ None
     → own ≡ each_row (element_row_rules rows) rows.elements → Tells error (first_broken own) → Tells error (first_broken (rules_of rows))
 elements-told rows error own limits is tells =
     let A = limits_of rows in
@@ -88,7 +89,7 @@ elements-told rows error own limits is tells =
     let front : Tells error (first_broken (A ++ B)) = rw (kept-front A B limits) here in
     Tells-front error (A ++ B ++ C) D (Tells-front error (A ++ B) C front)
 
-pub links-told : (rows : PlanRows) (error : PlanErr) (elements own : List Rule) → first_broken (limits_of rows) ≡ None
+pub links-told : (rows : PlanRows) (error : NoAnswer PlanErr) (elements own : List Rule) → first_broken (limits_of rows) ≡ None
     → elements ≡ each_row (element_row_rules rows) rows.elements → first_broken elements ≡ None
     → own ≡ each_row (link_row_rules rows) rows.links → Tells error (first_broken own) → Tells error (first_broken (rules_of rows))
 links-told rows error elements own limits of_elements elements_kept is tells =
@@ -116,12 +117,12 @@ sources-last rows elements links own limits of_elements elements_kept of_links l
     kept-front (A ++ B ++ C) D (kept-front (A ++ B) C (kept-front A B limits ∙ kept_B) ∙ kept_C) ∙ ap first_broken (sym is)
 
 -- where the refusals are the same, a step that follows the one follows the other
-follows-same : {A : Type 0} (rules others : List Rule) (result : Result A PlanErr) → first_broken rules ≡ first_broken others
+follows-same : {A : Type 0} (rules others : List Rule) (result : Result A (NoAnswer PlanErr)) → first_broken rules ≡ first_broken others
     → Follows others result → Follows rules result
 follows-same rules others (Ok value) is kept = is ∙ kept
 follows-same rules others (Err error) is tells = rw is tells
 
-pub sources-follow : {A : Type 0} (rows : PlanRows) (elements links own : List Rule) (result : Result A PlanErr) → first_broken (limits_of rows) ≡ None
+pub sources-follow : {A : Type 0} (rows : PlanRows) (elements links own : List Rule) (result : Result A (NoAnswer PlanErr)) → first_broken (limits_of rows) ≡ None
     → elements ≡ each_row (element_row_rules rows) rows.elements → first_broken elements ≡ None
     → links ≡ each_row (link_row_rules rows) rows.links → first_broken links ≡ None
     → own ≡ each_row (source_row_rules rows) rows.sources → Follows own result → Follows (rules_of rows) result

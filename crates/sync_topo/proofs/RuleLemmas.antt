@@ -92,11 +92,6 @@ AreDistinct-fresh front name rest distinct =
           (slice_get-front front (name ∷ rest) place.0 place.1 ∙ place.2 ∙ sym (slice_get-middle front name rest)))
     ]
 
-pub AreDistinct-front : (names more : List (List ℕ)) → AreDistinct (names ++ more) → AreDistinct names
-AreDistinct-front names more distinct i j before within same =
-    let size : length (names ++ more) ≡ length names + length more = length-append names more in
-    distinct i j before (omega (arith, size)) (slice_get-front names more i (omega arith) ∙ same ∙ sym (slice_get-front names more j within))
-
 -- each of some names is a name
 pub list_all-middle : (front : List (List ℕ)) (name : List ℕ) (rest : List (List ℕ)) → list_all is_name (front ++ name ∷ rest) ≡ true → is_name name ≡ true
 list_all-middle front name rest all =

@@ -31,7 +31,7 @@ rows-within size rows few_elements few_links few_sources =
     rw (elements, links, sources) refl
 
 -- so that a plan of what they say is no larger than the size
-pub within-gives : (size : Size) (rows : PlanRows) (result : Result Topology PlanErr) → IfOk result (λ plan. plan ≡ plan_from rows) → is_within size (plan_from rows) ≡ true
+pub within-gives : {E : Type 0} (size : Size) (rows : PlanRows) (result : Result Topology E) → IfOk result (λ plan. plan ≡ plan_from rows) → is_within size (plan_from rows) ≡ true
     → IfOk result (λ plan. is_within size plan ≡ true)
 within-gives size rows (Ok plan) same within = subst (λ p. is_within size p ≡ true) (sym same) within
 within-gives size rows (Err error) same within = tt
@@ -86,17 +86,6 @@ well-within plan well =
     let links : nat_le (length plan.links) link_limit ≡ true = le-leb (length plan.links) link_limit well.few_links in
     let sources : nat_le (length plan.sources) source_limit ≡ true = le-leb (length plan.sources) source_limit well.few_sources in
     rw (elements, links, sources) refl
-
--- a plan that is no larger than a standard one is of standard size
-pub standard-size : (plan : Topology) → is_within Standard plan ≡ true → size_of plan ≡ Standard
-unfolding size_of
-standard-size plan within = rw within refl
-
--- plans with as many elements, links and sources are of one size
-pub same-size : (plan other : Topology) → length plan.elements ≡ length other.elements → length plan.links ≡ length other.links → length plan.sources ≡ length other.sources
-    → size_of plan ≡ size_of other
-unfolding size_of
-same-size plan other elements links sources = rw (elements, links, sources) refl
 
 -- the elements of a plan are no more than the events that it may have
 pub elements-few : (plan : Topology) → IsWellFormed plan → length plan.elements ≤ event_limit plan

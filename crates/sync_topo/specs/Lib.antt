@@ -13,7 +13,6 @@ pub mod PlanRows
 pub mod RowsOfPlan
 pub mod Refusal
 pub mod WellFormed
-pub mod Gives
 pub mod Held
 pub mod Outputs
 pub mod Indexed

@@ -1,29 +1,27 @@
 -- What a refusal of rows tells.
-use Rattle.std.specs.Prelude.{ℕ, Option, Some, None}
+use Rattle.std.specs.Prelude.{ℕ}
 use Rattle.sync_topo.specs.declared.place.Place.{Place}
 use Rattle.sync_topo.specs.declared.error.PlanErr.{PlanErr}
-use Rattle.sync_topo.specs.declared.error.PlanErr.TheVariants.{Limit, Name, Twice, NoElement, SelfLink, Range, Bundle, LevelName, NoMemory}
+use Rattle.sync_topo.specs.declared.error.PlanErr.TheVariants.{Limit, Name, Twice, NoElement, SelfLink, Range, Bundle, LevelName}
 
--- the number by which a refusal is printed; out of memory has none. This project's own
-abbrev pub refusal_number : PlanErr → Option ℕ
-refusal_number (Limit place) = Some 15
-refusal_number (Name place) = Some 16
-refusal_number (Twice place) = Some 17
-refusal_number (NoElement place) = Some 18
-refusal_number (SelfLink place) = Some 19
-refusal_number (Range place) = Some 20
-refusal_number (LevelName place) = Some 21
-refusal_number (Bundle place) = Some 39
-refusal_number NoMemory = None
+-- the number by which a refusal is printed. This project's own
+abbrev pub refusal_number : PlanErr → ℕ
+refusal_number (Limit place) = 15
+refusal_number (Name place) = 16
+refusal_number (Twice place) = 17
+refusal_number (NoElement place) = 18
+refusal_number (SelfLink place) = 19
+refusal_number (Range place) = 20
+refusal_number (LevelName place) = 21
+refusal_number (Bundle place) = 39
 
 -- the row that breaks the rule
-abbrev pub refused_place : PlanErr → Option Place
-refused_place (Limit place) = Some place
-refused_place (Name place) = Some place
-refused_place (Twice place) = Some place
-refused_place (NoElement place) = Some place
-refused_place (SelfLink place) = Some place
-refused_place (Range place) = Some place
-refused_place (LevelName place) = Some place
-refused_place (Bundle place) = Some place
-refused_place NoMemory = None
+abbrev pub refused_place : PlanErr → Place
+refused_place (Limit place) = place
+refused_place (Name place) = place
+refused_place (Twice place) = place
+refused_place (NoElement place) = place
+refused_place (SelfLink place) = place
+refused_place (Range place) = place
+refused_place (LevelName place) = place
+refused_place (Bundle place) = place

@@ -1,7 +1,6 @@
 -- What no public clause rests on: who reads contracts alone need not read it.
 pub mod Ends
 pub mod Examples
-pub mod Gives
 pub mod Held
 pub mod Hops
 pub mod Indexed

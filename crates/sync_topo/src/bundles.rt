@@ -1,4 +1,4 @@
-ghost use Rattle.std.specs.Prelude.{◌≡◌, [], ◌∷◌, ◌++◌, ◌<◌, ◌^◌, length, List, OnOk, Some, is_some, slice_get, IfOk};
+ghost use Rattle.std.specs.Prelude.{◌≡◌, [], ◌∷◌, ◌++◌, ◌<◌, ◌^◌, length, List, OnOk, Some, is_some, slice_get};
 ghost use Rattle.sync_topo.specs.declared.link.Link.{Link};
 ghost use Rattle.sync_topo.specs.Names.{is_named};
 ghost use Rattle.sync_topo.specs.private.Kept.{first_beside, AreBundlesOf};

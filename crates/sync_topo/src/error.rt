@@ -4,7 +4,6 @@ ghost use Rattle.std.specs.Prelude.{◌≡◌};
 ghost use Rattle.sync_topo.specs.Refusal.{refusal_number, refused_place};
 
 use crate::place::Place;
-use sync_text::NoMemory;
 use thiserror::Error;
 
 /// The first rule for plans that rows break, and the row that breaks it.
@@ -40,35 +39,31 @@ pub enum PlanErr {
     /// lowest level that an element accepts.
     #[error("{0}: a name is no level that may stand here")]
     LevelName(Place),
-    /// Out of memory.
-    #[error("out of memory")]
-    NoMemory,
 }
 
 impl PlanErr {
     /// The number by which the refusal is printed: 15 to 21, and 39.
     ///
-    /// `None` when out of memory, which refuses no row. This project's own.
-    pub fn number(self) -> Option<u8>
+    /// This project's own.
+    pub fn number(self) -> u8
         ensures { result ≡ refusal_number self }
     {
         match self {
-            PlanErr::Limit(_) => Some(15),
-            PlanErr::Name(_) => Some(16),
-            PlanErr::Twice(_) => Some(17),
-            PlanErr::NoElement(_) => Some(18),
-            PlanErr::SelfLink(_) => Some(19),
-            PlanErr::Range(_) => Some(20),
-            PlanErr::LevelName(_) => Some(21),
-            PlanErr::Bundle(_) => Some(39),
-            PlanErr::NoMemory => None,
+            PlanErr::Limit(_) => 15,
+            PlanErr::Name(_) => 16,
+            PlanErr::Twice(_) => 17,
+            PlanErr::NoElement(_) => 18,
+            PlanErr::SelfLink(_) => 19,
+            PlanErr::Range(_) => 20,
+            PlanErr::LevelName(_) => 21,
+            PlanErr::Bundle(_) => 39,
         }
     }
 
     /// The row that breaks the rule.
     ///
-    /// `None` when out of memory, which refuses no row. This project's own.
-    pub fn place(self) -> Option<Place>
+    /// This project's own.
+    pub fn place(self) -> Place
         ensures { result ≡ refused_place self }
     {
         match self {
@@ -79,18 +74,7 @@ impl PlanErr {
             | PlanErr::SelfLink(place)
             | PlanErr::Range(place)
             | PlanErr::Bundle(place)
-            | PlanErr::LevelName(place) => Some(place),
-            PlanErr::NoMemory => None,
+            | PlanErr::LevelName(place) => place,
         }
-    }
-}
-
-impl From<NoMemory> for PlanErr {
-    ghost use Rattle.sync_topo.specs.declared.error.PlanErr.TheVariants as refusal;
-
-    ghost from_gives = { λ _ e. e ≡ refusal.NoMemory };
-
-    fn from(_: NoMemory) -> PlanErr {
-        PlanErr::NoMemory
     }
 }

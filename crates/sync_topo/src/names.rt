@@ -1,4 +1,4 @@
-ghost use Rattle.std.specs.Prelude.{◌≡◌, [], ◌∷◌, ◌++◌, false, true, not, IfOk, OnOk, OnErr, is_some, IfSome, Some, slice_get, length, ◌<◌};
+ghost use Rattle.std.specs.Prelude.{◌≡◌, [], ◌∷◌, ◌++◌, false, not, OnOk, is_some, IfSome, Some, slice_get, length, ◌<◌};
 ghost use Rattle.std.specs.List.{list_all};
 ghost use Rattle.sync_topo.specs.Names.{is_name, is_name_byte, is_named, place_of};
 

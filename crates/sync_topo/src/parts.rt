@@ -26,7 +26,7 @@ use crate::wiring::Wiring;
 use std::alloc::Global;
 use sync_ql::NetOption;
 use sync_ql::limits::MOST_INPUTS;
-use sync_text::{NoMemory, Text};
+use sync_text::{NoAnswer, NoMemory, Text};
 
 /// What a plan keeps: what it holds, and indexes that are found from that.
 #[derive(Drop)]
@@ -101,7 +101,7 @@ impl PlanTables {
     }
 
     /// What the rows give, or the refusal of the first rule that they break.
-    pub(crate) fn of_rows(alloc: Global, rows: PlanRows) -> Result<PlanTables, PlanErr>
+    pub(crate) fn of_rows(alloc: Global, rows: PlanRows) -> Result<PlanTables, NoAnswer<PlanErr>>
         ensures rules { Follows (rules_of rows) result }
         ensures indexed { IfOk result IsIndexed }
         ensures plan { IfOk result (λ parts. topology parts ≡ plan_from rows) }
@@ -120,7 +120,7 @@ impl PlanTables {
     /// Puts the rows of the three sections, in order, into parts that hold none yet.
     ///
     /// After a refusal the parts are spent.
-    fn add_rows(&mut self, alloc: Global, rows: PlanRows) -> Result<(), PlanErr>
+    fn add_rows(&mut self, alloc: Global, rows: PlanRows) -> Result<(), NoAnswer<PlanErr>>
         requires indexed { IsIndexed self.old }
         requires option { self.old.option ≡ rows.option }
         requires no_elements { self.old.elements.items ≡ [] }
@@ -166,7 +166,7 @@ impl PlanTables {
 }
 
 /// No section has more rows than a plan of the size may have.
-pub(crate) fn check_size(size: Size, rows: &PlanRows) -> Result<(), PlanErr>
+pub(crate) fn check_size(size: Size, rows: &PlanRows) -> Result<(), NoAnswer<PlanErr>>
     ensures rules { Follows (size_limits size rows.now) result }
     ensures few_elements { OnOk result (length rows.now.elements ≤ most_elements size) }
     ensures few_links { OnOk result (length rows.now.links ≤ most_links size) }
@@ -174,15 +174,15 @@ pub(crate) fn check_size(size: Size, rows: &PlanRows) -> Result<(), PlanErr>
 {
     let elements = size.most_elements();
     if elements < rows.elements.as_slice().len() {
-        return Err(PlanErr::Limit(row_after(Section::Elements, elements)));
+        return Err(NoAnswer::Refused(PlanErr::Limit(row_after(Section::Elements, elements))));
     }
     let links = size.most_links();
     if links < rows.links.as_slice().len() {
-        return Err(PlanErr::Limit(row_after(Section::Links, links)));
+        return Err(NoAnswer::Refused(PlanErr::Limit(row_after(Section::Links, links))));
     }
     let sources = size.most_sources();
     if sources < rows.sources.as_slice().len() {
-        return Err(PlanErr::Limit(row_after(Section::Sources, sources)));
+        return Err(NoAnswer::Refused(PlanErr::Limit(row_after(Section::Sources, sources))));
     }
     Ok(())
 }

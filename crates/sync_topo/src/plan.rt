@@ -1,9 +1,9 @@
 ghost use Rattle.std.specs.Prelude.{◌≡◌, ℕ, ◌+◌, ◌*◌, ◌<◌, ◌≤◌, ◌↔◌, IsTrue, IfOk, Ok, Err, length, slice_get, Some, is_some};
 ghost use Rattle.std.specs.List.{All};
-ghost use Rattle.sync_topo.specs.Lines.{line_count, sender_of, receiver_of, reverse_of, delay_of, priority_of, is_nominated, inputs_of, lines_out, element_of, place_at, input_number, input_priority, is_nominated_input, IsInput};
+ghost use Rattle.sync_topo.specs.Lines.{line_count, sender_of, receiver_of, reverse_of, delay_of, priority_of, inputs_of, lines_out, element_of, place_at, input_number, input_priority, is_nominated_input, IsInput};
 ghost use Rattle.sync_topo.specs.Bundles.{bundle_of};
 ghost use Rattle.sync_topo.specs.Hops.{goes_back};
-ghost use Rattle.sync_topo.specs.Gives.{Gives};
+ghost use Rattle.sync_text.specs.Gives.{Gives};
 ghost use Rattle.sync_topo.specs.Limits.{input_limit, least_delay, greatest_delay};
 ghost use Rattle.sync_topo.specs.RowValues.{plan_from};
 ghost use Rattle.sync_topo.specs.PlanRows.{rules_of, plan_of_rows, AreKept, IsFirstBroken};
@@ -29,6 +29,7 @@ use std::alloc::Global;
 use std::fmt;
 use std::marker::Model;
 use sync_ql::NetOption;
+use sync_text::NoAnswer;
 
 /// A plan that keeps every rule.
 ///
@@ -79,7 +80,7 @@ impl Plan {
     /// `Twice`, `NoElement`, `SelfLink`, `Range`, `Bundle`, and `Limit` where an end has a 65th
     /// nominated input by this row. Then each source row: `Name`, `Twice`, `NoElement`, `Range`,
     /// `LevelName`, and `Limit` as for links. This project's own.
-    pub fn new(alloc: Global, rows: PlanRows) -> Result<Plan, PlanErr>
+    pub fn new(alloc: Global, rows: PlanRows) -> Result<Plan, NoAnswer<PlanErr>>
         ensures exact { Gives result (plan_of_rows rows) }
         ensures well_formed { IfOk result (λ plan. IsWellFormed plan) }
         ensures plan { IfOk result (λ plan. plan ≡ plan_from rows) }

@@ -1,9 +1,6 @@
 -- What stands behind the rows of a report.
-use Rattle.std.proofs.Common.{◌≡◌, ◌<◌, ◌+◌, ◌-◌, ℕ, suc, List, [], ◌∷◌, ◌++◌, length, map, Some, slice_get, sym, ap, ◌∙◌, arith}
-use Rattle.std.specs.List.{concat, range_with_len}
-use Rattle.std.proofs.lemmas.List.{length-map, append_assoc, append-nil}
-use Rattle.std.proofs.lemmas.List.Folds.{concat-append}
-use Rattle.std.proofs.lemmas.List.FromFn.{map-range_with_len_more}
+use Rattle.std.proofs.Common.{◌≡◌, ◌<◌, ◌+◌, ◌-◌, ℕ, suc, List, [], ◌∷◌, ◌++◌, length, Some, slice_get, sym, ap, ◌∙◌, arith}
+use Rattle.std.proofs.lemmas.List.{length-map, append_assoc}
 use Rattle.sync_ql.specs.declared.rules.Cond.{Cond}
 use Rattle.sync_ql.specs.Pasts.{past_of}
 use Rattle.sync_ql.specs.Condition.{condition_at}
@@ -64,14 +61,6 @@ condition-now plan signals out e until place count passed input element told at 
 
     after : until + 1 ≡ suc until
     after = omega arith
-
--- the rows of one number more
-pub one-number : (f : ℕ → List ℕ) (n : ℕ) (old before row : List ℕ) → before ≡ old ++ concat (map f (range_with_len 0 n))
-    → row ≡ f n → before ++ row ≡ old ++ concat (map f (range_with_len 0 (n + 1)))
-one-number f n old before row so_far is =
-    let rows : List ℕ = concat (map f (range_with_len 0 n)) in
-    ap (λ front. front ++ row) so_far ∙ append_assoc old rows row ∙ ap (λ r. old ++ (rows ++ r)) (is ∙ sym (append-nil (f n)))
-    ∙ ap (λ r. old ++ r) (sym (ap concat (map-range_with_len_more f 0 n n (omega arith)) ∙ concat-append (map f (range_with_len 0 n)) (f n ∷ [])))
 
 -- three texts put one after another
 pub three-parts : (old one two three first second third : List ℕ) → one ≡ old ++ first → two ≡ one ++ second → three ≡ two ++ third

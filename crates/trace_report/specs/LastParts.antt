@@ -1,6 +1,6 @@
 -- The last parts of a report: whence each element has its timing, which loops stand, and whether the
 -- last millisecond is settled. This project's own.
-use Rattle.std.specs.Prelude.{◌≡◌, ◌↔◌, ℕ, Bool, true, false, IsTrue, List, [], ◌++◌, length, map, codes, Some, slice_get}
+use Rattle.std.specs.Prelude.{◌≡◌, ◌↔◌, ℕ, Bool, true, false, IsTrue, List, [], ◌++◌, length, map, codes, slice_get}
 use Rattle.std.specs.List.{range_with_len, concat}
 use Rattle.std.specs.Option.{option_map_or}
 use Rattle.std.specs.Fmt.{decimal}

@@ -10,15 +10,15 @@ use Rattle.sync_topo.specs.Lines.{element_name, input_name}
 use Rattle.shown_words.specs.Words.{state_word, choice_text}
 use Rattle.event_sim.specs.declared.change.Change.{Change}
 
--- what an element has of what it chose: level,state
+-- what an element has of what it chose, which ends its row: level,state
 abbrev pub level_text : Change → List ℕ
-level_text change = name_of change.level ++ codes "," ++ state_word change.state
+level_text change = name_of change.level ++ codes "," ++ state_word change.state ++ codes "\n"
 
 -- a change: t,element,mode,input,level,state
 abbrev pub change_row : Topology → Change → List ℕ
 change_row plan change =
     decimal change.at ++ codes "," ++ choice_text plan change.element change.mode change.input ++ codes ","
-    ++ level_text change ++ codes "\n"
+    ++ level_text change
 
 -- the condition of an input, and how many milliseconds are left of it: 0 where it doesn't end by itself
 abbrev pub condition_word : Cond → List ℕ

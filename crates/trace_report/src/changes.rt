@@ -7,7 +7,7 @@ ghost use Rattle.trace_report.specs.Words.{change_row, level_text};
 ghost use Rattle.trace_report.specs.Report.{changes_part};
 
 use event_sim::Change;
-use shown_words::{put_choice, state_word};
+use shown_words::{put_choice, state_column};
 use std::alloc::Global;
 use sync_ql::name_of;
 use sync_text::{NoMemory, Text};
@@ -48,15 +48,13 @@ pub fn put_change(
     text.put(b",")?;
     put_choice(alloc, text, plan, change.element, change.mode, change.input)?;
     text.put(b",")?;
-    put_level(text, change)?;
-    text.put(b"\n")
+    put_level(text, change)
 }
 
-/// Puts what it has of that.
+/// Puts what it has of that, which ends the row.
 fn put_level(text: &mut Text, change: &Change) -> Result<(), NoMemory>
     ensures put { OnOk result (text.new ≡ text.old ++ level_text change.now) }
 {
     text.put(name_of(change.level).as_bytes())?;
-    text.put(b",")?;
-    text.put(state_word(change.state))
+    text.put(state_column(change.state))
 }

@@ -2,16 +2,17 @@
 use Rattle.std.specs.Prelude.{◌≡◌, ℕ, ◌+◌, ◌<◌, Bool, true, false, List, [], ◌∷◌, ◌++◌, codes, length, take, drop, Option, None, Some, Result, Ok, Err, if◌then◌else◌}
 use Rattle.std.specs.Borrow.{Bor}
 use Rattle.std.specs.Str.{bytes_eq}
+use Rattle.sync_text.specs.declared.errors.NoAnswer.{NoAnswer}
+use Rattle.sync_text.specs.Gives.{Refuses}
 use Rattle.capture_text.specs.declared.error.CaptureErr.{CaptureErr}
-use Rattle.capture_text.specs.private.Gives.{Refuses}
 use Rattle.capture_text.specs.Row.{fields_behind}
 use Rattle.esmc_frame.specs.declared.frame.Extended.{Extended}
 use Rattle.hex.specs.Hex.{IsBytes}
 
 -- the answer of a step that has made the value is the definition's
-abbrev pub GivesThat : {A : Type 0} → Result (Unit {0}) CaptureErr → A → Result A CaptureErr → Type 0
+abbrev pub GivesThat : {A : Type 0} → Result (Unit {0}) (NoAnswer CaptureErr) → A → Result A CaptureErr → Type 0
 GivesThat (Ok done) value answer = answer ≡ Ok value
-GivesThat (Err error) value answer = Refuses error answer
+GivesThat (Err failed) value answer = Refuses failed answer
 
 -- a text, and what is put behind it
 abbrev pub with_front : List ℕ → Result (List ℕ) CaptureErr → Result (List ℕ) CaptureErr

@@ -11,8 +11,8 @@ use Rattle.sync_topo.specs.declared.returns.ReturnRule.{ReturnRule}
 use Rattle.sync_topo.specs.Hops.{HopsBy, hops_by}
 use Rattle.cycle_plan.specs.private.Numbers.{number_in, number_out}
 use Rattle.cycle_plan.specs.private.Inputs.{AreOpenInputs}
-use Rattle.cycle_plan.specs.private.Tops.{rank_after}
-use Rattle.cycle_plan.specs.declared.top.GreatestRanks.{GreatestRanks}
+use Rattle.cycle_plan.specs.private.Greatest.{greatest_but}
+use Rattle.cycle_plan.specs.declared.greatest.Greatest.{Greatest}
 use Rattle.cycle_plan.specs.declared.inputs.OpenInputs.{OpenInputs}
 use Rattle.cycle_plan.specs.declared.ranking.Ranking.{Ranking}
 
@@ -122,13 +122,13 @@ AreFree returns plan ranks element only =
     (line from : ℕ) → IsNominated plan line → sender_of plan line ≡ element → IsAmong returns plan only line → HopsBy returns plan from line → rank_at ranks from ≢ None
 
 -- each of them comes next after all inputs of the element but those of its own bundle
-abbrev pub AreNext : ReturnRule → Topology → Ranks → ℕ → Option ℕ → GreatestRanks → Type 0
+abbrev pub AreNext : ReturnRule → Topology → Ranks → ℕ → Option ℕ → Greatest → Type 0
 AreNext returns plan ranks element only top =
     (line : ℕ) → IsNominated plan line → sender_of plan line ≡ element → IsAmong returns plan only line
-    → IsNext (hops_by returns plan) (rank_at ranks) line (rank_after top (number_out returns plan line))
+    → IsNext (hops_by returns plan) (rank_at ranks) line (greatest_but top (number_out returns plan line))
 
 -- the same, for any line to which no line without a rank hops
-abbrev pub IsTopOf : ReturnRule → Topology → Ranks → ℕ → GreatestRanks → Type 0
+abbrev pub IsTopOf : ReturnRule → Topology → Ranks → ℕ → Greatest → Type 0
 IsTopOf returns plan ranks element top =
     (line : ℕ) → IsNominated plan line → sender_of plan line ≡ element → ((from : ℕ) → HopsBy returns plan from line → rank_at ranks from ≢ None)
-    → IsNext (hops_by returns plan) (rank_at ranks) line (rank_after top (number_out returns plan line))
+    → IsNext (hops_by returns plan) (rank_at ranks) line (greatest_but top (number_out returns plan line))

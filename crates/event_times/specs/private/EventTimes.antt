@@ -1,11 +1,11 @@
--- Beside specs/EventTimes.antt, under no public clause: when the events of a plan stand, and which come next.
-use Rattle.std.specs.Prelude.{◌≡◌, ℕ, List}
+-- Beside specs/EventTimes.antt, under no public clause: the events at a millisecond.
+use Rattle.std.specs.Prelude.{◌≡◌, ◌<◌, ℕ, suc, List}
 use Rattle.sync_topo.specs.declared.event.Event.{Event}
-use Rattle.sync_topo.specs.Topology.{Topology}
-use Rattle.sync_topo.specs.Events.{IsEventList}
 use Rattle.net_rules.specs.Signals.{events_at}
+use Rattle.event_times.specs.EventTimes.{AreBetween}
 
--- of all events, these stand at a millisecond
-pub record AreHere (plan : Topology) (all : List Event) (t : ℕ) (told : List Event) : Type 0 where
-  pub ordered : IsEventList plan all
-  pub here : events_at t all ≡ told
+-- the events at a millisecond, and the later ones
+pub record AreParted (now until : ℕ) (events told later : List Event) : Type 0 where
+  pub here : events_at now events ≡ told
+  pub rest : (t : ℕ) → now < t → events_at t events ≡ events_at t later
+  pub between : AreBetween (suc now) until later

@@ -7,7 +7,7 @@ use plan_file::read_plan;
 use std::alloc::Global;
 use std::process::Abort;
 use std::test::Fail;
-use sync_text::{NoMemory, Text};
+use sync_text::{NoAnswer, NoMemory, Text};
 use sync_topo::{Plan, Size};
 use test_makers::CHAIN;
 
@@ -75,7 +75,7 @@ fn front_is_refused(
     for size in [1, 2, file.len()] {
         match fed(rt.alloc(), plan, front, size, 1000) {
             Ok(_) => assert!(rt; false),
-            Err(error) => assert!(rt; error == want),
+            Err(error) => assert!(rt; error == NoAnswer::Refused(want)),
         }
     }
 }

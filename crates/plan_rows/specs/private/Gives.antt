@@ -1,14 +1,14 @@
--- Beside specs/Gives.antt, under no public clause: what the reading of a plan file answers.
+-- Beside specs/Gives.antt, under no public clause: answers whose values stand for what `see` makes of them.
 use Rattle.std.specs.Prelude.{◌≡◌, Result, Ok, Err}
-use Rattle.sync_text.specs.Gives.{RefusesBut}
-use Rattle.plan_rows.specs.declared.error.PlanFileErr.{PlanFileErr}
-use Rattle.plan_rows.specs.Gives.{is_no_memory}
+use Rattle.sync_text.specs.declared.errors.NoAnswer.{NoAnswer}
+use Rattle.sync_text.specs.Gives.{Refuses}
 
--- the refusal is the definition's; out of memory says nothing
-abbrev pub Refuses : {A : Type 0} → PlanFileErr → Result A PlanFileErr → Type 0
-Refuses error answer = RefusesBut is_no_memory error answer
+-- the answer is the definition's, value or refusal
+abbrev pub Sees : {A B E : Type 0} → (A → B) → Result A E → Result B E → Type 0
+Sees see (Ok value) answer = answer ≡ Ok (see value)
+Sees see (Err error) answer = answer ≡ Err error
 
--- the same of a value that stands for what `see` makes of it
-abbrev pub GivesBy : {A B : Type 0} → (A → B) → Result A PlanFileErr → Result B PlanFileErr → Type 0
+-- the same, and out of memory says nothing
+abbrev pub GivesBy : {A B E : Type 0} → (A → B) → Result A (NoAnswer E) → Result B E → Type 0
 GivesBy see (Ok value) answer = answer ≡ Ok (see value)
-GivesBy see (Err error) answer = Refuses error answer
+GivesBy see (Err failed) answer = Refuses failed answer

@@ -1,5 +1,5 @@
 -- Private to this crate: what a run keeps, and how far it has come.
-use Rattle.std.specs.Prelude.{◌≡◌, ◌≤◌, ◌<◌, ℕ, suc, false, List, [], ◌++◌, length, map, slice_index_or, Option, None, IfSome}
+use Rattle.std.specs.Prelude.{◌≡◌, ◌≤◌, ◌<◌, ℕ, false, List, [], ◌++◌, length, map, slice_index_or, Option, None, IfSome}
 use Rattle.sync_ql.specs.declared.rules.InputEvent.{InputEvent}
 use Rattle.sync_ql.specs.declared.rules.Mode.TheVariants.{Auto}
 use Rattle.sync_ql.specs.declared.rules.ClockState.TheVariants.{FreeRun}
@@ -14,7 +14,7 @@ use Rattle.sync_topo.specs.declared.input.InputId.{InputId}
 use Rattle.sync_topo.specs.Topology.{Topology}
 use Rattle.sync_topo.specs.Lines.{IsInput}
 use Rattle.net_rules.specs.Signals.{signals_by}
-use Rattle.event_times.specs.EventTimes.{AreTold, AreWithin}
+use Rattle.event_times.specs.EventTimes.{AreTold, AreAhead, MomentsLeft}
 use Rattle.net_words.specs.NewElements.{IsNewElement, by_priority}
 use Rattle.net_words.specs.Tellings.{told_to}
 use Rattle.prio_mode.specs.declared.shown.Shown.{Shown}
@@ -105,10 +105,10 @@ HasRun plan events n run first text = RunStands plan events n run ×
     (text ≡ first ++ rows_until plan events n)
 
 -- how far it has come with events up to a millisecond, of which some are left
-pub record IsOnWay (plan : Topology) (events rest : List Event) (next until : ℕ) (before run : Run)
-    (first text : List ℕ) : Type 0 where
-  pub run_is : IsRun plan next run
-  pub within : AreWithin plan next until rest
+pub record IsOnWay (plan : Topology) (events : List Event) (left : MomentsLeft) (until : ℕ)
+    (before run : Run) (first text : List ℕ) : Type 0 where
+  pub run_is : IsRun plan left.next run
+  pub until_same : left.until ≡ until
+  pub ahead : (all : List Event) → AreTold plan all 0 until events → AreAhead plan all left
   pub stands : (all : List Event) → AreTold plan all 0 until events → RunStands plan all 0 before
-      → AreTold plan all next until rest × HasRun plan all next run first text
-  pub up_to : next ≤ suc until
+      → HasRun plan all left.next run first text

@@ -1,5 +1,5 @@
 -- Private to this crate: inputs before the first step.
-use Rattle.std.specs.Prelude.{◌≡◌, ◌<◌, ℕ, true, false, not, [], length, map, replicate, slice_index_or, Option, None}
+use Rattle.std.specs.Prelude.{◌≡◌, ◌<◌, ℕ, true, false, not, [], length, map, slice_index_or, Option, None}
 use Rattle.sync_ql.specs.declared.levels.Level.{Level}
 use Rattle.sync_ql.specs.declared.rules.Cond.TheVariants.{Good}
 use Rattle.sync_ql.specs.declared.rules.Candidate.{Candidate}
@@ -9,7 +9,7 @@ use Rattle.sync_element.specs.declared.config.Config.{Config}
 use Rattle.sync_element.specs.declared.config.InputConfig.{InputConfig}
 use Rattle.sync_element.specs.declared.watched.Watched.{Watched}
 use Rattle.sync_element.specs.Configured.{settings_of}
-use Rattle.sync_element.specs.Kept.{InputsKept, watched_in}
+use Rattle.sync_element.specs.Kept.{InputsKept, dues_of, watched_in}
 
 -- an input that was told nothing, with its first level
 pub record HasFirst (config : Config) (first : Option Level) (w : Watched) : Type 0 where
@@ -33,5 +33,5 @@ first_candidate floor input = record { level = input.first; priority = input.pri
 pub record AreNew (config : Config) (x : InputsKept) : Type 0 where
   pub count : length x.watched ≡ length config.inputs
   pub new : (i : ℕ) → i < length config.inputs → IsNew config i (watched_in x.watched i)
-  pub dues : x.dues ≡ replicate (length config.inputs) None
+  pub dues : x.dues ≡ dues_of x.watched
   pub candidates : x.candidates ≡ map (first_candidate config.floor) config.inputs

@@ -1,35 +1,18 @@
 -- The answer to `chains`.
-use Rattle.std.specs.Prelude.{◌≡◌, ℕ, List, [], ◌++◌, length, map, codes, slice_get}
-use Rattle.std.specs.List.{concat, range_with_len}
-use Rattle.std.specs.Option.{option_map_or}
-use Rattle.std.specs.Fmt.{decimal}
+use Rattle.std.specs.Prelude.{◌≡◌, ℕ, List}
 use Rattle.sync_topo.specs.Topology.{Topology}
-use Rattle.sync_topo.specs.Lines.{element_name}
-use Rattle.sync_topo.specs.Hops.{hops, IsCycle}
-use Rattle.sync_topo.specs.Ranks.{IsFirstCycle}
+use Rattle.sync_topo.specs.Hops.{IsCycle}
 use Rattle.reach_rules.specs.declared.chain.Chain.{Chain}
 use Rattle.reach_rules.specs.Chains.{AreRows}
+use Rattle.plan_texts.specs.Chains.{chains_text}
 use Rattle.sync_top.specs.declared.status.Status.{Status}
-use Rattle.sync_top.specs.declared.status.Status.TheVariants.{Done, Refuted}
-use Rattle.sync_top.specs.Forms.Rank.{cycle_text}
+use Rattle.sync_top.specs.Status.{OnDoneOrRefuted}
+use Rattle.sync_top.specs.Forms.Rank.{IsCycleText}
 
--- the three numbers of a row
-abbrev pub numbers_text : Chain → List ℕ
-numbers_text row =
-    codes "," ++ decimal row.links ++ codes "," ++ decimal row.since ++ codes "," ++ decimal row.clocks ++ codes "\n"
+-- the rows of the longest chains, where the plan has no cycle of hops
+abbrev pub IsChainsText : Topology → List ℕ → Type 0
+IsChainsText plan text = ((lines : List ℕ) → ¬ IsCycle plan lines) × ((rows : List Chain) × AreRows plan rows × (text ≡ chains_text plan rows))
 
--- the row of an element: its name, its lines in all, those since the last filter, and its filters
-abbrev pub chains_row : Topology → List Chain → ℕ → List ℕ
-chains_row plan rows element = element_name plan element ++ option_map_or numbers_text (slice_get rows element) []
-
--- a row for each element, in order
-abbrev pub chains_text : Topology → List Chain → List ℕ
-chains_text plan rows =
-    codes "element,links,since,clocks\n" ++ concat (map (chains_row plan rows) (range_with_len 0 (length plan.elements)))
-
--- the rows of the longest chains, where the plan has no cycle of hops; or the first cycle
+-- so; or the first cycle
 abbrev pub IsChained : Topology → Status → List ℕ → Type 0
-IsChained plan Done text =
-    ((lines : List ℕ) → ¬ IsCycle plan lines) × ((rows : List Chain) × AreRows plan rows × (text ≡ chains_text plan rows))
-IsChained plan Refuted text = (lines : List ℕ) × IsFirstCycle (hops plan) lines × (text ≡ cycle_text plan lines)
-IsChained plan status text = ⊥
+IsChained plan status text = OnDoneOrRefuted status (IsChainsText plan text) (IsCycleText plan text)

@@ -1,51 +1,22 @@
 -- The answer to `protected`.
-use Rattle.std.specs.Prelude.{◌≡◌, ◌≢◌, ℕ, List, [], ◌++◌, map, codes, slice_get, unwrap_or}
-use Rattle.std.specs.List.{concat}
-use Rattle.std.specs.Option.{option_map_or}
-use Rattle.std.specs.Fmt.{decimal}
-use Rattle.sync_topo.specs.declared.link.Link.{Link}
+use Rattle.std.specs.Prelude.{◌≡◌, ◌≢◌, ℕ, List, [], codes}
 use Rattle.sync_topo.specs.Topology.{Topology}
-use Rattle.sync_topo.specs.Bundles.{bundle_name}
-use Rattle.sync_topo.specs.Lines.{element_name, source_name}
-use Rattle.reach_rules.specs.declared.failure.Failure.{Failure}
-use Rattle.reach_rules.specs.declared.failure.Failure.TheVariants as fails
 use Rattle.reach_rules.specs.Protection.{IsProtected}
 use Rattle.protection.specs.declared.gap.Gap.{Gap}
 use Rattle.protection.specs.Gaps.{AreGaps}
+use Rattle.plan_texts.specs.Lines.{text_line}
+use Rattle.plan_texts.specs.Gaps.{gaps_text}
 use Rattle.sync_top.specs.declared.status.Status.{Status}
-use Rattle.sync_top.specs.declared.status.Status.TheVariants.{Done, Refuted}
-use Rattle.sync_top.specs.Reading.{text_line}
+use Rattle.sync_top.specs.Status.{OnDoneOrRefuted}
 
--- the word for what fails, and its name; nothing has none
-abbrev pub failure_word : Failure → List ℕ
-failure_word fails.Nothing = codes "none"
-failure_word (fails.Link link) = codes "link"
-failure_word (fails.Bundle link) = codes "bundle"
-failure_word (fails.Source source) = codes "source"
-failure_word (fails.Element element) = codes "element"
-failure_word (fails.Group group) = codes "group"
+-- that a plan is protected
+abbrev pub IsShieldText : Type 0 → List ℕ → Type 0
+IsShieldText Protected text = Protected × (text ≡ text_line (codes "protected"))
 
-abbrev pub failure_name : Topology → Failure → List ℕ
-failure_name plan fails.Nothing = []
-failure_name plan (fails.Link link) = option_map_or (λ (l : Link). l.name) (slice_get plan.links link) []
-failure_name plan (fails.Bundle link) = unwrap_or (bundle_name plan.links link) []
-failure_name plan (fails.Source source) = source_name plan source
-failure_name plan (fails.Element element) = element_name plan element
-failure_name plan (fails.Group group) = group.name
+-- the rows of the failures that cut somebody off who needn't be, where there are some
+abbrev pub AreGapRows : Topology → (List Gap → Type 0) → List ℕ → Type 0
+AreGapRows plan Are text = (gaps : List Gap) × Are gaps × (gaps ≢ []) × (text ≡ gaps_text plan gaps)
 
--- how many elements it cuts off, and the first of them
-abbrev pub cut_text : Topology → Gap → List ℕ
-cut_text plan gap = codes "," ++ decimal gap.elements ++ codes "," ++ element_name plan gap.first ++ codes "\n"
-
--- the row of a failure: the word, the name, and whom it cuts off
-abbrev pub gap_row : Topology → Gap → List ℕ
-gap_row plan gap = failure_word gap.failure ++ codes "," ++ failure_name plan gap.failure ++ cut_text plan gap
-
-abbrev pub gaps_text : Topology → List Gap → List ℕ
-gaps_text plan gaps = codes "kind,failure,elements,first\n" ++ concat (map (gap_row plan) gaps)
-
--- the plan is protected; or the rows of the failures that cut somebody off who needn't be
+-- the one, or the other
 abbrev pub IsProtectedText : Topology → Status → List ℕ → Type 0
-IsProtectedText plan Done text = IsProtected plan × (text ≡ text_line (codes "protected"))
-IsProtectedText plan Refuted text = (gaps : List Gap) × AreGaps plan gaps × (gaps ≢ []) × (text ≡ gaps_text plan gaps)
-IsProtectedText plan status text = ⊥
+IsProtectedText plan status text = OnDoneOrRefuted status (IsShieldText (IsProtected plan) text) (AreGapRows plan (AreGaps plan) text)

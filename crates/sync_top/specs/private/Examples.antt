@@ -5,15 +5,16 @@ use Rattle.std.proofs.Math.Decide.{dec_lt}
 use Rattle.sync_text.specs.Number.{number_of}
 use Rattle.sync_topo.specs.Names.{link_names}
 use Rattle.plan_gen.specs.Ladder.{ladder}
+use Rattle.sync_top.specs.declared.form.FileForm.TheVariants.{Ranks, Groups}
 use Rattle.sync_top.specs.declared.form.RanksForm.TheVariants.{Check}
 use Rattle.sync_top.specs.declared.form.LadderForm.TheVariants.{Gen, Trial}
 use Rattle.sync_topo.specs.declared.sizes.Size.TheVariants.{Standard, Large}
-use Rattle.sync_top.specs.Form.{on_ranks, on_groups, on_ladder, form_of}
+use Rattle.sync_top.specs.Form.{on_file, on_ladder, form_of}
 
-pub check_has_two_files : form_of (codes "check" ∷ codes "p" ∷ codes "c" ∷ []) ≡ Some (on_ranks Check (record { size = Standard; name = codes "p" }) (codes "c"))
+pub check_has_two_files : form_of (codes "check" ∷ codes "p" ∷ codes "c" ∷ []) ≡ Some (on_file (Ranks Check) (record { size = Standard; name = codes "p" }) (codes "c"))
 check_has_two_files = refl
 
-pub protected_may_have_groups : form_of (codes "protected" ∷ codes "p" ∷ codes "g" ∷ []) ≡ Some (on_groups (record { size = Standard; name = codes "p" }) (codes "g"))
+pub protected_may_have_groups : form_of (codes "protected" ∷ codes "p" ∷ codes "g" ∷ []) ≡ Some (on_file Groups (record { size = Standard; name = codes "p" }) (codes "g"))
 protected_may_have_groups = refl
 
 pub empty_word_names_no_file : form_of (codes "check" ∷ [] ∷ codes "c" ∷ []) ≡ None
@@ -21,7 +22,7 @@ empty_word_names_no_file = refl
 
 -- the first word allows large plans, and is no form by itself
 pub large_check_has_the_same_files
-    : form_of (codes "large" ∷ codes "check" ∷ codes "p" ∷ codes "c" ∷ []) ≡ Some (on_ranks Check (record { size = Large; name = codes "p" }) (codes "c"))
+    : form_of (codes "large" ∷ codes "check" ∷ codes "p" ∷ codes "c" ∷ []) ≡ Some (on_file (Ranks Check) (record { size = Large; name = codes "p" }) (codes "c"))
 large_check_has_the_same_files = refl
 
 pub large_alone_is_no_form : form_of (codes "large" ∷ []) ≡ None

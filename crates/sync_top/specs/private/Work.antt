@@ -4,7 +4,7 @@ use Rattle.sync_text.specs.declared.errors.NoMemory as wanting
 use Rattle.sync_edge.specs.Contents.{Contents}
 use Rattle.sync_edge.specs.Faults.{Rose}
 use Rattle.sync_top.specs.declared.status.Status.{Status}
-use Rattle.sync_top.specs.declared.status.Status.TheVariants.{Done, Refuted, Stopped, BadFrames, Usage, BadPlan, ReadFault, WriteFault, NoMemory}
+use Rattle.sync_top.specs.declared.status.Status.TheVariants.{Done, Refuted, Stopped, BadCert, BadEvents, BadFrames, Usage, BadPlan, ReadFault, WriteFault, NoMemory}
 use Rattle.sync_top.specs.declared.reply.Reply.{Reply}
 use Rattle.sync_top.specs.declared.reply.Stop.{Stop}
 use Rattle.sync_top.specs.declared.reply.Stop.TheVariants.{Ended, NoMemory}
@@ -20,6 +20,8 @@ abbrev pub ends_in : Finding → Status
 ends_in finding.Done = Done
 ends_in finding.Refuted = Refuted
 ends_in finding.Stopped = Stopped
+ends_in finding.BadCert = BadCert
+ends_in finding.BadEvents = BadEvents
 ends_in finding.BadFrames = BadFrames
 
 -- the reply with what was found, which wants memory alone

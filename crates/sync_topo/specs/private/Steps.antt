@@ -1,5 +1,7 @@
 -- Private: the steps of the making of a plan, which only clauses of private functions cite.
 use Rattle.std.specs.Prelude.{◌≡◌, ⊤, List, [], ◌∷◌, ◌++◌, map, Option, Some, None, Result, Ok, Err}
+use Rattle.sync_text.specs.declared.errors.NoAnswer.{NoAnswer}
+use Rattle.sync_text.specs.declared.errors.NoAnswer.TheVariants.{NoMemory, Refused}
 use Rattle.sync_ql.specs.declared.levels.NetOption.{NetOption}
 use Rattle.sync_topo.specs.declared.element.Element.{Element}
 use Rattle.sync_topo.specs.declared.link.Link.{Link}
@@ -8,24 +10,16 @@ use Rattle.sync_topo.specs.declared.rows.LinkRow.{LinkRow}
 use Rattle.sync_topo.specs.declared.rows.SourceRow.{SourceRow}
 use Rattle.sync_topo.specs.RowValues.{element_from, link_from, source_from}
 use Rattle.sync_topo.specs.declared.error.PlanErr.{PlanErr}
-use Rattle.sync_topo.specs.declared.error.PlanErr.TheVariants.{Limit, Name, Twice, NoElement, SelfLink, Range, Bundle, LevelName, NoMemory}
 use Rattle.sync_topo.specs.Rules.{Rule, element_rules, link_rules, source_rules}
 use Rattle.sync_topo.specs.PlanRows.{first_broken}
 
 -- the refusal is this one; out of memory says nothing
-abbrev pub Tells : PlanErr → Option PlanErr → Type 0
-Tells (Limit place) refusal = refusal ≡ Some (Limit place)
-Tells (Name place) refusal = refusal ≡ Some (Name place)
-Tells (Twice place) refusal = refusal ≡ Some (Twice place)
-Tells (NoElement place) refusal = refusal ≡ Some (NoElement place)
-Tells (SelfLink place) refusal = refusal ≡ Some (SelfLink place)
-Tells (Range place) refusal = refusal ≡ Some (Range place)
-Tells (Bundle place) refusal = refusal ≡ Some (Bundle place)
-Tells (LevelName place) refusal = refusal ≡ Some (LevelName place)
+abbrev pub Tells : NoAnswer PlanErr → Option PlanErr → Type 0
 Tells NoMemory refusal = ⊤
+Tells (Refused error) refusal = refusal ≡ Some error
 
 -- the step goes on where no rule is broken, and otherwise refuses with the first one that is
-abbrev pub Follows : {A : Type 0} → List Rule → Result A PlanErr → Type 0
+abbrev pub Follows : {A : Type 0} → List Rule → Result A (NoAnswer PlanErr) → Type 0
 Follows rules (Ok value) = first_broken rules ≡ None
 Follows rules (Err error) = Tells error (first_broken rules)
 

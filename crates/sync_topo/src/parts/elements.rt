@@ -18,7 +18,7 @@ use crate::values::{default_own, level_given, number_within};
 use std::alloc::Global;
 use sync_ql::limits::{GREATEST_HOLDOFF, GREATEST_WTR_MINUTES, LEAST_HOLDOFF, MINUTE};
 use sync_ql::{Level, NetOption};
-use sync_text::{NoMemory, Rows};
+use sync_text::{NoAnswer, NoMemory, Rows};
 
 /// The hold-off time of an element that names none, in milliseconds.
 const DEFAULT_HOLDOFF: u32 = 300;
@@ -37,7 +37,7 @@ impl PlanTables {
         &mut self,
         alloc: Global,
         rows: Rows<ElementRow>,
-    ) -> Result<(), PlanErr>
+    ) -> Result<(), NoAnswer<PlanErr>>
         requires indexed { IsIndexed self.old }
         requires no_elements { self.old.elements.items ≡ [] }
         requires within { length rows ≤ element_limit }
@@ -57,7 +57,7 @@ impl PlanTables {
     }
 
     /// The element of a row, which may come next.
-    fn element_of(&self, row: ElementRow) -> Result<Element, PlanErr>
+    fn element_of(&self, row: ElementRow) -> Result<Element, NoAnswer<PlanErr>>
         requires { IsIndexed self.now }
         ensures rules { Follows (element_rules (topology self.now) row) result }
         ensures element { IfOk result (λ element. element ≡ element_from self.now.option row) }
@@ -73,7 +73,7 @@ impl PlanTables {
     }
 
     /// The values of a row's element, where the row breaks no rule.
-    fn values_of(&self, row: &ElementRow) -> Result<ElementValues, PlanErr>
+    fn values_of(&self, row: &ElementRow) -> Result<ElementValues, NoAnswer<PlanErr>>
         requires { IsIndexed self.now }
         ensures rules { Follows (element_rules (topology self.now) row.now) result }
         ensures element { IfOk result (λ values. element_with values row.now
@@ -83,13 +83,13 @@ impl PlanTables {
     {
         let place = row_after(Section::Elements, self.elements.len());
         if !is_name(row.name.bytes()) {
-            return Err(PlanErr::Name(place));
+            return Err(NoAnswer::Refused(PlanErr::Name(place)));
         }
         if self.element_names.has(row.name.bytes()) {
-            return Err(PlanErr::Twice(place));
+            return Err(NoAnswer::Refused(PlanErr::Twice(place)));
         }
         let Some((holdoff, wtr)) = times_of(row) else {
-            return Err(PlanErr::Range(place));
+            return Err(NoAnswer::Refused(PlanErr::Range(place)));
         };
         match levels_of(self.option, row) {
             Some((own, floor)) => Ok(ElementValues {
@@ -98,7 +98,7 @@ impl PlanTables {
                 holdoff,
                 wtr,
             }),
-            None => Err(PlanErr::LevelName(place)),
+            None => Err(NoAnswer::Refused(PlanErr::LevelName(place))),
         }
     }
 

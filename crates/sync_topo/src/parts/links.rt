@@ -19,7 +19,7 @@ use crate::place::Section;
 use crate::rows::LinkRow;
 use crate::values::{number_within, priority_within};
 use sync_ql::limits::{GREATEST_DELAY, LEAST_DELAY};
-use sync_text::{NoMemory, Rows};
+use sync_text::{NoAnswer, NoMemory, Rows};
 
 /// The delay of a line that names none, in milliseconds.
 const DEFAULT_DELAY: u32 = 1;
@@ -31,7 +31,7 @@ impl PlanTables {
     /// Puts the links of all rows, in order, into parts that hold no links and sources yet.
     ///
     /// After a refusal the parts are spent.
-    pub(crate) fn add_links(&mut self, rows: Rows<LinkRow>) -> Result<(), PlanErr>
+    pub(crate) fn add_links(&mut self, rows: Rows<LinkRow>) -> Result<(), NoAnswer<PlanErr>>
         requires indexed { IsIndexed self.old }
         requires no_links { self.old.links.items ≡ [] }
         requires no_sources { self.old.sources.items ≡ [] }
@@ -53,7 +53,7 @@ impl PlanTables {
     }
 
     /// The link of a row, which may come next.
-    fn link_of(&self, row: LinkRow) -> Result<Link, PlanErr>
+    fn link_of(&self, row: LinkRow) -> Result<Link, NoAnswer<PlanErr>>
         requires indexed { IsIndexed self.now }
         requires no_sources { self.now.sources.items ≡ [] }
         ensures rules { Follows (link_rules (topology self.now) row) result }
@@ -71,17 +71,17 @@ impl PlanTables {
         let link = ends.link(row);
         if !self.may_bundle(&link) {
             drop(link);
-            return Err(PlanErr::Bundle(place));
+            return Err(NoAnswer::Refused(PlanErr::Bundle(place)));
         }
         if !self.has_room_for(&link) {
             drop(link);
-            return Err(PlanErr::Limit(place));
+            return Err(NoAnswer::Refused(PlanErr::Limit(place)));
         }
         Ok(link)
     }
 
     /// The ends of a row's link, where the row keeps the rules for its name, its ends and its numbers.
-    fn ends_of(&self, row: &LinkRow) -> Result<LinkEnds, PlanErr>
+    fn ends_of(&self, row: &LinkRow) -> Result<LinkEnds, NoAnswer<PlanErr>>
         requires indexed { IsIndexed self.now }
         ensures rules { Follows (end_rules (link_rules (topology self.now) row.now)) result }
         ensures link { IfOk result (λ ends. link_with ends row.now
@@ -94,23 +94,23 @@ impl PlanTables {
     {
         let place = row_after(Section::Links, self.links.len());
         if !is_name(row.name.bytes()) {
-            return Err(PlanErr::Name(place));
+            return Err(NoAnswer::Refused(PlanErr::Name(place)));
         }
         if self.link_names.has(row.name.bytes()) {
-            return Err(PlanErr::Twice(place));
+            return Err(NoAnswer::Refused(PlanErr::Twice(place)));
         }
         let Some(a) = self.element_named(&row.a) else {
-            return Err(PlanErr::NoElement(place));
+            return Err(NoAnswer::Refused(PlanErr::NoElement(place)));
         };
         let Some(b) = self.element_named(&row.b) else {
-            return Err(PlanErr::NoElement(place));
+            return Err(NoAnswer::Refused(PlanErr::NoElement(place)));
         };
         if row.a.bytes() == row.b.bytes() {
-            return Err(PlanErr::SelfLink(place));
+            return Err(NoAnswer::Refused(PlanErr::SelfLink(place)));
         }
         match numbers_of(row) {
             Some(numbers) => Ok(LinkEnds { a, b, numbers }),
-            None => Err(PlanErr::Range(place)),
+            None => Err(NoAnswer::Refused(PlanErr::Range(place))),
         }
     }
 

@@ -17,7 +17,7 @@ use crate::rows::SourceRow;
 use crate::source::Source;
 use crate::values::priority_within;
 use sync_ql::{Level, level_of_name};
-use sync_text::{NoMemory, Rows};
+use sync_text::{NoAnswer, NoMemory, Rows};
 
 impl PlanTables {
     ghost use Rattle.sync_topo.specs.Indexed.{topology};
@@ -26,7 +26,7 @@ impl PlanTables {
     /// Puts the sources of all rows, in order, into parts that hold no sources yet.
     ///
     /// After a refusal the parts are spent.
-    pub(crate) fn add_sources(&mut self, rows: Rows<SourceRow>) -> Result<(), PlanErr>
+    pub(crate) fn add_sources(&mut self, rows: Rows<SourceRow>) -> Result<(), NoAnswer<PlanErr>>
         requires indexed { IsIndexed self.old }
         requires no_sources { self.old.sources.items ≡ [] }
         requires within { length rows ≤ source_limit }
@@ -47,7 +47,7 @@ impl PlanTables {
     }
 
     /// The source of a row, which may come next.
-    fn source_of(&self, row: SourceRow) -> Result<Source, PlanErr>
+    fn source_of(&self, row: SourceRow) -> Result<Source, NoAnswer<PlanErr>>
         requires { IsIndexed self.now }
         ensures rules { Follows (source_rules (topology self.now) row) result }
         ensures source { IfOk result
@@ -65,13 +65,13 @@ impl PlanTables {
         let source = end.source(row);
         if !self.has_room_at(&source) {
             drop(source);
-            return Err(PlanErr::Limit(place));
+            return Err(NoAnswer::Refused(PlanErr::Limit(place)));
         }
         Ok(source)
     }
 
     /// The end of a row's source, where the row keeps the rules for its name, its end and its values.
-    fn end_of(&self, row: &SourceRow) -> Result<SourceEnd, PlanErr>
+    fn end_of(&self, row: &SourceRow) -> Result<SourceEnd, NoAnswer<PlanErr>>
         requires { IsIndexed self.now }
         ensures rules { Follows (end_rules (source_rules (topology self.now) row.now)) result }
         ensures source { IfOk result (λ end. source_with end row.now
@@ -87,19 +87,19 @@ impl PlanTables {
         let place = row_after(Section::Sources, self.sources.len());
         let name = row.name.bytes();
         if !is_name(name) {
-            return Err(PlanErr::Name(place));
+            return Err(NoAnswer::Refused(PlanErr::Name(place)));
         }
         if self.link_names.has(name) {
-            return Err(PlanErr::Twice(place));
+            return Err(NoAnswer::Refused(PlanErr::Twice(place)));
         }
         if self.source_names.has(name) {
-            return Err(PlanErr::Twice(place));
+            return Err(NoAnswer::Refused(PlanErr::Twice(place)));
         }
         let Some(at) = self.element_named(&row.at) else {
-            return Err(PlanErr::NoElement(place));
+            return Err(NoAnswer::Refused(PlanErr::NoElement(place)));
         };
         let Some(priority) = priority_within(row.priority, 1) else {
-            return Err(PlanErr::Range(place));
+            return Err(NoAnswer::Refused(PlanErr::Range(place)));
         };
         match level_of_name(self.option, row.level.bytes()) {
             Some(level) => Ok(SourceEnd {
@@ -107,7 +107,7 @@ impl PlanTables {
                 level,
                 priority,
             }),
-            None => Err(PlanErr::LevelName(place)),
+            None => Err(NoAnswer::Refused(PlanErr::LevelName(place))),
         }
     }
 

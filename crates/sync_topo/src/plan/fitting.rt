@@ -1,6 +1,6 @@
 //! Which events fit a plan.
 
-ghost use Rattle.std.specs.Prelude.{◌↔◌, ◌<◌, IsTrue, length};
+ghost use Rattle.std.specs.Prelude.{◌↔◌, ◌<◌, IsTrue};
 ghost use Rattle.sync_topo.specs.Events.{Fits, MayHappen, IsPart};
 ghost use Rattle.sync_topo.specs.Lines.{IsInput, line_count};
 ghost use Rattle.sync_topo.specs.WellFormed.{IsWellFormed};

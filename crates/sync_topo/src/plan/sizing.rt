@@ -1,7 +1,7 @@
 //! The size of a plan, and what goes by it.
 
 ghost use Rattle.std.specs.Prelude.{◌≡◌, ◌<◌, ◌≤◌, ◌^◌, IsTrue, IfOk, Ok, Err, length};
-ghost use Rattle.sync_topo.specs.Gives.{Gives};
+ghost use Rattle.sync_text.specs.Gives.{Gives};
 ghost use Rattle.sync_topo.specs.Lines.{line_count};
 ghost use Rattle.sync_topo.specs.PlanRows.{size_limits, plan_of_rows, plan_of_sized, AreKept, IsFirstBroken};
 ghost use Rattle.sync_topo.specs.RowValues.{plan_from};
@@ -20,13 +20,14 @@ use crate::sizes::{
     STANDARD_SOURCES, Size,
 };
 use std::alloc::Global;
+use sync_text::NoAnswer;
 
 impl Plan {
     /// The plan that rows give, where it may be of no more than a size.
     ///
     /// First comes `Limit`, at the first element, link or source that the size has no room for; then
     /// what [`Plan::new`] says of the rows. This project's own.
-    pub fn sized(alloc: Global, size: Size, rows: PlanRows) -> Result<Plan, PlanErr>
+    pub fn sized(alloc: Global, size: Size, rows: PlanRows) -> Result<Plan, NoAnswer<PlanErr>>
         ensures exact { Gives result (plan_of_sized size rows) }
         ensures well_formed { IfOk result (λ plan. IsWellFormed plan) }
         ensures plan { IfOk result (λ plan. plan ≡ plan_from rows) }
@@ -49,7 +50,7 @@ impl Plan {
     }
 
     /// The plan that rows give in a size, step by step.
-    fn in_size(alloc: Global, size: Size, rows: PlanRows) -> Result<Plan, PlanErr>
+    fn in_size(alloc: Global, size: Size, rows: PlanRows) -> Result<Plan, NoAnswer<PlanErr>>
         ensures exact { Gives result (plan_of_sized size rows) }
         ensures well_formed { IfOk result (λ plan. IsWellFormed plan) }
         ensures plan { IfOk result (λ plan. plan ≡ plan_from rows) }

@@ -1,4 +1,4 @@
-use Rattle.std.proofs.Common.{◌≡◌, ◌<◌, ℕ, Bool, Some, List, length, arith, sym, ap, ◌∙◌}
+use Rattle.std.proofs.Common.{◌<◌, ℕ, Bool, Some, List, length, arith, sym, ap, ◌∙◌}
 use Rattle.agenda.specs.DueTimes.{due_in}
 use Rattle.agenda.specs.EarlierDue.{times_by}
 use Rattle.agenda.proofs.KeptTimes.{length_times, time_there}

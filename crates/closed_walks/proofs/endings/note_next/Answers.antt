@@ -5,9 +5,9 @@ use Rattle.net_rules.specs.Walks.{Taken}
 use Rattle.closed_walks.specs.declared.traced.Ending.{Ending}
 use Rattle.closed_walks.specs.Taking.{taken_in_list}
 use Rattle.closed_walks.specs.Traces.{EndsSo}
-use Rattle.closed_walks.specs.private.Known.{known_at, IsKnown}
+use Rattle.closed_walks.specs.private.Known.{known_at}
 use Rattle.closed_walks.proofs.FollowLaws.{takes-on}
-use Rattle.closed_walks.proofs.KnownLaws.{few-ending, more-known, known-here, ends-longer, not-known, known-next, over-here, over-none, on-line}
+use Rattle.closed_walks.proofs.KnownLaws.{few-ending, more-known, ends-longer, not-known, known-next, over-here, over-none}
 use Rattle.closed_walks.proofs.endings.note_next.Goals as goal
 
 pub overflow_add-known : goal.overflow_add-known

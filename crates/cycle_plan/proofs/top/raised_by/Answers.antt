@@ -8,7 +8,7 @@ pub returns-in-Some-rank : goal.returns-in-Some-rank
 returns-in-Some-rank c =
     rw (c.raised.ensures, c.number_in.ensures)
     (IsTop-raised c.args.returns c.args.plan.now c.args.cert.now c.args.inputs.now c.args.place c.args.top c.in-Some.line.0 c.in-Some-rank.rank
-    (record { here = sym c.in-Some.ensures; ranked = sym c.in-Some-rank.ensures.rank }) c.requires.top)
+    (sym c.in-Some.ensures) (sym c.in-Some-rank.ensures.rank) c.requires.top)
 
 pub returns-in-None : goal.returns-in-None
 returns-in-None c =

@@ -5,7 +5,7 @@ use Rattle.event_file.proofs.reading.take_rows.Goals as goal
 pub returns-in-Err-clause-exact : goal.returns-in-Err-clause-exact
 returns-in-Err-clause-exact c =
     let next = c.in_ok-advance.ensures.found (ap Ok c.if-branch.true) in
-    rows_refused c.args.plan.now c.args.records.now.left c.loop-events.number c.loop-events.before c.taken.result.now c.advance.new.self.left c.loop-events.events c.in-Err.error
+    rows_refused c.args.plan.now c.args.records.now.left c.loop-events.number c.loop-events.before c.taken.result.now c.advance.new.self.left c.loop-events.events c.in-Err.refused
     (rw (c.taken.ensures, ← next) c.loop-events.invariant.0) c.in-Err.ensures.refused
 
 pub loop-events-preserved : goal.loop-events-preserved

@@ -2,7 +2,7 @@ use Rattle.std.proofs.Common.{◌++◌, refl, ◌∙◌}
 use Rattle.std.specs.Prelude.{codes}
 use Rattle.inspection.specs.Commands.{row_at}
 use Rattle.inspection.specs.private.Tables.{table_at}
-use Rattle.trace_report.proofs.ReportLaws.{one-number}
+use Rattle.sync_text.proofs.PutRows.{one-number}
 use Rattle.inspection.proofs.commands.put_commands.Goals as goal
 
 pub loop-place-preserved : goal.loop-place-preserved

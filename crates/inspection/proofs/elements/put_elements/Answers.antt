@@ -3,7 +3,7 @@ use Rattle.std.specs.Prelude.{codes}
 use Rattle.sync_topo.specs.Topology.{Topology}
 use Rattle.net_rules.specs.Signals.{signals_by}
 use Rattle.net_rules.specs.History.{out_at}
-use Rattle.trace_report.proofs.ReportLaws.{one-number}
+use Rattle.sync_text.proofs.PutRows.{one-number}
 use Rattle.inspection.specs.Inspection.{element_after, element_in, element_row}
 use Rattle.inspection.proofs.Accessors.{at-until}
 use Rattle.inspection.proofs.elements.put_elements.Goals as goal

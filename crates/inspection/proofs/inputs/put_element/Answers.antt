@@ -6,7 +6,8 @@ use Rattle.sync_topo.specs.Lines.{line_input}
 use Rattle.net_rules.specs.Signals.{signals_by}
 use Rattle.net_rules.specs.History.{out_at}
 use Rattle.net_rules.proofs.NetLaws.{level-at}
-use Rattle.trace_report.proofs.ReportLaws.{inputs-count, condition-now, one-number}
+use Rattle.sync_text.proofs.PutRows.{one-number}
+use Rattle.trace_report.proofs.ReportLaws.{inputs-count, condition-now}
 use Rattle.inspection.specs.Verdict.{verdict_at}
 use Rattle.inspection.specs.Inspection.{row_in}
 use Rattle.inspection.proofs.Accessors.{at-until}

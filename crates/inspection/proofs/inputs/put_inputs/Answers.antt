@@ -4,7 +4,7 @@ use Rattle.sync_topo.specs.Topology.{Topology}
 use Rattle.net_rules.specs.Signals.{signals_by}
 use Rattle.net_rules.specs.History.{out_at}
 use Rattle.sync_net.specs.Standing.{ElementStands}
-use Rattle.trace_report.proofs.ReportLaws.{one-number}
+use Rattle.sync_text.proofs.PutRows.{one-number}
 use Rattle.inspection.specs.Inspection.{rows_in}
 use Rattle.inspection.proofs.inputs.put_inputs.Goals as goal
 

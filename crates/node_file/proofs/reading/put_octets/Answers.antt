@@ -1,4 +1,4 @@
-use Rattle.capture_text.proofs.PaddingLemmas.{half_put}
+use Rattle.node_file.proofs.HalfLemmas.{half_put}
 use Rattle.node_file.proofs.reading.put_octets.Goals as goal
 
 pub returns : goal.returns

@@ -1,4 +1,4 @@
-use Rattle.std.proofs.Common.{inl, inr}
+use Rattle.sync_text.proofs.Failures.{refused-more}
 use Rattle.node_replay.proofs.Feeding.{refused_front, front_on, whole_fed, sent_for}
 use Rattle.node_replay.proofs.OfNetwork.{network-text}
 use Rattle.node_replay.proofs.node.replay.Goals as goal
@@ -6,11 +6,9 @@ use Rattle.node_replay.proofs.node.replay.Goals as goal
 pub returns-in-Err-clause-refused : goal.returns-in-Err-clause-refused
 returns-in-Err-clause-refused c =
     let so_far = c.loop-left.invariant in
-    elim c.in-Err.ensures.refused [
-      | inl memory ↦ inl memory
-      | inr refused ↦ inr (refused_front c.args.plan.now c.args.element c.args.until c.args.bytes.now c.loop-left.node c.loop-left.left.now c.split_at.result.0.now _ c.in-Err.error so_far
-          c.split_at.ensures.front (refused so_far.front so_far.fed))
-    ]
+    refused-more c.in-Err.error (λ error refused.
+    refused_front c.args.plan.now c.args.element c.args.until c.args.bytes.now c.loop-left.node c.loop-left.left.now c.split_at.result.0.now _ error so_far
+    c.split_at.ensures.front (refused so_far.front so_far.fed)) c.in-Err.ensures.refused
 
 pub loop-left-preserved : goal.loop-left-preserved
 loop-left-preserved c =

@@ -1,5 +1,6 @@
-use Rattle.std.proofs.Common.{◌+◌, ◌++◌, ◌∙◌, inl, inr}
+use Rattle.std.proofs.Common.{◌+◌, ◌++◌, ◌∙◌}
 use Rattle.std.specs.Prelude.{length}
+use Rattle.sync_text.proofs.Failures.{refused-more}
 use Rattle.node_replay.proofs.Feeding.{room_on, fed_on, refused_on}
 use Rattle.node_replay.proofs.node.take_all.Goals as goal
 
@@ -27,10 +28,7 @@ pub returns-in-Err-clause-refused : goal.returns-in-Err-clause-refused
 returns-in-Err-clause-refused c =
     let before = c.loop-left.invariant in
     let was = rw (c.in-Some.is) at before.fed in
-    elim c.in-Err.ensures.refused [
-      | inl memory ↦ inl memory
-      | inr refused ↦ inr (λ bytes fed.
-          let given = was bytes fed in
-          refused_on c.loop-left.lines.plan c.args.lines.now.plan c.loop-left.lines.element c.args.lines.now.element c.in-Err.error bytes given.0 c.in-Some.bytes.now c.args.piece.now
-          before.plan before.element given.1 (refused (bytes ++ given.0) given.2))
-    ]
+    refused-more c.in-Err.error (λ error refused bytes fed.
+    let given = was bytes fed in
+    refused_on c.loop-left.lines.plan c.args.lines.now.plan c.loop-left.lines.element c.args.lines.now.element error bytes given.0 c.in-Some.bytes.now c.args.piece.now
+    before.plan before.element given.1 (refused (bytes ++ given.0) given.2)) c.in-Err.ensures.refused

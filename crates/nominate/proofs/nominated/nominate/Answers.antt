@@ -4,7 +4,7 @@ use Rattle.net_rules.specs.Safety.{IsLoopFree}
 use Rattle.net_rules.specs.Settling.{IsOneWay}
 use Rattle.nominate.specs.Nomination.{nominated_plan}
 use Rattle.nominate.proofs.NominatedLaws.{nominated-loop_free, nominated-one_way, nominated-rows, first-for_any}
-use Rattle.nominate.proofs.RowLemmas.{only_memory, same_answer}
+use Rattle.nominate.proofs.RowLemmas.{same_answer, not_both}
 use Rattle.nominate.proofs.nominated.nominate.Goals as goal
 
 pub returns-in-Ok-clause-nominated : goal.returns-in-Ok-clause-nominated
@@ -34,8 +34,8 @@ returns-in-Ok-clause-one_way c =
     subst IsOneWay (sym (returns-in-Ok-clause-nominated c).is)
     (nominated-one_way c.args.plan.now c.in_ok-hops.hops c.in_ok-priorities.ensures.well_formed c.in_ok-hops.ensures.least)
 
-pub no_memory_left-requires : goal.no_memory_left-requires
-no_memory_left-requires c =
+pub unreachable-requires : goal.unreachable-requires
+unreachable-requires c =
     let rows = nominated-rows c.args.plan.now c.in_ok-hops.hops c.in_ok-priorities.ensures.well_formed c.in_ok-hops.ensures.least c.as_slice.result.now c.in_ok-rows.rows
-    (rw c.as_slice.ensures.value c.in_ok-priorities.ensures.given) c.in_ok-rows.ensures c.in-Err.ensures.again in
-    only_memory c.in-Err.error (plan_of_rows c.in_ok-rows.rows) (nominated_plan c.args.plan.now c.in_ok-hops.hops) rows c.in-Err.ensures.exact
+    (rw c.as_slice.ensures.value c.in_ok-priorities.ensures.given) c.in_ok-rows.ensures c.in-Err-Refused.ensures.again in
+    not_both (plan_of_rows c.in_ok-rows.rows) (nominated_plan c.args.plan.now c.in_ok-hops.hops) _ rows (rw c.in-Err-Refused.field-0-is at c.in-Err-Refused.ensures.exact)

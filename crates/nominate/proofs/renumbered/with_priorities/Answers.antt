@@ -1,4 +1,4 @@
-use Rattle.std.proofs.Common.{sym, ap, ◌∙◌}
+use Rattle.std.proofs.Common.{ap, ◌∙◌}
 use Rattle.std.specs.Prelude.{slice_index}
 use Rattle.sync_topo.specs.RowValues.{plan_from}
 use Rattle.nominate.proofs.GivenLaws.{said-with, refused-with}
@@ -9,7 +9,7 @@ returns-in-Ok-clause-plan c =
     c.in-Ok.ensures.plan ∙ ap plan_from c.in_ok-rows.ensures
     ∙ said-with c.args.plan.now (λ line. slice_index c.args.priorities.now line) c.lines-lines.ensures.well_formed
 
-pub returns-else-is_no_memory-clause-none : goal.returns-else-is_no_memory-clause-none
-returns-else-is_no_memory-clause-none c = λ none.
-    refused-with c.args.plan.now (λ line. slice_index c.args.priorities.now line) c.in_ok-rows.rows c.in-Err.error c.in_ok-rows.ensures
-    c.in-Err.ensures.again c.in-Err.ensures.exact (sym c.if-is_no_memory.ensures)
+pub returns-in-Err-Refused-clause-none : goal.returns-in-Err-Refused-clause-none
+returns-in-Err-Refused-clause-none c = λ none.
+    refused-with c.args.plan.now (λ line. slice_index c.args.priorities.now line) c.in_ok-rows.rows _ c.in_ok-rows.ensures
+    c.in-Err-Refused.ensures.again (rw c.in-Err-Refused.field-0-is at c.in-Err-Refused.ensures.exact)

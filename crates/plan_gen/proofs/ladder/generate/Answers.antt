@@ -1,12 +1,12 @@
 use Rattle.sync_topo.specs.PlanRows.{plan_of_rows}
 use Rattle.plan_gen.specs.Ladder.{ladder}
-use Rattle.plan_gen.proofs.RowLaws.{plan_of_rows-ladder, only_memory, same_plan}
+use Rattle.plan_gen.proofs.RowLaws.{plan_of_rows-ladder, not_refused, same_plan}
 use Rattle.plan_gen.proofs.ladder.generate.Goals as goal
 
-pub no_memory_left-requires : goal.no_memory_left-requires
-no_memory_left-requires c =
-    only_memory c.in-Err.error (plan_of_rows c.in_ok-rows.rows) (ladder c.args.elements) c.in-Err.ensures.exact
-    (rw c.in_ok-rows.ensures (plan_of_rows-ladder c.args.elements c.requires.least c.requires.greatest))
+pub unreachable-requires : goal.unreachable-requires
+unreachable-requires c =
+    not_refused (plan_of_rows c.in_ok-rows.rows) (ladder c.args.elements) _
+    (rw c.in_ok-rows.ensures (plan_of_rows-ladder c.args.elements c.requires.least c.requires.greatest)) (rw c.in-Err-Refused.field-0-is at c.in-Err-Refused.ensures.exact)
 
 pub returns-in-Ok : goal.returns-in-Ok
 returns-in-Ok c = record {

@@ -1,11 +1,10 @@
-use Rattle.std.proofs.Common.{◌≡◌, ◌∙◌, ◌∷◌, [], Ok, Some, length, drop, take, ap, sym, subst, arith}
+use Rattle.std.proofs.Common.{◌≡◌, ◌∙◌, ◌∷◌, [], Ok, Some, length, ap, sym, subst, arith}
 use Rattle.std.proofs.lemmas.List.{take_all}
 use Rattle.csv_records.proofs.FirstRefusals.{first_refusal-some, first_refusal-none}
-use Rattle.csv_records.specs.FirstRefusal.{first_refusal}
 use Rattle.rank_cert.specs.Rows.{Fields}
-use Rattle.rank_cert.specs.CertificateText.{refusal_at}
+use Rattle.rank_cert.specs.CertificateText.{refusal_at, unless}
 use Rattle.rank_cert.specs.private.RowsTaken.{AreRanksBy}
-use Rattle.rank_cert.proofs.Taking.{refusal_at-is, AreTaken-more, Refuses-first, at_drop, all_taken}
+use Rattle.rank_cert.proofs.Taking.{refusal_at-is, AreTaken-more, at_drop, all_taken}
 use Rattle.rank_cert.proofs.reading.take_rows.Goals as goal
 
 pub loop-number-preserved : goal.loop-number-preserved
@@ -27,8 +26,8 @@ returns-in-Err-clause-refused c =
     let next = sym so_far.left ∙ c.in_ok-advance.ensures.found (ap Ok c.if-branch.true) in
     let here = at_drop all c.loop-number.number c.advance.new.self.taken c.advance.new.self.left next in
     let at = here.0 ∙ ap (λ (row : Fields). Some row) (sym c.taken.ensures) in
-    Refuses-first (first_refusal (refusal_at plan all) (length all)) c.in-Err.error
-    (first_refusal-some (refusal_at plan all) (length all) c.loop-number.number c.in-Err.error here.2
+    ap unless
+    (first_refusal-some (refusal_at plan all) (length all) c.loop-number.number c.in-Err.refused here.2
     (refusal_at-is plan all c.loop-number.number c.loop-number.cert c.taken.result.now so_far.taken at ∙ c.in-Err.ensures.refused) so_far.taken.sound)
 
 pub returns-clause-sound : goal.returns-clause-sound

@@ -1,7 +1,6 @@
-use Rattle.std.proofs.Common.{◌≡◌, ◌<◌, ◌+◌, ℕ, List, length, slice_index_or, ap, ◌∙◌, arith}
-use Rattle.std.specs.Prelude.{Option, IfSome}
+use Rattle.std.proofs.Common.{◌≡◌, ◌<◌, ◌+◌, ℕ, slice_index_or, ◌∙◌}
+use Rattle.std.specs.Prelude.{Option}
 use Rattle.sync_topo.specs.declared.input.InputId.{InputId}
-use Rattle.net_rules.specs.Inputs.{IsInputOf}
 use Rattle.settle_trace.specs.Now.{taken_now}
 use Rattle.settle_trace.specs.Taking.{IsTaking}
 use Rattle.settle_trace.proofs.TakenLaws.{pushed, pushed-count, own-pushed}

@@ -4,7 +4,7 @@ use Rattle.net_rules.specs.Signals.{signals_by}
 use Rattle.net_rules.specs.History.{out_at}
 use Rattle.sync_net.specs.Standing.{ElementStands}
 use Rattle.trace_report.specs.Report.{element_rows, conditions_at}
-use Rattle.trace_report.proofs.ReportLaws.{one-number}
+use Rattle.sync_text.proofs.PutRows.{one-number}
 use Rattle.trace_report.proofs.inputs.put_inputs.Goals as goal
 
 pub loop-element-preserved : goal.loop-element-preserved

@@ -3,7 +3,7 @@ use Rattle.std.specs.Prelude.{codes}
 use Rattle.std.specs.Option.{option_map_or}
 use Rattle.std.proofs.lemmas.Option.{slice_get-get_or}
 use Rattle.trace_report.specs.LastParts.{trace_row, trace_row_of}
-use Rattle.trace_report.proofs.ReportLaws.{one-number}
+use Rattle.sync_text.proofs.PutRows.{one-number}
 use Rattle.trace_report.proofs.last_parts.put_traces.Goals as goal
 
 pub loop-element-preserved : goal.loop-element-preserved

@@ -1,11 +1,7 @@
-use Rattle.std.proofs.Common.{◌≡◌, ℕ, Bool, ◌+◌, List, Option, None, length, replicate, false, arith, ap, sym, ◌∙◌, subst}
-use Rattle.std.specs.Prelude.{min}
+use Rattle.std.proofs.Common.{◌≡◌, ℕ, Bool, List, None, length, replicate, false, arith, ap, sym, ◌∙◌}
 use Rattle.std.proofs.lemmas.List.{length-replicate}
-use Rattle.agenda.specs.declared.due_times.TheConstants.{NEVER}
 use Rattle.agenda.specs.DueTimes.{due_count}
 use Rattle.agenda.specs.EarlierDue.{times_by}
-use Rattle.agenda.specs.private.EarlierDue.{number_at}
-use Rattle.agenda.specs.private.Tournament.{IsTournament}
 use Rattle.agenda.proofs.KeptTimes.{times-new}
 use Rattle.agenda.proofs.FirstDues.{kept-new, count-new}
 use Rattle.agenda.proofs.due_times.DueTimes.new.Goals as goal

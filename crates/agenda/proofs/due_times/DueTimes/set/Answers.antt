@@ -1,5 +1,5 @@
 use Rattle.std.proofs.Common.{◌≡◌, ◌≤◌, ◌<◌, ◌+◌, ◌-◌, ℕ, Bool, true, false, nat_eq, cond, List, set, length, Option, None, Some, refl, arith, sym, ap, subst, ◌∙◌, length-set}
-use Rattle.std.specs.Prelude.{is_some, min, unwrap_or}
+use Rattle.std.specs.Prelude.{is_some, min}
 use Rattle.std.specs.Vec.{with_items}
 use Rattle.std.proofs.lemmas.List.{with_items_is}
 use Rattle.std.specs.Option.{option_eq}

@@ -26,7 +26,7 @@ pub returns-in-Err-event_said-clause-refused : goal.returns-in-Err-event_said-cl
 returns-in-Err-event_said-clause-refused c = λ done taken.
     let may = sym (c.may_follow.ensures c.args.plan.now done taken) ∙ c.if-not-may_follow.false in
     said-broken c.args.plan.now done c.args.row.now c.in-Some.name.now c.in-Some.at.now c.in-Some.word.now c.in-Some.target.now c.in-Some.value.now c.in-Some.ensures
-    c.come_to.new.self c.args.self.now.rows c.in-Err-event_said.error (c.in-Ok.ensures.sorted c.args.plan.now done taken may) taken.sorted.numbered
+    c.come_to.new.self c.args.self.now.rows c.in-Err-event_said.refused (c.in-Ok.ensures.sorted c.args.plan.now done taken may) taken.sorted.numbered
     (omega (arith, c.event_limit-limit.ensures.limit, c.if-limit-number.false)) may (c.in-Ok.ensures.together c.args.plan.now done taken may) c.in-Err-event_said.ensures.refused
 
 pub returns-clause-taken : goal.returns-clause-taken

@@ -1,4 +1,4 @@
-use Rattle.std.proofs.Common.{◌≡◌, inr, ap, sym, subst, ◌∙◌, ◌++◌, ◌∷◌, [], append_assoc}
+use Rattle.std.proofs.Common.{◌≡◌, ap, sym, subst, ◌∙◌, ◌++◌, ◌∷◌, [], append_assoc}
 use Rattle.std.specs.Prelude.{◌==◌}
 use Rattle.capture_text.specs.Lines.{parts_left}
 use Rattle.node_file.specs.Cutting.{HaveRead, AreRefused, with_row}
@@ -34,10 +34,10 @@ pub returns-in-Err-end-clause-refused : goal.returns-in-Err-end-clause-refused
 returns-in-Err-end-clause-refused c =
     let cut = cut_piece c.args.piece.now c.cut_at.result.0.now c.in-Some.rest.now
     (c.cut_at.ensures.parts ∙ ap (λ rest. c.cut_at.result.0.now ∷ parts_left 10 rest) c.in-Some.is) in
-    inr (λ bytes rows was.
-    let refused = refused_more c.put.new.self.plan c.put.new.self.element ((bytes ++ c.cut_at.result.0.now) ++ 10 ∷ []) c.in-Some.rest.now c.in-Err-end.error
+    λ bytes rows was.
+    let refused = refused_more c.put.new.self.plan c.put.new.self.element ((bytes ++ c.cut_at.result.0.now) ++ 10 ∷ []) c.in-Some.rest.now c.in-Err-end.refused
     (c.in-Err-end.ensures.refused (bytes ++ c.cut_at.result.0.now) rows (c.in_default.ensures.read bytes rows was)) in
-    let whole = subst (λ read. AreRefused c.put.new.self.plan c.put.new.self.element read c.in-Err-end.error)
+    let whole = subst (λ read. AreRefused c.put.new.self.plan c.put.new.self.element read c.in-Err-end.refused)
     (end_in_piece bytes c.cut_at.result.0.now c.in-Some.rest.now c.args.piece.now cut) refused in
-    subst (λ plan. AreRefused plan c.args.self.now.element (bytes ++ c.args.piece.now) c.in-Err-end.error) c.put.ensures.plan
-    (subst (λ element. AreRefused c.put.new.self.plan element (bytes ++ c.args.piece.now) c.in-Err-end.error) c.put.ensures.element whole))
+    subst (λ plan. AreRefused plan c.args.self.now.element (bytes ++ c.args.piece.now) c.in-Err-end.refused) c.put.ensures.plan
+    (subst (λ element. AreRefused c.put.new.self.plan element (bytes ++ c.args.piece.now) c.in-Err-end.refused) c.put.ensures.element whole)

@@ -1,4 +1,4 @@
-use Rattle.std.proofs.Common.{◌≡◌, ℕ, List, Err, false, inr, subst, ◌∙◌}
+use Rattle.std.proofs.Common.{◌≡◌, ℕ, List, Err, false, subst, ◌∙◌}
 use Rattle.node_file.specs.NodeFile.{rows_of}
 use Rattle.node_file.specs.Cutting.{with_row}
 use Rattle.node_replay.specs.NodeState.{WasFed}
@@ -9,8 +9,8 @@ use Rattle.node_replay.proofs.node.Node.finish.Goals as goal
 
 pub returns-in-Err-clause-refused : goal.returns-in-Err-clause-refused
 returns-in-Err-clause-refused c =
-    inr (subst (λ node. (bytes : List ℕ) → WasFed node bytes → rows_of node.lines.plan node.lines.element bytes ≡ Err c.in-Err.error) c.node.view_is
-    (λ bytes fed. c.in-Err.ensures.refused bytes fed.rows fed.read))
+    subst (λ node. (bytes : List ℕ) → WasFed node bytes → rows_of node.lines.plan node.lines.element bytes ≡ Err c.in-Err.refused) c.node.view_is
+    (λ bytes fed. c.in-Err.ensures.refused bytes fed.rows fed.read)
 
 pub returns-in-Ok-finish-clause-sent : goal.returns-in-Ok-finish-clause-sent
 returns-in-Ok-finish-clause-sent c =

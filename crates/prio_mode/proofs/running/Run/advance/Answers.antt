@@ -1,46 +1,43 @@
 use Rattle.std.proofs.Common.{◌≡◌, suc, subst, arith}
-use Rattle.event_times.proofs.EventTimes.{within-from}
+use Rattle.event_times.proofs.EventTimes.{told-itself}
 use Rattle.prio_mode.specs.private.Running.{HasRun}
 use Rattle.prio_mode.proofs.Advancing.{run-later, dues-from, on-way}
 use Rattle.prio_mode.proofs.running.Run.advance.Goals as goal
 
-pub next_time-now-requires-clause-due : goal.next_time-now-requires-clause-due
-next_time-now-requires-clause-due c =
-    c.first_due.ensures.from c.loop-next.next
-    (dues-from c.args.plan.now c.loop-next.next c.loop-next.self c.loop-next.invariant.run_is)
+pub next_moment-requires : goal.next_moment-requires
+next_moment-requires c =
+    record {
+      due = c.first_due.ensures.from c.loop-now.moments.next
+          (dues-from c.args.plan.now c.loop-now.moments.next c.loop-now.self c.loop-now.invariant.run_is);
+    }
 
 pub turn-requires-clause-run : goal.turn-requires-clause-run
 turn-requires-clause-run c =
-    let time = c.next_time-now.ensures in
-    run-later c.args.plan.now c.loop-next.next c.next_time-now.result c.loop-next.self
-    c.loop-next.invariant.run_is time.later time.first
-    (c.first_due.ensures.until c.next_time-now.result time.until_due)
+    let time = c.in-Some.ensures.now in
+    run-later c.args.plan.now c.loop-now.moments.next c.in-Some.now c.loop-now.self
+    c.loop-now.invariant.run_is time.later time.first
+    (c.first_due.ensures.until c.in-Some.now time.until_due)
 
 pub turn-requires-clause-fit : goal.turn-requires-clause-fit
 turn-requires-clause-fit c =
-    (c.split_at_time.ensures c.args.plan.now c.args.until
-    (within-from c.args.plan.now c.loop-next.next
-    c.args.until c.next_time-now.result c.loop-next.rest.now c.first_due.result
-    c.next_time-now.ensures
-    c.loop-next.invariant.within)).fit
+    (c.in-Some.ensures.here c.args.plan.now c.args.events.now
+    (c.loop-now.invariant.ahead c.args.events.now
+    (told-itself c.args.plan.now 0 c.args.until c.args.events.now c.requires.within))).fit
 
-pub loop-next-preserved : goal.loop-next-preserved
-loop-next-preserved c =
-    let time = c.next_time-now.ensures in
-    on-way c.args.plan.now c.args.events.now c.loop-next.rest.now c.split_at_time.result.0.now
-    c.split_at_time.result.1.now c.loop-next.next c.args.until c.next_time-now.result
-    c.first_due.result
-    c.args.self.now c.loop-next.self c.turn.new.self c.args.text.now c.loop-next.text
+pub loop-now-preserved : goal.loop-now-preserved
+loop-now-preserved c =
+    let time = c.in-Some.ensures.now in
+    on-way c.args.plan.now c.args.events.now c.in-Some.here.now c.loop-now.moments
+    c.next_moment.new.self c.args.until c.in-Some.now c.first_due.result
+    c.args.self.now c.loop-now.self c.turn.new.self c.args.text.now c.loop-now.text
     c.turn.new.text
-    c.loop-next.invariant time (c.first_due.ensures.until c.next_time-now.result time.until_due)
-    (c.split_at_time.ensures c.args.plan.now c.args.until
-    (within-from c.args.plan.now c.loop-next.next
-    c.args.until c.next_time-now.result c.loop-next.rest.now c.first_due.result time
-    c.loop-next.invariant.within)) c.in_ok-turn.ensures.run c.in_ok-turn.ensures.stands
+    c.loop-now.invariant time (c.first_due.ensures.until c.in-Some.now time.until_due)
+    (c.in-Some.ensures.here c.args.plan.now) (c.in-Some.ensures.ahead c.args.plan.now)
+    c.in-Some.ensures.next c.in-Some.ensures.until c.in_ok-turn.ensures.run c.in_ok-turn.ensures.stands
 
 pub returns-clause-stands : goal.returns-clause-stands
 returns-clause-stands c = λ all told stood.
-    let same : c.loop-next.next ≡ suc c.args.until =
-    omega (arith, c.loop-next-test.false, c.loop-next.invariant.up_to) in
-    subst (λ n. HasRun c.args.plan.now all n c.loop-next.self c.args.text.now c.loop-next.text) same
-    (c.loop-next.invariant.stands all told stood).1
+    let same : c.loop-now.moments.next ≡ suc c.args.until =
+    omega (arith, c.in_default.ensures.end, c.loop-now.invariant.until_same) in
+    subst (λ n. HasRun c.args.plan.now all n c.loop-now.self c.args.text.now c.loop-now.text) same
+    (c.loop-now.invariant.stands all told stood)

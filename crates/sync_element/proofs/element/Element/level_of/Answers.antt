@@ -1,7 +1,7 @@
 use Rattle.std.proofs.Common.{◌≡◌, ◌<◌, length, ap, sym, ◌∙◌, arith}
 use Rattle.std.proofs.lemmas.List.{get_or_default}
 use Rattle.sync_element.specs.Kept.{unused}
-use Rattle.sync_element.specs.ElementState.{ElementState, inputs_of}
+use Rattle.sync_element.specs.ElementState.{inputs_of}
 use Rattle.sync_element.specs.StandsFor.{StandsFor}
 use Rattle.sync_element.specs.Whole.{element_state}
 use Rattle.sync_element.specs.private.Whole.{watched_of}

@@ -1,0 +1,2 @@
+-- What no public clause rests on: who reads contracts alone need not read it.
+pub mod HopRows

@@ -1,5 +1,0 @@
-use Rattle.sync_top.specs.private.HopRows.{AreLinesFrom}
-use Rattle.sync_top.proofs.hops.lines_from.Given as goal
-
-abbrev pub invariant-loop-number : goal.invariant-loop-number
-invariant-loop-number l = AreLinesFrom l.plan l.hops l.number l.lines.items
