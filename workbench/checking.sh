@@ -60,21 +60,29 @@ try() {
     fi
 }
 
-# tests WORDS..: what pytest finds; each test counts.
+# add PASSED FAILED: so many more.
+add() {
+    passed=$((passed + $1))
+    failed=$((failed + $2))
+}
+
+# tests WORDS..: what pytest finds, as many tests at once as there are processors for this, each taken by the first that is free;
+# then those that are marked `alone`, one after the other. Each test counts.
 tests() {
-    report=$(mktemp) || exit 1
-    "$python" -B -m pytest -q -p no:cacheprovider --junitxml="$report" "$@"
-    counts=$("$python" - "$report" << 'END'
+    reports=$(mktemp -d) || exit 1
+    set -- -q -p no:cacheprovider "$@"
+    "$python" -B -m pytest --junitxml="$reports/together" -m "not alone" -n "$(nproc)" --dist loadgroup "$@"
+    "$python" -B -m pytest --junitxml="$reports/alone" -m alone "$@"
+    # shellcheck disable=SC2046
+    add $("$python" - "$reports/together" "$reports/alone" << 'END'
 import sys, xml.etree.ElementTree as tree
 try:
-    suites = list(tree.parse(sys.argv[1]).getroot().iter("testsuite"))
+    suites = [suite for path in sys.argv[1:] for suite in tree.parse(path).getroot().iter("testsuite")]
     total, bad, skipped = (sum(int(suite.get(key, 0)) for suite in suites for key in keys) for keys in (["tests"], ["failures", "errors"], ["skipped"]))
     print(total - bad - skipped, bad or int(total == 0))
 except (OSError, tree.ParseError):
     print(0, 1)
 END
     )
-    rm -f "$report"
-    passed=$((passed + ${counts% *}))
-    failed=$((failed + ${counts#* }))
+    rm -rf "$reports"
 }

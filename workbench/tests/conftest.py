@@ -24,6 +24,11 @@ LAUNCHER = WORKBENCH / "murdjohe"
 CASES = int(os.environ.get("MURDJOHE_CASES", "100"))
 
 
+def pytest_collection_modifyitems(items: list[pytest.Item]) -> None:
+    """Begins those first that take long, so that no processor waits for them at the end."""
+    items.sort(key=lambda item: item.get_closest_marker("long") is None)
+
+
 @dataclass(frozen=True)
 class Ran:
     """What came of a command."""

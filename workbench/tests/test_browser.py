@@ -23,6 +23,8 @@ from murdjohe.picture import page_data, pages, places
 from murdjohe.runs import moments, rehearsals, spans
 from murdjohe.runs.moments import Event
 
+pytestmark = pytest.mark.alone
+
 MESH = EXAMPLES / "mesh"
 # Generous limits in milliseconds, for a busy machine; on a quiet one it is a fraction of them.
 FIRST_PAINT, STEP = 20_000, 1_000

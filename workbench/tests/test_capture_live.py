@@ -11,6 +11,8 @@ from conftest import EXAMPLES, LAUNCHER, murdjohe, started
 from bench import captures as made
 from murdjohe.capture import encapsulation
 
+pytestmark = pytest.mark.alone
+
 TOOLS = ("tcpdump", "tcpreplay", "ip", "unshare")
 # usage: sh -c SCRIPT sh INTERFACE COUNT FILTER [WORDS of tcpdump]: writes the file `caught` of so many packets
 SCRIPT = """\

@@ -196,7 +196,7 @@ def test_other_link_types_and_packets_without_a_time_are_passed_over(folder: Pat
         (b"", "it is empty"),
         (b"line,rank\n", "it is no capture: it begins neither as a pcap nor as a pcapng"),
         (made.classic([])[:20], "it ends within its header"),
-        (gzip.compress(b"at,what\n"), "it is no capture: it begins neither as a pcap nor as a pcapng"),
+        (gzip.compress(b"at,what\n", mtime=0), "it is no capture: it begins neither as a pcap nor as a pcapng"),
     ],
 )
 def test_what_is_no_capture_is_told(folder: Path, data: bytes, said: str) -> None:

@@ -116,6 +116,7 @@ def test_capture_read_sums_up_what_came_before_the_interrupt() -> None:
     assert "ended by Ctrl-C, and summed up to there; `murdjohe capture watch` tells a capture as it comes" in err
 
 
+@pytest.mark.alone
 def test_a_silence_is_told_while_it_lasts() -> None:
     with watched("--changes") as live:
         live.give(HEAD + record(0))
@@ -145,6 +146,7 @@ def test_a_signal_to_end_sums_up_too() -> None:
     assert (status, err) == (143, "") and "standard input: 1 packet, 1 ESMC frame from 1 source" in out
 
 
+@pytest.mark.alone
 def test_it_ends_after_the_time_that_is_given() -> None:
     began = time.monotonic()
     with watched("--for", "2s", "--rows") as live:

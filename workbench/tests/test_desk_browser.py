@@ -20,6 +20,8 @@ from murdjohe.answers import api
 from murdjohe.network import plan_file, wiring
 from murdjohe.runs import moments
 
+pytestmark = pytest.mark.alone
+
 INVENTORY = EXAMPLES / "inventory"
 TABLES = {"element": "elements.csv", "link": "links-first.csv", "source": "sources.csv"}
 # Generous limits in milliseconds, for a busy machine; on a quiet one it is a fraction of them.

@@ -13,6 +13,8 @@ from desk_plans import PAIR
 from desk_running import running
 from test_cut_off import ROUND
 
+pytestmark = pytest.mark.alone
+
 
 @pytest.fixture(scope="module")
 def browser() -> Iterator[Any]:

@@ -98,6 +98,7 @@ def test_who_is_cut_off_is_told_after_the_strip(told: "queue.Queue[Verdict]") ->
     pool.end()
 
 
+@pytest.mark.alone
 def test_the_newest_state_comes_first_and_older_ones_are_dropped(
     told: "queue.Queue[Verdict]", folder: Path, monkeypatch: pytest.MonkeyPatch, core: str
 ) -> None:

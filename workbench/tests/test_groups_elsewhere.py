@@ -81,6 +81,7 @@ def test_a_refused_table_is_told_in_one_line(four: Path, command: list[str]) -> 
     assert both.status == 2 and "`-`, standard input, can be read for one word alone" in both.err
 
 
+@pytest.mark.long
 def test_draw_gives_each_group_a_colour_along_its_links(four: Path) -> None:
     (four / "ducts.csv").write_text(TABLE + "R,source,S\nR,element,A\n")
     words = ["draw", "four.toml", "--groups", "ducts.csv"]

@@ -170,6 +170,7 @@ def test_without_the_toolchain_that_is_told(tmp_path: Path) -> None:
 PIP = ["-m", "pip", "--disable-pip-version-check", "install", "--no-build-isolation", "--no-index", "-q", "-e"]
 
 
+@pytest.mark.long
 def test_a_checkout_installs_into_an_environment(tmp_path: Path, core: str) -> None:
     """`pip install -e workbench`, of a copy of the checkout, with nothing from outside."""
     if subprocess.run(

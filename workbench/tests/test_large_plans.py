@@ -34,6 +34,7 @@ def test_a_picture_that_is_too_large_says_what_to_draw_instead(large: Path) -> N
     assert murdjohe("draw", "plan.toml", "-o", "plan.dot", folder=large).status == 0
 
 
+@pytest.mark.long
 def test_a_page_that_is_too_large_says_what_tells_the_run(large: Path) -> None:
     ran = murdjohe("report", "plan.toml", "events.csv", "-o", "page.html", folder=large)
     assert ran.status == 2 and "`rehearse` tells the same run without a picture" in ran.err
@@ -51,6 +52,7 @@ def test_a_timeline_that_is_too_large_says_where_the_changes_stand(folder: Path)
     assert ran.status == 2 and "`rehearse --csv` writes the changes as a table" in ran.err
 
 
+@pytest.mark.alone
 def test_lines_of_rows_and_edits_take_time_as_the_file_grows() -> None:
     plan = PlanLines(Document("plan.toml", chain(20_000).encode()))
     start = time.process_time()

@@ -188,6 +188,7 @@ def test_a_night_in_which_each_case_is_dark_for_minutes_is_not_told_as_clean(own
 GONE = ("C005>CR-N1", "C005>CR-N2", "C018>CR-N2", "C024>CR-S2", "C044>AG-202", "C048>AG-203")
 
 
+@pytest.mark.alone
 def test_a_survey_of_pairs_in_a_plan_that_oscillates_takes_seconds_and_says_so_at_once(folder: Path) -> None:
     knot = plan_file.read(str(OWN / "knot.toml"))
     numbers = priorities.priorities_of(knot.network) | dict.fromkeys(GONE, 0)

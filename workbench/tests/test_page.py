@@ -82,6 +82,7 @@ def test_nothing_in_the_data_ends_the_page() -> None:
     assert json.loads(found) == data
 
 
+@pytest.mark.long
 @WANTS_NODE
 @pytest.mark.parametrize("name", RUNS)
 def test_the_model_is_the_report_in_each_moment(name: str) -> None:

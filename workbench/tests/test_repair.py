@@ -291,6 +291,7 @@ def test_rings_over_hops_weigh_least(seed: int) -> None:
 FOUND = "(found, perhaps not least)"
 
 
+@pytest.mark.long
 @pytest.mark.parametrize(("elements", "kind"), [(12, "(least)"), (130, FOUND), (2000, FOUND)])
 def test_a_large_knot_is_said_to_be_found_alone(folder: Path, elements: int, kind: str) -> None:
     (folder / "plan.toml").write_text(both_ways(elements))

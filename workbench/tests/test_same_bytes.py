@@ -20,6 +20,7 @@ def quiet_command(folder: Path) -> Path:
     return path
 
 
+@pytest.mark.long
 @pytest.mark.parametrize("is_quiet", [False, True])
 def test_every_example_is_as_stored(tmp_path: Path, is_quiet: bool) -> None:
     command = quiet_command(tmp_path) if is_quiet else LAUNCHER
@@ -34,6 +35,7 @@ a-plan-longer-than-a-file-may-be plan-limits:3 plan-limits:5 plan-limits:6 plan-
 """.split()
 
 
+@pytest.mark.long
 @pytest.mark.skipif(not CASES_RUN.exists(), reason="this checkout has no cases")
 def test_every_case_is_as_stored(tmp_path: Path) -> None:
     ran = started([str(CASES_RUN), "--quick", str(quiet_command(tmp_path))])

@@ -53,6 +53,7 @@ def last_state(report: Report, element: str) -> str:
     return [change.state for change in report.changes if change.element == element][-1]
 
 
+@pytest.mark.long
 def test_fields_are_those_of_the_runs_of_the_model(maps: list[CaseMap], capfd: pytest.CaptureFixture[str]) -> None:
     plan, until = MESH / "protecting.toml", "1500"
     words = ["--links", "--pairs", "--at", "1s", "--until", until, "--map", "map.svg", "--json"]

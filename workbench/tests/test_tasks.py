@@ -123,6 +123,7 @@ def test_what_is_wrong_is_raised_with_its_sentence_and_status(tmp_path: Path) ->
             call()
 
 
+@pytest.mark.alone
 def test_a_program_that_takes_too_long_is_ended(tmp_path: Path, monkeypatch: pytest.MonkeyPatch) -> None:
     slow = tmp_path / "slow"
     slow.write_text("#!/bin/sh\nexec sleep 60\n")
