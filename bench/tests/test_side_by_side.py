@@ -58,7 +58,8 @@ def test_the_last_line_counts(tmp_path: Path) -> None:
 
 def test_the_interrupt_ends_all_of_them(tmp_path: Path) -> None:
     os.mkfifo(tmp_path / "begun")
-    (tmp_path / "slow").write_text(f"#!/bin/sh\nexec 3> {tmp_path}/begun\necho begun >&3\nsleep 60\n")
+    slow = f'import time\nwith open("{tmp_path}/begun", "w") as begun:\n    print("begun", file=begun, flush=True)\n    time.sleep(60)\n'
+    (tmp_path / "slow").write_text(f"#!{sys.executable}\n{slow}")
     (tmp_path / "slow").chmod(0o755)
     words = ["env", "--default-signal=INT", sys.executable, "-m", "bench.side_by_side", "/core"]
     pipe = subprocess.PIPE
