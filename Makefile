@@ -2,7 +2,7 @@
 #
 #   make                           sees to Debian's packages, proves and builds the program, and shows a ring that it finds
 #   make look                      shows the ring before anything is proved, in two minutes
-#   make test                      everything but the proofs, with the program: twenty minutes
+#   make test                      everything but the proofs, with the program: ten minutes
 #   make core                      proves and builds the program, where it isn't built
 #   make install                   to /usr/local
 #   make install PREFIX=/usr DESTDIR=/tmp/root
